@@ -1,12 +1,13 @@
 -- The reports on the games of a text and of pieces, their lines and their counts.
-use Rattle.std.specs.Prelude.{◌≡◌, ℕ, ◌+◌, ◌==◌, nat_le, Bool, not, if◌then◌else◌, List, [], ◌∷◌, ◌++◌, length, map, take, drop, codes, decimal, is_some, Option, Some, None, Ok, Err}
+use Rattle.std.specs.Prelude.{◌≡◌, ℕ, ◌+◌, ◌==◌, ◌&&◌, nat_le, nat_lt, Bool, true, false, not, if◌then◌else◌, List, [], ◌∷◌, ◌++◌, length, map, take, drop, codes, decimal, is_some, Option, Some, None, Ok, Err}
 use Rattle.std.specs.List.{count_by, prefix_len, sum_by}
 use Rattle.std.specs.Bool.{MatchBool}
-use Rattle.std.specs.Option.{unwrap_or, option_map_or}
+use Rattle.std.specs.Option.{unwrap_or, option_map, option_map_or}
 use Rattle.byte_devices.specs.Bytes.{new_line, shown_byte, after_byte_order_mark}
 use Rattle.chess_game.specs.Game.{State, verdict_now}
 use Rattle.chess_game.specs.Results.{outcome_text}
 use Rattle.chess_game.specs.declared.results.Outcome.{Outcome}
+use Rattle.chess_pgn.specs.GameEnds.{game_end}
 use Rattle.chess_pgn.specs.LastTags.{last_tag, tag_section}
 use Rattle.chess_pgn.specs.Tokens.{Token, is_white_space}
 use Rattle.chess_pgn.specs.declared.read.PgnEnd.{PgnEnd}
@@ -35,10 +36,12 @@ pub data Report : Type 0 where
   Faulty : (fault : GameFault) (wrong_at : ℕ) (explanation : List ℕ) → Report
 
 -- a report with its span, the part of the input that it is on: from the byte at the offset `begin` to the last one
--- before the offset `end`; and with what names its game (`names_of`), or `None` of a piece that is too long
+-- before the offset `end`; with the offset from which on the span isn't read, or `None` if nothing is to be said of that;
+-- and with what names its game (`names_of`), or `None` of a piece that is too long
 pub record Placed : Type 0 where
   pub begin : ℕ
   pub end : ℕ
+  pub unread : Option ℕ
   pub names : Option (List ℕ)
   pub report : Report
 
@@ -61,48 +64,70 @@ names_of tokens = shown_tag tokens (codes "White") ++ (codes " - " ++ (shown_tag
 
 -- ---- the reports on the games of a text
 
--- these are the reports on the games of `text` from its offset `at` on, up to and including the first game with a
--- fault; the last two arguments are `at` and the reports. The text begins at the offset `start` of the input. `strict`:
--- a termination marker that contradicts the tag Result or the board's verdict is a fault
-pub data AreReports (strict : Bool) (start : ℕ) (text : List ℕ) : ℕ → List Placed → Type 0 where
+-- where reading goes on after a game with a fault, in a text of `total` bytes: where the game with these tokens ends
+-- (`game_end`), if the games after it are read too (`goes_on`). `None` if they aren't, or if that isn't found
+abbrev pub next_begin : Bool → ℕ → List (ℕ × Token) → Option ℕ
+next_begin goes_on total tokens = if goes_on then game_end total tokens else None
+
+-- if reading was to go on (`goes_on`), but it isn't found where (`next` is `None`), the offset from which on a text of
+-- `total` bytes isn't read: that of the fault; but `None` if the fault is at the text's end
+abbrev pub unread_from : Bool → ℕ → ℕ → Option ℕ → Option ℕ
+unread_from goes_on total offset next =
+    if goes_on && not (is_some next) && nat_lt offset total then Some offset else None
+
+-- these are the reports on the games of `text` from its offset `at` on; the last two arguments are `at` and the reports.
+-- They end with the first game with a fault, unless reading goes on after it (`goes_on`) and it is found where
+-- (`next_begin`). The text begins at the offset `start` of the input. `strict`: a termination marker that contradicts
+-- the tag Result or the board's verdict is a fault
+pub data AreReportsOf (goes_on strict : Bool) (start : ℕ) (text : List ℕ) : ℕ → List Placed → Type 0 where
   -- no game comes from `at` on
-  none_left : {at : ℕ} {s : State} → IsJudged strict text at s (Ok None) → AreReports strict start text at []
+  none_left : {at : ℕ} {s : State} → IsJudged strict text at s (Ok None) → AreReportsOf goes_on strict start text at []
   -- the next game has no fault and ends with its termination marker; the other reports are on the games after that.
   -- Offsets in the text become offsets in the input
   next_game : {at : ℕ} {s : State} {end : PgnEnd} {reports : List Placed}
-      (game : IsJudged strict text at s (Ok (Some end))) → AreReports strict start text end.offset reports
-      → AreReports strict start text at (record {
+      (game : IsJudged strict text at s (Ok (Some end))) → AreReportsOf goes_on strict start text end.offset reports
+      → AreReportsOf goes_on strict start text at (record {
         begin = start + game_begin text at;
         end = start + end.offset;
+        unread = None;
         names = Some (names_of game.tokens);
         report = Game (length s.moves) end.outcome end.termination;
       } ∷ reports)
-  -- the next game has a fault. What comes after the fault is not read, so its span goes to the text's end
-  last_fault : {at : ℕ} {s : State} {fault : GameFault} (reason : Option (List ℕ))
-      (game : IsJudged strict text at s (Err fault))
+  -- the next game has a fault. It ends where reading goes on, or at the text's end, and the other reports are on the
+  -- games after that
+  next_fault : {at : ℕ} {s : State} {fault : GameFault} {reports : List Placed} (reason : Option (List ℕ))
+      (next : Option ℕ) (game : IsJudged strict text at s (Err fault))
       → IsReason fault.kind (drop fault.offset text) (verdict_now s) reason
-      → AreReports strict start text at (record {
+      → next ≡ next_begin goes_on (length text) game.tokens
+      → AreReportsOf goes_on strict start text (unwrap_or next (length text)) reports
+      → AreReportsOf goes_on strict start text at (record {
         begin = start + game_begin text at;
-        end = start + length text;
+        end = start + unwrap_or next (length text);
+        unread = option_map (λ offset. start + offset) (unread_from goes_on (length text) fault.offset next);
         names = Some (names_of game.tokens);
         report = Faulty (record fault { offset = start + fault.offset })
             (start + fault.offset + (wrong_part fault.kind (drop fault.offset text)).0)
             (explanation s (drop fault.offset text) fault.kind reason);
-      } ∷ [])
+      } ∷ reports)
+
+-- the reports on a text that is verified as a whole, up to and including the first game with a fault (`AreReportsOf`)
+abbrev pub AreReports : Bool → ℕ → List ℕ → ℕ → List Placed → Type 0
+AreReports = AreReportsOf false
 
 -- ---- the reports on the games of pieces
 
 -- these are the reports on a piece, which begins at this offset of the input, and whose bytes (`piece`) are read as a
--- text of its own: on its games in order, up to the first with a fault; or, if it is too long (more than 16,777,216
--- bytes), one report on the piece: the fault TooLong at its first byte, explained by the first word there (`shown`). A
--- game of more than 20,000 half-moves has the same kind of fault, but at its 20,001st half-move. `strict`: an outcome
--- mark that contradicts the tag Result or the board's verdict is a fault
+-- text of its own: on its games in order, also after one with a fault; or, if it is too long (more than 16,777,216
+-- bytes), one report on the piece, which isn't read: the fault TooLong at its first byte, explained by the first word
+-- there (`shown`). A game of more than 20,000 half-moves has the same kind of fault, but at its 20,001st half-move.
+-- `strict`: an outcome mark that contradicts the tag Result or the board's verdict is a fault
 abbrev pub AreReportsIn : Bool → ℕ → List ℕ → List Placed → Type 0
 AreReportsIn strict offset piece reports =
-    MatchBool (nat_le (length piece) PIECE_LEN) (AreReports strict offset piece 0 reports)
+    MatchBool (nat_le (length piece) PIECE_LEN) (AreReportsOf true strict offset piece 0 reports)
     (reports ≡ record {
       begin = offset;
       end = offset + length piece;
+      unread = Some offset;
       names = None;
       report = Faulty (record { kind = Pgn TooLong; offset = offset }) offset (shown piece);
     } ∷ [])
@@ -123,18 +148,24 @@ span_text options begin end =
 abbrev pub names_text : VerifyOptions → Option (List ℕ) → List ℕ
 names_text options names = option_map_or (λ text. codes " | " ++ text) (if options.names then names else None) []
 
--- what is written of a report; `input` is what was read of the input, `number` the report's number, `span` the end of
--- its line, and `names` what comes after that if it is on a fault
-abbrev pub written_line : VerifyOptions → List ℕ → ℕ → List ℕ → List ℕ → Report → List ℕ
+-- the end of a fault's explanation: which bytes of the input are not read, as ` | bytes 151 to 606 not read` says of
+-- those from the offset 151 to the last one before 606; nothing if `from`, the offset of the first of them, is `None`
+abbrev pub unread_text : Option ℕ → ℕ → List ℕ
+unread_text from end = option_map_or (λ begin. codes " | bytes " ++ (decimal begin ++ (codes " to " ++ (decimal end
+    ++ codes " not read")))) from []
+
+-- what is written of a report; `input` is what was read of the input, `number` the report's number, and `span` the end
+-- of its line. If it is on a fault, `names` comes after that, and `unread` is the end of its explanation
+abbrev pub written_line : VerifyOptions → List ℕ → ℕ → List ℕ → List ℕ → List ℕ → Report → List ℕ
 -- a game's line, such as `game 3: 4 half-moves, 0-1, time forfeit`, unless `options.quiet` leaves it out. Before `span`
 -- comes what the game's last tag Termination names, if anything
-written_line options input number span names (Game plies outcome termination) =
+written_line options input number span names unread (Game plies outcome termination) =
     if options.quiet then [] else report_line number (decimal plies ++ (codes " half-moves, " ++ (outcome_text outcome
     ++ (option_map_or (λ t. codes ", " ++ termination_text t) termination [] ++ span))))
 -- a fault's line, such as `game 2: illegal move at byte 39`, and with `options.explain` the line that explains it
-written_line options input number span names (Faulty fault wrong_at explanation) =
+written_line options input number span names unread (Faulty fault wrong_at explanation) =
     report_line number (fault_name fault.kind ++ (codes " at byte " ++ (decimal fault.offset ++ (span ++ names))))
-    ++ (if options.explain then explanation_line input wrong_at explanation else [])
+    ++ (if options.explain then explanation_line input wrong_at (explanation ++ unread) else [])
 
 -- the lines of these reports, which are numbered from `number` on; a report whose line `quiet` leaves out has a number
 -- too. `input` is what was read of the input
@@ -142,7 +173,7 @@ abbrev pub report_lines : VerifyOptions → List ℕ → ℕ → List Placed →
 report_lines options input number [] = []
 report_lines options input number (placed ∷ rest) =
     written_line options input number (span_text options placed.begin placed.end) (names_text options placed.names)
-    placed.report ++ report_lines options input (number + 1) rest
+    (unread_text placed.unread placed.end) placed.report ++ report_lines options input (number + 1) rest
 
 -- ---- the counts
 

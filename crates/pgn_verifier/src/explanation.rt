@@ -15,12 +15,12 @@ ghost use Rattle.chess_game.specs.Results.{outcome_text};
 ghost use Rattle.pgn_verifier.specs.declared.game_fault.FaultKind.TheVariants.{Pgn};
 ghost use Rattle.pgn_verifier.specs.WrongParts.{move_reason};
 ghost use Rattle.pgn_verifier.specs.laws.Reasons.{reason, explanation_of};
-ghost use Rattle.pgn_verifier.specs.ties.OnTheWay.{StandsIf, moved, fault_line, span_written};
+ghost use Rattle.pgn_verifier.specs.ties.OnTheWay.{StandsIf, moved, fault_line, span_written, unread_written};
 ghost use Rattle.pgn_verifier.specs.declared.explanation.TheConstants.{FAULT_LINES_LEN};
 
 use crate::fen_field::{fen_text, field_offset, wrong_field};
 use crate::game_fault::{FaultKind, GameFault, fault_name};
-use crate::label::{FaultLabel, append_span};
+use crate::label::{FaultLabel, Span, append_span};
 use crate::shown::{Shown, shown, shown_field};
 use crate::start::TextStart;
 use crate::token_reason::{bad_tag_reason, move_reason, token_reason};
@@ -32,8 +32,8 @@ use chess_moves::Board;
 use chess_pgn::PgnFaultKind;
 use pgn_pieces::line_ends;
 
-// The most bytes of the lines on a fault: of its own 300, and of the one that explains it 320.
-const FAULT_LINES_LEN: usize = 620;
+// The most bytes of the lines on a fault: of its own 300, and of the one that explains it 386.
+const FAULT_LINES_LEN: usize = 686;
 
 /// The lines on a fault.
 pub(crate) type FaultLines = ArrayVec<u8, FAULT_LINES_LEN>;
@@ -243,8 +243,23 @@ fn append_place(lines: &mut FaultLines, line: usize, column: usize)
     append(lines, b" ");
 }
 
-// Appends the line that explains a fault of the game, where the part that is wrong is on this line and in this column;
-// `text` is the text from the fault's byte on.
+// Appends which part of the input isn't read, as ` | bytes 151 to 606 not read`; nothing if there is none.
+fn append_unread(lines: &mut FaultLines, unread: Option<Span>)
+    requires { array_vec_len lines.old + 62 ≤ FAULT_LINES_LEN }
+    ensures text { lines.new.items ≡ lines.old.items ++ unread_written unread }
+    ensures len { array_vec_len lines.new ≤ array_vec_len lines.old + 62 }
+{
+    if let Some(span) = unread {
+        append(lines, b" | bytes ");
+        append_number(lines, span.begin as u64);
+        append(lines, b" to ");
+        append_number(lines, span.end as u64);
+        append(lines, b" not read");
+    }
+}
+
+// Appends the line that explains a fault of the game, without its end, where the part that is wrong is on this line and
+// in this column; `text` is the text from the fault's byte on. In the clause `text`, `unread` is what comes after it.
 fn append_explanation<B: Board>(
     lines: &mut FaultLines,
     line: usize,
@@ -254,15 +269,15 @@ fn append_explanation<B: Board>(
     game: &Game<B>,
 )
     requires { array_vec_len lines.old ≤ 300 }
-    ensures { (input : List ℕ) (begin : ℕ) → line ≡ line_of input begin → column ≡ column_of input begin
-        → lines.new.items ≡ lines.old.items
-        ++ explanation_line input begin (explanation_of game.now.state text.now kind) }
+    ensures text { (input : List ℕ) (begin : ℕ) (unread : List ℕ) → line ≡ line_of input begin
+        → column ≡ column_of input begin → lines.new.items ++ (unread ++ new_line ∷ []) ≡ lines.old.items
+        ++ explanation_line input begin (explanation_of game.now.state text.now kind ++ unread) }
+    ensures len { array_vec_len lines.new ≤ array_vec_len lines.old + 323 }
 {
     append_place(lines, line, column);
     append(lines, shown_part(kind, text).as_slice());
     append_position(lines, kind, game);
     append_reason(lines, kind, text, game.verdict());
-    lines.push(b'\n');
 }
 
 /// The lines on a fault of the game: its own, and with `explain` the one that explains it. The fault is in a text that
@@ -283,7 +298,8 @@ pub(crate) fn fault_lines<B: Board>(
         ≡ fault_line label.now.game.number (moved start.offset fault) (span_written label.now.game.span)
         label.now.names.items ++ (if explain then explanation_line input
         (start.offset + fault.offset + (wrong_part fault.kind (drop fault.offset text.now)).0)
-        (explanation_of game.now.state (drop fault.offset text.now) fault.kind) else []) }
+        (explanation_of game.now.state (drop fault.offset text.now) fault.kind ++ unread_written label.now.unread)
+        else []) }
 {
     let mut lines = fault_line(label, fault.moved(start.offset));
     if explain {
@@ -292,6 +308,8 @@ pub(crate) fn fault_lines<B: Board>(
         let line = line_after(start.line, before);
         let column = column_after(before);
         append_explanation(&mut lines, line, column, rest, fault.kind, game);
+        append_unread(&mut lines, label.unread);
+        lines.push(b'\n');
     }
     lines
 }
@@ -308,7 +326,8 @@ pub(crate) fn too_long_lines(
         → result.items
         ≡ fault_line label.now.game.number (record { kind = Pgn TooLong; offset = start.offset })
         (span_written label.now.game.span) label.now.names.items
-        ++ (if explain then explanation_line input start.offset (shown beginning.now) else []) }
+        ++ (if explain then explanation_line input start.offset
+        (shown beginning.now ++ unread_written label.now.unread) else []) }
 {
     let mut lines = fault_line(
         label,
@@ -320,6 +339,7 @@ pub(crate) fn too_long_lines(
     if explain {
         append_place(&mut lines, start.line, 1);
         append(&mut lines, shown(beginning).as_slice());
+        append_unread(&mut lines, label.unread);
         lines.push(b'\n');
     }
     lines

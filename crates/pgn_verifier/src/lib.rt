@@ -14,6 +14,7 @@
 //! continues after faults, piece by piece.
 #![tactic(auto)]
 
+mod after_fault;
 mod buffered;
 mod collection;
 mod contradiction;

@@ -3,11 +3,10 @@ use Rattle.std.proofs.Common.{append_assoc}
 use Rattle.pgn_verifier.specs.Explanations.{explanation_line}
 use Rattle.pgn_verifier.proofs.explanation.append_explanation.Goals as goal
 
-pub returns : goal.returns
+pub returns-clause-text : goal.returns-clause-text
 unfolding explanation_line
-returns g c input offset line column =
+returns-clause-text g c input offset unread line column =
     rw (
-      c.push.ensures.items,
       c.append_reason.ensures.text,
       c.verdict.ensures,
       c.append_position.ensures.text,

@@ -7,7 +7,7 @@ use Rattle.chess_game.specs.declared.game.TheConstants.{MOST_MOVES}
 -- the games up to here were reported
 abbrev pub invariant-loop-end : goal.invariant-loop-end
 invariant-loop-end g l = (l.game.limit ≡ MOST_MOVES)
-    × ((done : List Placed) × SoFar l.options l.start.offset l.text l.fn.before (g.W.Output.seen l.fn.output)
+    × ((done : List Placed) × SoFar l.options l.start l.text l.fn.before (g.W.Output.seen l.fn.output)
     (g.W.Output.seen l.output) l.at l.tally done)
 
 abbrev pub decreases-loop-end : goal.decreases-loop-end
