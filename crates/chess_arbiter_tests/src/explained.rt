@@ -93,13 +93,13 @@ const KINDS: [(&[&str], &[u8], &[u8], u8); 20] = [
     (
         &["verify", "--explain"],
         b"1. e4",
-        b"game 1: no result at byte 5\n# line 1 column 6 (end) | rnbqkbnr/pppppppp/8/8/4P3/8/PPPP1PPP/RNBQKBNR b KQkq e3 0 1\n",
+        b"game 1: no result at byte 5\n# line 1 column 1 1. | rnbqkbnr/pppppppp/8/8/4P3/8/PPPP1PPP/RNBQKBNR b KQkq e3 0 1\n",
         1,
     ),
     (
         &["verify", "--explain"],
         b"1. e4 [Result \"0-1\"] 1-0",
-        b"game 1: no result at byte 6\n# line 1 column 7 [Result | rnbqkbnr/pppppppp/8/8/4P3/8/PPPP1PPP/RNBQKBNR b KQkq e3 0 1\n",
+        b"game 1: no result at byte 6\n# line 1 column 1 1. | rnbqkbnr/pppppppp/8/8/4P3/8/PPPP1PPP/RNBQKBNR b KQkq e3 0 1\n",
         1,
     ),
     (
@@ -170,17 +170,17 @@ const PLACES: [(&[&str], &[u8], &[u8], u8); 23] = [
         b"game 1: illegal move at byte 9\n# line 1 column 10 e4 | rnbqkbnr/pppppppp/8/8/4P3/8/PPPP1PPP/RNBQKBNR b KQkq e3 0 1\ngames 0 half-moves 0 faults 1\n",
         1,
     ),
-    // Without a result a game ends at its piece's end, where there is no text.
+    // A game without a result is explained where it begins.
     (
         &["verify", "--keep-going", "--explain"],
         b"1. e4 e5\n\n[Event \"b\"]\n*\n[Event \"c\"]\n",
-        b"game 1: no result at byte 10\n# line 3 column 1 (end) | rnbqkbnr/pppp1ppp/8/4p3/4P3/8/PPPP1PPP/RNBQKBNR w KQkq e6 0 2\ngame 2: 0 half-moves, *\ngame 3: no result at byte 36\n# line 6 column 1 (end) | rnbqkbnr/pppppppp/8/8/8/8/PPPPPPPP/RNBQKBNR w KQkq - 0 1\ngames 1 half-moves 0 faults 2\n",
+        b"game 1: no result at byte 10\n# line 1 column 1 1. | rnbqkbnr/pppp1ppp/8/4p3/4P3/8/PPPP1PPP/RNBQKBNR w KQkq e6 0 2\ngame 2: 0 half-moves, *\ngame 3: no result at byte 36\n# line 5 column 1 [Event | rnbqkbnr/pppppppp/8/8/8/8/PPPPPPPP/RNBQKBNR w KQkq - 0 1\ngames 1 half-moves 0 faults 2\n",
         1,
     ),
     (
         &["verify", "--keep-going", "--explain"],
         b"1. e4 {x\n[Event \"b\"]\n1. d4 (d5\n[Site \"c\"]\n\n",
-        b"game 1: unclosed comment at byte 6\n# line 1 column 7 {x | rnbqkbnr/pppppppp/8/8/4P3/8/PPPP1PPP/RNBQKBNR b KQkq e3 0 1 | bytes 6 to 9 not read\ngame 2: unclosed variation at byte 27\n# line 3 column 7 (d5 | rnbqkbnr/pppppppp/8/8/3P4/8/PPP1PPPP/RNBQKBNR b KQkq d3 0 1 | bytes 27 to 31 not read\ngame 3: no result at byte 43\n# line 6 column 1 (end) | rnbqkbnr/pppppppp/8/8/8/8/PPPPPPPP/RNBQKBNR w KQkq - 0 1\ngames 0 half-moves 0 faults 3\n",
+        b"game 1: unclosed comment at byte 6\n# line 1 column 7 {x | rnbqkbnr/pppppppp/8/8/4P3/8/PPPP1PPP/RNBQKBNR b KQkq e3 0 1 | bytes 6 to 9 not read\ngame 2: unclosed variation at byte 27\n# line 3 column 7 (d5 | rnbqkbnr/pppppppp/8/8/3P4/8/PPP1PPPP/RNBQKBNR b KQkq d3 0 1 | bytes 27 to 31 not read\ngame 3: no result at byte 43\n# line 4 column 1 [Site | rnbqkbnr/pppppppp/8/8/8/8/PPPPPPPP/RNBQKBNR w KQkq - 0 1\ngames 0 half-moves 0 faults 3\n",
         1,
     ),
     // Words of 40 and 41 bytes, and such at the input's end.

@@ -50,6 +50,7 @@ seen_alike strict piece = by_test (nat_le (length piece.bytes) PIECE_LEN)
     too_long_with text = record {
       begin = piece.offset;
       end = piece.offset + length piece.bytes;
+      first = [];
       unread = Some piece.offset;
       names = None;
       report = Faulty (record { kind = Pgn TooLong; offset = piece.offset }) piece.offset text;

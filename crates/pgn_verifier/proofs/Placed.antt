@@ -1,5 +1,5 @@
 -- Where a fault is: counted from the text's beginning, and from the input's.
-use Rattle.std.proofs.Common.{◌≡◌, ◌≤◌, ℕ, ◌+◌, Bool, not, cond, List, [], ◌∷◌, ◌++◌, length, take, drop, sym, ap, ◌∙◌, arith}
+use Rattle.std.proofs.Common.{◌≡◌, ◌≤◌, ℕ, ◌+◌, Bool, true, false, not, cond, List, [], ◌∷◌, ◌++◌, length, take, drop, refl, sym, ap, ◌∙◌, arith}
 use Rattle.std.specs.Prelude.{if◌then◌else◌, reverse}
 use Rattle.std.specs.List.{prefix_len, suffix_len}
 use Rattle.std.proofs.Math.Seq.{take-add}
@@ -47,6 +47,17 @@ module _ (start : TextStart) (input text : List ℕ) (k : ℕ) (within : k ≤ l
         let here = stands.column in
         ap (λ xs. last_line_len xs + 1) bytes_before
         ∙ ap (λ n. n + 1) (last_line_after (take start.offset input) (take k text) (omega (arith, here)))
+
+-- ---- one place or another
+
+pub either_within : (b : Bool) (x y n : ℕ) → x ≤ n → y ≤ n → (if b then x else y) ≤ n
+either_within true x y n h k = h
+either_within false x y n h k = k
+
+pub either_moved : (b : Bool) (start x y z : ℕ)
+    → start + (if b then x else y + z) ≡ (if b then start + x else start + y + z)
+either_moved true start x y z = refl
+either_moved false start x y z = omega arith
 
 -- ---- pieces
 

@@ -15,7 +15,7 @@ use Rattle.chess_pgn.specs.declared.read.PgnFaultKind.TheVariants.{TooLong}
 use Rattle.pgn_writer.specs.declared.termination.Termination.{Termination}
 use Rattle.pgn_writer.specs.Terminations.{termination_text}
 use Rattle.pgn_pieces.specs.declared.pieces.TheConstants.{PIECE_LEN}
-use Rattle.pgn_verifier.specs.Explanations.{IsReason, shown, wrong_part, explanation, explanation_line}
+use Rattle.pgn_verifier.specs.Explanations.{IsReason, shown, is_at_begin, wrong_part, explanation, explanation_line}
 use Rattle.pgn_verifier.specs.GameFaults.{IsJudged, fault_name}
 use Rattle.pgn_verifier.specs.declared.game_fault.FaultKind.TheVariants.{Pgn}
 use Rattle.pgn_verifier.specs.declared.game_fault.GameFault.{GameFault}
@@ -36,11 +36,13 @@ pub data Report : Type 0 where
   Faulty : (fault : GameFault) (wrong_at : ℕ) (explanation : List ℕ) → Report
 
 -- a report with its span, the part of the input that it is on: from the byte at the offset `begin` to the last one
--- before the offset `end`; with the offset from which on the span isn't read, or `None` if nothing is to be said of that;
--- and with what names its game (`names_of`), or `None` of a piece that is too long
+-- before the offset `end`; with the first word of its game as an explanation shows it; with the offset from which on the
+-- span isn't read, or `None` if nothing is to be said of that; and with what names its game (`names_of`), or `None` of a
+-- piece that is too long
 pub record Placed : Type 0 where
   pub begin : ℕ
   pub end : ℕ
+  pub first : List ℕ
   pub unread : Option ℕ
   pub names : Option (List ℕ)
   pub report : Report
@@ -89,6 +91,7 @@ pub data AreReportsOf (goes_on strict : Bool) (start : ℕ) (text : List ℕ) : 
       → AreReportsOf goes_on strict start text at (record {
         begin = start + game_begin text at;
         end = start + end.offset;
+        first = shown (drop (game_begin text at) text);
         unread = None;
         names = Some (names_of game.tokens);
         report = Game (length s.moves) end.outcome end.termination;
@@ -103,6 +106,7 @@ pub data AreReportsOf (goes_on strict : Bool) (start : ℕ) (text : List ℕ) : 
       → AreReportsOf goes_on strict start text at (record {
         begin = start + game_begin text at;
         end = start + unwrap_or next (length text);
+        first = shown (drop (game_begin text at) text);
         unread = option_map (λ offset. start + offset) (unread_from goes_on (length text) fault.offset next);
         names = Some (names_of game.tokens);
         report = Faulty (record fault { offset = start + fault.offset })
@@ -127,6 +131,7 @@ AreReportsIn strict offset piece reports =
     (reports ≡ record {
       begin = offset;
       end = offset + length piece;
+      first = [];
       unread = Some offset;
       names = None;
       report = Faulty (record { kind = Pgn TooLong; offset = offset }) offset (shown piece);
@@ -154,26 +159,30 @@ abbrev pub unread_text : Option ℕ → ℕ → List ℕ
 unread_text from end = option_map_or (λ begin. codes " | bytes " ++ (decimal begin ++ (codes " to " ++ (decimal end
     ++ codes " not read")))) from []
 
--- what is written of a report; `input` is what was read of the input, `number` the report's number, and `span` the end
--- of its line. If it is on a fault, `names` comes after that, and `unread` is the end of its explanation
-abbrev pub written_line : VerifyOptions → List ℕ → ℕ → List ℕ → List ℕ → List ℕ → Report → List ℕ
--- a game's line, such as `game 3: 4 half-moves, 0-1, time forfeit`, unless `options.quiet` leaves it out. Before `span`
+-- what is written of a report, which is given with its span (`placed`) and again; `input` is what was read of the input,
+-- and `number` the report's number
+abbrev pub written_line : VerifyOptions → List ℕ → ℕ → Placed → Report → List ℕ
+-- a game's line, such as `game 3: 4 half-moves, 0-1, time forfeit`, unless `options.quiet` leaves it out. Before its span
 -- comes what the game's last tag Termination names, if anything
-written_line options input number span names unread (Game plies outcome termination) =
+written_line options input number placed (Game plies outcome termination) =
     if options.quiet then [] else report_line number (decimal plies ++ (codes " half-moves, " ++ (outcome_text outcome
-    ++ (option_map_or (λ t. codes ", " ++ termination_text t) termination [] ++ span))))
+    ++ (option_map_or (λ t. codes ", " ++ termination_text t) termination []
+    ++ span_text options placed.begin placed.end))))
 -- a fault's line, such as `game 2: illegal move at byte 39`, and with `options.explain` the line that explains it
-written_line options input number span names unread (Faulty fault wrong_at explanation) =
-    report_line number (fault_name fault.kind ++ (codes " at byte " ++ (decimal fault.offset ++ (span ++ names))))
-    ++ (if options.explain then explanation_line input wrong_at (explanation ++ unread) else [])
+written_line options input number placed (Faulty fault wrong_at explanation) =
+    report_line number (fault_name fault.kind ++ (codes " at byte " ++ (decimal fault.offset
+    ++ (span_text options placed.begin placed.end ++ names_text options placed.names))))
+    ++ (if options.explain
+    then explanation_line input (if is_at_begin fault.kind then placed.begin else wrong_at)
+    ((if is_at_begin fault.kind then placed.first else []) ++ (explanation ++ unread_text placed.unread placed.end))
+    else [])
 
 -- the lines of these reports, which are numbered from `number` on; a report whose line `quiet` leaves out has a number
 -- too. `input` is what was read of the input
 abbrev pub report_lines : VerifyOptions → List ℕ → ℕ → List Placed → List ℕ
 report_lines options input number [] = []
 report_lines options input number (placed ∷ rest) =
-    written_line options input number (span_text options placed.begin placed.end) (names_text options placed.names)
-    (unread_text placed.unread placed.end) placed.report ++ report_lines options input (number + 1) rest
+    written_line options input number placed placed.report ++ report_lines options input (number + 1) rest
 
 -- ---- the counts
 

@@ -1,16 +1,15 @@
 //! The lines on a fault: its own, and the one that explains it.
 
-ghost use Rattle.std.specs.Prelude.{◌≡◌, ◌≤◌, ◌<◌, ◌+◌, ◌^◌, ◌++◌, ◌∷◌, [], true, not, if◌then◌else◌, List, ℕ, length, take, drop, decimal, codes, Some, None};
+ghost use Rattle.std.specs.Prelude.{◌≡◌, ◌≤◌, ◌<◌, ◌+◌, ◌^◌, ◌++◌, [], true, not, if◌then◌else◌, List, ℕ, length, take, drop, decimal, codes, Some, None};
 ghost use Rattle.std.specs.List.{count_by, suffix_len};
 ghost use Rattle.std.specs.Option.{option_map, option_map_or};
 ghost use Rattle.arrayvec.specs.ArrayVec.{array_vec_len};
-ghost use Rattle.byte_devices.specs.Bytes.{new_line};
 ghost use Rattle.chess_fen.specs.Writing.{fen};
 ghost use Rattle.chess_game.specs.Ends.{verdict_result, result_text};
 ghost use Rattle.chess_game.specs.Game.{current, verdict_now};
 ghost use Rattle.chess_pgn.specs.declared.read.PgnFaultKind.TheVariants.{TooLong};
-ghost use Rattle.pgn_pieces.specs.Places.{breaks_line, line_ends, line_of, column_of};
-ghost use Rattle.pgn_verifier.specs.Explanations.{wrong_part, has_position, explanation_line, shown};
+ghost use Rattle.pgn_pieces.specs.Places.{breaks_line, line_ends};
+ghost use Rattle.pgn_verifier.specs.Explanations.{is_at_begin, wrong_part, has_position, explanation_line, shown};
 ghost use Rattle.chess_game.specs.Results.{outcome_text};
 ghost use Rattle.pgn_verifier.specs.declared.game_fault.FaultKind.TheVariants.{Pgn};
 ghost use Rattle.pgn_verifier.specs.WrongParts.{move_reason};
@@ -32,8 +31,8 @@ use chess_moves::Board;
 use chess_pgn::PgnFaultKind;
 use pgn_pieces::line_ends;
 
-// The most bytes of the lines on a fault: of its own 300, and of the one that explains it 386.
-const FAULT_LINES_LEN: usize = 686;
+// The most bytes of the lines on a fault: of its own 300, and of the one that explains it 466.
+const FAULT_LINES_LEN: usize = 766;
 
 /// The lines on a fault.
 pub(crate) type FaultLines = ArrayVec<u8, FAULT_LINES_LEN>;
@@ -108,7 +107,41 @@ fn shown_part(kind: FaultKind, text: &[u8]) -> Shown
         FaultKind::Pgn(PgnFaultKind::BadFen(fault)) => {
             shown_field(wrong_field(fault, fen_text(text)))
         }
+        FaultKind::Pgn(PgnFaultKind::NoResult) => Shown::new(),
         _ => shown(text),
+    }
+}
+
+// Whether a fault is explained where its game begins, and the game's first word is shown: a missing result.
+fn is_at_begin(kind: FaultKind) -> bool
+    ensures { result ≡ is_at_begin kind }
+{
+    matches!(kind, FaultKind::Pgn(PgnFaultKind::NoResult))
+}
+
+// The bytes of a text before the one where a fault is explained: before the game's beginning (`begin`), or before the
+// part that is wrong (`wrong`).
+fn before_place(text: &[u8], kind: FaultKind, begin: usize, wrong: usize) -> &[u8]
+    requires begin { begin ≤ length text.now }
+    requires wrong { wrong ≤ length text.now }
+    ensures value { result.now ≡ take (if is_at_begin kind then begin else wrong) text.now }
+    ensures few { length result.now ≤ length text.now }
+{
+    if is_at_begin(kind) {
+        &text[..begin]
+    } else {
+        &text[..wrong]
+    }
+}
+
+// Appends the first word of a game, if the fault is explained where the game begins.
+fn append_first(lines: &mut FaultLines, kind: FaultKind, first: &[u8])
+    requires { array_vec_len lines.old + length first.now ≤ FAULT_LINES_LEN }
+    ensures text { lines.new.items ≡ lines.old.items ++ (if is_at_begin kind then first.now else []) }
+    ensures len { array_vec_len lines.new ≤ array_vec_len lines.old + length first.now }
+{
+    if is_at_begin(kind) {
+        append(lines, first);
     }
 }
 
@@ -258,23 +291,17 @@ fn append_unread(lines: &mut FaultLines, unread: Option<Span>)
     }
 }
 
-// Appends the line that explains a fault of the game, without its end, where the part that is wrong is on this line and
-// in this column; `text` is the text from the fault's byte on. In the clause `text`, `unread` is what comes after it.
+// Appends the text that explains a fault of the game; `text` is the text from the fault's byte on.
 fn append_explanation<B: Board>(
     lines: &mut FaultLines,
-    line: usize,
-    column: usize,
     text: &[u8],
     kind: FaultKind,
     game: &Game<B>,
 )
-    requires { array_vec_len lines.old ≤ 300 }
-    ensures text { (input : List ℕ) (begin : ℕ) (unread : List ℕ) → line ≡ line_of input begin
-        → column ≡ column_of input begin → lines.new.items ++ (unread ++ new_line ∷ []) ≡ lines.old.items
-        ++ explanation_line input begin (explanation_of game.now.state text.now kind ++ unread) }
-    ensures len { array_vec_len lines.new ≤ array_vec_len lines.old + 323 }
+    requires { array_vec_len lines.old + 258 ≤ FAULT_LINES_LEN }
+    ensures text { lines.new.items ≡ lines.old.items ++ explanation_of game.now.state text.now kind }
+    ensures len { array_vec_len lines.new ≤ array_vec_len lines.old + 258 }
 {
-    append_place(lines, line, column);
     append(lines, shown_part(kind, text).as_slice());
     append_position(lines, kind, game);
     append_reason(lines, kind, text, game.verdict());
@@ -291,23 +318,29 @@ pub(crate) fn fault_lines<B: Board>(
     game: &Game<B>,
 ) -> FaultLines
     requires within { fault.offset ≤ length text.now }
+    requires begin { label.now.begin ≤ length text.now }
     requires few { start.offset + length text.now ≤ 2 ^ 63 }
     requires few_lines { start.line + length text.now < 2 ^ 64 }
     ensures { (input : List ℕ) → StandsIf explain start input text.now
         → result.items
         ≡ fault_line label.now.game.number (moved start.offset fault) (span_written label.now.game.span)
-        label.now.names.items ++ (if explain then explanation_line input
-        (start.offset + fault.offset + (wrong_part fault.kind (drop fault.offset text.now)).0)
-        (explanation_of game.now.state (drop fault.offset text.now) fault.kind ++ unread_written label.now.unread)
+        label.now.names.items ++ (if explain
+        then explanation_line input (if is_at_begin fault.kind then start.offset + label.now.begin
+        else start.offset + fault.offset + (wrong_part fault.kind (drop fault.offset text.now)).0)
+        ((if is_at_begin fault.kind then label.now.first.items else [])
+        ++ (explanation_of game.now.state (drop fault.offset text.now) fault.kind ++ unread_written label.now.unread))
         else []) }
 {
     let mut lines = fault_line(label, fault.moved(start.offset));
     if explain {
         let rest = &text[fault.offset..];
-        let before = &text[..fault.offset + part_offset(fault.kind, rest)];
+        let wrong = fault.offset + part_offset(fault.kind, rest);
+        let before = before_place(text, fault.kind, label.begin, wrong);
         let line = line_after(start.line, before);
         let column = column_after(before);
-        append_explanation(&mut lines, line, column, rest, fault.kind, game);
+        append_place(&mut lines, line, column);
+        append_first(&mut lines, fault.kind, label.first.as_slice());
+        append_explanation(&mut lines, rest, fault.kind, game);
         append_unread(&mut lines, label.unread);
         lines.push(b'\n');
     }

@@ -173,6 +173,7 @@ counted_games_of_pieces legal law initial strict offset piece reports h = at (na
         (reports ≡ record {
           begin = offset;
           end = offset + length piece;
+          first = [];
           unread = Some offset;
           names = None;
           report = Faulty (record { kind = Pgn TooLong; offset = offset }) offset (shown piece);

@@ -254,7 +254,7 @@ fn faults_in_pieces_are_explained(rt: HostRuntime) {
         EXPLAINED,
         b"[Site \"s\"]\r\n[Event \"a\"]\r\n1. e4\r\n[Site \"t\"]\n[Event \"b\"]\n1. d4 *\n[Event \"c\"]\n1. f3 e5 2. g4\nQh4 a3 0-1",
         Verified::FaultReported,
-        b"game 1: no result at byte 32\n# line 4 column 1 (end) | rnbqkbnr/pppppppp/8/8/4P3/8/PPPP1PPP/RNBQKBNR b KQkq e3 0 1\ngame 3: move after the end at byte 94\n# line 9 column 5 a3 | rnb1kbnr/pppp1ppp/8/4p3/6Pq/5P2/PPPPP2P/RNBQKBNR w KQkq - 1 3 | 0-1 {Black mates}\ngames 1 half-moves 1 faults 2\n",
+        b"game 1: no result at byte 32\n# line 1 column 1 [Site | rnbqkbnr/pppppppp/8/8/4P3/8/PPPP1PPP/RNBQKBNR b KQkq e3 0 1\ngame 3: move after the end at byte 94\n# line 9 column 5 a3 | rnb1kbnr/pppp1ppp/8/4p3/6Pq/5P2/PPPPP2P/RNBQKBNR w KQkq - 1 3 | 0-1 {Black mates}\ngames 1 half-moves 1 faults 2\n",
     );
 }
 
@@ -718,7 +718,7 @@ const UNREAD: [(&[u8], &[u8]); 3] = [
     ),
     (
         b"[Event \"a\"]\n1. e4\n",
-        b"game 1: no result at byte 18\n# line 3 column 1 (end) | rnbqkbnr/pppppppp/8/8/4P3/8/PPPP1PPP/RNBQKBNR b KQkq e3 0 1\ngames 0 half-moves 0 faults 1\n",
+        b"game 1: no result at byte 18\n# line 1 column 1 [Event | rnbqkbnr/pppppppp/8/8/4P3/8/PPPP1PPP/RNBQKBNR b KQkq e3 0 1\ngames 0 half-moves 0 faults 1\n",
     ),
 ];
 

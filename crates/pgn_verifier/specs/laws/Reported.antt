@@ -99,6 +99,7 @@ abbrev pub game_placed : ℕ → List ℕ → ℕ → PgnEnd → State → Place
 game_placed start text at end s = record {
   begin = start + game_begin text at;
   end = start + end.offset;
+  first = shown (drop (game_begin text at) text);
   unread = None;
   names = Some (names_at text at);
   report = Game (length s.moves) end.outcome end.termination;
@@ -109,6 +110,7 @@ abbrev pub fault_placed : Bool → ℕ → List ℕ → ℕ → Option ℕ → G
 fault_placed goes_on start text at next fault s = record {
   begin = start + game_begin text at;
   end = start + unwrap_or next (length text);
+  first = shown (drop (game_begin text at) text);
   unread = option_map (λ offset. start + offset) (unread_from goes_on (length text) fault.offset next);
   names = Some (names_at text at);
   report = Faulty (record fault { offset = start + fault.offset })
@@ -144,6 +146,7 @@ abbrev pub too_long_placed : Piece → Placed
 too_long_placed piece = record {
   begin = piece.offset;
   end = piece.offset + length piece.bytes;
+  first = [];
   unread = Some piece.offset;
   names = None;
   report = too_long_report piece;

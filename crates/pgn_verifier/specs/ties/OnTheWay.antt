@@ -82,6 +82,7 @@ abbrev pub too_long_seen : PieceSeen → Placed
 too_long_seen piece = record {
   begin = piece.offset;
   end = piece.end;
+  first = [];
   unread = Some piece.offset;
   names = None;
   report = Faulty (record { kind = Pgn TooLong; offset = piece.offset }) piece.offset (shown piece.beginning);

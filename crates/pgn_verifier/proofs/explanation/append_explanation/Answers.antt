@@ -1,11 +1,9 @@
 -- The parts were put one after the other, and the definition groups them to the right.
 use Rattle.std.proofs.Common.{append_assoc}
-use Rattle.pgn_verifier.specs.Explanations.{explanation_line}
 use Rattle.pgn_verifier.proofs.explanation.append_explanation.Goals as goal
 
 pub returns-clause-text : goal.returns-clause-text
-unfolding explanation_line
-returns-clause-text g c input offset unread line column =
+returns-clause-text g c =
     rw (
       c.append_reason.ensures.text,
       c.verdict.ensures,
@@ -13,7 +11,4 @@ returns-clause-text g c input offset unread line column =
       c.append.ensures.text,
       c.as_slice.ensures.value,
       c.shown_part.ensures,
-      c.append_place.ensures.text,
-      line,
-      column,
     ) (simp append_assoc)

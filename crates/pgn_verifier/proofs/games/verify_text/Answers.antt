@@ -109,7 +109,8 @@ loop-end-preserved-in-Some g c =
     let lines = fault_lines_are c.args.options c.args.start text c.loop-end.at fault s c.loop-end.tally
     c.of_game-faulty.result c.of_game-after.result after.next after.unread
     (c.of_game-faulty.ensures.number ∙ c.next_number-number.ensures) c.of_game-faulty.ensures.span
-    c.of_game-faulty.ensures.names c.of_game-faulty.ensures.unread in
+    c.of_game-faulty.ensures.names c.of_game-faulty.ensures.begin c.of_game-faulty.ensures.first
+    c.of_game-faulty.ensures.unread in
     let done = c.loop-end.invariant.1.0
     ++ fault_placed c.args.start.goes_on c.args.start.offset text c.loop-end.at
     (next_at c.args.start.goes_on text c.loop-end.at) fault s ∷ [] in (
@@ -139,7 +140,8 @@ returns-in-None-clause-written g c input stands =
     let lines = fault_lines_are c.args.options c.args.start text c.loop-end.at fault s c.loop-end.tally
     c.of_game-faulty.result c.of_game-after.result after.next after.unread
     (c.of_game-faulty.ensures.number ∙ c.next_number-number.ensures) c.of_game-faulty.ensures.span
-    c.of_game-faulty.ensures.names c.of_game-faulty.ensures.unread in
+    c.of_game-faulty.ensures.names c.of_game-faulty.ensures.begin c.of_game-faulty.ensures.first
+    c.of_game-faulty.ensures.unread in
     subst (λ (t : Tally). Writes {E = WriteFault} c.args.options input c.args.before w w'' (Ok t)
     (placed_of c.args.start.goes_on c.args.options.strict c.args.start.offset text)) (sym c.with_fault-tally.ensures)
     (fault_written c.args.options c.args.start text c.args.before w w' w'' c.loop-end.at c.loop-end.tally
@@ -160,7 +162,8 @@ returns-in_err-put-in-Err-clause-written g c input stands =
     let lines = fault_lines_are c.args.options c.args.start text c.loop-end.at fault s c.loop-end.tally
     c.of_game-faulty.result c.of_game-after.result after.next after.unread
     (c.of_game-faulty.ensures.number ∙ c.next_number-number.ensures) c.of_game-faulty.ensures.span
-    c.of_game-faulty.ensures.names c.of_game-faulty.ensures.unread in
+    c.of_game-faulty.ensures.names c.of_game-faulty.ensures.begin c.of_game-faulty.ensures.first
+    c.of_game-faulty.ensures.unread in
     let p = err_from_is_err_and c.from_residual-in_err-put-in-Err.result c.from_residual-in_err-put-in-Err.ensures.1 in
     rw p.1 (fault_broke c.args.options c.args.start text c.args.before w w' w'' c.loop-end.at c.loop-end.tally
     c.loop-end.invariant.1.0 c.loop-end.invariant.1.1 fault s (sym c.in-Err.ensures.judged) c.in-Err.ensures.game
