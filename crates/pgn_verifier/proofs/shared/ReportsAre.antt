@@ -97,7 +97,7 @@ module _ (goes_on strict : Bool) (start : ℕ) (text : List ℕ) where
       (none_left (subst (IsJudged strict text (length text) (read_at text (length text)).state)
       (none_at_end strict text) (judged_is strict text (length text)))))
 
-  pub from_here : (n at : ℕ) → at ≤ length text → length text < n + at
+  from_here : (n at : ℕ) → at ≤ length text → length text < n + at
       → AreReportsOf goes_on strict start text at (placed_from goes_on strict start n text at)
   unfolding placed_from
   from_here zero at h k = absurd (omega (arith, h, k))
