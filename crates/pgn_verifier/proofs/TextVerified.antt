@@ -73,25 +73,25 @@ module _ (options : VerifyOptions) (place : TextStart) (text : List ℕ) (before
   abbrev next : Option ℕ
   next = next_at goes_on text at
 
-  abbrev all : List Placed
-  all = placed_of goes_on options.strict start text
+  abbrev reports : List Placed
+  reports = placed_of goes_on options.strict start text
 
   abbrev later : ℕ → ℕ → List Placed
   later n from = placed_from goes_on options.strict start n text from
 
   -- the report that comes, with those after it
   due : (answer : Result (Option PgnEnd) GameFault) (g : State) → judged_at options.strict text at ≡ answer
-      → g ≡ (read_at text at).state → all ≡ done ++ placed_then goes_on start text at next answer g (later s.n)
+      → g ≡ (read_at text at).state → reports ≡ done ++ placed_then goes_on start text at next answer g (later s.n)
   due answer g h k = s.all ∙ ap (λ xs. done ++ xs) (left goes_on options.strict start s.n text at answer g h k)
 
   abbrev Stands : List ℕ → Type 0
   Stands input = StandsIf options.explain place input text
 
   pub all_written : (E : Type 0) (input : List ℕ) → Stands input → judged_at options.strict text at ≡ Ok None
-      → Writes {E = E} options input before w w' (Ok tally) all
+      → Writes {E = E} options input before w w' (Ok tally) reports
   all_written E input stands h =
-      let whole : all ≡ done = due (Ok None) (read_at text at).state h refl ∙ append-nil done in
-      subst (Writes {E = E} options input before w w' (Ok tally)) (sym whole) (s.took input stands, s.is)
+      let only : reports ≡ done = due (Ok None) (read_at text at).state h refl ∙ append-nil done in
+      subst (Writes {E = E} options input before w w' (Ok tally)) (sym only) (s.took input stands, s.is)
 
   -- a report more, after which the text is read on from the offset `there`
   read_on : (r : Placed) (after : Tally) (there : ℕ) → at < there → there ≤ length text
@@ -99,11 +99,11 @@ module _ (options : VerifyOptions) (place : TextStart) (text : List ℕ) (before
       → after.games + after.faults ≤ before.games + before.faults + there
       → after.half_moves ≤ before.half_moves + there
       → ((input : List ℕ) → Stands input → Took w' w'' (placed_line options input (next_number tally) r))
-      → all ≡ done ++ r ∷ later s.n there → SoFar options place text before w w'' there after (done ++ r ∷ [])
+      → reports ≡ done ++ r ∷ later s.n there → SoFar options place text before w w'' there after (done ++ r ∷ [])
   read_on r after there further within is few few_moves took longer =
       let enough = s.enough in by_number s.n enough longer
     where
-      by_number : (n : ℕ) → length text < at + suc n → all ≡ done ++ r ∷ later n there
+      by_number : (n : ℕ) → length text < at + suc n → reports ≡ done ++ r ∷ later n there
           → SoFar options place text before w w'' there after (done ++ r ∷ [])
       by_number zero enough longer = absurd (omega (arith, enough, further, within))
       by_number (suc m) enough longer = record {
@@ -138,7 +138,7 @@ module _ (options : VerifyOptions) (place : TextStart) (text : List ℕ) (before
       → judged_at options.strict text at ≡ Ok (Some end) → g ≡ (read_at text at).state
       → CutShort w' w'' (if options.quiet then [] else game_line (next_number tally) (length g.moves) end.outcome
       end.termination (span_at options start text at end.offset))
-      → Writes options input before w w'' (Err e) all
+      → Writes options input before w w'' (Err e) reports
   game_broke e input stands end g h k broke =
       let r = game_placed start text at end g in
       let rest = later s.n end.offset in
@@ -170,9 +170,9 @@ module _ (options : VerifyOptions) (place : TextStart) (text : List ℕ) (before
     -- one after which it doesn't
     pub fault_written : (E : Type 0) (input : List ℕ) → Stands input → next ≡ None
         → Took w' w'' (placed_line options input (next_number tally) faulty)
-        → Writes {E = E} options input before w w'' (Ok with_fault) all
+        → Writes {E = E} options input before w w'' (Ok with_fault) reports
     fault_written E input stands none took =
-        let last : all ≡ done ++ faulty ∷ [] =
+        let last : reports ≡ done ++ faulty ∷ [] =
         due (Err fault) g h k ∙ ap (λ o. done ++ faulty ∷ option_map_or (later s.n) o []) none in
         subst (Writes {E = E} options input before w w'' (Ok with_fault)) (sym last)
         (writes_after options input before tally w w' w'' done (s.took input stands) s.is {E = E} (Ok with_fault)
@@ -181,7 +181,7 @@ module _ (options : VerifyOptions) (place : TextStart) (text : List ℕ) (before
 
     pub fault_broke : {E : Type 0} (e : E) (input : List ℕ) → Stands input
         → CutShort w' w'' (placed_line options input (next_number tally) faulty)
-        → Writes options input before w w'' (Err e) all
+        → Writes options input before w w'' (Err e) reports
     fault_broke e input stands broke =
         let rest = option_map_or (later s.n) next [] in
         subst (λ xs. CutShort w w'' (report_lines options input (next_number before) xs)) (sym (due (Err fault) g h k))

@@ -89,13 +89,9 @@ none_at_end strict text =
     (read_of_split MOST_MOVES (length text) ts).answer) (none_from_end text)
 
 module _ (goes_on strict : Bool) (start : ℕ) (text : List ℕ) where
-  nothing_after : (next : Option ℕ) → (more : List Placed) → next ≡ None → more ≡ []
-      → AreReportsOf goes_on strict start text (unwrap_or next (length text)) more
-  nothing_after next more none is =
-      subst (λ ps. AreReportsOf goes_on strict start text (unwrap_or next (length text)) ps) (sym is)
-      (subst (λ o. AreReportsOf goes_on strict start text (unwrap_or o (length text)) []) (sym none)
-      (none_left (subst (IsJudged strict text (length text) (read_at text (length text)).state)
-      (none_at_end strict text) (judged_is strict text (length text)))))
+  nothing_there : AreReportsOf goes_on strict start text (length text) []
+  nothing_there = none_left (subst (IsJudged strict text (length text) (read_at text (length text)).state)
+      (none_at_end strict text) (judged_is strict text (length text)))
 
   from_here : (n at : ℕ) → at ≤ length text → length text < n + at
       → AreReportsOf goes_on strict start text at (placed_from goes_on strict start n text at)
@@ -114,7 +110,7 @@ module _ (goes_on strict : Bool) (start : ℕ) (text : List ℕ) where
       after_fault : (next : Option ℕ) → IfSome next (λ m. (at < m) × (m ≤ length text)) → Later
           → AreReportsOf goes_on strict start text (unwrap_or next (length text))
           (option_map_or (λ m. placed_from goes_on strict start n text m) next [])
-      after_fault None h later = nothing_after None [] refl refl
+      after_fault None h later = nothing_there
       after_fault (Some m) low later = let further = low.0 in later m low.1 (omega (arith, k, further))
 
       by_answer : (r : Result (Option PgnEnd) GameFault) → IsJudged strict text at s r → EndsIn (length text) at r → Later
