@@ -1,25 +1,25 @@
 //! The lines on a fault: its own, and the one that explains it.
 
-ghost use Rattle.std.specs.Prelude.{◌≡◌, ◌≤◌, ◌<◌, ◌+◌, ◌^◌, ◌++◌, [], true, not, if◌then◌else◌, List, ℕ, length, take, drop, decimal, codes, Some, None};
-ghost use Rattle.std.specs.List.{count_by, suffix_len};
+ghost use Rattle.std.specs.Prelude.{◌≡◌, ◌≤◌, ◌<◌, ◌+◌, ◌^◌, ◌++◌, [], true, if◌then◌else◌, List, ℕ, length, take, drop, decimal, codes, Some, None};
 ghost use Rattle.std.specs.Option.{option_map, option_map_or};
 ghost use Rattle.arrayvec.specs.ArrayVec.{array_vec_len};
 ghost use Rattle.chess_fen.specs.Writing.{fen};
 ghost use Rattle.chess_game.specs.Ends.{verdict_result, result_text};
 ghost use Rattle.chess_game.specs.Game.{current, verdict_now};
 ghost use Rattle.chess_pgn.specs.declared.read.PgnFaultKind.TheVariants.{TooLong};
-ghost use Rattle.pgn_pieces.specs.Places.{breaks_line, line_ends};
 ghost use Rattle.pgn_verifier.specs.Explanations.{is_at_begin, wrong_part, has_position, explanation_line, shown};
 ghost use Rattle.chess_game.specs.Results.{outcome_text};
 ghost use Rattle.pgn_verifier.specs.declared.game_fault.FaultKind.TheVariants.{Pgn};
 ghost use Rattle.pgn_verifier.specs.WrongParts.{move_reason};
 ghost use Rattle.pgn_verifier.specs.laws.Reasons.{reason, explanation_of};
+ghost use Rattle.pgn_verifier.specs.ties.Counting.{IsHere};
 ghost use Rattle.pgn_verifier.specs.ties.OnTheWay.{StandsIf, moved, fault_line, span_written, unread_written};
 ghost use Rattle.pgn_verifier.specs.declared.explanation.TheConstants.{FAULT_LINES_LEN};
 
 use crate::fen_field::{fen_text, field_offset, wrong_field};
 use crate::game_fault::{FaultKind, GameFault, fault_name};
 use crate::label::{FaultLabel, Span, append_span};
+use crate::place::Place;
 use crate::shown::{Shown, shown, shown_field};
 use crate::start::TextStart;
 use crate::token_reason::{bad_tag_reason, move_reason, token_reason};
@@ -29,7 +29,6 @@ use chess_fen::write_fen;
 use chess_game::{Game, Outcome, Verdict};
 use chess_moves::Board;
 use chess_pgn::PgnFaultKind;
-use pgn_pieces::line_ends;
 
 // The most bytes of the lines on a fault: of its own 300, and of the one that explains it 466.
 const FAULT_LINES_LEN: usize = 766;
@@ -55,36 +54,6 @@ fn fault_line(label: &FaultLabel, fault: GameFault) -> FaultLines
     append(&mut lines, label.names.as_slice());
     lines.push(b'\n');
     lines
-}
-
-// Whether columns are counted anew after this byte: it is `\n` or `\r`.
-fn breaks_line(byte: u8) -> bool
-    ensures { result ≡ breaks_line byte }
-{
-    byte == b'\n' || byte == b'\r'
-}
-
-// How many bytes a text has after its last `\n` or `\r`.
-fn last_line_len(text: &[u8]) -> usize
-    ensures value { result ≡ suffix_len (λ c. not (breaks_line c)) text.now }
-    ensures within { result ≤ length text.now }
-{
-    text.iter().rev().take_while(|byte| !breaks_line(**byte)).count()
-}
-
-// The line of the byte after these, which begin on the line `start`.
-fn line_after(start: usize, before: &[u8]) -> usize
-    requires { start + length before.now < 2 ^ 64 }
-    ensures { result ≡ start + line_ends before.now }
-{
-    start + line_ends(before)
-}
-
-// The column of the byte after these, which begin where a line begins.
-fn column_after(before: &[u8]) -> usize
-    ensures { result ≡ suffix_len (λ c. not (breaks_line c)) before.now + 1 }
-{
-    last_line_len(before) + 1
 }
 
 // How many bytes after a fault's byte the part begins that is wrong: of a FEN the field that is shown for its fault,
@@ -119,19 +88,18 @@ fn is_at_begin(kind: FaultKind) -> bool
     matches!(kind, FaultKind::Pgn(PgnFaultKind::NoResult))
 }
 
-// The bytes of a text before the one where a fault is explained: before the game's beginning (`begin`), or before the
-// part that is wrong (`wrong`).
-fn before_place(text: &[u8], kind: FaultKind, begin: usize, wrong: usize) -> &[u8]
+/// The offset of a text at which a fault is explained: that of its game's beginning (`begin`), or of the part that is wrong.
+pub(crate) fn explained_at(fault: GameFault, begin: usize, text: &[u8]) -> usize
+    requires offset { fault.offset ≤ length text.now }
     requires begin { begin ≤ length text.now }
-    requires wrong { wrong ≤ length text.now }
-    ensures value { result.now ≡ take (if is_at_begin kind then begin else wrong) text.now }
-    ensures few { length result.now ≤ length text.now }
+    ensures value { result ≡ (if is_at_begin fault.kind then begin
+        else fault.offset + (wrong_part fault.kind (drop fault.offset text.now)).0) }
+    ensures within { result ≤ length text.now }
 {
-    if is_at_begin(kind) {
-        &text[..begin]
-    } else {
-        &text[..wrong]
+    if is_at_begin(fault.kind) {
+        return begin;
     }
+    fault.offset + part_offset(fault.kind, &text[fault.offset..])
 }
 
 // Appends the first word of a game, if the fault is explained where the game begins.
@@ -307,40 +275,35 @@ fn append_explanation<B: Board>(
     append_reason(lines, kind, text, game.verdict());
 }
 
-/// The lines on a fault of the game: its own, and with `explain` the one that explains it. The fault is in a text that
-/// begins at `start`.
+/// The lines on a fault of the game: its own, and with `explain` the one that explains it. The fault is in this text, and
+/// is explained at this place.
 pub(crate) fn fault_lines<B: Board>(
     explain: bool,
     label: &FaultLabel,
-    start: TextStart,
+    place: Place,
     text: &[u8],
     fault: GameFault,
     game: &Game<B>,
 ) -> FaultLines
     requires within { fault.offset ≤ length text.now }
-    requires begin { label.now.begin ≤ length text.now }
-    requires few { start.offset + length text.now ≤ 2 ^ 63 }
-    requires few_lines { start.line + length text.now < 2 ^ 64 }
-    ensures { (input : List ℕ) → StandsIf explain start input text.now
+    requires few { place.start.offset + length text.now ≤ 2 ^ 63 }
+    requires there { explain ≡ true → place.offset ≡ (if is_at_begin fault.kind then label.now.begin
+        else fault.offset + (wrong_part fault.kind (drop fault.offset text.now)).0) }
+    ensures { (input : List ℕ) → (explain ≡ true → IsHere place input)
         → result.items
-        ≡ fault_line label.now.game.number (moved start.offset fault) (span_written label.now.game.span)
+        ≡ fault_line label.now.game.number (moved place.start.offset fault) (span_written label.now.game.span)
         label.now.names.items ++ (if explain
-        then explanation_line input (if is_at_begin fault.kind then start.offset + label.now.begin
-        else start.offset + fault.offset + (wrong_part fault.kind (drop fault.offset text.now)).0)
+        then explanation_line input (if is_at_begin fault.kind then place.start.offset + label.now.begin
+        else place.start.offset + fault.offset + (wrong_part fault.kind (drop fault.offset text.now)).0)
         ((if is_at_begin fault.kind then label.now.first.items else [])
         ++ (explanation_of game.now.state (drop fault.offset text.now) fault.kind ++ unread_written label.now.unread))
         else []) }
 {
-    let mut lines = fault_line(label, fault.moved(start.offset));
+    let mut lines = fault_line(label, fault.moved(place.start.offset));
     if explain {
-        let rest = &text[fault.offset..];
-        let wrong = fault.offset + part_offset(fault.kind, rest);
-        let before = before_place(text, fault.kind, label.begin, wrong);
-        let line = line_after(start.line, before);
-        let column = column_after(before);
-        append_place(&mut lines, line, column);
+        append_place(&mut lines, place.line, place.column);
         append_first(&mut lines, fault.kind, label.first.as_slice());
-        append_explanation(&mut lines, rest, fault.kind, game);
+        append_explanation(&mut lines, &text[fault.offset..], fault.kind, game);
         append_unread(&mut lines, label.unread);
         lines.push(b'\n');
     }

@@ -8,10 +8,11 @@ ghost use Rattle.pgn_verifier.specs.ties.OnTheWay.{StandsIf, Writes, GrowsBy};
 
 use crate::after_fault::AfterFault;
 use crate::contradiction::contradiction;
-use crate::explanation::fault_lines;
+use crate::explanation::{explained_at, fault_lines};
 use crate::game_fault::GameFault;
 use crate::label::{FaultLabel, Label};
 use crate::options::VerifyOptions;
+use crate::place::Place;
 use crate::report::write_game;
 use crate::start::TextStart;
 use crate::tally::Tally;
@@ -85,6 +86,8 @@ pub(crate) fn verify_text<W: Output>(
 {
     let mut at = 0;
     let mut tally = before;
+    // Lines and columns are counted on from here.
+    let mut place = Place::at_start(start);
     loop {
         let number = tally.next_number();
         match judge_game(options.strict, text, at, game) {
@@ -99,7 +102,9 @@ pub(crate) fn verify_text<W: Output>(
             Err(fault) => {
                 let after = AfterFault::of_game(start.goes_on, text, at, fault.offset);
                 let faulty = FaultLabel::of_game(options, number, start.offset, text, at, after);
-                let lines = fault_lines(options.explain, &faulty, start, text, fault, game);
+                let explained = explained_at(fault, faulty.begin, text);
+                place = place.counted_to(options.explain, text, explained);
+                let lines = fault_lines(options.explain, &faulty, place, text, fault, game);
                 put(output, lines.as_slice())?;
                 tally = tally.with_fault();
                 let Some(next) = after.next else {

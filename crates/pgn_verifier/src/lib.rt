@@ -26,6 +26,7 @@ mod games;
 mod label;
 mod names;
 mod options;
+mod place;
 mod report;
 mod shown;
 mod start;

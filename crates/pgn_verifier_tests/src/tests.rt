@@ -707,7 +707,12 @@ fn games_after_a_fault_are_read(rt: HostRuntime) {
 }
 
 // What is not read since no end of the game is found is said, and only that.
-const UNREAD: [(&[u8], &[u8]); 3] = [
+const UNREAD: [(&[u8], &[u8]); 4] = [
+    // Lines and columns are counted from one fault to the next.
+    (
+        b"1. e4 Ke7 1-0\n1. e4\n Qa5 1-0 1. Ke7 *\n",
+        b"game 1: illegal move at byte 6\n# line 1 column 7 Ke7 | rnbqkbnr/pppppppp/8/8/4P3/8/PPPP1PPP/RNBQKBNR b KQkq e3 0 1\ngame 2: illegal move at byte 21\n# line 3 column 2 Qa5 | rnbqkbnr/pppppppp/8/8/4P3/8/PPPP1PPP/RNBQKBNR b KQkq e3 0 1\ngame 3: illegal move at byte 32\n# line 3 column 13 Ke7 | rnbqkbnr/pppppppp/8/8/8/8/PPPPPPPP/RNBQKBNR w KQkq - 0 1\ngames 0 half-moves 0 faults 3\n",
+    ),
     (
         b"1. e4 & 1-0\n1. e4 1-0\n",
         b"game 1: bad token at byte 6\n# line 1 column 7 & | rnbqkbnr/pppppppp/8/8/4P3/8/PPPP1PPP/RNBQKBNR b KQkq e3 0 1 | begins no token | bytes 6 to 22 not read\ngames 0 half-moves 0 faults 1\n",

@@ -1,13 +1,17 @@
 -- The games up to here were reported (TextVerified.SoFar). A game more keeps that, and so does a fault after which reading
 -- goes on; no game, any other fault and a failed write each end it by one lemma (for the lines on a fault: FaultLines).
-use Rattle.std.proofs.Common.{◌≡◌, ◌+◌, ◌∙◌, ◌++◌, ◌∷◌, [], Ok, length, sym, ap, subst}
+use Rattle.std.proofs.Common.{◌≡◌, ◌+◌, ◌∙◌, ◌++◌, ℕ, List, ◌∷◌, [], Ok, length, sym, ap, subst, arith}
 use Rattle.std.specs.Prelude.{if◌then◌else◌}
 use Rattle.byte_devices.specs.Devices.{Took, CutShort}
 use Rattle.byte_devices.specs.declared.traits.WriteFault.{WriteFault}
 use Rattle.pgn_verifier.specs.declared.tally.Tally.{Tally}
 use Rattle.pgn_verifier.specs.laws.Reported.{next_at, game_placed, fault_placed, placed_of}
-use Rattle.pgn_verifier.specs.ties.OnTheWay.{Writes, game_line}
+use Rattle.pgn_verifier.specs.declared.place.Place.{Place}
+use Rattle.pgn_verifier.specs.declared.start.TextStart.{TextStart}
+use Rattle.pgn_verifier.specs.ties.Counting.{Known}
+use Rattle.pgn_verifier.specs.ties.OnTheWay.{StandsIf, Writes, game_line}
 use Rattle.pgn_verifier.proofs.FaultLines.{fault_lines_are}
+use Rattle.pgn_verifier.proofs.Placed.{known_at_start}
 use Rattle.pgn_verifier.proofs.TextVerified.{SoFar, begun, span_at, all_written, game_written, game_broke, fault_passed, fault_written, fault_broke}
 use Rattle.std.proofs.lemmas.Result.{err_from_is_err_and}
 use Rattle.pgn_verifier.proofs.games.verify_text.Goals as goal
@@ -16,7 +20,24 @@ pub loop-end-init : goal.loop-end-init
 loop-end-init g c = (
   c.requires.limit,
   ([], begun c.args.options c.args.start c.args.text.now c.args.before (g.W.Output.seen c.args.output.now)),
+  ap (λ (p : Place). p.start) c.at_start-place.ensures,
+  subst (Known c.args.options.explain c.args.text.now) (sym c.at_start-place.ensures)
+      (known_at_start c.args.options.explain c.args.text.now c.args.start),
 )
+
+pub counted_to-place-requires-clause-few_lines : goal.counted_to-place-requires-clause-few_lines
+counted_to-place-requires-clause-few_lines g c =
+    let same = ap (λ (t : TextStart). t.line) c.loop-end.invariant.2 in
+    let few = c.requires.few_lines in omega (arith, same, few)
+
+pub fault_lines-lines-requires-clause-few : goal.fault_lines-lines-requires-clause-few
+fault_lines-lines-requires-clause-few g c =
+    let same = ap (λ (t : TextStart). t.offset) (c.counted_to-place.ensures.start ∙ c.loop-end.invariant.2) in
+    let few = c.requires.few in omega (arith, same, few)
+
+pub fault_lines-lines-requires-clause-there : goal.fault_lines-lines-requires-clause-there
+fault_lines-lines-requires-clause-there g c explains =
+    c.counted_to-place.ensures.there explains ∙ c.explained_at-explained.ensures.value
 
 pub returns-in-Ok-None-clause-written : goal.returns-in-Ok-None-clause-written
 returns-in-Ok-None-clause-written g c input stands =
@@ -91,6 +112,8 @@ loop-end-preserved g c =
             game_line c.of_game-label.result.number c.ply-plies.result end.outcome end.termination t))
             c.of_game-label.ensures.span c.in_ok-write_game-in-Ok-Some.ensures)))),
       ),
+      c.loop-end.invariant.2,
+      c.loop-end.invariant.3,
     )
 
 -- a fault after which reading goes on
@@ -103,6 +126,10 @@ loop-end-preserved-in-Some g c =
     let fault = c.in-Err.fault in
     let s = c.judge_game.new.game.state in
     let after = c.of_game-after.ensures in
+    let same = c.counted_to-place.ensures.start ∙ c.loop-end.invariant.2 in
+    let written = λ (input : List ℕ) (stands : StandsIf c.args.options.explain c.args.start input text).
+    (rw same at (c.fault_lines-lines.ensures input (c.counted_to-place.ensures.known.here input
+    (subst (λ (t : TextStart). StandsIf c.args.options.explain t input text) (sym same) stands)))) in
     let next = sym after.next ∙ c.in-Some.is in
     let further = rw c.in-Some.is at after.further in
     let within = rw c.in-Some.is at after.within in
@@ -122,9 +149,11 @@ loop-end-preserved-in-Some g c =
             (fault_passed c.args.options c.args.start text c.args.before w w' w'' c.loop-end.at c.loop-end.tally
             c.loop-end.invariant.1.0 c.loop-end.invariant.1.1 fault s (sym c.in-Err.ensures.judged)
             c.in-Err.ensures.game c.in-Some.next next further within
-            (λ input stands. subst (Took w' w'') (c.as_slice.ensures.value ∙ c.fault_lines-lines.ensures input stands
+            (λ input stands. subst (Took w' w'') (c.as_slice.ensures.value ∙ written input stands
             ∙ lines input) c.in_ok-put-in-Err.ensures)),
       ),
+      c.counted_to-place.ensures.start ∙ c.loop-end.invariant.2,
+      c.counted_to-place.ensures.known,
     )
 
 -- one after which it doesn't
@@ -137,6 +166,10 @@ returns-in-None-clause-written g c input stands =
     let fault = c.in-Err.fault in
     let s = c.judge_game.new.game.state in
     let after = c.of_game-after.ensures in
+    let same = c.counted_to-place.ensures.start ∙ c.loop-end.invariant.2 in
+    let written = λ (input : List ℕ) (stands : StandsIf c.args.options.explain c.args.start input text).
+    (rw same at (c.fault_lines-lines.ensures input (c.counted_to-place.ensures.known.here input
+    (subst (λ (t : TextStart). StandsIf c.args.options.explain t input text) (sym same) stands)))) in
     let lines = fault_lines_are c.args.options c.args.start text c.loop-end.at fault s c.loop-end.tally
     c.of_game-faulty.result c.of_game-after.result after.next after.unread
     (c.of_game-faulty.ensures.number ∙ c.next_number-number.ensures) c.of_game-faulty.ensures.span
@@ -147,7 +180,7 @@ returns-in-None-clause-written g c input stands =
     (fault_written c.args.options c.args.start text c.args.before w w' w'' c.loop-end.at c.loop-end.tally
     c.loop-end.invariant.1.0 c.loop-end.invariant.1.1 fault s (sym c.in-Err.ensures.judged) c.in-Err.ensures.game
     WriteFault input stands (sym after.next ∙ c.in-None.is)
-    (subst (Took w' w'') (c.as_slice.ensures.value ∙ c.fault_lines-lines.ensures input stands ∙ lines input)
+    (subst (Took w' w'') (c.as_slice.ensures.value ∙ written input stands ∙ lines input)
     c.in_ok-put-in-Err.ensures))
 
 pub returns-in_err-put-in-Err-clause-written : goal.returns-in_err-put-in-Err-clause-written
@@ -159,6 +192,10 @@ returns-in_err-put-in-Err-clause-written g c input stands =
     let fault = c.in-Err.fault in
     let s = c.judge_game.new.game.state in
     let after = c.of_game-after.ensures in
+    let same = c.counted_to-place.ensures.start ∙ c.loop-end.invariant.2 in
+    let written = λ (input : List ℕ) (stands : StandsIf c.args.options.explain c.args.start input text).
+    (rw same at (c.fault_lines-lines.ensures input (c.counted_to-place.ensures.known.here input
+    (subst (λ (t : TextStart). StandsIf c.args.options.explain t input text) (sym same) stands)))) in
     let lines = fault_lines_are c.args.options c.args.start text c.loop-end.at fault s c.loop-end.tally
     c.of_game-faulty.result c.of_game-after.result after.next after.unread
     (c.of_game-faulty.ensures.number ∙ c.next_number-number.ensures) c.of_game-faulty.ensures.span
@@ -168,5 +205,5 @@ returns-in_err-put-in-Err-clause-written g c input stands =
     rw p.1 (fault_broke c.args.options c.args.start text c.args.before w w' w'' c.loop-end.at c.loop-end.tally
     c.loop-end.invariant.1.0 c.loop-end.invariant.1.1 fault s (sym c.in-Err.ensures.judged) c.in-Err.ensures.game
     c.in_err-put-in-Err.field-0.0 input stands
-    (subst (CutShort w' w'') (c.as_slice.ensures.value ∙ c.fault_lines-lines.ensures input stands ∙ lines input)
+    (subst (CutShort w' w'') (c.as_slice.ensures.value ∙ written input stands ∙ lines input)
     c.in_err-put-in-Err.ensures))
