@@ -3,7 +3,7 @@ use Rattle.std.specs.Prelude.{◌≡◌, ◌≤◌, ◌^◌, ℕ, ◌+◌, ◌-�
 use Rattle.std.specs.Io.KnownBytes.{Consumes, IsAtEnd}
 use Rattle.std.specs.List.{onto_first, take_while, prefix_len, list_any, list_all, concat, fold}
 use Rattle.std.specs.Str.{bytes_eq}
-use Rattle.byte_devices.specs.Bytes.{is_blank, is_name_byte}
+use Rattle.byte_devices.specs.Bytes.{byte, is_blank, is_name_byte}
 use Rattle.byte_devices.specs.Devices.{InputState, saturating_increment}
 use Rattle.pgn_pieces.specs.Places.{ends_line, breaks_line}
 use Rattle.pgn_pieces.specs.declared.pieces.PieceFault.{PieceFault}
@@ -50,10 +50,20 @@ abbrev pub is_empty_line : List ℕ → Bool
 is_empty_line line = bytes_eq (take 1 (front_of line)) (codes "%") || bytes_eq (take 1 (front_of line)) (codes ";")
     || list_all (λ c. is_blank c || (c == 13) || ends_line c) (front_of line)
 
--- whether a line counts as one of moves: any line that is neither a tag line nor empty. That includes a tag that
--- `is_tag_line` does not take, and a line inside a `{` comment, unless it is empty or looks like a tag line
+-- what comes after the first tag in the front of a tag line, and after any spaces and tabs there: `1. e4 *` of
+-- `[Result "1-0"] 1. e4 *`. Empty if no `"]` ends the tag; its value goes to the next quote, even after a backslash
+abbrev pub after_tag : List ℕ → List ℕ
+after_tag front = let value = drop 1 (after_name front) in
+    let close = drop (prefix_len (λ c. not (c == byte "\"")) value) value in
+    if bytes_eq (take 2 close) (codes "\"]") then without_blanks (drop 2 close) else []
+
+-- whether a line counts as one of moves: any line that is neither a tag line nor empty, and a tag line on which a letter,
+-- digit, `_` or `*` comes after its first tag. The former includes a tag that `is_tag_line` does not take, and a line
+-- inside a `{` comment, unless it is empty or looks like a tag line
 abbrev pub is_moves_line : List ℕ → Bool
-is_moves_line line = not (is_tag_line line || is_empty_line line)
+is_moves_line line = if is_tag_line line
+    then list_any (λ c. is_name_byte c || c == byte "*") (take 1 (after_tag (front_of line)))
+    else not (is_empty_line line)
 
 -- ---- the pieces of a text
 

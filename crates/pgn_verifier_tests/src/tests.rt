@@ -640,7 +640,7 @@ fn a_game_that_is_cut_between_its_tags_has_a_fault(rt: HostRuntime) {
 }
 
 // Collections, and what is written of them: after a fault reading goes on where its game ends.
-const READ_ON: [(&[u8], &[u8]); 10] = [
+const READ_ON: [(&[u8], &[u8]); 11] = [
     // Tags and moves on one line, as in pgn-extract's test-nobadresults.pgn.
     (
         b"[Result \"1-0\"] 1. e4 1-0\n[Result \"0-1\"] 1. e4 Ke7 0-1\n[Result \"1-0\"] 1. e4 Qa5 1-0\n",
@@ -664,6 +664,11 @@ const READ_ON: [(&[u8], &[u8]); 10] = [
     (
         b"[White \"a\"] 1. e4\n[White \"b\"] 1. e4 *\n",
         b"game 1: no result at byte 18, bytes 0 to 18\ngame 2: 1 half-moves, *, bytes 18 to 37\ngames 1 half-moves 1 faults 1\n",
+    ),
+    // A comment that isn't closed hides no game that begins on a line of its own.
+    (
+        b"[White \"a\"] 1. e4 {\n[White \"b\"] 1. e4 *\n",
+        b"game 1: unclosed comment at byte 18, bytes 0 to 20\ngame 2: 1 half-moves, *, bytes 20 to 39\ngames 1 half-moves 1 faults 1\n",
     ),
     // Markers in comments and variations don't count, nor do those among other words.
     (
