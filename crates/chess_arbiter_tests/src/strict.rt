@@ -178,11 +178,11 @@ const COLLECTION: &[u8] =
 const BY_ARGUMENTS: [(&[&str], &[u8]); 4] = [
     (
         &["verify", "--strict", "--keep-going"],
-        b"game 1: result differs at byte 21\ngame 2: board says otherwise at byte 76\ngame 3: 1 half-moves, *\ngames 1 half-moves 1 faults 2\n",
+        b"game 1: result differs at byte 21\ngame 2: 1 half-moves, *\ngame 3: board says otherwise at byte 76\ngame 4: 1 half-moves, *\ngame 5: 1 half-moves, *\ngames 3 half-moves 3 faults 2\n",
     ),
     (
         &["verify", "--keep-going", "--quiet", "--strict"],
-        b"game 1: result differs at byte 21\ngame 2: board says otherwise at byte 76\ngames 1 half-moves 1 faults 2\n",
+        b"game 1: result differs at byte 21\ngame 3: board says otherwise at byte 76\ngames 3 half-moves 3 faults 2\n",
     ),
     (
         &["verify", "--quiet", "--strict"],

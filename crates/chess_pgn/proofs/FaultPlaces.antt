@@ -83,7 +83,7 @@ game_in_place limit total (suc n) begins g (c ∷ rest) h =
 
 -- ---- the offset where reading begins
 
-not_before : (text : List ℕ) (at : ℕ) → at ≤ length text → (at ≤ after_byte_order_mark text at)
+pub not_before : (text : List ℕ) (at : ℕ) → at ≤ length text → (at ≤ after_byte_order_mark text at)
     × (after_byte_order_mark text at ≤ length text)
 not_before text at h = pick (λ (n : ℕ). (at ≤ n) × (n ≤ length text))
     (eqb at 0 && bytes_eq (take 3 text) (239 ∷ 187 ∷ 191 ∷ [])) _ _ (λ e. mark (and_parts (eqb at 0) _ e))

@@ -4,6 +4,7 @@ mod Cuts
 mod FaultPlaces
 mod FenVariants
 mod Gaps
+mod GameEnds
 mod GameReads
 mod LastTagReads
 mod LeftTokens

@@ -4,6 +4,7 @@ pub mod Words
 pub mod LastTags
 pub mod GameTags
 pub mod GameRead
+pub mod GameEnds
 pub mod laws
 pub mod shared
 pub mod ties

@@ -3,3 +3,4 @@ pub mod Seen
 pub mod VariationParts
 pub mod GameSteps
 pub mod TagsLeft
+pub mod TagsPassed

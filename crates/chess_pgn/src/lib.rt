@@ -21,6 +21,7 @@
 #![tactic(auto)]
 
 mod bytes;
+mod game_end;
 mod last_tag;
 mod laws;
 mod progress;
@@ -37,6 +38,7 @@ mod word_kind;
 mod words;
 
 pub use chess_game::{HowEnded, TagText};
+pub use game_end::game_end;
 pub use laws::{faults_have_offsets, half_moves_have_bytes};
 pub use pgn_writer::{Tags, Termination, outcome_of, write_pgn};
 pub use read::{PgnEnd, PgnFault, PgnFaultKind, read_pgn};

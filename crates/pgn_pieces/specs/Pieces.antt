@@ -3,7 +3,7 @@ use Rattle.std.specs.Prelude.{◌≡◌, ◌≤◌, ◌^◌, ℕ, ◌+◌, ◌-�
 use Rattle.std.specs.Io.KnownBytes.{Consumes, IsAtEnd}
 use Rattle.std.specs.List.{onto_first, take_while, prefix_len, list_any, list_all, concat, fold}
 use Rattle.std.specs.Str.{bytes_eq}
-use Rattle.byte_devices.specs.Bytes.{is_blank, is_name_byte}
+use Rattle.byte_devices.specs.Bytes.{byte, is_blank, is_name_byte}
 use Rattle.byte_devices.specs.Devices.{InputState, saturating_increment}
 use Rattle.pgn_pieces.specs.Places.{ends_line, breaks_line}
 use Rattle.pgn_pieces.specs.declared.pieces.PieceFault.{PieceFault}
@@ -49,9 +49,19 @@ abbrev pub is_empty_line : List ℕ → Bool
 is_empty_line line = bytes_eq (take 1 (front_of line)) (codes "%") || bytes_eq (take 1 (front_of line)) (codes ";")
     || list_all (λ c. is_blank c || (c == 13) || ends_line c) (front_of line)
 
--- whether a line counts as one of moves: it is neither a tag line nor empty, even if it is in a `{` comment
+-- what comes after the first tag in the front of a tag line and any spaces and tabs; nothing if no `"]` ends the tag.
+-- Its value goes to the next quote, even one after a backslash
+abbrev pub after_tag : List ℕ → List ℕ
+after_tag front = let value = drop 1 (after_name front) in
+    let close = drop (prefix_len (λ c. not (c == byte "\"")) value) value in
+    if bytes_eq (take 2 close) (codes "\"]") then without_blanks (drop 2 close) else []
+
+-- whether a line counts as one of moves, even if it is in a `{` comment: one that is neither a tag line nor empty, or a
+-- tag line with a letter, digit, `_` or `*` after its first tag
 abbrev pub is_moves_line : List ℕ → Bool
-is_moves_line line = not (is_tag_line line || is_empty_line line)
+is_moves_line line = if is_tag_line line
+    then list_any (λ c. is_name_byte c || c == byte "*") (take 1 (after_tag (front_of line)))
+    else not (is_empty_line line)
 
 -- ---- the pieces of a text
 

@@ -26,7 +26,7 @@ use Rattle.pgn_verifier.specs.declared.tally.Tally.{Tally}
 use Rattle.pgn_verifier.specs.declared.fault.VerifyFault.TheVariants.{WriteFailed}
 use Rattle.pgn_verifier.specs.Reports.{Faulty, Placed, report_lines, without_spans, counts_line, counts_of}
 use Rattle.pgn_verifier.specs.Collection.{VerifiesCollection}
-use Rattle.pgn_verifier.specs.laws.Reported.{placed_on, placed_in, collection_placed, too_long_placed}
+use Rattle.pgn_verifier.specs.laws.Reported.{placed_of, placed_in, collection_placed, too_long_placed}
 use Rattle.pgn_verifier.specs.ties.OnTheWay.{WritesCollection, Writes, PieceStandsIf, GrowsBy, reports_seen, reports_of, counted, collection_lines}
 use Rattle.pgn_verifier.specs.Faults.{of_piece}
 use Rattle.pgn_verifier.proofs.Placed.{piece_there}
@@ -50,12 +50,14 @@ seen_alike strict piece = by_test (nat_le (length piece.bytes) PIECE_LEN)
     too_long_with text = record {
       begin = piece.offset;
       end = piece.offset + length piece.bytes;
+      first = [];
+      unread = Some piece.offset;
       names = None;
       report = Faulty (record { kind = Pgn TooLong; offset = piece.offset }) piece.offset text;
     }
 
-    by_test : (b : Bool) → (if b then placed_on strict piece.offset piece.bytes else too_long_placed piece ∷ [])
-        ≡ option_map_or (placed_on strict piece.offset) (if b then Some piece.bytes else None)
+    by_test : (b : Bool) → (if b then placed_of true strict piece.offset piece.bytes else too_long_placed piece ∷ [])
+        ≡ option_map_or (placed_of true strict piece.offset) (if b then Some piece.bytes else None)
         (too_long_with (shown (take 40 piece.bytes)) ∷ [])
     by_test true = refl
     by_test false = ap (λ t. too_long_with t ∷ []) (sym (shown_beginning piece.bytes))

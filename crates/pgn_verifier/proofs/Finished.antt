@@ -33,7 +33,8 @@ sent_more a b c x y h k = record {
 }
 
 -- a text that is read as a whole begins with the input
-pub whole_there : (explain : Bool) (text : List ℕ) → StandsIf explain (record { offset = 0; line = 1 }) text text
+pub whole_there : (explain : Bool) (text : List ℕ)
+    → StandsIf explain (record { offset = 0; line = 1; goes_on = false }) text text
 whole_there explain text h = record { bytes = take-length text; line = refl; column = refl }
 
 pub whole_lines : (options : VerifyOptions) (t : Tally) (text : List ℕ) → t ≡ none

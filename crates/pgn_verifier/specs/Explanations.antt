@@ -9,7 +9,7 @@ use Rattle.chess_game.specs.Game.{State, current}
 use Rattle.chess_game.specs.Results.{outcome_text}
 use Rattle.chess_game.specs.declared.verdicts.Verdict.{Verdict}
 use Rattle.chess_pgn.specs.Tokens.{is_white_space}
-use Rattle.chess_pgn.specs.declared.read.PgnFaultKind.TheVariants.{BadTag, BadFen, BadToken, IllegalMove, AfterEnd}
+use Rattle.chess_pgn.specs.declared.read.PgnFaultKind.TheVariants.{BadTag, BadFen, BadToken, IllegalMove, AfterEnd, NoResult}
 use Rattle.pgn_pieces.specs.Places.{line_of, column_of}
 use Rattle.pgn_verifier.specs.declared.game_fault.FaultKind.{FaultKind}
 use Rattle.pgn_verifier.specs.declared.game_fault.FaultKind.TheVariants.{Pgn, ResultDiffers, BoardSaysOtherwise}
@@ -27,6 +27,12 @@ shown text = shown_word (take_while (λ c. not (is_white_space c)) (take 40 text
 
 -- ---- the part that is wrong
 
+-- whether such a fault is explained where its game begins, by the game's first word: a missing result, whose byte is
+-- the next game's, or the text's end
+abbrev pub is_at_begin : FaultKind → Bool
+is_at_begin (Pgn NoResult) = true
+is_at_begin _ = false
+
 -- the part that is wrong: how many bytes after the fault's byte it begins, and what is shown of it. `text` is the text
 -- from the fault's byte on
 abbrev pub wrong_part : FaultKind → List ℕ → ℕ × List ℕ
@@ -35,6 +41,8 @@ abbrev pub wrong_part : FaultKind → List ℕ → ℕ × List ℕ
 wrong_part (Pgn (BadFen fault)) text =
     let all = take_while (λ c. not (c == byte "\"")) text in let number = field_number fault all in
     (length all - length (from_field number all), shown_word (take 80 (field_at number all)))
+-- of a missing result nothing is there (see `is_at_begin`)
+wrong_part (Pgn NoResult) text = (0, [])
 -- of any other fault it is the first word from the fault's byte on
 wrong_part _ text = (0, shown text)
 

@@ -1,12 +1,13 @@
 -- The reports on the games of a text and of pieces, their lines and their counts.
-use Rattle.std.specs.Prelude.{◌≡◌, ℕ, ◌+◌, ◌==◌, nat_le, Bool, not, if◌then◌else◌, List, [], ◌∷◌, ◌++◌, length, map, take, drop, codes, decimal, is_some, Option, Some, None, Ok, Err}
+use Rattle.std.specs.Prelude.{◌≡◌, ℕ, ◌+◌, ◌==◌, ◌&&◌, nat_le, nat_lt, Bool, true, false, not, if◌then◌else◌, List, [], ◌∷◌, ◌++◌, length, map, take, drop, codes, decimal, is_some, Option, Some, None, Ok, Err}
 use Rattle.std.specs.List.{count_by, prefix_len, sum_by}
 use Rattle.std.specs.Bool.{MatchBool}
-use Rattle.std.specs.Option.{unwrap_or, option_map_or}
+use Rattle.std.specs.Option.{unwrap_or, option_map, option_map_or}
 use Rattle.byte_devices.specs.Bytes.{new_line, shown_byte, after_byte_order_mark}
 use Rattle.chess_game.specs.Game.{State, verdict_now}
 use Rattle.chess_game.specs.Results.{outcome_text}
 use Rattle.chess_game.specs.declared.results.Outcome.{Outcome}
+use Rattle.chess_pgn.specs.GameEnds.{game_end}
 use Rattle.chess_pgn.specs.LastTags.{last_tag, tag_section}
 use Rattle.chess_pgn.specs.Tokens.{Token, is_white_space}
 use Rattle.chess_pgn.specs.declared.read.PgnEnd.{PgnEnd}
@@ -14,7 +15,7 @@ use Rattle.chess_pgn.specs.declared.read.PgnFaultKind.TheVariants.{TooLong}
 use Rattle.pgn_writer.specs.declared.termination.Termination.{Termination}
 use Rattle.pgn_writer.specs.Terminations.{termination_text}
 use Rattle.pgn_pieces.specs.declared.pieces.TheConstants.{PIECE_LEN}
-use Rattle.pgn_verifier.specs.Explanations.{IsReason, shown, wrong_part, explanation, explanation_line}
+use Rattle.pgn_verifier.specs.Explanations.{IsReason, shown, is_at_begin, wrong_part, explanation, explanation_line}
 use Rattle.pgn_verifier.specs.GameFaults.{IsJudged, fault_name}
 use Rattle.pgn_verifier.specs.declared.game_fault.FaultKind.TheVariants.{Pgn}
 use Rattle.pgn_verifier.specs.declared.game_fault.GameFault.{GameFault}
@@ -35,10 +36,13 @@ pub data Report : Type 0 where
   Faulty : (fault : GameFault) (wrong_at : ℕ) (explanation : List ℕ) → Report
 
 -- a report with its span, the part of the input that it is on: from the byte at the offset `begin` to the last one
--- before the offset `end`; and with what names its game (`names_of`), or `None` of a piece that is too long
+-- before the offset `end`; with its game's first word; with the offset from which on the span isn't read, if that is to
+-- be said; and with what names its game (`names_of`), or `None` of a piece that is too long
 pub record Placed : Type 0 where
   pub begin : ℕ
   pub end : ℕ
+  pub first : List ℕ
+  pub unread : Option ℕ
   pub names : Option (List ℕ)
   pub report : Report
 
@@ -65,41 +69,66 @@ abbrev pub fault_in : ℕ → List ℕ → GameFault → List ℕ → Report
 fault_in start text fault why = Faulty (record fault { offset = start + fault.offset })
     (start + fault.offset + (wrong_part fault.kind (drop fault.offset text)).0) why
 
+-- where a text of `total` bytes is read on after a game with these tokens that has a fault: where the game ends, if
+-- reading is to go on (`goes_on`) and that is found
+abbrev pub next_begin : Bool → ℕ → List (ℕ × Token) → Option ℕ
+next_begin goes_on total tokens = if goes_on then game_end total tokens else None
+
+-- the offset from which on a text of `total` bytes isn't read: that of a fault after which it isn't found where to go
+-- on (`next`); `None` if reading isn't to go on, or nothing is left
+abbrev pub unread_from : Bool → ℕ → ℕ → Option ℕ → Option ℕ
+unread_from goes_on total offset next =
+    if goes_on && not (is_some next) && nat_lt offset total then Some offset else None
+
 -- these are the reports on the games of `text`, which begins at the offset `start` of the input: on those from the
--- text's offset `at` on (the last argument but one), up to the first with a fault
-pub data AreReports (strict : Bool) (start : ℕ) (text : List ℕ) : ℕ → List Placed → Type 0 where
+-- text's offset `at` on (the last argument but one), up to the first with a fault after which it isn't read on
+-- (`next_begin`)
+pub data AreReportsOf (goes_on strict : Bool) (start : ℕ) (text : List ℕ) : ℕ → List Placed → Type 0 where
   -- no game comes from `at` on
-  none_left : {at : ℕ} {s : State} → IsJudged strict text at s (Ok None) → AreReports strict start text at []
+  none_left : {at : ℕ} {s : State} → IsJudged strict text at s (Ok None) → AreReportsOf goes_on strict start text at []
   -- the next game has no fault; the other reports are on the games after it
   next_game : {at : ℕ} {s : State} {end : PgnEnd} {reports : List Placed}
-      (game : IsJudged strict text at s (Ok (Some end))) → AreReports strict start text end.offset reports
-      → AreReports strict start text at (record {
+      (game : IsJudged strict text at s (Ok (Some end))) → AreReportsOf goes_on strict start text end.offset reports
+      → AreReportsOf goes_on strict start text at (record {
         begin = start + game_begin text at;
         end = start + end.offset;
+        first = shown (drop (game_begin text at) text);
+        unread = None;
         names = Some (names_of game.tokens);
         report = Game (length s.moves) end.outcome end.termination;
       } ∷ reports)
-  -- the next game has a fault. What comes after the fault is not read, so its span goes to the text's end
-  last_fault : {at : ℕ} {s : State} {fault : GameFault} (reason : Option (List ℕ))
-      (game : IsJudged strict text at s (Err fault))
+  -- the next game has a fault. It ends where reading goes on, or at the text's end, and the other reports are on the
+  -- games after that
+  next_fault : {at : ℕ} {s : State} {fault : GameFault} {reports : List Placed} (reason : Option (List ℕ))
+      (next : Option ℕ) (game : IsJudged strict text at s (Err fault))
       → IsReason fault.kind (drop fault.offset text) (verdict_now s) reason
-      → AreReports strict start text at (record {
+      → next ≡ next_begin goes_on (length text) game.tokens
+      → AreReportsOf goes_on strict start text (unwrap_or next (length text)) reports
+      → AreReportsOf goes_on strict start text at (record {
         begin = start + game_begin text at;
-        end = start + length text;
+        end = start + unwrap_or next (length text);
+        first = shown (drop (game_begin text at) text);
+        unread = option_map (λ offset. start + offset) (unread_from goes_on (length text) fault.offset next);
         names = Some (names_of game.tokens);
         report = fault_in start text fault (explanation s (drop fault.offset text) fault.kind reason);
-      } ∷ [])
+      } ∷ reports)
+
+-- the reports on a text up to the first game with a fault
+abbrev pub AreReports : Bool → ℕ → List ℕ → ℕ → List Placed → Type 0
+AreReports = AreReportsOf false
 
 -- ---- the reports on the games of pieces
 
--- these are the reports on a piece that begins at this offset of the input, as a text of its own; or, if it has more
--- than 16,777,216 bytes, the one report that it is too long, which is a fault at its first byte
+-- these are the reports on a piece that begins at this offset of the input, as a text of its own, also after faults;
+-- or, if it has more than 16,777,216 bytes, the one report that it is too long, which is a fault at its first byte
 abbrev pub AreReportsIn : Bool → ℕ → List ℕ → List Placed → Type 0
 AreReportsIn strict offset piece reports =
-    MatchBool (nat_le (length piece) PIECE_LEN) (AreReports strict offset piece 0 reports)
+    MatchBool (nat_le (length piece) PIECE_LEN) (AreReportsOf true strict offset piece 0 reports)
     (reports ≡ record {
       begin = offset;
       end = offset + length piece;
+      first = [];
+      unread = Some offset;
       names = None;
       report = Faulty (record { kind = Pgn TooLong; offset = offset }) offset (shown piece);
     } ∷ [])
@@ -120,25 +149,34 @@ span_text options begin end =
 abbrev pub names_text : VerifyOptions → Option (List ℕ) → List ℕ
 names_text options names = option_map_or (λ text. codes " | " ++ text) (if options.names then names else None) []
 
--- what is written of a report; `input` is what was read of the input, `number` the report's number, `span` and `names`
--- the end of its line, `names` only on a fault
-abbrev pub written_line : VerifyOptions → List ℕ → ℕ → List ℕ → List ℕ → Report → List ℕ
+-- the end of a fault's explanation: which bytes aren't read, such as ` | bytes 151 to 606 not read`, if any
+abbrev pub unread_text : Option ℕ → ℕ → List ℕ
+unread_text from end = option_map_or (λ begin. codes " | bytes " ++ (decimal begin ++ (codes " to " ++ (decimal end
+    ++ codes " not read")))) from []
+
+-- what is written of a report, which is that of `placed`; `input` is what was read of the input, and `number` the
+-- report's number
+abbrev pub written_line : VerifyOptions → List ℕ → ℕ → Placed → Report → List ℕ
 -- a game's line, such as `game 3: 4 half-moves, 0-1, time forfeit`, unless `options.quiet` leaves it out
-written_line options input number span names (Game plies outcome termination) =
+written_line options input number placed (Game plies outcome termination) =
     if options.quiet then [] else report_line number (decimal plies ++ (codes " half-moves, " ++ (outcome_text outcome
-    ++ (option_map_or (λ t. codes ", " ++ termination_text t) termination [] ++ span))))
+    ++ (option_map_or (λ t. codes ", " ++ termination_text t) termination []
+    ++ span_text options placed.begin placed.end))))
 -- a fault's line, such as `game 2: illegal move at byte 39`, and with `options.explain` one that explains it
-written_line options input number span names (Faulty fault wrong_at explanation) =
-    report_line number (fault_name fault.kind ++ (codes " at byte " ++ (decimal fault.offset ++ (span ++ names))))
-    ++ (if options.explain then explanation_line input wrong_at explanation else [])
+written_line options input number placed (Faulty fault wrong_at explanation) =
+    report_line number (fault_name fault.kind ++ (codes " at byte " ++ (decimal fault.offset
+    ++ (span_text options placed.begin placed.end ++ names_text options placed.names))))
+    ++ (if options.explain
+    then explanation_line input (if is_at_begin fault.kind then placed.begin else wrong_at)
+    ((if is_at_begin fault.kind then placed.first else []) ++ (explanation ++ unread_text placed.unread placed.end))
+    else [])
 
 -- the lines of these reports, which are numbered from `number` on, those too that `quiet` leaves out. `input` is what
 -- was read of the input
 abbrev pub report_lines : VerifyOptions → List ℕ → ℕ → List Placed → List ℕ
 report_lines options input number [] = []
 report_lines options input number (placed ∷ rest) =
-    written_line options input number (span_text options placed.begin placed.end) (names_text options placed.names)
-    placed.report ++ report_lines options input (number + 1) rest
+    written_line options input number placed placed.report ++ report_lines options input (number + 1) rest
 
 -- ---- the counts
 

@@ -14,6 +14,7 @@
 //! continues after faults, piece by piece.
 #![tactic(auto)]
 
+mod after_fault;
 mod buffered;
 mod collection;
 mod contradiction;
@@ -25,6 +26,7 @@ mod games;
 mod label;
 mod names;
 mod options;
+mod place;
 mod report;
 mod shown;
 mod start;

@@ -9,7 +9,7 @@ pub struct VerifyOptions {
     /// marker, or a verdict of the board with another outcome.
     pub strict: bool,
     /// Ends each line with the span of its game: the offset of its first byte, and that of the byte after its last. A
-    /// game with a fault goes to the end of its text.
+    /// game with a fault goes to where the next one is read, or to the end of its text.
     pub spans: bool,
     /// Ends the line of each fault with its game's players, event and date, as its tags have them: ` | ` and then
     /// `White - Black, Event Date`.

@@ -3,7 +3,7 @@ use Rattle.std.proofs.Common.{◌≡◌, ◌∙◌, ℕ, zero, suc, ◌+◌, ◌
 use Rattle.std.specs.Prelude.{if◌then◌else◌, nat_le}
 use Rattle.std.specs.Bool.{MatchBool}
 use Rattle.std.specs.List.{filter, list_all}
-use Rattle.std.specs.Option.{option_map_or}
+use Rattle.std.specs.Option.{option_map_or, unwrap_or}
 use Rattle.chess_base.specs.Initial.{initial_setup_of}
 use Rattle.byte_devices.specs.Bytes.{is_digit}
 use Rattle.chess_base.specs.MoveList.{moves}
@@ -33,7 +33,7 @@ use Rattle.chess_pgn.specs.declared.read.PgnFaultKind.TheVariants.{TooLong}
 use Rattle.pgn_verifier.specs.Explanations.{shown}
 use Rattle.pgn_verifier.specs.declared.game_fault.FaultKind.TheVariants.{Pgn}
 use Rattle.pgn_verifier.specs.GameFaults.{IsJudged}
-use Rattle.pgn_verifier.specs.Reports.{AreReports, Placed, Faulty, without_spans, none_left, next_game, last_fault}
+use Rattle.pgn_verifier.specs.Reports.{AreReportsOf, Placed, Faulty, without_spans, none_left, next_game, next_fault}
 use Rattle.pgn_writer.specs.Outcomes.{outcome_of}
 use Rattle.pgn_verifier_laws.specs.Counted.{AreTold, CountedGamesAreGames, CountedGamesOfPiecesAreGames, HasGame, HasGames}
 use Rattle.pgn_verifier_laws.proofs.PartsAlike.{judged_so}
@@ -153,12 +153,13 @@ module _ (legal : ReadMovesAreLegal) (law : GamesAreOfTokens)
         unended = unended MOST_MOVES s.start [] (move_words of.taken) s.moves of.moves;
       }
 
-  has_games : {strict : Bool} {start : ℕ} {text : List ℕ} {at : ℕ} {reports : List Placed}
-      → AreReports strict start text at reports → HasGames text at (without_spans reports)
+  has_games : {goes_on strict : Bool} {start : ℕ} {text : List ℕ} {at : ℕ} {reports : List Placed}
+      → AreReportsOf goes_on strict start text at reports → HasGames text at (without_spans reports)
   has_games (none_left j) = tt
-  has_games {strict} {start} {text} (next_game {at} {s} {end} {reports} j h) =
+  has_games {goes_on} {strict} {start} {text} (next_game {at} {s} {end} {reports} j h) =
       (end.offset, has_game strict text at s end j, has_games h)
-  has_games (last_fault reason j h) = tt
+  has_games {goes_on} {strict} {start} {text} (next_fault reason next j h there later) =
+      (unwrap_or next (length text), has_games later)
 
 pub counted_games : ReadMovesAreLegal → GamesAreOfTokens → ((v : Variant) → IsSound (initial_setup_of v))
     → CountedGamesAreGames
@@ -168,13 +169,15 @@ pub counted_games_of_pieces : ReadMovesAreLegal → GamesAreOfTokens → ((v : V
     → CountedGamesOfPiecesAreGames
 counted_games_of_pieces legal law initial strict offset piece reports h = at (nat_le (length piece) PIECE_LEN) h
   where
-    at : (b : Bool) → MatchBool b (AreReports strict offset piece 0 reports)
+    at : (b : Bool) → MatchBool b (AreReportsOf true strict offset piece 0 reports)
         (reports ≡ record {
           begin = offset;
           end = offset + length piece;
+          first = [];
+          unread = Some offset;
           names = None;
           report = Faulty (record { kind = Pgn TooLong; offset = offset }) offset (shown piece);
         } ∷ [])
         → HasGames piece 0 (without_spans reports)
     at true are = has_games legal law initial are
-    at false is = subst (λ (all : List Placed). HasGames piece 0 (without_spans all)) (sym is) tt
+    at false is = subst (λ (all : List Placed). HasGames piece 0 (without_spans all)) (sym is) (0, tt)

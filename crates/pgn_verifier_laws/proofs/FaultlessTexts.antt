@@ -1,5 +1,5 @@
 -- If no fault is reported on a text's pieces, then their reports are those on the text.
-use Rattle.std.proofs.Common.{◌≡◌, ℕ, zero, suc, ◌+◌, ◌-◌, ◌<◌, ◌≤◌, Bool, true, false, cond, eqb, not, List, [], ◌∷◌, ◌++◌, length, is_some, get_or, drop, take, Option, Some, None, Result, Ok, Err, refl, sym, ap, subst, ◌∙◌, inl, inr, ◌⊎◌, append_assoc, append-nil, length-append, arith}
+use Rattle.std.proofs.Common.{◌≡◌, ℕ, zero, suc, ◌+◌, ◌-◌, ◌<◌, ◌≤◌, Bool, true, false, cond, eqb, not, List, [], ◌∷◌, ◌++◌, length, get_or, drop, take, Option, Some, None, Result, Ok, Err, refl, sym, ap, subst, ◌∙◌, inl, inr, ◌⊎◌, append_assoc, append-nil, length-append, arith}
 use Rattle.std.specs.Prelude.{nat_le, if◌then◌else◌, ◌&&◌, ◌||◌}
 use Rattle.std.specs.List.{concat, flat_map, list_all, list_any}
 use Rattle.std.specs.Str.{bytes_eq}
@@ -16,7 +16,7 @@ use Rattle.pgn_pieces.specs.Places.{breaks_line}
 use Rattle.pgn_pieces.specs.Stream.{with_offsets, pieces}
 use Rattle.pgn_pieces.specs.declared.pieces.TheConstants.{PIECE_LEN}
 use Rattle.pgn_pieces.proofs.shared.Cuts.{AreLines, no_texts, last_text, next_text, cut_is_all, cut_ends}
-use Rattle.pgn_verifier.specs.Reports.{Report, Game, Faulty, half_moves_of, counts_of, verified}
+use Rattle.pgn_verifier.specs.Reports.{Report, Game, Faulty, counts_of, verified}
 use Rattle.pgn_verifier.specs.declared.game_fault.GameFault.{GameFault}
 use Rattle.pgn_verifier.specs.declared.tally.Verified.TheVariants.{EachGame, FaultReported}
 use Rattle.pgn_verifier_laws.specs.NoFaults.{begins_with_mark, ends_with_return, FaultlessTextsAreReportedAlike}
@@ -24,12 +24,10 @@ use Rattle.pgn_verifier_laws.specs.Parts.{BeginsAlike, HoldsWhole, no_more, game
 use Rattle.pgn_verifier_laws.proofs.Parts.{next_begins, reported_alike, reported_alone, all_reported_alike}
 use Rattle.pgn_verifier_laws.proofs.PartsAlike.{TokenByToken, no_mark}
 use Rattle.pgn_verifier_laws.proofs.PartsRead.{IsClosed, in_text}
-use Rattle.pgn_verifier.specs.laws.Reported.{collection_reports, judged_at, read_at, report_then, reports_from, reports_in, reports_on, too_long_report}
+use Rattle.pgn_verifier.specs.laws.Reported.{collection_reports, judged_at, read_at, report_then, games_from, games_of, reports_from, reports_in, reports_on, too_long_report}
+use Rattle.pgn_verifier_laws.proofs.GoesOn.{is_game, same_of}
 
 -- ---- reports without a fault
-
-abbrev pub is_game : Report → Bool
-is_game r = is_some (half_moves_of r)
 
 no_fault : (r : Report) → eqb (cond (not (is_game r)) 1 0) 0 ≡ is_game r
 no_fault (Game plies outcome termination) = refl
@@ -54,7 +52,7 @@ module _ (law : TokenByToken) (strict : Bool) (start : ℕ) (before part after :
   where
     holds_whole : (k at : ℕ) → BeginsAlike before part after at → at ≤ length part → length part < k + at
         → list_all is_game (reports_from strict start k part at) ≡ true → Holds strict before part after at
-    unfolding reports_from
+    unfolding games_from
     holds_whole zero at begins within many h = absurd (omega (arith, within, many))
     holds_whole (suc k) at begins within many h =
         by_judged (judged_at strict part at) refl (λ next b w m g. holds_whole k next b w m g) h
@@ -62,7 +60,7 @@ module _ (law : TokenByToken) (strict : Bool) (start : ℕ) (before part after :
         by_judged : (j : Result (Option PgnEnd) GameFault) → judged_at strict part at ≡ j
             → ((next : ℕ) → BeginsAlike before part after next → next ≤ length part → length part < k + next
             → list_all is_game (reports_from strict start k part next) ≡ true → Holds strict before part after next)
-            → list_all is_game (report_then start part j (read_at part at).state
+            → list_all is_game (report_then start part None j (read_at part at).state
             (λ next. reports_from strict start k part next)) ≡ true
             → Holds strict before part after at
         by_judged (Ok None) e again all = record {
@@ -200,20 +198,24 @@ module _ (law : TokenByToken) (strict : Bool) where
       later = flat_map (reports_in strict) (with_offsets (offset + length first) parts)
 
       by_length : (b : Bool) → nat_le (length first) PIECE_LEN ≡ b
-          → list_all is_game ((if b then reports_on strict offset first else
+          → list_all is_game ((if b then games_of true strict offset first else
           too_long_report (record { offset = offset; bytes = first }) ∷ []) ++ later) ≡ true
           → AllHold strict offset before (first ∷ parts)
       by_length false e k = absurd (cc)
       by_length true e k =
-          let both = and_parts (list_all is_game (reports_on strict offset first)) (list_all is_game later)
-          (sym (list_all-append is_game (reports_on strict offset first) later) ∙ k) in
-          let part = part_holds law strict offset before first (concat parts) closed begins both.0 in
+          let both = and_parts (list_all is_game (games_of true strict offset first)) (list_all is_game later)
+          (sym (list_all-append is_game (games_of true strict offset first) later) ∙ k) in
+          let same : reports_on strict offset first ≡ games_of true strict offset first =
+          same_of strict offset first true false both.0 in
+          let part = part_holds law strict offset before first (concat parts) closed begins
+          (ap (list_all is_game) same ∙ both.0) in
           let rest = again both.1 in
           record {
             games = part.games ++ rest.games;
             holds = next_part begins part.holds rest.holds;
-            reported = ap (λ b. (if b then reports_on strict offset first else
+            reported = ap (λ b. (if b then games_of true strict offset first else
                 too_long_report (record { offset = offset; bytes = first }) ∷ []) ++ later) e
+                ∙ ap (λ l. l ++ later) (sym same)
                 ∙ ap (λ l. l ++ later)
                 (reported_alike law strict offset before first (concat parts) part.games begins part.holds).alone
                 ∙ ap (λ l. part.games ++ l) rest.reported;

@@ -1,7 +1,7 @@
 -- A game that is read in a text is read in each part of it that holds the game.
-use Rattle.std.proofs.Common.{◌≡◌, ℕ, zero, suc, ◌+◌, ◌-◌, ◌<◌, ◌≤◌, Bool, true, List, [], ◌∷◌, ◌++◌, length, take, drop, Option, Some, Ok, Err, refl, sym, ap, subst, ◌∙◌, append_assoc, append-nil, length-append, arith}
+use Rattle.std.proofs.Common.{◌≡◌, ℕ, zero, suc, ◌+◌, ◌-◌, ◌<◌, ◌≤◌, Bool, true, false, List, [], ◌∷◌, ◌++◌, length, take, drop, Option, Some, None, Ok, Err, refl, sym, ap, subst, ◌∙◌, append_assoc, append-nil, length-append, arith}
 use Rattle.std.specs.Prelude.{nat_le, if◌then◌else◌}
-use Rattle.std.specs.List.{concat, flat_map}
+use Rattle.std.specs.List.{concat, flat_map, list_all}
 use Rattle.std.specs.Option.{option_map_or}
 use Rattle.std.proofs.Math.Seq.{drop-length, take-length}
 use Rattle.std.proofs.lemmas.Bool.{le-leb}
@@ -24,10 +24,11 @@ use Rattle.pgn_pieces.specs.Stream.{with_offsets, pieces}
 use Rattle.pgn_pieces.specs.declared.pieces.TheConstants.{PIECE_LEN}
 use Rattle.pgn_pieces.proofs.shared.Cuts.{cut_is_all}
 use Rattle.pgn_verifier.specs.Reports.{Report, Game}
+use Rattle.pgn_verifier_laws.proofs.GoesOn.{is_game, same_of}
 use Rattle.pgn_verifier_laws.proofs.GamesAlike.{Fits, found}
 use Rattle.pgn_verifier_laws.proofs.PartsAlike.{TokenByToken, there, lines, over, same_variant, outcome_in, same_result, judged_so, agrees, not_before, no_mark}
 use Rattle.pgn_verifier_laws.proofs.PartsRead.{skips_to_end}
-use Rattle.pgn_verifier.specs.laws.Reported.{read_at, report_then, reports_from, reports_in, reports_on, too_long_report}
+use Rattle.pgn_verifier.specs.laws.Reported.{read_at, report_then, games_from, games_of, reports_from, reports_in, reports_on, too_long_report}
 
 -- ---- the part
 
@@ -117,14 +118,16 @@ module _ (law : TokenByToken)
   alone : {at : ℕ} {games : List Report} → HoldsWhole strict before part after at games
       → BeginsAlike before part after at → at ≤ length part → (k : ℕ) → length part < k + at
       → reports_from strict start k part at ≡ games
-  unfolding reports_from
+  unfolding games_from
   alone holds begins within zero many = absurd (omega (arith, within, many))
   alone (no_more {at} none closed) begins within (suc k) many =
-      ap (λ j. report_then start part j (read_at part at).state (λ next. reports_from strict start k part next)) none
+      ap (λ j. report_then start part None j (read_at part at).state
+      (λ next. reports_from strict start k part next)) none
   alone (game {at} {games} end is inside more) begins within (suc k) many =
       let found = in_parts law strict before part after at end begins is inside in
       let next : ℕ = end.offset - length before in
-      ap (λ j. report_then start part j (read_at part at).state (λ n. reports_from strict start k part n)) found.judged
+      ap (λ j. report_then start part None j (read_at part at).state (λ n. reports_from strict start k part n))
+      found.judged
       ∙ ap (λ (s : State). Game (length s.moves) end.outcome end.termination ∷ reports_from strict start k part next)
       found.state
       ∙ ap (λ l. Game (length (read_at (before ++ (part ++ after)) (length before + at)).state.moves) end.outcome
@@ -137,7 +140,7 @@ module _ (law : TokenByToken)
       → BeginsAlike before part after at → at ≤ length part → (most : ℕ)
       → reports_from strict start (length games + most) (before ++ (part ++ after)) (length before + at)
       ≡ games ++ reports_from strict start most (before ++ (part ++ after)) (length before + length part)
-  unfolding reports_from
+  unfolding games_from
   in_text (no_more {at} none closed) begins within most =
       let count : 0 + most ≡ most = omega arith in
       ap (λ k. reports_from strict start k (before ++ (part ++ after)) (length before + at)) count
@@ -150,7 +153,7 @@ module _ (law : TokenByToken)
       let count : suc (length games) + most ≡ suc (length games + most) = omega arith in
       let report : Report = Game (length (read_at text (length before + at)).state.moves) end.outcome end.termination in
       ap (λ k. reports_from strict start k text (length before + at)) count
-      ∙ ap (λ j. report_then start text j (read_at text (length before + at)).state
+      ∙ ap (λ j. report_then start text None j (read_at text (length before + at)).state
       (λ n. reports_from strict start (length games + most) text n)) is
       ∙ ap (λ n. report ∷ reports_from strict start (length games + most) text n) (sym here)
       ∙ ap (λ l. report ∷ l)
@@ -169,7 +172,7 @@ reported_alike law strict start before part after games begins holds = record {
 -- at a text's end no game is left
 nothing_left : (strict : Bool) (start k : ℕ) (text : List ℕ)
     → reports_from strict start k text (length text) ≡ []
-unfolding reports_from pgn_read
+unfolding games_from pgn_read
 nothing_left strict start zero text = refl
 nothing_left strict start (suc k) text = by_first text (mark text)
   where
@@ -182,7 +185,7 @@ nothing_left strict start (suc k) text = by_first text (mark text)
     by_first text e =
         let none : [] ≡ tokens_from text (after_byte_order_mark text (length text)) =
         kinds_read text (ended (ap (λ n. drop n text) e ∙ drop-length text)) in
-        ap (λ ts. report_then start text
+        ap (λ ts. report_then start text None
         (judged strict (result_tag_of (length text) ts) (verdict_now (read_of_split MOST_MOVES (length text) ts).state)
         (read_of_split MOST_MOVES (length text) ts).answer) (read_of_split MOST_MOVES (length text) ts).state
         (λ next. reports_from strict start k text next)) (sym none)
@@ -254,6 +257,12 @@ all_reported_alike law strict start parts games holds starts =
 
 -- ---- pieces
 
+-- whole games have no fault
+are_games : {strict : Bool} {before part after : List ℕ} {at : ℕ} {games : List Report}
+    → HoldsWhole strict before part after at games → list_all is_game games ≡ true
+are_games (no_more none closed) = refl
+are_games (game end is inside more) = are_games more
+
 module _ (law : TokenByToken) (strict : Bool) where
   in_pieces : {before : List ℕ} {parts : List (List ℕ)} {games : List Report}
       → AllHoldWhole strict before parts games → (offset : ℕ) → length (concat parts) ≤ PIECE_LEN
@@ -264,10 +273,12 @@ module _ (law : TokenByToken) (strict : Bool) where
       length-append first (concat parts) in
       let short : nat_le (length first) PIECE_LEN ≡ true = le-leb (length first) PIECE_LEN (omega (arith, h, all)) in
       let later : List Report = flat_map (reports_in strict) (with_offsets (offset + length first) parts) in
-      ap (λ b. (if b then reports_on strict offset first else
+      let alone : reports_on strict offset first ≡ games =
+      (reported_alike law strict offset before first (concat parts) games begins holds).alone in
+      ap (λ b. (if b then games_of true strict offset first else
       too_long_report (record { offset = offset; bytes = first }) ∷ []) ++ later) short
       ∙ ap (λ l. l ++ later)
-      (reported_alike law strict offset before first (concat parts) games begins holds).alone
+      (same_of strict offset first false true (ap (list_all is_game) alone ∙ are_games holds) ∙ alone)
       ∙ ap (λ l. games ++ l) (in_pieces rest (offset + length first) (omega (arith, h, all)))
 
 pub pieces_alike : TokenByToken

@@ -39,7 +39,7 @@ use Rattle.pgn_verifier.specs.declared.game_fault.GameFault.{GameFault}
 use Rattle.pgn_verifier_laws.specs.Parts.{BeginsAlike}
 use Rattle.pgn_verifier_laws.proofs.GamesAlike.{Fits, found}
 use Rattle.pgn_verifier_laws.proofs.PartsAlike.{TokenByToken, there, lines, over, own_more, same_variant, outcome_in, same_result, faults_stop, read_so, found_so, judged_so, agrees, not_before, no_mark}
-use Rattle.pgn_verifier.specs.laws.Reported.{judged_at, read_at, report_then, reports_from}
+use Rattle.pgn_verifier.specs.laws.Reported.{games_from, judged_at, read_at, report_then, reports_from}
 
 abbrev no_game : Result (Option PgnEnd) PgnFault
 no_game = Ok None
@@ -362,7 +362,7 @@ pub skips_to_end : TokenByToken → (strict : Bool) (before part after : List �
     → BeginsAlike before part after at → IsClosed part after → at ≤ length part → judged_at strict part at ≡ Ok None
     → (start most : ℕ) → reports_from strict start most (before ++ (part ++ after)) (length before + at)
     ≡ reports_from strict start most (before ++ (part ++ after)) (length before + length part)
-unfolding reports_from
+unfolding games_from
 skips_to_end law strict before part after at begins closed within none start zero = refl
 skips_to_end law strict before part after at begins closed within none start (suc most) =
     by_place (eqb (length before + length part) 0) refl
@@ -406,9 +406,9 @@ skips_to_end law strict before part after at begins closed within none start (su
         ≡ pgn_read MOST_MOVES text (length before + length part) =
         law MOST_MOVES text (length before + at) ∙ games
         ∙ sym (law MOST_MOVES text (length before + length part)) in
-        ap (λ (r : GameRead). report_then start text (judged strict (result_tag_of (length text) ts)
+        ap (λ (r : GameRead). report_then start text None (judged strict (result_tag_of (length text) ts)
         (verdict_now r.state) r.answer) r.state (λ next. reports_from strict start most text next)) same_read
-        ∙ ap (λ tag. report_then start text (judged strict tag
+        ∙ ap (λ tag. report_then start text None (judged strict tag
         (verdict_now (read_at text (length before + length part)).state)
         (read_at text (length before + length part)).answer) (read_at text (length before + length part)).state
         (λ next. reports_from strict start most text next)) results

@@ -1,6 +1,7 @@
 -- The spans of reports are found one after another in the text.
 use Rattle.std.proofs.Common.{◌≡◌, ℕ, zero, suc, ◌+◌, ◌-◌, ◌<◌, ◌≤◌, eqb, Bool, true, false, List, [], ◌∷◌, ◌++◌, length, take, drop, Option, Some, None, IfSome, Result, Ok, Err, IfOk, refl, sym, ap, subst, ◌∙◌, append_assoc, append-nil, length-append, arith}
 use Rattle.std.specs.List.{concat, flat_map}
+use Rattle.std.specs.Option.{option_map_or}
 use Rattle.std.specs.Prelude.{nat_le, if◌then◌else◌}
 use Rattle.std.proofs.Math.Seq.{drop-length}
 use Rattle.std.proofs.lemmas.Bool.Decides.{nat_tests}
@@ -26,9 +27,10 @@ use Rattle.pgn_pieces.proofs.shared.Cuts.{cut_is_all}
 use Rattle.pgn_verifier.specs.GameFaults.{judged}
 use Rattle.pgn_verifier.specs.Reports.{Placed, game_begin}
 use Rattle.pgn_verifier.specs.declared.game_fault.GameFault.{GameFault}
-use Rattle.pgn_verifier.specs.laws.Reported.{read_at, judged_at, placed_then, placed_from, placed_on, placed_in, collection_placed, too_long_placed}
+use Rattle.pgn_verifier.specs.laws.Reported.{next_at, read_at, judged_at, fault_placed, placed_then, placed_from, placed_of, placed_in, collection_placed, too_long_placed}
+use Rattle.pgn_verifier.proofs.shared.ReportsAre.{later_there}
 use Rattle.pgn_verifier_laws.specs.Spans.{MakeUp, no_more, next, SpansMakeUpTheText, SpansMakeUpTheCollection}
-use Rattle.pgn_verifier_laws.proofs.BlanksSkipped.{begins_alike, begins_later}
+use Rattle.pgn_verifier_laws.proofs.BlanksSkipped.{begins_alike, begins_later, goes_on_alike}
 use Rattle.pgn_verifier_laws.proofs.OnlyReports.{only_reports, only_collection_reports}
 use Rattle.pgn_verifier_laws.proofs.PartsAlike.{TokenByToken, judged_so, no_mark}
 use Rattle.pgn_verifier_laws.proofs.PartsRead.{mark_within}
@@ -107,31 +109,49 @@ placed_next start text at begin end placed reports low some high begins ends mor
     (next (take (begin - at) (drop at text)) (take (end - begin) (drop begin text))
     (omega (arith, begins, between, low)) (omega (arith, begins, ends, game, some)) (omega (arith, game, some)) more)
 
-text_made : TokenByToken → (strict : Bool) (start n : ℕ) (text : List ℕ) (at : ℕ) → at ≤ length text
-    → MakeUp (start + at) (drop at text) (placed_from strict start n text at)
+text_made : TokenByToken → (goes_on strict : Bool) (start n : ℕ) (text : List ℕ) (at : ℕ) → at ≤ length text
+    → MakeUp (start + at) (drop at text) (placed_from goes_on strict start n text at)
 unfolding placed_from
-text_made law strict start zero text at within = no_more
-text_made law strict start (suc n) text at within =
-    by_answer (judged_at strict text at) refl (λ m h. text_made law strict start n text m h)
+text_made law goes_on strict start zero text at within = no_more
+text_made law goes_on strict start (suc n) text at within =
+    by_answer (judged_at strict text at) refl (λ m h. text_made law goes_on strict start n text m h)
   where
-    by_answer : (r : Result (Option PgnEnd) GameFault) → judged_at strict text at ≡ r
-        → ((m : ℕ) → m ≤ length text → MakeUp (start + m) (drop m text) (placed_from strict start n text m))
-        → MakeUp (start + at) (drop at text)
-        (placed_then start text at r (read_at text at).state (λ m. placed_from strict start n text m))
+    Later : Type 0
+    Later = (m : ℕ) → m ≤ length text
+        → MakeUp (start + m) (drop m text) (placed_from goes_on strict start n text m)
+
+    -- where reading goes on after a fault
+    there : IfSome (next_at goes_on text at) (λ m. (game_begin text at < m) × (m ≤ length text))
+    there = subst (λ o. IfSome o (λ m. (game_begin text at < m) × (m ≤ length text))) (goes_on_alike goes_on text at)
+        (later_there goes_on text (game_begin text at) (begins_within text at within))
+
+    after_fault : (fault : GameFault) → game_begin text at < length text → (next : Option ℕ)
+        → IfSome next (λ m. (game_begin text at < m) × (m ≤ length text)) → Later
+        → MakeUp (start + at) (drop at text) (fault_placed goes_on start text at next fault (read_at text at).state
+        ∷ option_map_or (λ m. placed_from goes_on strict start n text m) next [])
+    after_fault fault some None k later =
+        placed_next start text at (game_begin text at) (length text) _ _ (begins_later text at) some (omega arith) refl
+        refl no_more
+    after_fault fault some (Some m) k later =
+        placed_next start text at (game_begin text at) m _ _ (begins_later text at) k.0 k.1 refl refl (later m k.1)
+
+    by_answer : (r : Result (Option PgnEnd) GameFault) → judged_at strict text at ≡ r → Later
+        → MakeUp (start + at) (drop at text) (placed_then goes_on start text at (next_at goes_on text at) r
+        (read_at text at).state (λ m. placed_from goes_on strict start n text m))
     by_answer (Ok None) e later = no_more
     by_answer (Ok (Some end)) e later =
         let there = game_there law strict text at within end e in
         placed_next start text at (game_begin text at) end.offset _ _ (begins_later text at) there.0 there.1 refl refl
         (later end.offset there.1)
     by_answer (Err fault) e later =
-        placed_next start text at (game_begin text at) (length text) _ _ (begins_later text at)
-        (fault_there law strict text at within fault e) (omega arith) refl refl no_more
+        after_fault fault (fault_there law strict text at within fault e) (next_at goes_on text at) there later
 
-text_begun : TokenByToken → (strict : Bool) (start : ℕ) (text : List ℕ) → MakeUp start text (placed_on strict start text)
-text_begun law strict start text =
+text_begun : TokenByToken → (goes_on strict : Bool) (start : ℕ) (text : List ℕ)
+    → MakeUp start text (placed_of goes_on strict start text)
+text_begun law goes_on strict start text =
     let first : start + 0 ≡ start = omega arith in
-    subst (λ n. MakeUp n text (placed_on strict start text)) first
-    (text_made law strict start (length text + 1) text 0 (omega arith))
+    subst (λ n. MakeUp n text (placed_of goes_on strict start text)) first
+    (text_made law goes_on strict start (length text + 1) text 0 (omega arith))
 
 -- ---- pieces
 
@@ -163,8 +183,8 @@ piece_made : TokenByToken → (strict : Bool) (piece : Piece)
 piece_made law strict piece = by_test (nat_le (length piece.bytes) PIECE_LEN) refl
   where
     by_test : (b : Bool) → nat_le (length piece.bytes) PIECE_LEN ≡ b → MakeUp piece.offset piece.bytes
-        (if b then placed_on strict piece.offset piece.bytes else too_long_placed piece ∷ [])
-    by_test true e = text_begun law strict piece.offset piece.bytes
+        (if b then placed_of true strict piece.offset piece.bytes else too_long_placed piece ∷ [])
+    by_test true e = text_begun law true strict piece.offset piece.bytes
     by_test false e =
         let long : PIECE_LEN < length piece.bytes = grind (arith, nat_tests, e) in
         subst (λ xs. MakeUp piece.offset xs (too_long_placed piece ∷ [])) (append-nil piece.bytes)
@@ -204,7 +224,7 @@ collection_made law strict ended text = by_end ended
 
 pub make_up_text : TokenByToken → SpansMakeUpTheText
 make_up_text law strict start text reports h =
-    subst (MakeUp start text) (sym (only_reports strict start text reports h)) (text_begun law strict start text)
+    subst (MakeUp start text) (sym (only_reports strict start text reports h)) (text_begun law false strict start text)
 
 pub make_up_collection : TokenByToken → SpansMakeUpTheCollection
 make_up_collection law strict ended text reports h =

@@ -26,13 +26,14 @@ use Rattle.pgn_verifier.specs.Reports.{Report, Game}
 use Rattle.pgn_verifier_laws.specs.NoFaults.{begins_with_mark}
 use Rattle.pgn_verifier_laws.specs.Parts.{BeginsAlike, AllHoldWhole, no_parts, next_part}
 use Rattle.pgn_verifier_laws.specs.WrittenGames.{HasNoFault, TaggedGame, AreWritable, written_text, report_of, WrittenTextsHaveNoFault}
-use Rattle.pgn_verifier_laws.proofs.FaultlessTexts.{is_game, part_holds, begins_first, begins_later}
+use Rattle.pgn_verifier_laws.proofs.FaultlessTexts.{part_holds, begins_first, begins_later}
+use Rattle.pgn_verifier_laws.proofs.GoesOn.{is_game}
 use Rattle.pgn_verifier_laws.proofs.Parts.{all_reported_alike}
 use Rattle.pgn_verifier_laws.proofs.PartsAlike.{TokenByToken, read_so, judged_so, no_mark}
 use Rattle.pgn_verifier_laws.proofs.PartsRead.{in_text}
 use Rattle.pgn_verifier_laws.proofs.OnlyReports.{only_judged}
 use Rattle.pgn_verifier_laws.proofs.WrittenGames.{written_games}
-use Rattle.pgn_verifier.specs.laws.Reported.{judged_at, read_at, report_then, reports_from, reports_on}
+use Rattle.pgn_verifier.specs.laws.Reported.{games_from, judged_at, read_at, report_then, reports_from, reports_on}
 
 -- ---- the end of a game's text
 
@@ -102,10 +103,10 @@ none_after law strict body some =
 
 nothing_more : (strict : Bool) (start k : ℕ) (text : List ℕ) (at : ℕ) → judged_at strict text at ≡ Ok None
     → reports_from strict start k text at ≡ []
-unfolding reports_from
+unfolding games_from
 nothing_more strict start zero text at none = refl
 nothing_more strict start (suc k) text at none =
-    ap (λ j. report_then start text j (read_at text at).state (λ next. reports_from strict start k text next)) none
+    ap (λ j. report_then start text None j (read_at text at).state (λ next. reports_from strict start k text next)) none
 
 -- ---- one game
 
@@ -120,7 +121,7 @@ module _ (law : TokenByToken) (read : PgnIsReadBack) (result : ResultIsWritten) 
   one_report : (start : ℕ) (g : TaggedGame) → AreTagTexts g.tags
       → IsPlayable (record { limit = MOST_MOVES; state = g.state })
       → reports_on strict start (pgn [] g.tags g.state) ≡ report_of g ∷ []
-  unfolding reports_from
+  unfolding games_from
   one_report start g texts playable =
       let text : List ℕ = pgn [] g.tags g.state in
       let T : Termination = termination_of g.tags.ended (outcome_now g.state) in
@@ -154,7 +155,7 @@ module _ (law : TokenByToken) (read : PgnIsReadBack) (result : ResultIsWritten) 
       ∙ none_after law strict tail.0 (omega (arith, some, place)) in
       let count : length text + 1 ≡ suc (length text) = omega arith in
       ap (λ k. reports_from strict start k text 0) count
-      ∙ ap (λ j. report_then start text j (read_at text 0).state
+      ∙ ap (λ j. report_then start text None j (read_at text 0).state
       (λ next. reports_from strict start (length text) text next)) is
       ∙ ap (λ l. Game (length (read_at text 0).state.moves) found.end.outcome found.end.termination ∷ l)
       (nothing_more strict start (length text) text found.end.offset none)

@@ -45,12 +45,13 @@ pub record HasGame (text : List ℕ) (from to plies : ℕ) (outcome : Outcome) :
   -- before its last move the game had no verdict, such as mate
   pub unended : (k : ℕ) → k < plies → verdict start (take k moves) ≡ None
 
--- from this offset of the text on it has the games of which these are the reports, one after another, up to a fault
+-- from this offset of the text on it has the games of which these are the reports, one after another; after a fault the
+-- others come from some offset on
 abbrev pub HasGames : List ℕ → ℕ → List Report → Type 0
 HasGames text from [] = ⊤
 HasGames text from (Game plies outcome termination ∷ reports) =
     (to : ℕ) × HasGame text from to plies outcome × HasGames text to reports
-HasGames text from (Faulty fault wrong_at explanation ∷ reports) = ⊤
+HasGames text from (Faulty fault wrong_at explanation ∷ reports) = (to : ℕ) × HasGames text to reports
 
 -- the games that `verify` counts in a text are games; `start` is the offset of the input at which the text begins,
 -- `strict`: results are compared

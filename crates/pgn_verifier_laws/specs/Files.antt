@@ -2,6 +2,7 @@
 -- whole.
 use Rattle.std.specs.Prelude.{◌≡◌, ⊤, ℕ, ◌+◌, Bool, true, List, [], ◌∷◌, ◌++◌, length, map}
 use Rattle.std.specs.List.{concat, sum_by}
+use Rattle.std.specs.Option.{option_map}
 use Rattle.byte_devices.specs.Bytes.{new_line}
 use Rattle.pgn_pieces.specs.Pieces.{cut, lines_of}
 use Rattle.pgn_pieces.specs.laws.Shards.{begins_in_tag, ends_in_moves}
@@ -37,6 +38,7 @@ one_after_another reports offset (file ∷ files) =
     map (λ (p : Placed). record p {
       begin = offset + p.begin;
       end = offset + p.end;
+      unread = option_map (λ from. offset + from) p.unread;
       report = moved offset p.report;
     }) (reports file)
     ++ one_after_another reports (offset + length file) files

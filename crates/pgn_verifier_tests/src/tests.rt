@@ -254,7 +254,7 @@ fn faults_in_pieces_are_explained(rt: HostRuntime) {
         EXPLAINED,
         b"[Site \"s\"]\r\n[Event \"a\"]\r\n1. e4\r\n[Site \"t\"]\n[Event \"b\"]\n1. d4 *\n[Event \"c\"]\n1. f3 e5 2. g4\nQh4 a3 0-1",
         Verified::FaultReported,
-        b"game 1: no result at byte 32\n# line 4 column 1 (end) | rnbqkbnr/pppppppp/8/8/4P3/8/PPPP1PPP/RNBQKBNR b KQkq e3 0 1\ngame 3: move after the end at byte 94\n# line 9 column 5 a3 | rnb1kbnr/pppp1ppp/8/4p3/6Pq/5P2/PPPPP2P/RNBQKBNR w KQkq - 1 3 | 0-1 {Black mates}\ngames 1 half-moves 1 faults 2\n",
+        b"game 1: no result at byte 32\n# line 1 column 1 [Site | rnbqkbnr/pppppppp/8/8/4P3/8/PPPP1PPP/RNBQKBNR b KQkq e3 0 1\ngame 3: move after the end at byte 94\n# line 9 column 5 a3 | rnb1kbnr/pppp1ppp/8/4p3/6Pq/5P2/PPPPP2P/RNBQKBNR w KQkq - 1 3 | 0-1 {Black mates}\ngames 1 half-moves 1 faults 2\n",
     );
 }
 
@@ -532,7 +532,7 @@ fn failed_reads_leave_the_explanations_that_are_known(rt: HostRuntime) {
     let failed = Err(VerifyFault::ReadFailed);
     check(&rt, &rt, false, EXPLAINED, given, failed, b"");
     let lines =
-        b"game 1: illegal move at byte 6\n# line 1 column 7 e4 | rnbqkbnr/pppppppp/8/8/4P3/8/PPPP1PPP/RNBQKBNR b KQkq e3 0 1\n";
+        b"game 1: illegal move at byte 6\n# line 1 column 7 e4 | rnbqkbnr/pppppppp/8/8/4P3/8/PPPP1PPP/RNBQKBNR b KQkq e3 0 1 | bytes 6 to 9 not read\n";
     check(&rt, &rt, true, EXPLAINED, given, failed, lines);
 }
 
@@ -637,4 +637,112 @@ fn a_game_that_is_cut_between_its_tags_has_a_fault(rt: HostRuntime) {
         Verified::FaultReported,
         b"game 1: no result at byte 12\ngame 2: 1 half-moves, *\ngames 1 half-moves 1 faults 1\n",
     );
+}
+
+// Collections, and what is written of them: after a fault reading goes on where its game ends.
+const READ_ON: [(&[u8], &[u8]); 11] = [
+    // Tags and moves on one line, as in pgn-extract's test-nobadresults.pgn.
+    (
+        b"[Result \"1-0\"] 1. e4 1-0\n[Result \"0-1\"] 1. e4 Ke7 0-1\n[Result \"1-0\"] 1. e4 Qa5 1-0\n",
+        b"game 1: 1 half-moves, 1-0, bytes 0 to 24\ngame 2: illegal move at byte 46, bytes 25 to 53\ngame 3: illegal move at byte 75, bytes 54 to 82\ngames 1 half-moves 1 faults 2\n",
+    ),
+    // Games without tags, one a line.
+    (
+        b"1. e4 Ke7 1-0\n1. e4 e5 1-0\n1. d4 *\n",
+        b"game 1: illegal move at byte 6, bytes 0 to 13\ngame 2: 2 half-moves, 1-0, bytes 14 to 26\ngame 3: 1 half-moves, *, bytes 27 to 34\ngames 2 half-moves 3 faults 1\n",
+    ),
+    // On one line, after a termination marker.
+    (
+        b"1. Ke7 1/2-1/2 [White \"x\"] 1. e4 1-0",
+        b"game 1: illegal move at byte 3, bytes 0 to 14\ngame 2: 1 half-moves, 1-0, bytes 15 to 36\ngames 1 half-moves 1 faults 1\n",
+    ),
+    // Without one, before the next tag.
+    (
+        b"[White \"a\"] 1. e4 Ke7\n[White \"b\"] 1. e4 *\n",
+        b"game 1: illegal move at byte 18, bytes 0 to 22\ngame 2: 1 half-moves, *, bytes 22 to 41\ngames 1 half-moves 1 faults 1\n",
+    ),
+    (
+        b"[White \"a\"] 1. e4\n[White \"b\"] 1. e4 *\n",
+        b"game 1: no result at byte 18, bytes 0 to 18\ngame 2: 1 half-moves, *, bytes 18 to 37\ngames 1 half-moves 1 faults 1\n",
+    ),
+    // A comment that isn't closed hides no game that begins on a line of its own.
+    (
+        b"[White \"a\"] 1. e4 {\n[White \"b\"] 1. e4 *\n",
+        b"game 1: unclosed comment at byte 18, bytes 0 to 20\ngame 2: 1 half-moves, *, bytes 20 to 39\ngames 1 half-moves 1 faults 1\n",
+    ),
+    // Markers in comments and variations don't count, nor do those among other words.
+    (
+        b"1. Ke7 {1-0} (1. e4 1-0) 1-0x 11-0 0-1 *",
+        b"game 1: illegal move at byte 3, bytes 0 to 38\ngame 2: 0 half-moves, *, bytes 39 to 40\ngames 1 half-moves 0 faults 1\n",
+    ),
+    // A FEN that denotes no position, with more tags after it.
+    (
+        b"[FEN \"x\"] [White \"a\"] 1. e4 * 1. e4 *",
+        b"game 1: bad FEN at byte 6, bytes 0 to 29\ngame 2: 1 half-moves, *, bytes 30 to 37\ngames 1 half-moves 1 faults 1\n",
+    ),
+    // Carriage returns alone end the lines.
+    (
+        b"[Event \"a\"]\r1. Ke7 1-0\r\r[Event \"b\"]\r1. e4 1-0\r",
+        b"game 1: illegal move at byte 15, bytes 0 to 22\ngame 2: 1 half-moves, 1-0, bytes 24 to 45\ngames 1 half-moves 1 faults 1\n",
+    ),
+    // A byte that begins no token: no marker is found after it.
+    (
+        b"1. e4 & 1-0\n1. e4 1-0\n",
+        b"game 1: bad token at byte 6, bytes 0 to 22\ngames 0 half-moves 0 faults 1\n",
+    ),
+    (
+        b"1. e4 Ke7 {1-0\n1. e4 1-0\n",
+        b"game 1: illegal move at byte 6, bytes 0 to 25\ngames 0 half-moves 0 faults 1\n",
+    ),
+];
+
+#[test]
+fn games_after_a_fault_are_read(rt: HostRuntime) {
+    for (text, lines) in &READ_ON {
+        check_cuts(
+            &rt,
+            &rt,
+            true,
+            SPANS,
+            text,
+            Verified::FaultReported,
+            lines,
+        );
+    }
+}
+
+// What is not read since no end of the game is found is said, and only that.
+const UNREAD: [(&[u8], &[u8]); 4] = [
+    // Lines and columns are counted from one fault to the next.
+    (
+        b"1. e4 Ke7 1-0\n1. e4\n Qa5 1-0 1. Ke7 *\n",
+        b"game 1: illegal move at byte 6\n# line 1 column 7 Ke7 | rnbqkbnr/pppppppp/8/8/4P3/8/PPPP1PPP/RNBQKBNR b KQkq e3 0 1\ngame 2: illegal move at byte 21\n# line 3 column 2 Qa5 | rnbqkbnr/pppppppp/8/8/4P3/8/PPPP1PPP/RNBQKBNR b KQkq e3 0 1\ngame 3: illegal move at byte 32\n# line 3 column 13 Ke7 | rnbqkbnr/pppppppp/8/8/8/8/PPPPPPPP/RNBQKBNR w KQkq - 0 1\ngames 0 half-moves 0 faults 3\n",
+    ),
+    (
+        b"1. e4 & 1-0\n1. e4 1-0\n",
+        b"game 1: bad token at byte 6\n# line 1 column 7 & | rnbqkbnr/pppppppp/8/8/4P3/8/PPPP1PPP/RNBQKBNR b KQkq e3 0 1 | begins no token | bytes 6 to 22 not read\ngames 0 half-moves 0 faults 1\n",
+    ),
+    (
+        b"[Event \"a\"]\n1. e4 e4 *\n[Event \"b\"]\n{x\n",
+        b"game 1: illegal move at byte 18\n# line 2 column 7 e4 | rnbqkbnr/pppppppp/8/8/4P3/8/PPPP1PPP/RNBQKBNR b KQkq e3 0 1\ngame 2: unclosed comment at byte 35\n# line 4 column 1 {x | rnbqkbnr/pppppppp/8/8/8/8/PPPPPPPP/RNBQKBNR w KQkq - 0 1 | bytes 35 to 38 not read\ngames 0 half-moves 0 faults 2\n",
+    ),
+    (
+        b"[Event \"a\"]\n1. e4\n",
+        b"game 1: no result at byte 18\n# line 1 column 1 [Event | rnbqkbnr/pppppppp/8/8/4P3/8/PPPP1PPP/RNBQKBNR b KQkq e3 0 1\ngames 0 half-moves 0 faults 1\n",
+    ),
+];
+
+#[test]
+fn what_is_not_read_is_said(rt: HostRuntime) {
+    for (text, lines) in &UNREAD {
+        check_cuts(
+            &rt,
+            &rt,
+            true,
+            EXPLAINED,
+            text,
+            Verified::FaultReported,
+            lines,
+        );
+    }
 }

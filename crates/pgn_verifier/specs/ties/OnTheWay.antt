@@ -25,7 +25,7 @@ use Rattle.pgn_verifier.specs.declared.tally.Tally.{Tally}
 use Rattle.pgn_verifier.specs.declared.tally.Verified.{Verified}
 use Rattle.pgn_verifier.specs.Reports.{Report, Game, Faulty, Placed, counts_of, verified, report_line, report_lines, without_spans, counts_line}
 use Rattle.pgn_verifier.specs.Collection.{VerifiesCollection}
-use Rattle.pgn_verifier.specs.laws.Reported.{placed_on, collection_placed}
+use Rattle.pgn_verifier.specs.laws.Reported.{placed_of, placed_on, collection_placed}
 use Rattle.pgn_verifier.specs.declared.label.Span.{Span}
 use Rattle.pgn_verifier.specs.declared.start.TextStart.{TextStart}
 
@@ -82,18 +82,27 @@ abbrev pub too_long_seen : PieceSeen → Placed
 too_long_seen piece = record {
   begin = piece.offset;
   end = piece.end;
+  first = [];
+  unread = Some piece.offset;
   names = None;
   report = Faulty (record { kind = Pgn TooLong; offset = piece.offset }) piece.offset (shown piece.beginning);
 }
 
 -- the reports on the games of a piece (`placed_in`), from what is seen of it; `strict`: results are compared
 abbrev pub reports_seen : Bool → PieceSeen → List Placed
-reports_seen strict piece = option_map_or (placed_on strict piece.offset) piece.bytes (too_long_seen piece ∷ [])
+reports_seen strict piece =
+    option_map_or (placed_of true strict piece.offset) piece.bytes (too_long_seen piece ∷ [])
 
 -- the end of a line, from the span that it is to show, if any
 abbrev pub span_written : Option Span → List ℕ
 span_written None = []
 span_written (Some span) = codes ", bytes " ++ (decimal span.begin ++ (codes " to " ++ decimal span.end))
+
+-- the end of a fault's explanation, from the part of the input that is not read, if any
+abbrev pub unread_written : Option Span → List ℕ
+unread_written None = []
+unread_written (Some span) =
+    codes " | bytes " ++ (decimal span.begin ++ (codes " to " ++ (decimal span.end ++ codes " not read")))
 
 -- the line of a game without a fault; `number` is the game's number, `plies` how many half-moves it has, and `span` the
 -- end of the line
