@@ -313,7 +313,7 @@ fn verify_command<'a>(alloc: Global) -> Result<Command<'a>, AllocError>
         .arg(flag(
             alloc,
             "strict",
-            "Also check the result against the Result tag and the final position",
+            "Also check the variant, and the result against the Result tag and the final position",
         ))?
         .arg(flag(
             alloc,

@@ -2,6 +2,7 @@ pub mod Tokens
 pub mod Split
 pub mod Words
 pub mod LastTags
+pub mod UnknownVariants
 pub mod GameTags
 pub mod GameRead
 pub mod laws

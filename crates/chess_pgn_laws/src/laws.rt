@@ -14,7 +14,7 @@ ghost use Rattle.chess_pgn_laws.specs.Examples.{TextsAreLaidOut, TextsAreRead, T
 ghost use Rattle.chess_pgn_laws.specs.GameOfTokens.{GamesAreOfTokens};
 ghost use Rattle.pgn_writer.specs.laws.Layout.{AreFilled, AreShort};
 ghost use Rattle.chess_pgn_laws.specs.Normal.{NormalIsKept};
-ghost use Rattle.chess_pgn_laws.specs.PgnLaw.{PgnIsReadBack, ResultIsWritten};
+ghost use Rattle.chess_pgn_laws.specs.PgnLaw.{PgnIsReadBack, ResultIsWritten, VariantIsWritten};
 ghost use Rattle.pgn_writer.specs.PgnText.{IsPgn};
 ghost use Rattle.chess_pgn.specs.Split.{IsSplit};
 
@@ -27,10 +27,12 @@ use chess_fen::written_is_denoted;
 /// the game has.
 ///
 /// A result that was declared is read without its comment, since the text doesn't contain the comment. Tags such as
-/// `White` are not kept. The last tag `Result` of the text names the game's outcome (`result`).
+/// `White` are not kept. The last tag `Result` of the text names the game's outcome (`result`), and the last tag
+/// `Variant`, if there is one, a variant that is known (`variant`).
 pub fn pgn_is_read_back()
     ensures read { PgnIsReadBack }
     ensures result { ResultIsWritten }
+    ensures variant { VariantIsWritten }
 {
     // The prover wants these laws: each position of a game is sound, and a FEN that was written is read back.
     after_is_sound();

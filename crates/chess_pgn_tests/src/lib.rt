@@ -7,4 +7,6 @@ mod equal;
 #[cfg(test)]
 mod reading;
 #[cfg(test)]
+mod unknown_variants;
+#[cfg(test)]
 mod writing;

@@ -28,7 +28,7 @@ board_within : (len : ℕ) (verdict : Option Verdict) (end : PgnEnd) → end.off
 board_within len verdict end h = either (InText len) (contradicts_verdict verdict end.outcome) _ None
     (omega (arith, h)) tt
 
-first_within : (len : ℕ) (first second : Option GameFault) → InText len first → InText len second
+pub first_within : (len : ℕ) (first second : Option GameFault) → InText len first → InText len second
     → InText len (option_or first second)
 first_within len (Some fault) second h k = h
 first_within len None second h k = k

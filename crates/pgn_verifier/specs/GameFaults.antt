@@ -1,12 +1,13 @@
 -- The faults of a game, and when its result contradicts its text or the board.
 use Rattle.std.specs.Prelude.{◌≡◌, ℕ, ◌-◌, Bool, if◌then◌else◌, List, length, codes, Option, Some, None, Result, Ok, Err}
-use Rattle.std.specs.Option.{option_eq, option_map_or, option_or}
+use Rattle.std.specs.Option.{option_eq, option_map, option_map_or, option_or}
 use Rattle.chess_game.specs.Game.{State, contradicts_verdict, verdict_now}
 use Rattle.chess_game.specs.Results.{outcome_text, same_outcome}
 use Rattle.chess_game.specs.declared.verdicts.Verdict.{Verdict}
 use Rattle.chess_game.specs.declared.game.TheConstants.{MOST_MOVES}
 use Rattle.chess_pgn.specs.GameRead.{read_of_split}
 use Rattle.chess_pgn.specs.LastTags.{result_tag_of}
+use Rattle.chess_pgn.specs.UnknownVariants.{unknown_variant_in}
 use Rattle.chess_pgn.specs.Split.{IsSplit}
 use Rattle.chess_pgn.specs.Tokens.{Token}
 use Rattle.byte_devices.specs.Bytes.{after_byte_order_mark}
@@ -15,10 +16,10 @@ use Rattle.chess_pgn.specs.declared.read.PgnFault.{PgnFault}
 use Rattle.chess_pgn.specs.declared.read.PgnFaultKind.TheVariants.{BadTag, BadFen, BadToken, IllegalMove, AmbiguousMove, AfterEnd, TooLong, UnclosedComment, UnclosedVariation, NoResult}
 use Rattle.chess_pgn.specs.declared.tagged_result.ResultTag.{ResultTag}
 use Rattle.pgn_verifier.specs.declared.game_fault.FaultKind.{FaultKind}
-use Rattle.pgn_verifier.specs.declared.game_fault.FaultKind.TheVariants.{Pgn, ResultDiffers, BoardSaysOtherwise}
+use Rattle.pgn_verifier.specs.declared.game_fault.FaultKind.TheVariants.{Pgn, UnknownVariant, ResultDiffers, BoardSaysOtherwise}
 use Rattle.pgn_verifier.specs.declared.game_fault.GameFault.{GameFault}
 
--- ---- contradictions
+-- ---- at a game's end
 
 -- the fault of a game whose last tag Result (`tag`) names another outcome than its termination marker (`end`), or has a
 -- text that is no outcome; `None` if they agree, or if the game has no such tag. The fault's offset is that of the
@@ -38,19 +39,20 @@ board_says_otherwise verdict end = if contradicts_verdict verdict end.outcome
 -- ---- a game
 
 -- what is reported of a game, from how its text was read (the last argument): `Ok (Some end)` with its end, `Err` with
--- its fault, or `Ok None` if the text had no more games. With `strict` an end that contradicts the last tag Result
--- (`tag`), or if it does not, the board's verdict, is a fault too; otherwise nothing is compared
-abbrev pub judged : Bool → Option ResultTag → Option Verdict → Result (Option PgnEnd) PgnFault
+-- its fault, or `Ok None` if the text had no more games. With `strict` these are faults too, the first of: a tag Variant
+-- that names no variant that is known (`unknown`, the offset of its text); an end that contradicts the last tag Result
+-- (`tag`); one that contradicts the board's verdict
+abbrev pub judged : Bool → Option ℕ → Option ResultTag → Option Verdict → Result (Option PgnEnd) PgnFault
     → Result (Option PgnEnd) GameFault
-judged strict tag verdict (Ok None) = Ok None
-judged strict tag verdict (Ok (Some end)) = option_map_or Err
-    (if strict then option_or (result_differs tag end) (board_says_otherwise verdict end) else None) (Ok (Some end))
-judged strict tag verdict (Err fault) = Err (record { kind = Pgn fault.kind; offset = fault.offset })
+judged strict unknown tag verdict (Ok None) = Ok None
+judged strict unknown tag verdict (Ok (Some end)) = option_map_or Err (if strict
+    then option_or (option_map (λ offset. record { kind = UnknownVariant; offset = offset }) unknown)
+    (option_or (result_differs tag end) (board_says_otherwise verdict end)) else None) (Ok (Some end))
+judged strict unknown tag verdict (Err fault) = Err (record { kind = Pgn fault.kind; offset = fault.offset })
 
 -- `answer` is what is reported (see `judged`) of the first game from the offset `at` of the text on, and `s` is this
 -- game as far as it was read: at most 20,000 half-moves. Both follow from `tokens`, the only split of the text from
--- `at` on into tokens; a byte order mark at offset 0 is skipped. `strict`: a termination marker that contradicts the
--- tag Result or the board's verdict is a fault
+-- `at` on into tokens; a byte order mark at offset 0 is skipped
 pub record IsJudged (strict : Bool) (text : List ℕ) (at : ℕ) (s : State)
     (answer : Result (Option PgnEnd) GameFault) : Type 0 where
   pub tokens : List (ℕ × Token)
@@ -58,7 +60,8 @@ pub record IsJudged (strict : Bool) (text : List ℕ) (at : ℕ) (s : State)
   -- how reading the game ended
   pub ended : Result (Option PgnEnd) PgnFault
   pub read : read_of_split MOST_MOVES (length text) tokens ≡ record { state = s; answer = ended }
-  pub is : answer ≡ judged strict (result_tag_of (length text) tokens) (verdict_now s) ended
+  pub is : answer
+      ≡ judged strict (unknown_variant_in (length text) tokens) (result_tag_of (length text) tokens) (verdict_now s) ended
 
 -- ---- names
 
@@ -74,5 +77,6 @@ fault_name (Pgn TooLong) = codes "too long"
 fault_name (Pgn UnclosedComment) = codes "unclosed comment"
 fault_name (Pgn UnclosedVariation) = codes "unclosed variation"
 fault_name (Pgn NoResult) = codes "no result"
+fault_name UnknownVariant = codes "unknown variant"
 fault_name (ResultDiffers tag_len outcome) = codes "result differs"
 fault_name BoardSaysOtherwise = codes "board says otherwise"

@@ -1,19 +1,21 @@
-//! Whether a game's result contradicts its text or the board.
+//! The faults that `strict` looks for at a game's end: an unknown variant, and a result that contradicts the text or the
+//! board.
 
 ghost use Rattle.std.specs.Prelude.{◌≡◌, ◌≤◌, length, Some};
 ghost use Rattle.std.specs.Option.{IfSome, option_eq};
 ghost use Rattle.chess_game.specs.Game.{contradicts_verdict, verdict_now};
 ghost use Rattle.chess_pgn.specs.LastTags.{result_tag_of};
+ghost use Rattle.chess_pgn.specs.UnknownVariants.{unknown_variant_in};
 ghost use Rattle.chess_pgn.specs.Tokens.{tokens_from};
 ghost use Rattle.byte_devices.specs.Bytes.{after_byte_order_mark};
 ghost use Rattle.chess_game.specs.Results.{same_outcome};
 ghost use Rattle.pgn_verifier.specs.GameFaults.{result_differs, board_says_otherwise};
-ghost use Rattle.pgn_verifier.specs.shared.Contradictions.{contradiction};
+ghost use Rattle.pgn_verifier.specs.shared.Contradictions.{contradiction, strict_fault, variant_fault};
 
 use crate::game_fault::{FaultKind, GameFault};
 use chess_game::{Game, Outcome, Verdict};
 use chess_moves::Board;
-use chess_pgn::{PgnEnd, ResultTag, result_tag};
+use chess_pgn::{PgnEnd, ResultTag, result_tag, unknown_variant};
 
 // Whether a tag `Result` names this outcome; `denoted` is what its text denotes, `None` if it denotes no outcome.
 fn is_text_of(outcome: Outcome, denoted: Option<Outcome>) -> bool
@@ -68,8 +70,37 @@ fn board_says_otherwise(verdict: Option<Verdict>, end: PgnEnd) -> Option<GameFau
 }
 
 // What is wrong with the outcome (`end`) of the game that was read from `at` on: it differs from its tag `Result`, or
-// else from the board's verdict. `None` if it agrees, or if it isn't compared (`strict` is false).
-pub(crate) fn contradiction<B: Board>(
+// else from the board's verdict. `None` if it agrees.
+fn contradiction<B: Board>(text: &[u8], at: usize, game: &Game<B>, end: PgnEnd) -> Option<GameFault>
+    requires at { at ≤ length text.now }
+    requires end { end.offset ≤ length text.now }
+    ensures fault { result
+        ≡ contradiction (result_tag_of (length text.now) (tokens_from text.now (after_byte_order_mark text.now at)))
+        (verdict_now game.now.state) end }
+    ensures within { IfSome result (λ fault. fault.offset ≤ length text.now) }
+{
+    result_differs(result_tag(text, at), end).or(board_says_otherwise(game.verdict(), end))
+}
+
+// The fault of the game that is read from `at` on, if its tag `Variant` names no variant that is known.
+fn variant_fault(text: &[u8], at: usize) -> Option<GameFault>
+    requires { at ≤ length text.now }
+    ensures fault { result
+        ≡ variant_fault
+        (unknown_variant_in (length text.now) (tokens_from text.now (after_byte_order_mark text.now at))) }
+    ensures within { IfSome result (λ fault. fault.offset ≤ length text.now) }
+{
+    let offset = unknown_variant(text, at)?;
+    Some(GameFault {
+        kind: FaultKind::UnknownVariant,
+        offset,
+    })
+}
+
+// The first fault that `strict` finds at the end (`end`) of the game that was read from `at` on: its variant is not
+// known, or its outcome contradicts its tag `Result` or the board's verdict. `None` if there is none, or if `strict` is
+// false.
+pub(crate) fn strict_fault<B: Board>(
     strict: bool,
     text: &[u8],
     at: usize,
@@ -79,7 +110,8 @@ pub(crate) fn contradiction<B: Board>(
     requires at { at ≤ length text.now }
     requires end { end.offset ≤ length text.now }
     ensures fault { result
-        ≡ contradiction strict
+        ≡ strict_fault strict
+        (unknown_variant_in (length text.now) (tokens_from text.now (after_byte_order_mark text.now at)))
         (result_tag_of (length text.now) (tokens_from text.now (after_byte_order_mark text.now at)))
         (verdict_now game.now.state) end }
     ensures within { IfSome result (λ fault. fault.offset ≤ length text.now) }
@@ -87,5 +119,5 @@ pub(crate) fn contradiction<B: Board>(
     if !strict {
         return None;
     }
-    result_differs(result_tag(text, at), end).or(board_says_otherwise(game.verdict(), end))
+    variant_fault(text, at).or(contradiction(text, at, game, end))
 }

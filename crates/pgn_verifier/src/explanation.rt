@@ -35,6 +35,10 @@ use pgn_pieces::line_ends;
 // The most bytes of the lines on a fault: of its own 300, and of the one that explains it 320.
 const FAULT_LINES_LEN: usize = 620;
 
+// The reason for an unknown variant.
+const KNOWN_VARIANTS: &[u8] =
+    b"neither normal chess nor Chess960, by a name that is known";
+
 /// The lines on a fault.
 pub(crate) type FaultLines = ArrayVec<u8, FAULT_LINES_LEN>;
 
@@ -199,6 +203,7 @@ fn append_reason(lines: &mut FaultLines, kind: FaultKind, text: &[u8], verdict: 
 {
     match kind {
         FaultKind::Pgn(kind) => append_pgn_reason(lines, kind, text, verdict),
+        FaultKind::UnknownVariant => append_part(lines, KNOWN_VARIANTS),
         FaultKind::ResultDiffers { tag_len, outcome } => {
             append_results(lines, &text[..tag_len.min(text.len())], outcome)
         }
@@ -206,13 +211,15 @@ fn append_reason(lines: &mut FaultLines, kind: FaultKind, text: &[u8], verdict: 
     }
 }
 
-// Whether a position is known at a fault: not if a tag or a FEN could not be read.
+// Whether a position is shown at a fault: not at one of the tags, such as a bad FEN.
 fn has_position(kind: FaultKind) -> bool
     ensures { result ≡ has_position kind }
 {
     !matches!(
         kind,
-        FaultKind::Pgn(PgnFaultKind::BadTag) | FaultKind::Pgn(PgnFaultKind::BadFen(_))
+        FaultKind::Pgn(PgnFaultKind::BadTag)
+            | FaultKind::Pgn(PgnFaultKind::BadFen(_))
+            | FaultKind::UnknownVariant
     )
 }
 

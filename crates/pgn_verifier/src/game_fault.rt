@@ -13,6 +13,8 @@ use chess_pgn::{PgnFault, PgnFaultKind};
 pub enum FaultKind {
     /// Its text can't be read or played.
     Pgn(PgnFaultKind),
+    /// Its tag `Variant` names a variant that is not known, so it was read as normal chess.
+    UnknownVariant,
     /// Its tag `Result`, whose text has `tag_len` bytes, differs from its termination marker, which names `outcome`.
     ResultDiffers { tag_len: usize, outcome: Outcome },
     /// The board has a verdict with another outcome than its termination marker.
@@ -79,6 +81,7 @@ pub(crate) fn fault_name(kind: FaultKind) -> &'static [u8]
 {
     match kind {
         FaultKind::Pgn(kind) => pgn_fault_name(kind),
+        FaultKind::UnknownVariant => b"unknown variant",
         FaultKind::ResultDiffers { .. } => b"result differs",
         FaultKind::BoardSaysOtherwise => b"board says otherwise",
     }

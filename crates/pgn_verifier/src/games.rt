@@ -6,7 +6,7 @@ ghost use Rattle.chess_game.specs.declared.game.TheConstants.{MOST_MOVES};
 ghost use Rattle.pgn_verifier.specs.laws.Reported.{read_at, judged_at, placed_on};
 ghost use Rattle.pgn_verifier.specs.ties.OnTheWay.{StandsIf, Writes, GrowsBy};
 
-use crate::contradiction::contradiction;
+use crate::contradiction::strict_fault;
 use crate::explanation::fault_lines;
 use crate::game_fault::GameFault;
 use crate::label::{FaultLabel, Label};
@@ -31,7 +31,8 @@ pub(crate) fn open_game<'t>(
 }
 
 // Reads the game of a text from the offset `at` on into `game`, and returns its end or its fault; `None` if no game is
-// left. With `strict`, an end that contradicts the tag `Result` or the board is a fault.
+// left. With `strict`, an unknown variant is a fault too, and so is an end that contradicts the tag `Result` or the
+// board.
 fn judge_game(
     strict: bool,
     text: &[u8],
@@ -54,7 +55,7 @@ fn judge_game(
     let Some(end) = read_pgn(text, at, game)? else {
         return Ok(None);
     };
-    match contradiction(strict, text, at, game, end) {
+    match strict_fault(strict, text, at, game, end) {
         Some(fault) => Err(fault),
         None => Ok(Some(end)),
     }

@@ -5,8 +5,8 @@
 pub struct VerifyOptions {
     /// Leaves out the lines of games without a fault.
     pub quiet: bool,
-    /// Treats a contradiction about the result as a fault: a tag `Result` with another text than the termination
-    /// marker, or a verdict of the board with another outcome.
+    /// Treats as faults, too: a tag `Variant` that names a variant that is not known, a tag `Result` with another text
+    /// than the termination marker, and a verdict of the board with another outcome.
     pub strict: bool,
     /// Ends each line with the span of its game: the offset of its first byte, and that of the byte after its last. A
     /// game with a fault goes to the end of its text.

@@ -18,6 +18,7 @@ use Rattle.chess_game.specs.declared.game.TheConstants.{MOST_MOVES}
 use Rattle.chess_game.specs.declared.results.Outcome.{Outcome}
 use Rattle.chess_pgn.specs.GameRead.{GameRead, IsRead, tagged_variant}
 use Rattle.chess_pgn.specs.LastTags.{result_tag_of, tag_section}
+use Rattle.chess_pgn.specs.UnknownVariants.{unknown_variant_in}
 use Rattle.chess_pgn.specs.Tokens.{Token, Word}
 use Rattle.chess_pgn.specs.Words.{is_marks}
 use Rattle.chess_pgn.specs.declared.read.PgnEnd.{PgnEnd}
@@ -125,7 +126,8 @@ module _ (legal : ReadMovesAreLegal) (law : GamesAreOfTokens)
   has_game : (strict : Bool) (text : List ℕ) (at : ℕ) (s : State) (end : PgnEnd)
       → IsJudged strict text at s (Ok (Some end)) → HasGame text at end.offset (length s.moves) end.outcome
   has_game strict text at s end j =
-      let so = judged_so strict (result_tag_of (length text) j.tokens) (verdict_now s) end j.ended (sym j.is) in
+      let so = judged_so strict (unknown_variant_in (length text) j.tokens)
+      (result_tag_of (length text) j.tokens) (verdict_now s) end j.ended (sym j.is) in
       let r : GameRead = record { state = s; answer = Ok (Some end) } in
       let read : IsRead MOST_MOVES text at r = record {
         tokens = j.tokens;

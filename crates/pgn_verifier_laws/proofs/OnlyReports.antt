@@ -9,6 +9,7 @@ use Rattle.chess_game.specs.Game.{State, verdict_now}
 use Rattle.chess_game.specs.declared.game.TheConstants.{MOST_MOVES}
 use Rattle.chess_pgn.specs.GameRead.{GameRead, pgn_read, read_of_split}
 use Rattle.chess_pgn.specs.LastTags.{result_tag_of}
+use Rattle.chess_pgn.specs.UnknownVariants.{unknown_variant_in}
 use Rattle.chess_pgn.specs.Tokens.{Token, tokens_from}
 use Rattle.byte_devices.specs.Bytes.{after_byte_order_mark}
 use Rattle.chess_pgn.specs.declared.read.PgnEnd.{PgnEnd}
@@ -37,8 +38,10 @@ only_judged strict text at s answer j =
     let read = sym j.read ∙ ap (read_of_split MOST_MOVES (length text)) same in (
       ap (λ (r : GameRead). r.state) read,
       j.is
-          ∙ ap (λ (ts : List (ℕ × Token)). judged strict (result_tag_of (length text) ts) (verdict_now s) j.ended) same
-          ∙ ap (λ (r : GameRead). judged strict (result_tag_of (length text) all) (verdict_now r.state) r.answer) read,
+          ∙ ap (λ (ts : List (ℕ × Token)). judged strict (unknown_variant_in (length text) ts)
+          (result_tag_of (length text) ts) (verdict_now s) j.ended) same
+          ∙ ap (λ (r : GameRead). judged strict (unknown_variant_in (length text) all)
+          (result_tag_of (length text) all) (verdict_now r.state) r.answer) read,
     )
 
 -- ---- a text

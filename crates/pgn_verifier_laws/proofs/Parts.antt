@@ -1,6 +1,6 @@
 -- A game that is read in a text is read in each part of it that holds the game.
 use Rattle.std.proofs.Common.{◌≡◌, ℕ, zero, suc, ◌+◌, ◌-◌, ◌<◌, ◌≤◌, Bool, true, List, [], ◌∷◌, ◌++◌, length, take, drop, Option, Some, Ok, Err, refl, sym, ap, subst, ◌∙◌, append_assoc, append-nil, length-append, arith}
-use Rattle.std.specs.Prelude.{nat_le, if◌then◌else◌}
+use Rattle.std.specs.Prelude.{is_some, nat_le, if◌then◌else◌}
 use Rattle.std.specs.List.{concat, flat_map}
 use Rattle.std.specs.Option.{option_map_or}
 use Rattle.std.proofs.Math.Seq.{drop-length, take-length}
@@ -11,6 +11,7 @@ use Rattle.chess_game.specs.declared.game.TheConstants.{MOST_MOVES}
 use Rattle.chess_game.specs.declared.verdicts.Verdict.{Verdict}
 use Rattle.chess_pgn.specs.GameRead.{GameRead, pgn_read, read_of_split, tagged_variant}
 use Rattle.chess_pgn.specs.LastTags.{tag_section, result_tag_of}
+use Rattle.chess_pgn.specs.UnknownVariants.{unknown_variant_in}
 use Rattle.chess_pgn.specs.shared.Kinds.{IsOf, IsLongest, Kind, ended}
 use Rattle.chess_pgn.specs.Tokens.{Token, begins_line, tokens_from}
 use Rattle.byte_devices.specs.Bytes.{after_byte_order_mark}
@@ -25,7 +26,7 @@ use Rattle.pgn_pieces.specs.declared.pieces.TheConstants.{PIECE_LEN}
 use Rattle.pgn_pieces.proofs.shared.Cuts.{cut_is_all}
 use Rattle.pgn_verifier.specs.Reports.{Report, Game}
 use Rattle.pgn_verifier_laws.proofs.GamesAlike.{Fits, found}
-use Rattle.pgn_verifier_laws.proofs.PartsAlike.{TokenByToken, there, lines, over, same_variant, outcome_in, same_result, judged_so, agrees, not_before, no_mark}
+use Rattle.pgn_verifier_laws.proofs.PartsAlike.{TokenByToken, there, lines, over, same_variant, outcome_in, same_result, same_known, judged_so, agrees, not_before, no_mark}
 use Rattle.pgn_verifier_laws.proofs.PartsRead.{skips_to_end}
 use Rattle.pgn_verifier.specs.laws.Reported.{read_at, report_then, reports_from, reports_in, reports_on, too_long_report}
 
@@ -75,7 +76,8 @@ in_parts law strict before part after at end begins is inside =
     let us : List (ℕ × Token) = tokens_from part here in
     let r : GameRead = pgn_read MOST_MOVES text (length before + at) in
     let v : Option Verdict = verdict_now r.state in
-    let said = judged_so strict (result_tag_of (length text) ts) v end r.answer is in
+    let said = judged_so strict (unknown_variant_in (length text) ts)
+    (result_tag_of (length text) ts) v end r.answer is in
     let whole : tokens_read MOST_MOVES (length text) ts ≡ over r.state end =
     sym (law MOST_MOVES text (length before + at)) ∙ ap (λ a. record { state = r.state; answer = a }) said.0 in
     let f = found MOST_MOVES text part (length before) 0 (length part) (fits_part before part after begins.line) r.state
@@ -92,12 +94,17 @@ in_parts law strict before part after at end begins is inside =
     let outcomes : outcome_in (result_tag_of (length part) us) ≡ outcome_in (result_tag_of (length text) ts) =
     ap (λ l. outcome_in (result_tag_of (length part) l)) (sym own)
     ∙ same_result (length text) (length part) f.own ts f.tags in
+    let variants : is_some (unknown_variant_in (length part) us) ≡ is_some (unknown_variant_in (length text) ts) =
+    ap (λ l. is_some (unknown_variant_in (length part) l)) (sym own)
+    ∙ same_known (length text) (length part) f.own ts f.tags in
     record {
-      judged = ap (λ (g : GameRead). judged strict (result_tag_of (length part) us) (verdict_now g.state) g.answer)
+      judged = ap (λ (g : GameRead). judged strict (unknown_variant_in (length part) us)
+      (result_tag_of (length part) us) (verdict_now g.state) g.answer)
           alone
           ∙ ap (λ fault. option_map_or Err fault (Ok (Some back)))
-          (agrees strict (result_tag_of (length text) ts) (result_tag_of (length part) us) v end
-          (end.offset - length before) outcomes said.1);
+          (agrees strict (unknown_variant_in (length text) ts) (result_tag_of (length text) ts)
+          (unknown_variant_in (length part) us) (result_tag_of (length part) us) v end
+          (end.offset - length before) variants outcomes said.1);
       state = ap (λ (g : GameRead). g.state) alone;
       some_bytes = omega (arith, f.bytes, not_before part at);
     }
@@ -183,7 +190,8 @@ nothing_left strict start (suc k) text = by_first text (mark text)
         let none : [] ≡ tokens_from text (after_byte_order_mark text (length text)) =
         kinds_read text (ended (ap (λ n. drop n text) e ∙ drop-length text)) in
         ap (λ ts. report_then start text
-        (judged strict (result_tag_of (length text) ts) (verdict_now (read_of_split MOST_MOVES (length text) ts).state)
+        (judged strict (unknown_variant_in (length text) ts)
+        (result_tag_of (length text) ts) (verdict_now (read_of_split MOST_MOVES (length text) ts).state)
         (read_of_split MOST_MOVES (length text) ts).answer) (read_of_split MOST_MOVES (length text) ts).state
         (λ next. reports_from strict start k text next)) (sym none)
 

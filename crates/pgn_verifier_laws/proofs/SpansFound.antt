@@ -11,6 +11,7 @@ use Rattle.chess_game.specs.Game.{verdict_now}
 use Rattle.chess_game.specs.declared.game.TheConstants.{MOST_MOVES}
 use Rattle.chess_pgn.specs.GameRead.{GameRead, pgn_read}
 use Rattle.chess_pgn.specs.LastTags.{result_tag_of}
+use Rattle.chess_pgn.specs.UnknownVariants.{unknown_variant_in}
 use Rattle.chess_pgn.specs.Tokens.{is_white_space, tokens_from}
 use Rattle.byte_devices.specs.Bytes.{after_byte_order_mark}
 use Rattle.chess_pgn.specs.declared.read.PgnEnd.{PgnEnd}
@@ -53,7 +54,8 @@ module _ (law : TokenByToken) (strict : Bool) (text : List ℕ) (at : ℕ) (with
   game_there : (end : PgnEnd) → judged_at strict text at ≡ Ok (Some end)
       → (game_begin text at < end.offset) × (end.offset ≤ length text)
   game_there end is =
-      let read = (judged_so strict (result_tag_of (length text) (tokens_from text (after_byte_order_mark text at)))
+      let read = (judged_so strict (unknown_variant_in (length text) (tokens_from text (after_byte_order_mark text at)))
+    (result_tag_of (length text) (tokens_from text (after_byte_order_mark text at)))
       (verdict_now (read_at text at).state) end (read_at text at).answer is).0 in
       subst (EndsAfter (game_begin text at) (length text)) (ap (λ (r : GameRead). r.answer) alike ∙ read)
       (ends_in_text MOST_MOVES text (game_begin text at) (begins_within text at within))
@@ -78,7 +80,8 @@ module _ (law : TokenByToken) (strict : Bool) (text : List ℕ) (at : ℕ) (with
       by_place true e =
           let last : game_begin text at ≡ length text = grind (arith, nat_tests, e) in
           let none : judged_at strict text at ≡ Ok None =
-          ap (judged strict (result_tag_of (length text) (tokens_from text (after_byte_order_mark text at)))
+          ap (judged strict (unknown_variant_in (length text) (tokens_from text (after_byte_order_mark text at)))
+    (result_tag_of (length text) (tokens_from text (after_byte_order_mark text at)))
           (verdict_now (read_at text at).state)) (none_there last) in
           let both : Ok None ≡ Err fault = sym none ∙ is in
           absurd (cc)

@@ -9,16 +9,17 @@ use Rattle.chess_game.specs.declared.game.TheConstants.{MOST_MOVES}
 use Rattle.chess_game.specs.declared.results.Outcome.{Outcome}
 use Rattle.chess_pgn.specs.GameRead.{GameRead, pgn_read}
 use Rattle.pgn_writer.specs.GameText.{pgn, tag_lines, game_tokens}
-use Rattle.chess_pgn.specs.LastTags.{result_tag_of}
 use Rattle.chess_pgn.specs.shared.Kinds.{IsSplitByKinds, IsOf, IsLongest, Blank, ended, token}
 use Rattle.pgn_writer.specs.Terminations.{termination_of}
+use Rattle.chess_pgn.specs.LastTags.{result_tag_of}
+use Rattle.chess_pgn.specs.UnknownVariants.{unknown_variant_in}
 use Rattle.chess_pgn.specs.Tokens.{Token, Skip, begins_line, tokens_from}
 use Rattle.byte_devices.specs.Bytes.{after_byte_order_mark}
 use Rattle.pgn_writer.specs.Written as written
 use Rattle.chess_pgn.specs.declared.read.PgnEnd.{PgnEnd}
 use Rattle.pgn_writer.specs.declared.tags.Tags.{Tags}
 use Rattle.pgn_writer.specs.declared.termination.Termination.{Termination}
-use Rattle.chess_pgn_laws.specs.PgnLaw.{AreTagTexts, IsReadBack, PgnIsReadBack, ResultIsWritten}
+use Rattle.chess_pgn_laws.specs.PgnLaw.{AreTagTexts, IsReadBack, PgnIsReadBack}
 use Rattle.chess_pgn.specs.laws.TokenByToken.{tokens_read}
 use Rattle.chess_pgn.proofs.shared.Tokens.{kinds_read}
 use Rattle.pgn_verifier.specs.GameFaults.{judged}
@@ -31,7 +32,7 @@ use Rattle.pgn_verifier_laws.proofs.Parts.{all_reported_alike}
 use Rattle.pgn_verifier_laws.proofs.PartsAlike.{TokenByToken, read_so, judged_so, no_mark}
 use Rattle.pgn_verifier_laws.proofs.PartsRead.{in_text}
 use Rattle.pgn_verifier_laws.proofs.OnlyReports.{only_judged}
-use Rattle.pgn_verifier_laws.proofs.WrittenGames.{written_games}
+use Rattle.pgn_verifier_laws.proofs.WrittenGames.{TagsAreWritten, written_games}
 use Rattle.pgn_verifier.specs.laws.Reported.{judged_at, read_at, report_then, reports_from, reports_on}
 
 -- ---- the end of a game's text
@@ -98,7 +99,8 @@ none_after law strict body some =
     ap (tokens_from text) (no_mark text (length body) some) ∙ sym (kinds_read text (last_tokens body)) in
     let is : pgn_read MOST_MOVES text (length body) ≡ tokens_read MOST_MOVES (length text) own =
     law MOST_MOVES text (length body) ∙ ap (tokens_read MOST_MOVES (length text)) same in
-    ap (λ (r : GameRead). judged strict (result_tag_of (length text) ts) (verdict_now r.state) r.answer) is
+    ap (λ (r : GameRead). judged strict (unknown_variant_in (length text) ts)
+    (result_tag_of (length text) ts) (verdict_now r.state) r.answer) is
 
 nothing_more : (strict : Bool) (start k : ℕ) (text : List ℕ) (at : ℕ) → judged_at strict text at ≡ Ok None
     → reports_from strict start k text at ≡ []
@@ -116,7 +118,7 @@ same_termination end o t offset same =
     let ends : end ≡ record { outcome = o; termination = Some t; offset = offset } = cc in
     ap (λ (e : PgnEnd). e.termination) ends
 
-module _ (law : TokenByToken) (read : PgnIsReadBack) (result : ResultIsWritten) (strict : Bool) where
+module _ (law : TokenByToken) (read : PgnIsReadBack) (result : TagsAreWritten) (strict : Bool) where
   one_report : (start : ℕ) (g : TaggedGame) → AreTagTexts g.tags
       → IsPlayable (record { limit = MOST_MOVES; state = g.state })
       → reports_on strict start (pgn [] g.tags g.state) ≡ report_of g ∷ []
@@ -135,7 +137,8 @@ module _ (law : TokenByToken) (read : PgnIsReadBack) (result : ResultIsWritten) 
       let back : IsReadBack g.state T (length text) (pgn_read MOST_MOVES text 0) =
       subst (λ t. IsReadBack g.state T (length text) (pgn_read MOST_MOVES t 0)) all
       (read MOST_MOVES g.tags g.state [] [] texts playable) in
-      let said = judged_so strict (result_tag_of (length text) (tokens_from text (after_byte_order_mark text 0)))
+      let said = judged_so strict (unknown_variant_in (length text) (tokens_from text (after_byte_order_mark text 0)))
+    (result_tag_of (length text) (tokens_from text (after_byte_order_mark text 0)))
       (verdict_now (read_at text 0).state) found.end (read_at text 0).answer is in
       let termination : found.end.termination ≡ Some T =
       same_termination found.end (outcome_now g.state) T back.offset (sym said.0 ∙ back.answer) in
@@ -216,7 +219,7 @@ module _ (law : TokenByToken) (read : PgnIsReadBack) (result : ResultIsWritten) 
   joined [] = refl
   joined (g ∷ games) = ap (λ l. pgn [] g.tags g.state ++ l) (joined games)
 
-pub written_texts : TokenByToken → PgnIsReadBack → ResultIsWritten → WrittenTextsHaveNoFault
+pub written_texts : TokenByToken → PgnIsReadBack → TagsAreWritten → WrittenTextsHaveNoFault
 written_texts law read result strict start games h =
     let held = all_held law read result strict games h [] (inl refl) in
     ap (reports_on strict start) (joined law read result strict games)

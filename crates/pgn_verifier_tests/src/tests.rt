@@ -117,6 +117,42 @@ fn texts_have_a_line_for_each_game(rt: HostRuntime) {
     );
 }
 
+// Tags `Variant` with `--strict`, and what is written of them: the names of normal chess and Chess960 are known, in
+// capital or small letters; another name is a fault, which comes before that of the result. Only the last tag counts.
+const VARIANTS: [(&[u8], Verified, &[u8]); 8] = [
+    (b"[Variant \"Standard\"] e4 *", Verified::EachGame, b""),
+    (b"[Variant \"FROM POSITION\"] e4 *", Verified::EachGame, b""),
+    (b"[Variant \"chess960\"] e4 *", Verified::EachGame, b""),
+    (
+        b"[Variant \"Atomic\"] e4 *",
+        Verified::FaultReported,
+        b"game 1: unknown variant at byte 10\n",
+    ),
+    (
+        b"[Variant \"Chess 960\"] e4 *",
+        Verified::FaultReported,
+        b"game 1: unknown variant at byte 10\n",
+    ),
+    (
+        b"[Result \"1-0\"][Variant \"\"] e4 *",
+        Verified::FaultReported,
+        b"game 1: unknown variant at byte 24\n",
+    ),
+    (b"[Variant \"Atomic\"][Variant \"Normal\"] e4 *", Verified::EachGame, b""),
+    (
+        b"[Variant \"Atomic\"] e4 e4 *",
+        Verified::FaultReported,
+        b"game 1: illegal move at byte 22\n",
+    ),
+];
+
+#[test]
+fn unknown_variants_are_faults(rt: HostRuntime) {
+    for (text, wanted, lines) in &VARIANTS {
+        check_cuts(&rt, &rt, false, STRICT, *text, *wanted, *lines);
+    }
+}
+
 #[test]
 fn collections_go_on_after_a_fault(rt: HostRuntime) {
     check_cuts(

@@ -9,6 +9,7 @@ use Rattle.chess_game.specs.declared.game.TheConstants.{MOST_MOVES}
 use Rattle.chess_game.specs.declared.verdicts.Verdict.{Verdict}
 use Rattle.chess_pgn.specs.GameRead.{pgn_read}
 use Rattle.chess_pgn.specs.LastTags.{result_tag_of}
+use Rattle.chess_pgn.specs.UnknownVariants.{unknown_variant_in}
 use Rattle.chess_pgn.specs.Tokens.{tokens_from}
 use Rattle.byte_devices.specs.Bytes.{after_byte_order_mark}
 use Rattle.chess_pgn.specs.declared.read.PgnEnd.{PgnEnd}
@@ -21,7 +22,7 @@ use Rattle.pgn_pieces.specs.Stream.{Piece, with_offsets, pieces}
 use Rattle.pgn_pieces.specs.declared.pieces.TheConstants.{PIECE_LEN}
 use Rattle.pgn_verifier.specs.Collection.{AreCollectionReports, no_piece, next_piece}
 use Rattle.pgn_verifier.specs.GameFaults.{judged, IsJudged}
-use Rattle.pgn_verifier.specs.shared.Contradictions.{contradiction}
+use Rattle.pgn_verifier.specs.shared.Contradictions.{strict_fault}
 use Rattle.pgn_verifier.specs.Explanations.{wrong_part}
 use Rattle.pgn_verifier.specs.Reports.{Game, Faulty, Placed, game_begin, names_of, AreReports, none_left, next_game, last_fault, AreReportsIn}
 use Rattle.pgn_verifier.specs.declared.game_fault.GameFault.{GameFault}
@@ -53,12 +54,12 @@ named {strict} {text} j = ap names_of (split_read text j.split)
 abbrev EndsIn : ℕ → ℕ → Result (Option PgnEnd) GameFault → Type 0
 EndsIn total at r = IfOk r (λ o. IfSome o (λ e. (at < e.offset) × (e.offset ≤ total)))
 
-judged_end : (strict : Bool) (tag : Option ResultTag) (verdict : Option Verdict) (total at : ℕ)
+judged_end : (strict : Bool) (unknown : Option ℕ) (tag : Option ResultTag) (verdict : Option Verdict) (total at : ℕ)
     (r : Result (Option PgnEnd) PgnFault) → IfOk r (λ o. IfSome o (λ e. (at < e.offset) × (e.offset ≤ total)))
-    → EndsIn total at (judged strict tag verdict r)
-judged_end strict tag verdict total at (Ok None) h = tt
-judged_end strict tag verdict total at (Err f) h = tt
-judged_end strict tag verdict total at (Ok (Some end)) h = by_fault (contradiction strict tag verdict end)
+    → EndsIn total at (judged strict unknown tag verdict r)
+judged_end strict unknown tag verdict total at (Ok None) h = tt
+judged_end strict unknown tag verdict total at (Err f) h = tt
+judged_end strict unknown tag verdict total at (Ok (Some end)) h = by_fault (strict_fault strict unknown tag verdict end)
   where
     by_fault : (o : Option GameFault) → EndsIn total at (option_map_or Err o (Ok (Some end)))
     by_fault None = h
@@ -67,7 +68,8 @@ judged_end strict tag verdict total at (Ok (Some end)) h = by_fault (contradicti
 ends : (strict : Bool) (text : List ℕ) (at : ℕ) → at ≤ length text
     → EndsIn (length text) at (judged_at strict text at)
 ends strict text at h =
-    judged_end strict (result_tag_of (length text) (tokens_from text (after_byte_order_mark text at)))
+    judged_end strict (unknown_variant_in (length text) (tokens_from text (after_byte_order_mark text at)))
+    (result_tag_of (length text) (tokens_from text (after_byte_order_mark text at)))
     (verdict_now (read_at text at).state) (length text) at (read_at text at).answer (ends_in_text MOST_MOVES text at h)
 
 from_here : (strict : Bool) (start n : ℕ) (text : List ℕ) (at : ℕ) → at ≤ length text → length text < n + at

@@ -7,6 +7,7 @@ use Rattle.chess_game.specs.Game.{State, verdict_now}
 use Rattle.chess_game.specs.declared.game.TheConstants.{MOST_MOVES}
 use Rattle.chess_pgn.specs.GameRead.{GameRead, pgn_read}
 use Rattle.chess_pgn.specs.LastTags.{result_tag_of}
+use Rattle.chess_pgn.specs.UnknownVariants.{unknown_variant_in}
 use Rattle.chess_pgn.specs.Tokens.{tokens_from}
 use Rattle.byte_devices.specs.Bytes.{after_byte_order_mark}
 use Rattle.chess_pgn.specs.declared.read.PgnEnd.{PgnEnd}
@@ -29,8 +30,9 @@ read_at = pgn_read MOST_MOVES
 abbrev pub judged_at : Bool → List ℕ → ℕ → Result (Option PgnEnd) GameFault
 judged_at strict text at =
     let read = read_at text at in
-    let tag = result_tag_of (length text) (tokens_from text (after_byte_order_mark text at)) in
-    judged strict tag (verdict_now read.state) read.answer
+    let tokens = tokens_from text (after_byte_order_mark text at) in
+    judged strict (unknown_variant_in (length text) tokens) (result_tag_of (length text) tokens)
+    (verdict_now read.state) read.answer
 
 -- the report on a game of a text, from how it was judged and the game that was read (`s`), and then what `later` gives
 -- for the offset of its end; a fault is the last. `start` is the input's offset at which the text begins
