@@ -18,6 +18,9 @@ mod TagScans
 mod TagsLeft
 mod TokenPlaces
 mod Variations
+mod VariationPlaces
+mod LinesRead
+mod PassedWords
 mod Walk
 mod ByteRuns
 mod VariationInsides

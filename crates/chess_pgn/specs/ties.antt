@@ -2,4 +2,5 @@
 pub mod Seen
 pub mod VariationParts
 pub mod GameSteps
+pub mod LineSteps
 pub mod TagsLeft
