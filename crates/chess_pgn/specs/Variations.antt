@@ -2,7 +2,7 @@
 -- before it, so its moves begin in the position before that move; a variation in it replaces one of its own moves. A
 -- *line* is a game's own moves, or those of a variation. This project's own: which words are taken; that a result and a
 -- tag are passed over in a variation; that no draw ends one; and how deep they may be nested.
-use Rattle.std.specs.Prelude.{ℕ, zero, suc, ◌+◌, ◌-◌, Bool, false, ◌||◌, if◌then◌else◌, List, [], ◌∷◌, length, take, slice_index, Option, Some, None, is_some, Result, Ok, Err, ◌==◌}
+use Rattle.std.specs.Prelude.{ℕ, zero, suc, ◌+◌, ◌-◌, Bool, false, ◌||◌, if◌then◌else◌, List, [], ◌∷◌, length, take, drop, slice_index, Option, Some, None, is_some, Result, Ok, Err, ◌==◌}
 use Rattle.std.specs.List.{list_all}
 use Rattle.std.specs.Option.{option_map_or, option_or}
 use Rattle.byte_devices.specs.Bytes.{byte, is_digit}
@@ -17,6 +17,7 @@ use Rattle.chess_pgn.specs.declared.read.PgnFault.{PgnFault}
 use Rattle.chess_pgn.specs.declared.read.PgnFaultKind.{PgnFaultKind}
 use Rattle.chess_pgn.specs.declared.read.PgnFaultKind.TheVariants.{BadToken, IllegalMove, AmbiguousMove, TooLong}
 use Rattle.chess_pgn.specs.declared.variations.TheConstants.{MOST_NESTED}
+use Rattle.chess_pgn.specs.Split.{lacks}
 use Rattle.chess_pgn.specs.Tokens.{Token, Skip, Tag, Word}
 use Rattle.chess_pgn.specs.Words.{is_marks}
 
@@ -78,8 +79,8 @@ variation_fault tokens zero text start at end = Some (record { kind = TooLong; o
 variation_fault tokens (suc depth) text start at end = let inner = take (end - 1) text in
     line_fault inner (λ p from to. variation_fault tokens depth inner p from to) None start (tokens inner (at + 1))
 
--- the first fault in the variations of a game without another fault. Its start is `start`, its text goes from the
--- offset `at` to the end of this one, and at most 64 variations may be open
+-- the first fault in the variations of a game without another fault, whose start is `start`, and whose text goes from
+-- the offset `at` to the end of this one; without a `(` it has none. At most 64 variations may be open
 abbrev pub variations_fault : (List ℕ → ℕ → List (ℕ × Token)) → List ℕ → Setup → ℕ → Option PgnFault
-variations_fault tokens text start at =
-    line_fault text (λ p from to. variation_fault tokens MOST_NESTED text p from to) None start (tokens text at)
+variations_fault tokens text start at = if lacks (byte "(") (drop at text) then None
+    else line_fault text (λ p from to. variation_fault tokens MOST_NESTED text p from to) None start (tokens text at)

@@ -6,11 +6,12 @@ ghost use Rattle.std.specs.List.{list_all};
 ghost use Rattle.std.specs.Option.{IfSome};
 ghost use Rattle.std.specs.Result.{result_err};
 ghost use Rattle.chess_base.specs.Moves.{is_legal};
+ghost use Rattle.chess_pgn.specs.Split.{lacks};
 ghost use Rattle.chess_pgn.specs.Tokens.{tokens_from};
 ghost use Rattle.chess_base.specs.declared.setup.Setup.{Setup};
 ghost use Rattle.chess_pgn.specs.declared.read.PgnFault.{PgnFault};
 ghost use Rattle.chess_pgn.specs.Variations.{after_token, is_variation, line_fault, token_move, variations_fault, word_move};
-ghost use Rattle.byte_devices.specs.Bytes.{after_byte_order_mark, is_digit};
+ghost use Rattle.byte_devices.specs.Bytes.{byte, is_digit};
 ghost use Rattle.pgn_writer.specs.Outcomes.{outcome_of};
 ghost use Rattle.chess_pgn.specs.Words.{is_marks};
 ghost use Rattle.chess_text.specs.Moves.{reading};
@@ -20,7 +21,6 @@ ghost use Rattle.chess_pgn.specs.ties.LineSteps.{IsLineToken, inside, opening, p
 use crate::read::{PgnFault, PgnFaultKind};
 use crate::token::{Token, next_token};
 use crate::word_kind::{WordKind, word_kind};
-use byte_devices::after_byte_order_mark;
 use chess_base::{Move, Position};
 use chess_moves::Board;
 use chess_text::{Reading, read_move};
@@ -167,11 +167,18 @@ fn read_line<B: Board>(
     }
 }
 
+// Whether a text has no `(`.
+fn lacks_parenthesis(text: &[u8]) -> bool
+    ensures { result ≡ lacks (byte "(") text.now }
+{
+    text.iter().all(|byte| *byte != b'(')
+}
+
 /// Reads the variations of the game that begins at the offset `at` and ends where the text ends, right after its
 /// termination marker. The game is one that `read_pgn` reads without a fault, from the position `start`. The moves of a
 /// variation begin in the position before the move that it replaces, which is the one just before it in the game, or in
 /// the variation of which it is a part. Each is to be legal, as `read_pgn` asks it of the game's own, but no draw ends a
-/// variation. The board is only room for the positions.
+/// variation. The board is only room for the positions. A byte order mark at `at` is to be skipped by the caller.
 ///
 /// The contract says: by the only split of each text into tokens (the law `a_text_has_one_split`) the fault is the first
 /// in the variations.
@@ -186,9 +193,11 @@ pub fn read_variations<B: Board>(
     board: &mut B,
 ) -> Result<(), PgnFault>
     requires { at ≤ length text.now }
-    ensures fault { result_err result
-        ≡ variations_fault tokens_from text.now start.now (after_byte_order_mark text.now at) }
+    ensures fault { result_err result ≡ variations_fault tokens_from text.now start.now at }
     ensures within { IfErr result (λ fault. fault.offset ≤ length text.now) }
 {
-    read_line(MOST_NESTED, text, after_byte_order_mark(text, at), start, board)
+    if lacks_parenthesis(&text[at..]) {
+        return Ok(());
+    }
+    read_line(MOST_NESTED, text, at, start, board)
 }

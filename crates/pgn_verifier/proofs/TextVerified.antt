@@ -4,6 +4,7 @@ use Rattle.std.specs.Prelude.{if◌then◌else◌}
 use Rattle.byte_devices.specs.Devices.{OutputState, Took, CutShort}
 use Rattle.chess_game.specs.Game.{State}
 use Rattle.chess_pgn.specs.declared.read.PgnEnd.{PgnEnd}
+use Rattle.pgn_verifier.specs.declared.options.Strictness.{Strictness}
 use Rattle.pgn_verifier.specs.declared.game_fault.GameFault.{GameFault}
 use Rattle.pgn_verifier.specs.declared.options.VerifyOptions.{VerifyOptions}
 use Rattle.pgn_verifier.specs.declared.tally.Tally.{Tally}
@@ -17,7 +18,7 @@ use Rattle.pgn_verifier.proofs.LinesWritten.{placed_line, wrote_none, took_after
 -- ---- the reports that are left
 
 -- what is left of a text has no more games than bytes
-left : (strict : Bool) (start n : ℕ) (text : List ℕ) (at : ℕ) (answer : Result (Option PgnEnd) GameFault) (s : State)
+left : (strict : Strictness) (start n : ℕ) (text : List ℕ) (at : ℕ) (answer : Result (Option PgnEnd) GameFault) (s : State)
     → judged_at strict text at ≡ answer → s ≡ (read_at text at).state
     → placed_from strict start (suc n) text at
     ≡ placed_then start text at answer s (λ next. placed_from strict start n text next)

@@ -3,6 +3,7 @@
 use Rattle.std.specs.Prelude.{◌≡◌, ◌≤◌, ◌^◌, ℕ, ◌+◌, Bool, true, false, if◌then◌else◌, List, [], ◌∷◌, ◌++◌, length, Result, Ok, Err}
 use Rattle.byte_devices.specs.Transfers.{FromInput, ToOutput, IsWhole, nothing, all_of, all_unflushed, BreaksOffIn}
 use Rattle.pgn_pieces.specs.Pieces.{known_pieces}
+use Rattle.pgn_verifier.specs.declared.options.Strictness.{Strictness}
 use Rattle.pgn_verifier.specs.declared.fault.VerifyFault.{VerifyFault}
 use Rattle.pgn_verifier.specs.declared.fault.VerifyFault.TheVariants.{ReadFailed, WriteFailed, NoMemory, InputTooLong}
 use Rattle.pgn_verifier.specs.declared.options.VerifyOptions.{VerifyOptions}
@@ -12,7 +13,7 @@ use Rattle.pgn_verifier.specs.Reports.{Placed, AreReportsIn, report_lines, witho
 -- these are the reports on the games of these pieces, piece after piece (`AreReportsIn`). Each piece is given by its
 -- bytes; the first begins at the given offset of the input, and each other one where the one before it ends. `strict`:
 -- a termination marker, such as `1-0`, that contradicts the tag Result or the board's verdict is a fault
-pub data AreCollectionReports (strict : Bool) : ℕ → List (List ℕ) → List Placed → Type 0 where
+pub data AreCollectionReports (strict : Strictness) : ℕ → List (List ℕ) → List Placed → Type 0 where
   no_piece : {offset : ℕ} → AreCollectionReports strict offset [] []
   next_piece : {offset : ℕ} {piece : List ℕ} {pieces : List (List ℕ)} (reports : List Placed) {more : List Placed}
       → AreReportsIn strict offset piece reports → AreCollectionReports strict (offset + length piece) pieces more

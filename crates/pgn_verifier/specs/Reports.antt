@@ -14,6 +14,7 @@ use Rattle.chess_pgn.specs.declared.read.PgnFaultKind.TheVariants.{TooLong}
 use Rattle.pgn_writer.specs.declared.termination.Termination.{Termination}
 use Rattle.pgn_writer.specs.Terminations.{termination_text}
 use Rattle.pgn_pieces.specs.declared.pieces.TheConstants.{PIECE_LEN}
+use Rattle.pgn_verifier.specs.declared.options.Strictness.{Strictness}
 use Rattle.pgn_verifier.specs.Explanations.{IsReason, shown, wrong_part, explanation, explanation_line}
 use Rattle.pgn_verifier.specs.GameFaults.{IsJudged, fault_name}
 use Rattle.pgn_verifier.specs.declared.game_fault.FaultKind.TheVariants.{Pgn}
@@ -64,7 +65,7 @@ names_of tokens = shown_tag tokens (codes "White") ++ (codes " - " ++ (shown_tag
 -- these are the reports on the games of `text` from its offset `at` on, up to and including the first game with a
 -- fault; the last two arguments are `at` and the reports. The text begins at the offset `start` of the input. `strict`:
 -- a termination marker that contradicts the tag Result or the board's verdict is a fault
-pub data AreReports (strict : Bool) (start : ℕ) (text : List ℕ) : ℕ → List Placed → Type 0 where
+pub data AreReports (strict : Strictness) (start : ℕ) (text : List ℕ) : ℕ → List Placed → Type 0 where
   -- no game comes from `at` on
   none_left : {at : ℕ} {s : State} → IsJudged strict text at s (Ok None) → AreReports strict start text at []
   -- the next game has no fault and ends with its termination marker; the other reports are on the games after that.
@@ -97,7 +98,7 @@ pub data AreReports (strict : Bool) (start : ℕ) (text : List ℕ) : ℕ → Li
 -- bytes), one report on the piece: the fault TooLong at its first byte, explained by the first word there (`shown`). A
 -- game of more than 20,000 half-moves has the same kind of fault, but at its 20,001st half-move. `strict`: an outcome
 -- mark that contradicts the tag Result or the board's verdict is a fault
-abbrev pub AreReportsIn : Bool → ℕ → List ℕ → List Placed → Type 0
+abbrev pub AreReportsIn : Strictness → ℕ → List ℕ → List Placed → Type 0
 AreReportsIn strict offset piece reports =
     MatchBool (nat_le (length piece) PIECE_LEN) (AreReports strict offset piece 0 reports)
     (reports ≡ record {

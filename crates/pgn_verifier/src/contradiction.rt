@@ -1,21 +1,20 @@
-//! The faults that `strict` looks for at a game's end: an unknown variant, and a result that contradicts the text or the
-//! board.
+//! Whether a game's result contradicts its text or the board.
 
 ghost use Rattle.std.specs.Prelude.{◌≡◌, ◌≤◌, length, Some};
 ghost use Rattle.std.specs.Option.{IfSome, option_eq};
 ghost use Rattle.chess_game.specs.Game.{contradicts_verdict, verdict_now};
 ghost use Rattle.chess_pgn.specs.LastTags.{result_tag_of};
-ghost use Rattle.chess_pgn.specs.UnknownVariants.{unknown_variant_in};
 ghost use Rattle.chess_pgn.specs.Tokens.{tokens_from};
 ghost use Rattle.byte_devices.specs.Bytes.{after_byte_order_mark};
 ghost use Rattle.chess_game.specs.Results.{same_outcome};
-ghost use Rattle.pgn_verifier.specs.GameFaults.{result_differs, board_says_otherwise};
-ghost use Rattle.pgn_verifier.specs.shared.Contradictions.{contradiction, strict_fault, variant_fault};
+ghost use Rattle.pgn_verifier.specs.GameFaults.{looked_for, result_differs, board_says_otherwise};
+ghost use Rattle.pgn_verifier.specs.shared.Contradictions.{contradiction};
 
 use crate::game_fault::{FaultKind, GameFault};
+use crate::options::Strictness;
 use chess_game::{Game, Outcome, Verdict};
 use chess_moves::Board;
-use chess_pgn::{PgnEnd, ResultTag, result_tag, unknown_variant};
+use chess_pgn::{PgnEnd, ResultTag, result_tag};
 
 // Whether a tag `Result` names this outcome; `denoted` is what its text denotes, `None` if it denotes no outcome.
 fn is_text_of(outcome: Outcome, denoted: Option<Outcome>) -> bool
@@ -69,39 +68,35 @@ fn board_says_otherwise(verdict: Option<Verdict>, end: PgnEnd) -> Option<GameFau
     })
 }
 
-// What is wrong with the outcome (`end`) of the game that was read from `at` on: it differs from its tag `Result`, or
-// else from the board's verdict. `None` if it agrees.
-fn contradiction<B: Board>(text: &[u8], at: usize, game: &Game<B>, end: PgnEnd) -> Option<GameFault>
+// The fault of a game that ends with another outcome (`end`) than its last tag `Result` names; `None` also if that isn't
+// looked for (`is_looked_for`). The game was read from `at` on.
+fn result_fault(is_looked_for: bool, text: &[u8], at: usize, end: PgnEnd) -> Option<GameFault>
     requires at { at ≤ length text.now }
-    requires end { end.offset ≤ length text.now }
-    ensures fault { result
-        ≡ contradiction (result_tag_of (length text.now) (tokens_from text.now (after_byte_order_mark text.now at)))
-        (verdict_now game.now.state) end }
+    ensures fault { result ≡ looked_for is_looked_for (result_differs
+        (result_tag_of (length text.now) (tokens_from text.now (after_byte_order_mark text.now at))) end) }
     ensures within { IfSome result (λ fault. fault.offset ≤ length text.now) }
 {
-    result_differs(result_tag(text, at), end).or(board_says_otherwise(game.verdict(), end))
+    if !is_looked_for {
+        return None;
+    }
+    result_differs(result_tag(text, at), end)
 }
 
-// The fault of the game that is read from `at` on, if its tag `Variant` names no variant that is known.
-fn variant_fault(text: &[u8], at: usize) -> Option<GameFault>
-    requires { at ≤ length text.now }
-    ensures fault { result
-        ≡ variant_fault
-        (unknown_variant_in (length text.now) (tokens_from text.now (after_byte_order_mark text.now at))) }
-    ensures within { IfSome result (λ fault. fault.offset ≤ length text.now) }
+// The fault of a game that ends with another outcome (`end`) than the board's verdict; `None` also if that isn't looked
+// for (`is_looked_for`).
+fn board_fault<B: Board>(is_looked_for: bool, game: &Game<B>, end: PgnEnd) -> Option<GameFault>
+    ensures { result ≡ looked_for is_looked_for (board_says_otherwise (verdict_now game.now.state) end) }
 {
-    let offset = unknown_variant(text, at)?;
-    Some(GameFault {
-        kind: FaultKind::UnknownVariant,
-        offset,
-    })
+    if !is_looked_for {
+        return None;
+    }
+    board_says_otherwise(game.verdict(), end)
 }
 
-// The first fault that `strict` finds at the end (`end`) of the game that was read from `at` on: its variant is not
-// known, or its outcome contradicts its tag `Result` or the board's verdict. `None` if there is none, or if `strict` is
-// false.
-pub(crate) fn strict_fault<B: Board>(
-    strict: bool,
+// What is wrong with the outcome (`end`) of the game that was read from `at` on: it differs from its tag `Result`, or
+// else from the board's verdict. `None` if it agrees, and where it isn't compared.
+pub(crate) fn contradiction<B: Board>(
+    strict: Strictness,
     text: &[u8],
     at: usize,
     game: &Game<B>,
@@ -110,14 +105,10 @@ pub(crate) fn strict_fault<B: Board>(
     requires at { at ≤ length text.now }
     requires end { end.offset ≤ length text.now }
     ensures fault { result
-        ≡ strict_fault strict
-        (unknown_variant_in (length text.now) (tokens_from text.now (after_byte_order_mark text.now at)))
+        ≡ contradiction strict
         (result_tag_of (length text.now) (tokens_from text.now (after_byte_order_mark text.now at)))
         (verdict_now game.now.state) end }
     ensures within { IfSome result (λ fault. fault.offset ≤ length text.now) }
 {
-    if !strict {
-        return None;
-    }
-    variant_fault(text, at).or(contradiction(text, at, game, end))
+    result_fault(strict.result, text, at, end).or(board_fault(strict.board, game, end))
 }

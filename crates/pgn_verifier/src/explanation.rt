@@ -13,13 +13,14 @@ ghost use Rattle.pgn_pieces.specs.Places.{breaks_line, line_ends, line_of, colum
 ghost use Rattle.pgn_verifier.specs.Explanations.{wrong_part, has_position, explanation_line, shown};
 ghost use Rattle.chess_game.specs.Results.{outcome_text};
 ghost use Rattle.pgn_verifier.specs.declared.game_fault.FaultKind.TheVariants.{Pgn};
-ghost use Rattle.pgn_verifier.specs.WrongParts.{move_reason};
+ghost use Rattle.pgn_verifier.specs.GameFaults.{fault_name};
+ghost use Rattle.pgn_verifier.specs.WrongParts.{move_reason, variation_reason};
 ghost use Rattle.pgn_verifier.specs.laws.Reasons.{reason, explanation_of};
 ghost use Rattle.pgn_verifier.specs.ties.OnTheWay.{StandsIf, moved, fault_line, span_written};
 ghost use Rattle.pgn_verifier.specs.declared.explanation.TheConstants.{FAULT_LINES_LEN};
 
 use crate::fen_field::{fen_text, field_offset, wrong_field};
-use crate::game_fault::{FaultKind, GameFault, fault_name};
+use crate::game_fault::{FaultKind, GameFault, pgn_fault_name};
 use crate::label::{FaultLabel, append_span};
 use crate::shown::{Shown, shown, shown_field};
 use crate::start::TextStart;
@@ -32,8 +33,11 @@ use chess_moves::Board;
 use chess_pgn::PgnFaultKind;
 use pgn_pieces::line_ends;
 
-// The most bytes of the lines on a fault: of its own 300, and of the one that explains it 320.
-const FAULT_LINES_LEN: usize = 620;
+// The most bytes of the lines on a fault: of its own 320, and of the one that explains it 320.
+const FAULT_LINES_LEN: usize = 640;
+
+// The reason for a variation that is nested too deep.
+const TOO_DEEP: &[u8] = b"in 64 other variations";
 
 // The reason for an unknown variant.
 const KNOWN_VARIANTS: &[u8] =
@@ -42,18 +46,36 @@ const KNOWN_VARIANTS: &[u8] =
 /// The lines on a fault.
 pub(crate) type FaultLines = ArrayVec<u8, FAULT_LINES_LEN>;
 
+// Appends the words by which a line names a game's fault, such as `illegal move`.
+fn append_fault_name(lines: &mut FaultLines, kind: FaultKind)
+    requires { array_vec_len lines.old + 40 ≤ FAULT_LINES_LEN }
+    ensures text { lines.new.items ≡ lines.old.items ++ fault_name kind }
+    ensures len { array_vec_len lines.new ≤ array_vec_len lines.old + 33 }
+{
+    match kind {
+        FaultKind::Pgn(kind) => append(lines, pgn_fault_name(kind)),
+        FaultKind::InVariation(kind) => {
+            append(lines, pgn_fault_name(kind));
+            append(lines, b" in a variation");
+        }
+        FaultKind::UnknownVariant => append(lines, b"unknown variant"),
+        FaultKind::ResultDiffers { .. } => append(lines, b"result differs"),
+        FaultKind::BoardSaysOtherwise => append(lines, b"board says otherwise"),
+    }
+}
+
 // The line of a fault, such as `game 2: illegal move at byte 39`.
 #[tactic(auto, unfolding(crate::specs::Reports::report_line))]
 fn fault_line(label: &FaultLabel, fault: GameFault) -> FaultLines
     ensures text { result.items
         ≡ fault_line label.now.game.number fault (span_written label.now.game.span) label.now.names.items }
-    ensures len { array_vec_len result ≤ 300 }
+    ensures len { array_vec_len result ≤ 320 }
 {
     let mut lines = FaultLines::new();
     append(&mut lines, b"game ");
     append_number(&mut lines, label.game.number as u64);
     append(&mut lines, b": ");
-    append(&mut lines, fault_name(fault.kind));
+    append_fault_name(&mut lines, fault.kind);
     append(&mut lines, b" at byte ");
     append_number(&mut lines, fault.offset as u64);
     append_span(&mut lines, label.game.span);
@@ -180,6 +202,22 @@ fn append_pgn_reason(
     }
 }
 
+// Appends ` | ` and the reason for a fault in a variation; nothing if there is none. `text` is the text from its byte
+// on.
+fn append_variation_reason(lines: &mut FaultLines, kind: PgnFaultKind, text: &[u8])
+    requires { array_vec_len lines.old + 80 ≤ FAULT_LINES_LEN }
+    ensures text { lines.new.items ≡ lines.old.items
+        ++ option_map_or (λ text. codes " | " ++ text) (variation_reason kind text.now) [] }
+    ensures len { array_vec_len lines.new ≤ array_vec_len lines.old + 80 }
+{
+    match kind {
+        PgnFaultKind::BadToken => append_part(lines, token_reason(text)),
+        PgnFaultKind::IllegalMove => append_move_reason(lines, text),
+        PgnFaultKind::TooLong => append_part(lines, TOO_DEEP),
+        _ => {}
+    }
+}
+
 // Appends ` | Result TEXT, ended OUTCOME`: the text of the tag `Result` and the outcome that ends the game's text.
 fn append_results(lines: &mut FaultLines, tag: &[u8], outcome: Outcome)
     requires { array_vec_len lines.old + 80 ≤ FAULT_LINES_LEN }
@@ -203,6 +241,7 @@ fn append_reason(lines: &mut FaultLines, kind: FaultKind, text: &[u8], verdict: 
 {
     match kind {
         FaultKind::Pgn(kind) => append_pgn_reason(lines, kind, text, verdict),
+        FaultKind::InVariation(kind) => append_variation_reason(lines, kind, text),
         FaultKind::UnknownVariant => append_part(lines, KNOWN_VARIANTS),
         FaultKind::ResultDiffers { tag_len, outcome } => {
             append_results(lines, &text[..tag_len.min(text.len())], outcome)
@@ -211,7 +250,7 @@ fn append_reason(lines: &mut FaultLines, kind: FaultKind, text: &[u8], verdict: 
     }
 }
 
-// Whether a position is shown at a fault: not at one of the tags, such as a bad FEN.
+// Whether a position is shown at a fault: not at one of the tags, such as a bad FEN, and not in a variation.
 fn has_position(kind: FaultKind) -> bool
     ensures { result ≡ has_position kind }
 {
@@ -219,6 +258,7 @@ fn has_position(kind: FaultKind) -> bool
         kind,
         FaultKind::Pgn(PgnFaultKind::BadTag)
             | FaultKind::Pgn(PgnFaultKind::BadFen(_))
+            | FaultKind::InVariation(_)
             | FaultKind::UnknownVariant
     )
 }
@@ -260,7 +300,7 @@ fn append_explanation<B: Board>(
     kind: FaultKind,
     game: &Game<B>,
 )
-    requires { array_vec_len lines.old ≤ 300 }
+    requires { array_vec_len lines.old ≤ 320 }
     ensures { (input : List ℕ) (begin : ℕ) → line ≡ line_of input begin → column ≡ column_of input begin
         → lines.new.items ≡ lines.old.items
         ++ explanation_line input begin (explanation_of game.now.state text.now kind) }

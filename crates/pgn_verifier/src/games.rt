@@ -6,11 +6,11 @@ ghost use Rattle.chess_game.specs.declared.game.TheConstants.{MOST_MOVES};
 ghost use Rattle.pgn_verifier.specs.laws.Reported.{read_at, judged_at, placed_on};
 ghost use Rattle.pgn_verifier.specs.ties.OnTheWay.{StandsIf, Writes, GrowsBy};
 
-use crate::contradiction::strict_fault;
+use crate::end_faults::end_fault;
 use crate::explanation::fault_lines;
 use crate::game_fault::GameFault;
 use crate::label::{FaultLabel, Label};
-use crate::options::VerifyOptions;
+use crate::options::{Strictness, VerifyOptions};
 use crate::report::write_game;
 use crate::start::TextStart;
 use crate::tally::Tally;
@@ -31,10 +31,9 @@ pub(crate) fn open_game<'t>(
 }
 
 // Reads the game of a text from the offset `at` on into `game`, and returns its end or its fault; `None` if no game is
-// left. With `strict`, an unknown variant is a fault too, and so is an end that contradicts the tag `Result` or the
-// board.
+// left. What `strict` names is a fault, too.
 fn judge_game(
-    strict: bool,
+    strict: Strictness,
     text: &[u8],
     at: usize,
     game: &mut Game<Bits<'_>>,
@@ -55,7 +54,7 @@ fn judge_game(
     let Some(end) = read_pgn(text, at, game)? else {
         return Ok(None);
     };
-    match strict_fault(strict, text, at, game, end) {
+    match end_fault(strict, text, at, game, end) {
         Some(fault) => Err(fault),
         None => Ok(Some(end)),
     }

@@ -115,8 +115,8 @@ fn begins_with_null_move(text: &[u8]) -> bool
     first_word(text) == b"--".as_slice() || first_word(text) == b"Z0".as_slice()
 }
 
-/// What is wrong with a bad token: it is a draw as PGN doesn't write it, an en dash, a null move, another word and not
-/// a move, or its first byte begins no token.
+/// What is wrong with a bad token: it is a draw as PGN doesn't write it, an en dash, a null move, a variation with no
+/// move before it, another word and not a move, or its first byte begins no token.
 pub(crate) fn token_reason(text: &[u8]) -> &'static [u8]
     ensures value { result.now ≡ token_reason text.now }
     ensures short { length result.now ≤ 40 }
@@ -127,6 +127,8 @@ pub(crate) fn token_reason(text: &[u8]) -> &'static [u8]
         b"an en dash, where results have a hyphen"
     } else if begins_with_null_move(text) {
         b"a null move, which chess does not have"
+    } else if text.starts_with(b"(") {
+        b"no move that this variation replaces"
     } else if begins_word(text) {
         b"not a move"
     } else {

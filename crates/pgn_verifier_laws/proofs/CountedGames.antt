@@ -31,9 +31,10 @@ use Rattle.chess_text.specs.declared.reading.Reading.TheVariants as reads
 use Rattle.chess_text.specs.laws.Laws.{ReadMovesAreLegal}
 use Rattle.pgn_pieces.specs.declared.pieces.TheConstants.{PIECE_LEN}
 use Rattle.chess_pgn.specs.declared.read.PgnFaultKind.TheVariants.{TooLong}
+use Rattle.pgn_verifier.specs.declared.options.Strictness.{Strictness}
 use Rattle.pgn_verifier.specs.Explanations.{shown}
 use Rattle.pgn_verifier.specs.declared.game_fault.FaultKind.TheVariants.{Pgn}
-use Rattle.pgn_verifier.specs.GameFaults.{IsJudged}
+use Rattle.pgn_verifier.specs.GameFaults.{IsJudged, variation_in}
 use Rattle.pgn_verifier.specs.Reports.{AreReports, Placed, Faulty, without_spans, none_left, next_game, last_fault}
 use Rattle.pgn_writer.specs.Outcomes.{outcome_of}
 use Rattle.pgn_verifier_laws.specs.Counted.{AreTold, CountedGamesAreGames, CountedGamesOfPiecesAreGames, HasGame, HasGames}
@@ -123,10 +124,11 @@ ended_at text v tokens taken ((left, t) ∷ ts) s end all (word, is, kind, decla
 
 module _ (legal : ReadMovesAreLegal) (law : GamesAreOfTokens)
     (initial : (v : Variant) → IsSound (initial_setup_of v)) where
-  has_game : (strict : Bool) (text : List ℕ) (at : ℕ) (s : State) (end : PgnEnd)
+  has_game : (strict : Strictness) (text : List ℕ) (at : ℕ) (s : State) (end : PgnEnd)
       → IsJudged strict text at s (Ok (Some end)) → HasGame text at end.offset (length s.moves) end.outcome
   has_game strict text at s end j =
-      let so = judged_so strict (unknown_variant_in (length text) j.tokens)
+      let so = judged_so strict (variation_in j.split_of text at s.start)
+      (unknown_variant_in (length text) j.tokens)
       (result_tag_of (length text) j.tokens) (verdict_now s) end j.ended (sym j.is) in
       let r : GameRead = record { state = s; answer = Ok (Some end) } in
       let read : IsRead MOST_MOVES text at r = record {
@@ -155,7 +157,7 @@ module _ (legal : ReadMovesAreLegal) (law : GamesAreOfTokens)
         unended = unended MOST_MOVES s.start [] (move_words of.taken) s.moves of.moves;
       }
 
-  has_games : {strict : Bool} {start : ℕ} {text : List ℕ} {at : ℕ} {reports : List Placed}
+  has_games : {strict : Strictness} {start : ℕ} {text : List ℕ} {at : ℕ} {reports : List Placed}
       → AreReports strict start text at reports → HasGames text at (without_spans reports)
   has_games (none_left j) = tt
   has_games {strict} {start} {text} (next_game {at} {s} {end} {reports} j h) =

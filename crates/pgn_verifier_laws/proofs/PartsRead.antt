@@ -34,8 +34,9 @@ use Rattle.chess_pgn.specs.UnknownVariants.{is_known_variant, unknown_variant_in
 use Rattle.chess_pgn.specs.laws.TokenByToken.{SoFar, Step, On, Stop, move_step, word_step, fen_step, step, read_rest_with, game_of, nothing_read, tokens_read}
 use Rattle.chess_pgn.proofs.shared.Words.{word_cases}
 use Rattle.chess_pgn.proofs.shared.Tokens.{read_kinds, kinds_read, stays_longest, token_some}
-use Rattle.pgn_verifier.specs.GameFaults.{judged}
-use Rattle.pgn_verifier.specs.shared.Contradictions.{strict_fault}
+use Rattle.pgn_verifier.specs.declared.options.Strictness.{Strictness}
+use Rattle.pgn_verifier.specs.GameFaults.{judged, variation_in}
+use Rattle.pgn_verifier.specs.shared.Contradictions.{end_fault}
 use Rattle.pgn_verifier.specs.declared.game_fault.GameFault.{GameFault}
 use Rattle.pgn_verifier_laws.specs.Parts.{BeginsAlike}
 use Rattle.pgn_verifier_laws.proofs.GamesAlike.{Fits, found}
@@ -290,23 +291,24 @@ module _ (limit : ℕ) (before part after : List ℕ)
 
 -- the text has a game without a fault from the part's offset `at` on: the one that the part alone has, which ends at
 -- its offset `end`
-pub record IsInText (strict : Bool) (before part after : List ℕ) (at : ℕ) (end : PgnEnd) : Type 0 where
+pub record IsInText (strict : Strictness) (before part after : List ℕ) (at : ℕ) (end : PgnEnd) : Type 0 where
   pub judged : judged_at strict (before ++ (part ++ after)) (length before + at)
       ≡ Ok (Some (record end { offset = length before + end.offset }))
   pub inside : end.offset ≤ length part
   pub some_bytes : at < end.offset
 
-pub in_text : TokenByToken → (strict : Bool) (before part after : List ℕ) (at : ℕ) (end : PgnEnd)
+pub in_text : TokenByToken → (strict : Strictness) → strict.variations ≡ false → (before part after : List ℕ) (at : ℕ) (end : PgnEnd)
     → BeginsAlike before part after at → IsClosed part after → judged_at strict part at ≡ Ok (Some end)
     → IsInText strict before part after at end
-in_text law strict before part after at end begins closed is =
+in_text law strict plain before part after at end begins closed is =
     let text : List ℕ = before ++ (part ++ after) in
     let here : ℕ = after_byte_order_mark part at in
     let us : List (ℕ × Token) = tokens_from part here in
     let ts : List (ℕ × Token) = tokens_from text (after_byte_order_mark text (length before + at)) in
     let r : GameRead = pgn_read MOST_MOVES part at in
     let v : Option Verdict = verdict_now r.state in
-    let said = judged_so strict (unknown_variant_in (length part) us)
+    let said = judged_so strict (variation_in tokens_from part at r.state.start)
+    (unknown_variant_in (length part) us)
     (result_tag_of (length part) us) v end r.answer is in
     let alone : tokens_read MOST_MOVES (length part) us ≡ over r.state end =
     sym (law MOST_MOVES part at) ∙ ap (λ a. record { state = r.state; answer = a }) said.0 in
@@ -328,11 +330,13 @@ in_text law strict before part after at end begins closed is =
     ap (λ l. is_some (unknown_variant_in (length text) l)) (sym own)
     ∙ same_known (length part) (length text) k.own us k.tags in
     record {
-      judged = ap (λ (g : GameRead). judged strict (unknown_variant_in (length text) ts)
+      judged = ap (λ (g : GameRead). judged strict (variation_in tokens_from text (length before + at) g.state.start)
+          (unknown_variant_in (length text) ts)
       (result_tag_of (length text) ts) (verdict_now g.state) g.answer)
           whole
           ∙ ap (λ fault. option_map_or Err fault (Ok (Some moved)))
-          (agrees strict (unknown_variant_in (length part) us) (result_tag_of (length part) us)
+          (agrees strict plain (variation_in tokens_from part at r.state.start)
+          (variation_in tokens_from text (length before + at) r.state.start) (unknown_variant_in (length part) us) (result_tag_of (length part) us)
           (unknown_variant_in (length text) ts) (result_tag_of (length text) ts) v end
           (length before + end.offset) variants outcomes said.1);
       inside = omega (arith, k.inside);
@@ -341,15 +345,23 @@ in_text law strict before part after at end begins closed is =
 
 -- ---- where the part has no more games
 
-judged_none : (strict : Bool) (unknown : Option ℕ) (tag : Option ResultTag) (v : Option Verdict) (answer : Result (Option PgnEnd) PgnFault)
-    → judged strict unknown tag v answer ≡ Ok None → answer ≡ Ok None
-judged_none strict unknown tag v (Ok None) h = refl
-judged_none strict unknown tag v (Err fault) h = absurd (cc)
-judged_none strict unknown tag v (Ok (Some end)) h = by_fault (strict_fault strict unknown tag v end) h
+judged_none : (strict : Strictness) (variation : PgnEnd → Option PgnFault) (unknown : Option ℕ) (tag : Option ResultTag) (v : Option Verdict) (answer : Result (Option PgnEnd) PgnFault)
+    → judged strict variation unknown tag v answer ≡ Ok None → answer ≡ Ok None
+judged_none strict variation unknown tag v (Ok None) h = refl
+judged_none strict variation unknown tag v (Err fault) h = absurd (cc)
+judged_none strict variation unknown tag v (Ok (Some end)) h = by_fault (end_fault strict variation unknown tag v end) h
   where
     by_fault : (f : Option GameFault) → option_map_or Err f (found_so end) ≡ Ok None → read_so end ≡ no_game
     by_fault None k = absurd (cc)
     by_fault (Some f) k = absurd (cc)
+
+-- where variations aren't looked at, they don't matter
+plain_alike : (strict : Strictness) → strict.variations ≡ false → (variation variation' : PgnEnd → Option PgnFault)
+    (unknown : Option ℕ) (tag : Option ResultTag) (v : Option Verdict) (answer : Result (Option PgnEnd) PgnFault)
+    → judged strict variation unknown tag v answer ≡ judged strict variation' unknown tag v answer
+plain_alike strict plain variation variation' unknown tag v (Ok None) = refl
+plain_alike strict plain variation variation' unknown tag v (Ok (Some end)) = rw plain refl
+plain_alike strict plain variation variation' unknown tag v (Err fault) = refl
 
 -- reading begins within the part
 pub mark_within : (part : List ℕ) (at : ℕ) → at ≤ length part → after_byte_order_mark part at ≤ length part
@@ -369,13 +381,13 @@ mark_within part at within = by_mark ((at == 0) && bytes_eq (take 3 part) (239 �
           length-append (take 3 part) (drop 3 part),
         )
 
-pub skips_to_end : TokenByToken → (strict : Bool) (before part after : List ℕ) (at : ℕ)
+pub skips_to_end : TokenByToken → (strict : Strictness) → strict.variations ≡ false → (before part after : List ℕ) (at : ℕ)
     → BeginsAlike before part after at → IsClosed part after → at ≤ length part → judged_at strict part at ≡ Ok None
     → (start most : ℕ) → reports_from strict start most (before ++ (part ++ after)) (length before + at)
     ≡ reports_from strict start most (before ++ (part ++ after)) (length before + length part)
 unfolding reports_from
-skips_to_end law strict before part after at begins closed within none start zero = refl
-skips_to_end law strict before part after at begins closed within none start (suc most) =
+skips_to_end law strict plain before part after at begins closed within none start zero = refl
+skips_to_end law strict plain before part after at begins closed within none start (suc most) =
     by_place (eqb (length before + length part) 0) refl
   where
     text : List ℕ
@@ -393,7 +405,8 @@ skips_to_end law strict before part after at begins closed within none start (su
         (read_kinds part (after_byte_order_mark part at)) (mark_within part at within)
         (nothing_read (tagged_variant (tag_section (tokens_from part (after_byte_order_mark part at)))))
         (ap (λ (r : GameRead). r.answer) (sym (law MOST_MOVES part at))
-        ∙ judged_none strict (unknown_variant_in (length part) (tokens_from part (after_byte_order_mark part at)))
+        ∙ judged_none strict (variation_in tokens_from part at (read_at part at).state.start)
+        (unknown_variant_in (length part) (tokens_from part (after_byte_order_mark part at)))
     (result_tag_of (length part) (tokens_from part (after_byte_order_mark part at)))
         (verdict_now (read_at part at).state) (read_at part at).answer none) in
         let ts : List (ℕ × Token) = tokens_from text (after_byte_order_mark text (length before + at)) in
@@ -420,13 +433,21 @@ skips_to_end law strict before part after at begins closed within none start (su
         ≡ pgn_read MOST_MOVES text (length before + length part) =
         law MOST_MOVES text (length before + at) ∙ games
         ∙ sym (law MOST_MOVES text (length before + length part)) in
+        let here : ℕ = length before + at in
         let there : ℕ = length before + length part in
-        ap (λ (r : GameRead). report_then start text (judged strict (unknown_variant_in (length text) ts)
-        (result_tag_of (length text) ts) (verdict_now r.state) r.answer) r.state
+        ap (λ (r : GameRead). report_then start text (judged strict (variation_in tokens_from text here r.state.start)
+        (unknown_variant_in (length text) ts) (result_tag_of (length text) ts) (verdict_now r.state) r.answer) r.state
         (λ next. reports_from strict start most text next)) same_read
-        ∙ ap (λ unknown. report_then start text (judged strict unknown (result_tag_of (length text) ts)
+        ∙ ap (λ unknown. report_then start text (judged strict
+        (variation_in tokens_from text here (read_at text there).state.start) unknown (result_tag_of (length text) ts)
         (verdict_now (read_at text there).state) (read_at text there).answer) (read_at text there).state
         (λ next. reports_from strict start most text next)) unknowns
-        ∙ ap (λ tag. report_then start text (judged strict (unknown_variant_in (length text) us) tag
+        ∙ ap (λ tag. report_then start text (judged strict
+        (variation_in tokens_from text here (read_at text there).state.start) (unknown_variant_in (length text) us) tag
         (verdict_now (read_at text there).state) (read_at text there).answer) (read_at text there).state
         (λ next. reports_from strict start most text next)) results
+        ∙ ap (λ r. report_then start text r (read_at text there).state
+        (λ next. reports_from strict start most text next))
+        (plain_alike strict plain (variation_in tokens_from text here (read_at text there).state.start)
+        (variation_in tokens_from text there (read_at text there).state.start) (unknown_variant_in (length text) us)
+        (result_tag_of (length text) us) (verdict_now (read_at text there).state) (read_at text there).answer)

@@ -19,11 +19,14 @@ use Rattle.pgn_writer.specs.Terminations.{termination_of}
 use Rattle.chess_pgn.specs.Tokens.{tokens_from}
 use Rattle.byte_devices.specs.Bytes.{after_byte_order_mark}
 use Rattle.chess_pgn.specs.declared.read.PgnEnd.{PgnEnd}
+use Rattle.chess_pgn.specs.declared.read.PgnFault.{PgnFault}
+use Rattle.pgn_verifier.specs.declared.game_fault.GameFault.{GameFault}
 use Rattle.chess_pgn.specs.declared.tagged_result.ResultTag.{ResultTag}
 use Rattle.chess_pgn_laws.specs.PgnLaw.{PgnIsReadBack, ResultIsWritten, VariantIsWritten}
 use Rattle.chess_pgn.proofs.shared.Tokens.{read_split}
-use Rattle.pgn_verifier.specs.GameFaults.{result_differs, board_says_otherwise, judged, IsJudged}
-use Rattle.pgn_verifier.specs.shared.Contradictions.{strict_fault}
+use Rattle.pgn_verifier.specs.declared.options.Strictness.{Strictness}
+use Rattle.pgn_verifier.specs.GameFaults.{looked_for, result_differs, board_says_otherwise, judged, variation_in, IsJudged}
+use Rattle.pgn_verifier.specs.shared.Contradictions.{end_fault, variant_fault}
 use Rattle.pgn_verifier.proofs.shared.ReportsAre.{judged_is}
 use Rattle.pgn_verifier_laws.specs.WrittenGames.{WrittenGamesHaveNoFault}
 
@@ -44,18 +47,27 @@ board_agrees : (v : Option Verdict) (d : Option Declared) (end : PgnEnd)
 board_agrees None d end is = refl
 board_agrees (Some v) d end is = rw (is, same_self (verdict_result v).outcome) refl
 
-nothing_contradicts : (strict : Bool) (unknown : Option ℕ) (tag : Option ResultTag) (v : Option Verdict) (end : PgnEnd)
-    → unknown ≡ None → result_differs tag end ≡ None → board_says_otherwise v end ≡ None
-    → strict_fault strict unknown tag v end ≡ None
-nothing_contradicts true unknown tag v end known first second = rw (known, first, second) refl
-nothing_contradicts false unknown tag v end known first second = refl
+looked_none : (looked : Bool) (fault : Option GameFault) → fault ≡ None → looked_for looked fault ≡ None
+looked_none true fault none = none
+looked_none false fault none = refl
+
+nothing_contradicts : (strict : Strictness) → strict.variations ≡ false → (variation : PgnEnd → Option PgnFault)
+    (unknown : Option ℕ) (tag : Option ResultTag) (v : Option Verdict) (end : PgnEnd) → unknown ≡ None
+    → result_differs tag end ≡ None → board_says_otherwise v end ≡ None
+    → end_fault strict variation unknown tag v end ≡ None
+nothing_contradicts strict plain variation unknown tag v end known first second =
+    rw (
+      plain,
+      looked_none strict.variant (variant_fault unknown) (ap variant_fault known),
+      looked_none strict.result (result_differs tag end) first,
+    ) (looked_none strict.board (board_says_otherwise v end) second)
 
 -- what the tags Result and Variant of written games say
 abbrev pub TagsAreWritten : Type 0
 TagsAreWritten = ResultIsWritten × VariantIsWritten
 
 pub written_games : PgnIsReadBack → TagsAreWritten → WrittenGamesHaveNoFault
-written_games read (result, variant) strict tags s before after texts h =
+written_games read (result, variant) strict plain tags s before after texts h =
     let text : List ℕ = before ++ pgn [] tags s ++ after in
     let begin : ℕ = after_byte_order_mark text (length before) in
     let r : GameRead = pgn_read MOST_MOVES text (length before) in
@@ -73,9 +85,11 @@ written_games read (result, variant) strict tags s before after texts h =
       read = r.state;
       end = end;
       judged = subst (IsJudged strict text (length before) r.state)
-          (ap (judged strict unknown tag (verdict_now r.state)) back.answer
+          (ap (judged strict (variation_in tokens_from text (length before) r.state.start) unknown tag
+          (verdict_now r.state)) back.answer
           ∙ ap (λ fault. option_map_or Err fault (Ok (Some end)))
-          (nothing_contradicts strict unknown tag (verdict_now r.state) end known
+          (nothing_contradicts strict plain (variation_in tokens_from text (length before) r.state.start) unknown tag
+          (verdict_now r.state) end known
           (tag_agrees (outcome_now s) end tag refl named)
           (board_agrees (verdict_now r.state) r.state.declared end (sym back.outcome))))
           (judged_is strict text (length before));

@@ -3,6 +3,7 @@
 ghost use Rattle.std.specs.Prelude.{◌≡◌, Bool, List, Option, Result, ℕ};
 ghost use Rattle.chess_game.specs.Game.{State};
 ghost use Rattle.chess_pgn.specs.declared.read.PgnEnd.{PgnEnd};
+ghost use Rattle.pgn_verifier.specs.declared.options.Strictness.{Strictness};
 ghost use Rattle.pgn_verifier.specs.declared.game_fault.GameFault.{GameFault};
 ghost use Rattle.pgn_pieces.specs.Pieces.{known_pieces};
 ghost use Rattle.pgn_verifier.specs.Collection.{AreCollectionReports};
@@ -25,23 +26,23 @@ use pgn_pieces::shards_are_cut;
 /// is the one that is made by reading games one after another. Without their spans the reports are those of which the
 /// other laws speak.
 pub fn reports_are_the_only_ones()
-    ensures game { (strict : Bool) (text : List ℕ) (at : ℕ)
+    ensures game { (strict : Strictness) (text : List ℕ) (at : ℕ)
         → IsJudged strict text at (read_at text at).state (judged_at strict text at) }
-    ensures no_other_game { (strict : Bool) (text : List ℕ) (at : ℕ) (s : State)
+    ensures no_other_game { (strict : Strictness) (text : List ℕ) (at : ℕ) (s : State)
         (answer : Result (Option PgnEnd) GameFault) → IsJudged strict text at s answer
         → (s ≡ (read_at text at).state) × (answer ≡ judged_at strict text at) }
-    ensures text { (strict : Bool) (start : ℕ) (text : List ℕ)
+    ensures text { (strict : Strictness) (start : ℕ) (text : List ℕ)
         → AreReports strict start text 0 (placed_on strict start text) }
-    ensures no_other_of_text { (strict : Bool) (start : ℕ) (text : List ℕ) (reports : List Placed)
+    ensures no_other_of_text { (strict : Strictness) (start : ℕ) (text : List ℕ) (reports : List Placed)
         → AreReports strict start text 0 reports → reports ≡ placed_on strict start text }
-    ensures collection { (strict ended : Bool) (text : List ℕ)
+    ensures collection { (strict : Strictness) (ended : Bool) (text : List ℕ)
         → AreCollectionReports strict 0 (known_pieces ended text) (collection_placed strict ended text) }
-    ensures no_other_of_collection { (strict ended : Bool) (text : List ℕ) (reports : List Placed)
+    ensures no_other_of_collection { (strict : Strictness) (ended : Bool) (text : List ℕ) (reports : List Placed)
         → AreCollectionReports strict 0 (known_pieces ended text) reports
         → reports ≡ collection_placed strict ended text }
-    ensures plain { (strict : Bool) (start : ℕ) (text : List ℕ)
+    ensures plain { (strict : Strictness) (start : ℕ) (text : List ℕ)
         → without_spans (placed_on strict start text) ≡ reports_on strict start text }
-    ensures plain_of_collection { (strict ended : Bool) (text : List ℕ)
+    ensures plain_of_collection { (strict : Strictness) (ended : Bool) (text : List ℕ)
         → without_spans (collection_placed strict ended text) ≡ collection_reports strict ended text }
 {}
 

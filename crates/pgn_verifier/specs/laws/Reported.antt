@@ -12,11 +12,12 @@ use Rattle.chess_pgn.specs.Tokens.{tokens_from}
 use Rattle.byte_devices.specs.Bytes.{after_byte_order_mark}
 use Rattle.chess_pgn.specs.declared.read.PgnEnd.{PgnEnd}
 use Rattle.chess_pgn.specs.declared.read.PgnFaultKind.TheVariants.{TooLong}
+use Rattle.pgn_verifier.specs.declared.options.Strictness.{Strictness}
 use Rattle.pgn_verifier.specs.declared.game_fault.FaultKind.TheVariants.{Pgn}
 use Rattle.pgn_pieces.specs.Stream.{Piece, pieces}
 use Rattle.pgn_pieces.specs.declared.pieces.TheConstants.{PIECE_LEN}
 use Rattle.pgn_verifier.specs.Explanations.{wrong_part, shown}
-use Rattle.pgn_verifier.specs.GameFaults.{judged}
+use Rattle.pgn_verifier.specs.GameFaults.{judged, variation_in}
 use Rattle.pgn_verifier.specs.Reports.{Report, Game, Faulty, Placed, game_begin, names_of}
 use Rattle.pgn_verifier.specs.declared.game_fault.GameFault.{GameFault}
 use Rattle.pgn_verifier.specs.laws.Reasons.{explanation_of}
@@ -27,11 +28,11 @@ read_at = pgn_read MOST_MOVES
 
 -- what is reported of the game from the offset `at` on: its end, its fault, or `None` if the text has no more games.
 -- `strict`: results are compared
-abbrev pub judged_at : Bool → List ℕ → ℕ → Result (Option PgnEnd) GameFault
+abbrev pub judged_at : Strictness → List ℕ → ℕ → Result (Option PgnEnd) GameFault
 judged_at strict text at =
     let read = read_at text at in
     let tokens = tokens_from text (after_byte_order_mark text at) in
-    judged strict (unknown_variant_in (length text) tokens) (result_tag_of (length text) tokens)
+    judged strict (variation_in tokens_from text at read.state.start) (unknown_variant_in (length text) tokens) (result_tag_of (length text) tokens)
     (verdict_now read.state) read.answer
 
 -- the report on a game of a text, from how it was judged and the game that was read (`s`), and then what `later` gives
@@ -47,7 +48,7 @@ report_then start text (Err fault) s later =
 
 -- the reports on at most n games (the third argument) of a text from its offset `at` on, up to its first fault. The
 -- text begins at the offset `start` of the input; `strict`: results are compared
-unfoldable pub reports_from : Bool → ℕ → ℕ → List ℕ → ℕ → List Report
+unfoldable pub reports_from : Strictness → ℕ → ℕ → List ℕ → ℕ → List Report
 reports_from strict start zero text at = []
 reports_from strict start (suc n) text at =
     report_then start text (judged_at strict text at) (read_at text at).state
@@ -55,7 +56,7 @@ reports_from strict start (suc n) text at =
 
 -- the reports on all games of a text up to its first fault. The text begins at the offset `start` of the input;
 -- `strict`: results are compared. Each game has at least one byte, so `length text + 1` games are enough
-abbrev pub reports_on : Bool → ℕ → List ℕ → List Report
+abbrev pub reports_on : Strictness → ℕ → List ℕ → List Report
 reports_on strict start text = reports_from strict start (length text + 1) text 0
 
 -- the report on a piece that is too long
@@ -65,13 +66,13 @@ too_long_report piece =
 
 -- the reports on the games of a piece, which is read as a text of its own; a piece that is too long has one report.
 -- `strict`: results are compared
-abbrev pub reports_in : Bool → Piece → List Report
+abbrev pub reports_in : Strictness → Piece → List Report
 reports_in strict piece = if nat_le (length piece.bytes) PIECE_LEN then reports_on strict piece.offset piece.bytes
     else too_long_report piece ∷ []
 
 -- the reports on the games of a collection of which this text was read: on all its pieces, if the text is all of it
 -- (`ended`), otherwise on all but the last. `strict`: results are compared
-abbrev pub collection_reports : Bool → Bool → List ℕ → List Report
+abbrev pub collection_reports : Strictness → Bool → List ℕ → List Report
 collection_reports strict ended text = flat_map (reports_in strict) (pieces ended 0 text)
 
 -- ---- with their spans
@@ -99,14 +100,14 @@ placed_then start text at (Err fault) s later = record {
 } ∷ []
 
 -- the reports of `reports_from`, with their spans
-unfoldable pub placed_from : Bool → ℕ → ℕ → List ℕ → ℕ → List Placed
+unfoldable pub placed_from : Strictness → ℕ → ℕ → List ℕ → ℕ → List Placed
 placed_from strict start zero text at = []
 placed_from strict start (suc n) text at =
     placed_then start text at (judged_at strict text at) (read_at text at).state
     (λ next. placed_from strict start n text next)
 
 -- the reports of `reports_on`, with their spans
-abbrev pub placed_on : Bool → ℕ → List ℕ → List Placed
+abbrev pub placed_on : Strictness → ℕ → List ℕ → List Placed
 placed_on strict start text = placed_from strict start (length text + 1) text 0
 
 -- the report on a piece that is too long, with its span, which is the piece
@@ -119,10 +120,10 @@ too_long_placed piece = record {
 }
 
 -- the reports of `reports_in`, with their spans
-abbrev pub placed_in : Bool → Piece → List Placed
+abbrev pub placed_in : Strictness → Piece → List Placed
 placed_in strict piece = if nat_le (length piece.bytes) PIECE_LEN then placed_on strict piece.offset piece.bytes
     else too_long_placed piece ∷ []
 
 -- the reports of `collection_reports`, with their spans
-abbrev pub collection_placed : Bool → Bool → List ℕ → List Placed
+abbrev pub collection_placed : Strictness → Bool → List ℕ → List Placed
 collection_placed strict ended text = flat_map (placed_in strict) (pieces ended 0 text)

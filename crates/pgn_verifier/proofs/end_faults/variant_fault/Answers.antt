@@ -5,7 +5,7 @@ use Rattle.chess_pgn.specs.UnknownVariants.{unknown_variant_in}
 use Rattle.chess_pgn.specs.Tokens.{tokens_from}
 use Rattle.byte_devices.specs.Bytes.{after_byte_order_mark}
 use Rattle.chess_pgn.proofs.shared.Tokens.{split_read}
-use Rattle.pgn_verifier.proofs.contradiction.variant_fault.Goals as goal
+use Rattle.pgn_verifier.proofs.end_faults.variant_fault.Goals as goal
 
 pub returns-in_err-offset-clause-fault : goal.returns-in_err-offset-clause-fault
 returns-in_err-offset-clause-fault c =
