@@ -46,11 +46,12 @@ match_app names = fold with_rule (new_app (codes "match")) (
     ∷ record (option_rule (codes "reply-timeout")) { parser = Some (Unsigned 1 999) }
     ∷ [])
 
--- the subcommand `verify` with its flags `--keep-going`, `--quiet`, `--strict`, `--explain`, `--spans` and `--names`
+-- the subcommand `verify` with its flags `--keep-going`, `--quiet`, `--strict`, `--explain`, `--spans`, `--names` and
+-- `--variations`
 abbrev pub verify_app : App
 verify_app = fold with_rule (new_app (codes "verify"))
     (map flag_rule (codes "keep-going" ∷ codes "quiet" ∷ codes "strict" ∷ codes "explain" ∷ codes "spans"
-    ∷ codes "names" ∷ []))
+    ∷ codes "names" ∷ codes "variations" ∷ []))
 
 -- the subcommand `stub`, which takes any number of positional arguments; `clap` knows them by the name `words`
 abbrev pub stub_app : App

@@ -19,6 +19,7 @@ use Rattle.chess_cecp.specs.Served.{Served}
 use Rattle.chess_arbiter.specs.declared.fault.ProgramFault.{ProgramFault}
 use Rattle.arbiter_cli.specs.declared.plan.VerifyPlan.{VerifyPlan}
 use Rattle.pgn_verifier.specs.declared.fault.VerifyFault.{VerifyFault}
+use Rattle.pgn_verifier.specs.declared.options.Strictness.{Strictness}
 use Rattle.pgn_verifier.specs.declared.options.VerifyOptions.{VerifyOptions}
 use Rattle.pgn_verifier.specs.declared.tally.Verified.{Verified}
 use Rattle.pgn_verifier.specs.declared.tally.Verified.TheVariants.{EachGame}
@@ -48,10 +49,17 @@ abbrev pub Serves : {S : Type 0} → Server S → S → Devices → Devices → 
 Serves {S} respond s d d' status =
     (result : Result End Fault) × (s' : S) × Ran (Served respond s s' result) d d' × (status ≡ status_of result)
 
--- the options of verifying that the flags `--quiet`, `--strict`, `--explain`, `--spans` and `--names` ask for
+-- the faults that are looked for in a game that is read to its end: with `--variations` those in its variations, with
+-- `--strict` those of its variant and of its result
+abbrev pub strictness_of : VerifyPlan → Strictness
+strictness_of plan =
+    record { variations = plan.variations; variant = plan.strict; result = plan.strict; board = plan.strict }
+
+-- the options of verifying that the flags `--quiet`, `--strict`, `--explain`, `--spans`, `--names` and `--variations`
+-- ask for
 abbrev pub options_of : VerifyPlan → VerifyOptions
-options_of plan =
-    record { quiet = plan.quiet; strict = plan.strict; spans = plan.spans; names = plan.names; explain = plan.explain }
+options_of p =
+    record { quiet = p.quiet; strict = strictness_of p; spans = p.spans; names = p.names; explain = p.explain }
 
 -- the exit status of `verify`, by its result: 0 if all was verified and no fault was found; 1 if one was found, or if
 -- verifying was not completed, as when a read failed

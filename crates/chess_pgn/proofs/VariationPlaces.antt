@@ -5,6 +5,7 @@ use Rattle.std.proofs.lemmas.Bool.{eqb-true}
 use Rattle.std.proofs.lemmas.List.{length-append, length-drop, take-append-drop, get_or_at}
 use Rattle.chess_pgn.specs.Tokens.{Token, Skip, Tag, Word, Bad_tag, Unclosed_comment, Unclosed_variation, Bad, token_at, tokens_of, variation_at, begins_line, tokens_from}
 use Rattle.chess_pgn.specs.Variations.{is_variation, next_offset}
+use Rattle.chess_pgn.proofs.TokenKinds.{open_at}
 use Rattle.chess_pgn.proofs.Walk.{no_token, token_more}
 
 -- ---- inside
@@ -52,11 +53,6 @@ shorter_inside None begins depth (c ∷ rest) =
         (cond (eqb c 41) (variation_at None false depth rest) (variation_at None (eqb c 10) (suc depth) rest)))))
     by_line true = omega (arith, shorter_inside (Some (10, Unclosed_variation)) false depth rest)
     by_line false = by_brace (eqb c 123)
-
-at_parenthesis : (begins : Bool) (rest : List ℕ) → token_at begins 40 rest ≡ variation_at None false 1 rest
-unfolding token_at
-at_parenthesis true rest = refl
-at_parenthesis false rest = refl
 
 -- a variation that is closed leaves fewer bytes than come after its `(`
 closed_shorter : (rest : List ℕ) → (variation_at None false 1 rest).0 ≡ Skip
@@ -119,7 +115,7 @@ two_bytes text at tail token h k is variation = by_rest (drop at text) refl
         ∷ tokens_from text (length text - length (token_at (begins_line text at) c rest).1) =
         sym is ∙ token_more text at c rest e h in
         let inner : token_at (begins_line text at) c rest ≡ variation_at None false 1 rest =
-        ap (λ d. token_at (begins_line text at) d rest) paren ∙ at_parenthesis (begins_line text at) rest in
+        ap (λ d. token_at (begins_line text at) d rest) paren ∙ open_at (begins_line text at) rest in
         let first : token ≡ (token_at (begins_line text at) c rest).0 = cc in
         let more : tokens_from text tail
         ≡ tokens_from text (length text - length (token_at (begins_line text at) c rest).1) = cc in
@@ -137,3 +133,9 @@ two_bytes text at tail token h k is variation = by_rest (drop at text) refl
           ap length e,
           length-drop at text,
         )
+
+-- how many bytes a beginning of a text has
+pub take_length : (n : ℕ) (text : List ℕ) → n ≤ length text → length (take n text) ≡ n
+take_length zero text h = refl
+take_length (suc n) [] h = absurd (omega (arith, h))
+take_length (suc n) (c ∷ rest) h = ap suc (take_length n rest (omega (arith, h)))

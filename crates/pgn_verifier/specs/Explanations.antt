@@ -13,7 +13,7 @@ use Rattle.chess_pgn.specs.declared.read.PgnFaultKind.TheVariants.{BadTag, BadFe
 use Rattle.pgn_pieces.specs.Places.{line_of, column_of}
 use Rattle.pgn_verifier.specs.declared.game_fault.FaultKind.{FaultKind}
 use Rattle.pgn_verifier.specs.declared.game_fault.FaultKind.TheVariants.{Pgn, InVariation, UnknownVariant, ResultDiffers, BoardSaysOtherwise}
-use Rattle.pgn_verifier.specs.WrongParts.{from_field, field_at, field_number, IsTagReason, move_reason, token_reason, variation_reason}
+use Rattle.pgn_verifier.specs.WrongParts.{from_field, field_at, field_number, IsTagReason, move_reason, token_reason}
 
 -- ---- the text at a fault
 
@@ -53,8 +53,7 @@ IsReason (Pgn BadToken) text verdict reason = reason ≡ Some (token_reason text
 IsReason (Pgn IllegalMove) text verdict reason = reason ≡ move_reason text
 -- a move after the end: the verdict that ended the game
 IsReason (Pgn AfterEnd) text verdict reason = reason ≡ option_map (λ v. result_text (verdict_result v)) verdict
--- a fault in a variation
-IsReason (InVariation kind) text verdict reason = reason ≡ variation_reason kind text
+IsReason (InVariation BadToken) text verdict reason = reason ≡ Some (token_reason text)
 -- `unknown variant`
 IsReason UnknownVariant text verdict reason =
     reason ≡ Some (codes "neither normal chess nor Chess960, by a name that is known")

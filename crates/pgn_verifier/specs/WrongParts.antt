@@ -8,8 +8,6 @@ use Rattle.chess_base.specs.declared.fen_fault.FenFault.{FenFault}
 use Rattle.chess_base.specs.declared.fen_fault.FenFault.TheVariants.{Side, Castling, EnPassant, Counters}
 use Rattle.text_lines.specs.Words.{short_number}
 use Rattle.chess_pgn.specs.Split.{IsGap, OpensTag, IsString}
-use Rattle.chess_pgn.specs.declared.read.PgnFaultKind.{PgnFaultKind}
-use Rattle.chess_pgn.specs.declared.read.PgnFaultKind.TheVariants.{BadToken, IllegalMove, TooLong}
 use Rattle.chess_pgn.specs.Tokens.{is_word_byte}
 
 -- ---- the fields of a FEN
@@ -89,10 +87,3 @@ abbrev pub move_reason : List ℕ → Option (List ℕ)
 move_reason text =
     if bytes_eq (take_while is_word_byte text) (codes "0-0") then Some (codes "castling, and no result of PGN")
     else None
-
--- the reason for a fault of this kind in a variation, which begins the text; none for a word that several moves fit
-abbrev pub variation_reason : PgnFaultKind → List ℕ → Option (List ℕ)
-variation_reason BadToken text = Some (token_reason text)
-variation_reason IllegalMove text = move_reason text
-variation_reason TooLong text = Some (codes "in 64 other variations")
-variation_reason _ text = None

@@ -12,9 +12,9 @@ ghost use Rattle.chess_pgn.specs.declared.read.PgnFaultKind.TheVariants.{TooLong
 ghost use Rattle.pgn_pieces.specs.Places.{breaks_line, line_ends, line_of, column_of};
 ghost use Rattle.pgn_verifier.specs.Explanations.{wrong_part, has_position, explanation_line, shown};
 ghost use Rattle.chess_game.specs.Results.{outcome_text};
-ghost use Rattle.pgn_verifier.specs.declared.game_fault.FaultKind.TheVariants.{Pgn};
+ghost use Rattle.pgn_verifier.specs.declared.game_fault.FaultKind.TheVariants.{InVariation, Pgn};
 ghost use Rattle.pgn_verifier.specs.GameFaults.{fault_name};
-ghost use Rattle.pgn_verifier.specs.WrongParts.{move_reason, variation_reason};
+ghost use Rattle.pgn_verifier.specs.WrongParts.{move_reason};
 ghost use Rattle.pgn_verifier.specs.laws.Reasons.{reason, explanation_of};
 ghost use Rattle.pgn_verifier.specs.ties.OnTheWay.{StandsIf, moved, fault_line, span_written};
 ghost use Rattle.pgn_verifier.specs.declared.explanation.TheConstants.{FAULT_LINES_LEN};
@@ -35,9 +35,6 @@ use pgn_pieces::line_ends;
 
 // The most bytes of the lines on a fault: of its own 320, and of the one that explains it 320.
 const FAULT_LINES_LEN: usize = 640;
-
-// The reason for a variation that is nested too deep.
-const TOO_DEEP: &[u8] = b"in 64 other variations";
 
 // The reason for an unknown variant.
 const KNOWN_VARIANTS: &[u8] =
@@ -207,14 +204,11 @@ fn append_pgn_reason(
 fn append_variation_reason(lines: &mut FaultLines, kind: PgnFaultKind, text: &[u8])
     requires { array_vec_len lines.old + 80 ≤ FAULT_LINES_LEN }
     ensures text { lines.new.items ≡ lines.old.items
-        ++ option_map_or (λ text. codes " | " ++ text) (variation_reason kind text.now) [] }
+        ++ option_map_or (λ text. codes " | " ++ text) (reason (InVariation kind) text.now None) [] }
     ensures len { array_vec_len lines.new ≤ array_vec_len lines.old + 80 }
 {
-    match kind {
-        PgnFaultKind::BadToken => append_part(lines, token_reason(text)),
-        PgnFaultKind::IllegalMove => append_move_reason(lines, text),
-        PgnFaultKind::TooLong => append_part(lines, TOO_DEEP),
-        _ => {}
+    if let PgnFaultKind::BadToken = kind {
+        append_part(lines, token_reason(text));
     }
 }
 

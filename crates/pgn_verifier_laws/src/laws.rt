@@ -47,7 +47,8 @@ pub fn reports_are_the_only_ones()
 {}
 
 /// States a law and does nothing: the text that `write_pgn` of chess_pgn writes of a game has no fault when it is
-/// verified from its first byte on, with `strict` neither, whatever text comes before and after it.
+/// verified from its first byte on, with `strict` neither, whatever text comes before and after it. Variations aren't
+/// looked at.
 pub fn written_games_have_no_fault()
     ensures { WrittenGamesHaveNoFault }
 {
@@ -57,7 +58,7 @@ pub fn written_games_have_no_fault()
 
 /// States a law and does nothing: if the texts that `write_pgn` of chess_pgn writes of some games come one after
 /// another, as a match writes its games before the line of the score, then the reports on the whole text are on just
-/// these games, and none is a fault.
+/// these games, and none is a fault. Variations aren't looked at.
 pub fn written_texts_have_no_fault()
     ensures { WrittenTextsHaveNoFault }
 {
@@ -69,6 +70,7 @@ pub fn written_texts_have_no_fault()
 /// States a law and does nothing: a game that is read in a text without a fault, from a place in one of its parts on,
 /// and that ends in that part, is read in the part alone, if the part begins where a line begins. So where the pieces
 /// of a text of at most 16,777,216 bytes hold whole games, `verify` and `verify_collection` report the same games.
+/// Variations aren't looked at.
 pub fn games_are_in_parts()
     ensures game { GamesAreInParts }
     ensures reports { WholeGamesAreReportedAlike }
@@ -82,6 +84,7 @@ pub fn games_are_in_parts()
 /// States a law and does nothing: if `verify_collection` reports no fault of a text, then the reports on the text as a
 /// whole are on the same games, unless a piece of the text after the first begins with a byte order mark, or a piece
 /// ends with `\r`. `verify` writes these reports if the text has at most 16,777,216 bytes; it takes no longer one.
+/// Variations aren't looked at.
 pub fn a_text_without_faults_is_reported_alike()
     ensures { FaultlessTextsAreReportedAlike }
 {

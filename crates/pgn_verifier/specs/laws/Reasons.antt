@@ -11,7 +11,7 @@ use Rattle.chess_game.specs.declared.verdicts.Verdict.{Verdict}
 use Rattle.chess_pgn.specs.Tokens.{after_byte, after_gap, after_next, name_at, string_at}
 use Rattle.chess_pgn.specs.declared.read.PgnFaultKind.TheVariants.{BadTag, BadFen, BadToken, IllegalMove, AfterEnd}
 use Rattle.pgn_verifier.specs.Explanations.{explanation, shown}
-use Rattle.pgn_verifier.specs.WrongParts.{move_reason, token_reason, variation_reason}
+use Rattle.pgn_verifier.specs.WrongParts.{move_reason, token_reason}
 use Rattle.pgn_verifier.specs.declared.game_fault.FaultKind.{FaultKind}
 use Rattle.pgn_verifier.specs.declared.game_fault.FaultKind.TheVariants.{Pgn, InVariation, UnknownVariant, ResultDiffers, BoardSaysOtherwise}
 
@@ -47,7 +47,7 @@ reason (Pgn (BadFen fault)) text verdict = Some (fen_fault_name fault)
 reason (Pgn BadToken) text verdict = Some (token_reason text)
 reason (Pgn IllegalMove) text verdict = move_reason text
 reason (Pgn AfterEnd) text verdict = option_map (λ v. result_text (verdict_result v)) verdict
-reason (InVariation kind) text verdict = variation_reason kind text
+reason (InVariation BadToken) text verdict = Some (token_reason text)
 reason UnknownVariant text verdict =
     Some (codes "neither normal chess nor Chess960, by a name that is known")
 reason (ResultDiffers tag_len outcome) text verdict =
