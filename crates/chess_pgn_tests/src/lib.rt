@@ -9,4 +9,6 @@ mod reading;
 #[cfg(test)]
 mod unknown_variants;
 #[cfg(test)]
+mod variations;
+#[cfg(test)]
 mod writing;

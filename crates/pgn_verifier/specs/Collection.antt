@@ -11,8 +11,8 @@ use Rattle.pgn_verifier.specs.declared.tally.Verified.{Verified}
 use Rattle.pgn_verifier.specs.Reports.{Placed, AreReportsIn, report_lines, without_spans, counts_line, counts_of, verified}
 
 -- these are the reports on the games of these pieces, piece after piece (`AreReportsIn`). Each piece is given by its
--- bytes; the first begins at the given offset of the input, and each other one where the one before it ends. `strict`:
--- a termination marker, such as `1-0`, that contradicts the tag Result or the board's verdict is a fault
+-- bytes; the first begins at the given offset of the input, and each other one where the one before it ends. `strict`
+-- says what is looked for in a game that is read to its termination marker (`judged`)
 pub data AreCollectionReports (strict : Strictness) : ℕ → List (List ℕ) → List Placed → Type 0 where
   no_piece : {offset : ℕ} → AreCollectionReports strict offset [] []
   next_piece : {offset : ℕ} {piece : List ℕ} {pieces : List (List ℕ)} (reports : List Placed) {more : List Placed}

@@ -63,8 +63,8 @@ names_of tokens = shown_tag tokens (codes "White") ++ (codes " - " ++ (shown_tag
 -- ---- the reports on the games of a text
 
 -- these are the reports on the games of `text` from its offset `at` on, up to and including the first game with a
--- fault; the last two arguments are `at` and the reports. The text begins at the offset `start` of the input. `strict`:
--- a termination marker that contradicts the tag Result or the board's verdict is a fault
+-- fault; the last two arguments are `at` and the reports. The text begins at the offset `start` of the input. `strict`
+-- says what is looked for in a game that is read to its termination marker (`judged`)
 pub data AreReports (strict : Strictness) (start : ℕ) (text : List ℕ) : ℕ → List Placed → Type 0 where
   -- no game comes from `at` on
   none_left : {at : ℕ} {s : State} → IsJudged strict text at s (Ok None) → AreReports strict start text at []
@@ -96,8 +96,8 @@ pub data AreReports (strict : Strictness) (start : ℕ) (text : List ℕ) : ℕ 
 -- these are the reports on a piece, which begins at this offset of the input, and whose bytes (`piece`) are read as a
 -- text of its own: on its games in order, up to the first with a fault; or, if it is too long (more than 16,777,216
 -- bytes), one report on the piece: the fault TooLong at its first byte, explained by the first word there (`shown`). A
--- game of more than 20,000 half-moves has the same kind of fault, but at its 20,001st half-move. `strict`: an outcome
--- mark that contradicts the tag Result or the board's verdict is a fault
+-- game of more than 20,000 half-moves has the same kind of fault, but at its 20,001st half-move. `strict`: see
+-- `AreReports`
 abbrev pub AreReportsIn : Strictness → ℕ → List ℕ → List Placed → Type 0
 AreReportsIn strict offset piece reports =
     MatchBool (nat_le (length piece) PIECE_LEN) (AreReports strict offset piece 0 reports)

@@ -8,9 +8,8 @@ use Rattle.pgn_verifier.specs.declared.options.VerifyOptions.{VerifyOptions}
 use Rattle.pgn_verifier.specs.declared.tally.Verified.{Verified}
 use Rattle.pgn_verifier.specs.Reports.{Placed, AreReports, report_lines, without_spans, counts_of, verified}
 
--- what verifying a text reads (`i`) and writes (`o`), by its result. Of the `options`, with `strict` a termination
--- marker, such as `1-0`, that contradicts the tag Result or the board's verdict is a fault; with `quiet` only faults
--- have a line; with `spans` each line ends with its span; with `names` a fault's line ends with its players, event and
+-- what verifying a text reads (`i`) and writes (`o`), by its result. Of the `options`, `strict` says what is
+-- looked for in a game that is read to its termination marker (`judged`); with `quiet` only faults have a line; with `spans` each line ends with its span; with `names` a fault's line ends with its players, event and
 -- date; with `explain` a second line explains the fault. `PIECE_LEN` is 16,777,216. The zeros given to `AreReports`:
 -- the text begins at offset 0 of the input, and its games from its own offset 0 on are reported
 abbrev pub Verifies : VerifyOptions → Result Verified VerifyFault → FromInput → ToOutput → Type 0

@@ -54,7 +54,7 @@ HasGames text from (Game plies outcome termination ∷ reports) =
 HasGames text from (Faulty fault wrong_at explanation ∷ reports) = ⊤
 
 -- the games that `verify` counts in a text are games; `start` is the offset of the input at which the text begins,
--- `strict`: results are compared
+-- `strict`: what is looked for at a game's end
 abbrev pub CountedGamesAreGames : Type 0
 CountedGamesAreGames = (strict : Strictness) (start : ℕ) (text : List ℕ) (reports : List Placed)
     → AreReports strict start text 0 reports → HasGames text 0 (without_spans reports)

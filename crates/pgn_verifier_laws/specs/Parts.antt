@@ -58,7 +58,7 @@ pub data HoldsWhole (strict : Strictness) (before part after : List ℕ) : ℕ �
 
 -- of a part that holds whole games, the reports are theirs. From the part's beginning on, those on the text are theirs
 -- too, and then those from the part's end on. The input's offset `start`, at which the part or the text begins, doesn't
--- matter; `strict`: results are compared
+-- matter; `strict`: what is looked for at a game's end
 pub record AreReportedAlike (strict : Strictness) (start : ℕ) (before part after : List ℕ) (games : List Report) : Type 0
   where
     pub alone : reports_on strict start part ≡ games
@@ -83,7 +83,7 @@ pub data AllHoldWhole (strict : Strictness) : List ℕ → List (List ℕ) → L
       → AllHoldWhole strict (before ++ first) parts more → AllHoldWhole strict before (first ∷ parts) (games ++ more)
 
 -- if a text's parts hold whole games, the reports on the text are those on its parts, each read as a text of its own;
--- `start`: the offset of the input at which a text begins, `strict`: results are compared
+-- `start`: the offset of the input at which a text begins, `strict`: what is looked for at a game's end
 abbrev pub TextsAreReportedInParts : Type 0
 TextsAreReportedInParts = (strict : Strictness) → strict.variations ≡ false → (start : ℕ) (parts : List (List ℕ)) (games : List Report)
     → AllHoldWhole strict [] parts games → (starts : List ℕ → ℕ)

@@ -14,7 +14,7 @@ pub data MakeUp : ℕ → List ℕ → List Placed → Type 0 where
       → placed.begin ≡ offset + length between → placed.end ≡ placed.begin + length game → 0 < length game
       → MakeUp placed.end rest reports → MakeUp offset (between ++ (game ++ rest)) (placed ∷ reports)
 
--- so it is with the reports on a text, which begins at the offset `start` of the input; `strict`: results are compared
+-- so it is with the reports on a text, which begins at the offset `start` of the input; `strict`: what is looked for at a game's end
 abbrev pub SpansMakeUpTheText : Type 0
 SpansMakeUpTheText = (strict : Strictness) (start : ℕ) (text : List ℕ) (reports : List Placed)
     → AreReports strict start text 0 reports → MakeUp start text reports

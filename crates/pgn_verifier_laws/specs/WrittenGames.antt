@@ -14,7 +14,7 @@ use Rattle.pgn_verifier.specs.Reports.{Report, Game}
 use Rattle.pgn_verifier.specs.laws.Reported.{reports_on}
 
 -- the game from the offset `at` on (`read`) has no fault, and is the game `s`, whose text ends at the offset
--- `text_end`; `strict`: results are compared
+-- `text_end`; `strict`: what is looked for
 pub record HasNoFault (strict : Strictness) (text : List ℕ) (at : ℕ) (s : State) (text_end : ℕ) : Type 0 where
   pub read : State
   pub end : PgnEnd

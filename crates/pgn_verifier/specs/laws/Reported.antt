@@ -27,7 +27,7 @@ abbrev pub read_at : List ℕ → ℕ → GameRead
 read_at = pgn_read MOST_MOVES
 
 -- what is reported of the game from the offset `at` on: its end, its fault, or `None` if the text has no more games.
--- `strict`: results are compared
+-- `strict`: what is looked for at a game's end
 abbrev pub judged_at : Strictness → List ℕ → ℕ → Result (Option PgnEnd) GameFault
 judged_at strict text at =
     let read = read_at text at in
@@ -47,7 +47,7 @@ report_then start text (Err fault) s later =
     (explanation_of s (drop fault.offset text) fault.kind) ∷ []
 
 -- the reports on at most n games (the third argument) of a text from its offset `at` on, up to its first fault. The
--- text begins at the offset `start` of the input; `strict`: results are compared
+-- text begins at the offset `start` of the input; `strict`: what is looked for at a game's end
 unfoldable pub reports_from : Strictness → ℕ → ℕ → List ℕ → ℕ → List Report
 reports_from strict start zero text at = []
 reports_from strict start (suc n) text at =
@@ -55,7 +55,7 @@ reports_from strict start (suc n) text at =
     (λ next. reports_from strict start n text next)
 
 -- the reports on all games of a text up to its first fault. The text begins at the offset `start` of the input;
--- `strict`: results are compared. Each game has at least one byte, so `length text + 1` games are enough
+-- `strict`: what is looked for at a game's end. Each game has at least one byte, so `length text + 1` games are enough
 abbrev pub reports_on : Strictness → ℕ → List ℕ → List Report
 reports_on strict start text = reports_from strict start (length text + 1) text 0
 
@@ -65,13 +65,13 @@ too_long_report piece =
     Faulty (record { kind = Pgn TooLong; offset = piece.offset }) piece.offset (shown piece.bytes)
 
 -- the reports on the games of a piece, which is read as a text of its own; a piece that is too long has one report.
--- `strict`: results are compared
+-- `strict`: what is looked for at a game's end
 abbrev pub reports_in : Strictness → Piece → List Report
 reports_in strict piece = if nat_le (length piece.bytes) PIECE_LEN then reports_on strict piece.offset piece.bytes
     else too_long_report piece ∷ []
 
 -- the reports on the games of a collection of which this text was read: on all its pieces, if the text is all of it
--- (`ended`), otherwise on all but the last. `strict`: results are compared
+-- (`ended`), otherwise on all but the last. `strict`: what is looked for at a game's end
 abbrev pub collection_reports : Strictness → Bool → List ℕ → List Report
 collection_reports strict ended text = flat_map (reports_in strict) (pieces ended 0 text)
 

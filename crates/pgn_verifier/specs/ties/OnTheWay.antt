@@ -87,7 +87,7 @@ too_long_seen piece = record {
   report = Faulty (record { kind = Pgn TooLong; offset = piece.offset }) piece.offset (shown piece.beginning);
 }
 
--- the reports on the games of a piece (`placed_in`), from what is seen of it; `strict`: results are compared
+-- the reports on the games of a piece (`placed_in`), from what is seen of it; `strict`: what is looked for at a game's end
 abbrev pub reports_seen : Strictness → PieceSeen → List Placed
 reports_seen strict piece = option_map_or (placed_on strict piece.offset) piece.bytes (too_long_seen piece ∷ [])
 
@@ -107,7 +107,7 @@ abbrev pub fault_line : ℕ → GameFault → List ℕ → List ℕ → List ℕ
 fault_line number fault span names =
     report_line number (fault_name fault.kind ++ (codes " at byte " ++ (decimal fault.offset ++ (span ++ names))))
 
--- the reports on the games of these pieces, in order; `strict`: results are compared
+-- the reports on the games of these pieces, in order; `strict`: what is looked for at a game's end
 abbrev pub reports_of : Strictness → List PieceSeen → List Placed
 reports_of strict pieces = flat_map (reports_seen strict) pieces
 
