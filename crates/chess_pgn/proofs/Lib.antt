@@ -18,7 +18,6 @@ mod TagScans
 mod TagsLeft
 mod TokenPlaces
 mod Variations
-mod VariationPlaces
 mod LinesRead
 mod PassedWords
 mod Walk

@@ -72,7 +72,7 @@ brace_at : (b : Bool) (rest : List ℕ) → token_at b 123 rest ≡ comment_at (
 unfolding token_at
 brace_at b rest = no_percent b 123 rest refl
 
-pub open_at : (b : Bool) (rest : List ℕ) → token_at b 40 rest ≡ variation_at None false 1 rest
+open_at : (b : Bool) (rest : List ℕ) → token_at b 40 rest ≡ variation_at None false 1 rest
 unfolding token_at
 open_at b rest = no_percent b 40 rest refl
 

@@ -2,9 +2,10 @@
 -- before it, so its moves begin in the position before that move; a variation in it replaces one of its own moves. A
 -- *line* is a game's own moves, or those of a variation. This project's own: which words are taken; that a result and a
 -- tag are passed over in a variation; that no draw ends one; and how deep they may be nested.
-use Rattle.std.specs.Prelude.{ℕ, zero, suc, ◌+◌, ◌-◌, Bool, false, ◌||◌, if◌then◌else◌, List, [], ◌∷◌, length, take, drop, slice_index, Option, Some, None, is_some, Result, Ok, Err, ◌==◌}
+use Rattle.std.specs.Prelude.{ℕ, zero, suc, ◌+◌, ◌-◌, Bool, false, ◌||◌, if◌then◌else◌, List, [], ◌∷◌, codes, length, take, drop, slice_index, Option, Some, None, is_some, Result, Ok, Err, ◌==◌}
 use Rattle.std.specs.List.{list_all}
 use Rattle.std.specs.Option.{option_map_or, option_or}
+use Rattle.std.specs.Str.{bytes_eq}
 use Rattle.byte_devices.specs.Bytes.{byte, is_digit}
 use Rattle.chess_base.specs.declared.man.Move.{Move}
 use Rattle.chess_base.specs.declared.setup.Setup.{Setup}
@@ -18,7 +19,7 @@ use Rattle.chess_pgn.specs.declared.read.PgnFaultKind.{PgnFaultKind}
 use Rattle.chess_pgn.specs.declared.read.PgnFaultKind.TheVariants.{BadToken, IllegalMove, AmbiguousMove, TooLong}
 use Rattle.chess_pgn.specs.declared.variations.TheConstants.{MOST_NESTED}
 use Rattle.chess_pgn.specs.Split.{lacks}
-use Rattle.chess_pgn.specs.Tokens.{Token, Skip, Tag, Word}
+use Rattle.chess_pgn.specs.Tokens.{Token, Skip, Tag, Word, Bad}
 use Rattle.chess_pgn.specs.Words.{is_marks}
 
 -- ---- one token of a line
@@ -45,12 +46,12 @@ abbrev pub is_variation : List ℕ → ℕ → Token → Bool
 is_variation text at Skip = slice_index text at == byte "("
 is_variation text at _ = false
 
--- ---- lines
+-- whether a token, which begins at this offset of the text, ends the line of a variation: a `)`, which begins no token
+abbrev pub is_end : List ℕ → ℕ → Token → Bool
+is_end text at Bad = bytes_eq (take 1 (drop at text)) (codes ")")
+is_end text at _ = false
 
--- the offset at which the first of these tokens begins, which are the last of the text; its end if there are none
-abbrev pub next_offset : List ℕ → List (ℕ × Token) → ℕ
-next_offset text [] = length text
-next_offset text ((left, token) ∷ more) = length text - left
+-- ---- lines
 
 -- the first fault of a line from a token at the offset `at` on, by what that token does in the position `p`: its own
 -- fault, or what `later` gives for the position before the last move (`before` if no move is made) and that after it
@@ -60,27 +61,30 @@ after_token at before p (Ok None) later = later before p
 after_token at before p (Ok (Some m)) later = later (Some p) (after p m)
 after_token at before p (Err kind) later = Some (record { kind = kind; offset = at })
 
--- the first fault of a line with these tokens, the last of the text, from the position `p` on; `None` without one.
--- `before` is the position before the line's last move, if it has one: there a variation begins, and without it the
--- variation is a fault. `inside` gives the first fault of the variation from one offset to another
-abbrev pub line_fault : List ℕ → (Setup → ℕ → ℕ → Option PgnFault) → Option Setup → Setup → List (ℕ × Token)
+-- the first fault of a line of the text from these tokens on, where its position is `p`; `None` without one. The line
+-- of a variation ends at its `)` (`is_end`). `before` is the position before the line's last move, if it
+-- has one: there a variation begins, and without it the variation is a fault. `inside` gives the first fault of the
+-- variation at an offset
+abbrev pub line_fault : List ℕ → (Setup → ℕ → Option PgnFault) → Option Setup → Setup → List (ℕ × Token)
     → Option PgnFault
 line_fault text inside before p [] = None
 line_fault text inside before p ((left, token) ∷ more) = let at = length text - left in
-    if is_variation text at token then option_or (option_map_or (λ start. inside start at (next_offset text more)) before
-    (Some (record { kind = BadToken; offset = at }))) (line_fault text inside before p more)
+    if is_variation text at token then option_or
+    (option_map_or (λ start. inside start at) before (Some (record { kind = BadToken; offset = at })))
+    (line_fault text inside before p more)
+    else if is_end text at token then None
     else after_token at before p (token_move p token) (λ b q. line_fault text inside b q more)
 
--- the first fault of the variation that begins at the offset `at` of the text with its `(`, and whose `)` is the last
--- byte before `end`; its moves begin in the position `start`. At most so many variations may be open (the second
--- argument). `tokens` gives the tokens of a text from an offset on
-unfoldable pub variation_fault : (List ℕ → ℕ → List (ℕ × Token)) → ℕ → List ℕ → Setup → ℕ → ℕ → Option PgnFault
-variation_fault tokens zero text start at end = Some (record { kind = TooLong; offset = at })
-variation_fault tokens (suc depth) text start at end = let inner = take (end - 1) text in
-    line_fault inner (λ p from to. variation_fault tokens depth inner p from to) None start (tokens inner (at + 1))
+-- the first fault of the variation whose `(` is at the offset `at` of the text, and whose moves begin in the position
+-- `start`. At most so many variations may be open (the second argument). `tokens` gives the tokens of a text from an
+-- offset on
+unfoldable pub variation_fault : (List ℕ → ℕ → List (ℕ × Token)) → ℕ → List ℕ → Setup → ℕ → Option PgnFault
+variation_fault tokens zero text start at = Some (record { kind = TooLong; offset = at })
+variation_fault tokens (suc depth) text start at =
+    line_fault text (λ p from. variation_fault tokens depth text p from) None start (tokens text (at + 1))
 
 -- the first fault in the variations of a game without another fault, whose start is `start`, and whose text goes from
 -- the offset `at` to the end of this one; without a `(` it has none. At most 64 variations may be open
 abbrev pub variations_fault : (List ℕ → ℕ → List (ℕ × Token)) → List ℕ → Setup → ℕ → Option PgnFault
 variations_fault tokens text start at = if lacks (byte "(") (drop at text) then None
-    else line_fault text (λ p from to. variation_fault tokens MOST_NESTED text p from to) None start (tokens text at)
+    else line_fault text (λ p from. variation_fault tokens MOST_NESTED text p from) None start (tokens text at)

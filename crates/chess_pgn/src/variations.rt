@@ -10,16 +10,16 @@ ghost use Rattle.chess_pgn.specs.Split.{lacks};
 ghost use Rattle.chess_pgn.specs.Tokens.{tokens_from};
 ghost use Rattle.chess_base.specs.declared.setup.Setup.{Setup};
 ghost use Rattle.chess_pgn.specs.declared.read.PgnFault.{PgnFault};
-ghost use Rattle.chess_pgn.specs.Variations.{after_token, is_variation, line_fault, token_move, variations_fault, word_move};
+ghost use Rattle.chess_pgn.specs.Variations.{after_token, is_end, is_variation, line_fault, token_move, variations_fault, word_move};
 ghost use Rattle.byte_devices.specs.Bytes.{byte, is_digit};
 ghost use Rattle.pgn_writer.specs.Outcomes.{outcome_of};
 ghost use Rattle.chess_pgn.specs.Words.{is_marks};
 ghost use Rattle.chess_text.specs.Moves.{reading};
-ghost use Rattle.chess_pgn.specs.ties.Seen.{token_seen};
+ghost use Rattle.chess_pgn.specs.ties.Seen.{fault_seen, token_seen};
 ghost use Rattle.chess_pgn.specs.ties.LineSteps.{IsLineToken, inside, opening, played};
 
 use crate::read::{PgnFault, PgnFaultKind};
-use crate::token::{Token, next_token};
+use crate::token::{Token, TokenFault, next_token};
 use crate::word_kind::{WordKind, word_kind};
 use chess_base::{Move, Position};
 use chess_moves::Board;
@@ -76,18 +76,35 @@ fn is_variation(text: &[u8], at: usize, token: &Token<'_>) -> bool
     }
 }
 
-// The token that begins at the offset `at`, and the offset after it, as `next_token` gives them; `None` at the text's
-// end. What can't be read is a bad token.
+// Whether what can't be read at the offset `at` ends the line of a variation: it is a `)`.
+fn is_end(text: &[u8], at: usize, fault: TokenFault) -> bool
+    requires { at ≤ length text.now }
+    ensures { result ≡ is_end text.now at (fault_seen fault) }
+{
+    match fault {
+        TokenFault::BadByte => text[at..].starts_with(b")"),
+        TokenFault::BadTag | TokenFault::UnclosedVariation => false,
+        TokenFault::UnclosedComment { .. } => false,
+    }
+}
+
+// The token of a line that begins at the offset `at`, and the offset after it, as `next_token` gives them; `None` at the
+// text's end, and at the `)` of a variation. Anything else that can't be read is a bad token.
 fn token_at(text: &[u8], at: usize) -> Result<Option<(Token<'_>, usize)>, PgnFault>
     requires { at ≤ length text.now }
     ensures { IsLineToken text.now at result }
 {
     match next_token(text, at) {
         Ok(next) => Ok(next),
-        Err(_) => Err(PgnFault {
-            kind: PgnFaultKind::BadToken,
-            offset: at,
-        }),
+        Err(fault) => {
+            if is_end(text, at, fault) {
+                return Ok(None);
+            }
+            Err(PgnFault {
+                kind: PgnFaultKind::BadToken,
+                offset: at,
+            })
+        }
     }
 }
 
@@ -134,9 +151,9 @@ fn opening(depth: usize, before: Option<Position>, at: usize) -> Result<(Positio
     }
 }
 
-// Reads a line (a game's own moves, or those of a variation), whose tokens go from the offset `at` to the text's end,
-// and whose moves begin in the position `start`. The board may be at any position before and after. At most `depth`
-// variations may be open in the line. A variation's `(` and `)` are cut off, and what is left is read as a line.
+// Reads a line (a game's own moves, or those of a variation) from the offset `at` on, whose moves begin in the position
+// `start`: to the text's end, or to the variation's `)`. The board may be at any position before and after. At most
+// `depth` variations may be open in the line.
 fn read_line<B: Board>(
     depth: usize,
     text: &[u8],
@@ -158,7 +175,7 @@ fn read_line<B: Board>(
         if is_variation(text, offset, &token) {
             let (first, inner_depth) = opening(depth, before, offset)?;
             let here = board.position();
-            read_line(inner_depth, &text[..token_end - 1], offset + 1, &first, board)?;
+            read_line(inner_depth, text, offset + 1, &first, board)?;
             board.set(&here);
         } else if let Some(left) = play_token(board, offset, &token)? {
             before = Some(left);

@@ -1,11 +1,12 @@
 -- Without a fault each move of each variation is legal: by how deep variations are nested, and then token by token.
-use Rattle.std.proofs.Common.{◌≡◌, ℕ, zero, suc, ◌+◌, ◌-◌, Bool, true, false, cond, List, [], ◌∷◌, length, take, drop, Option, Some, None, Result, Ok, Err, refl, sym, ap, ◌∙◌}
+use Rattle.std.proofs.Common.{◌≡◌, ℕ, zero, suc, ◌+◌, ◌-◌, Bool, true, false, cond, List, [], ◌∷◌, length, drop, Option, Some, None, Result, Ok, Err, refl, sym, ap, ◌∙◌}
 use Rattle.std.specs.Prelude.{◌||◌, is_some}
 use Rattle.std.specs.List.{list_all}
 use Rattle.std.specs.Option.{option_map_or, option_or}
 use Rattle.byte_devices.specs.Bytes.{is_digit}
 use Rattle.chess_base.specs.declared.man.Move.{Move}
 use Rattle.chess_base.specs.declared.setup.Setup.{Setup}
+use Rattle.chess_base.specs.Moves.{after}
 use Rattle.chess_text.specs.declared.reading.Reading.{Reading}
 use Rattle.chess_text.specs.declared.reading.Reading.TheVariants as reads
 use Rattle.chess_text.specs.Moves.{reading}
@@ -17,9 +18,9 @@ use Rattle.chess_pgn.specs.declared.read.PgnFaultKind.TheVariants.{BadToken}
 use Rattle.chess_pgn.specs.declared.variations.TheConstants.{MOST_NESTED}
 use Rattle.chess_pgn.specs.Split.{lacks}
 use Rattle.chess_pgn.specs.Tokens.{Token, Skip, Tag, Word, Bad_tag, Unclosed_comment, Unclosed_variation, Bad}
-use Rattle.chess_pgn.specs.Variations.{word_move, token_move, is_variation, next_offset, after_token, line_fault, variation_fault}
+use Rattle.chess_pgn.specs.Variations.{word_move, token_move, is_end, is_variation, after_token, line_fault, variation_fault}
 use Rattle.chess_pgn.specs.Words.{is_marks}
-use Rattle.chess_pgn_laws.specs.LegalVariations.{is_passed, IsLegalLine, no_more, passed, move, variation, VariationsAreLegal}
+use Rattle.chess_pgn_laws.specs.LegalVariations.{is_passed, IsLegalLine, no_more, closed, passed, move, variation, VariationsAreLegal}
 
 abbrev found : Move → Result (Option Move) PgnFaultKind
 found m = Ok (Some m)
@@ -74,68 +75,62 @@ moves p (Unclosed_comment left) m h = absurd (cc)
 moves p Unclosed_variation m h = absurd (cc)
 moves p Bad m h = absurd (cc)
 
-module _ (law : ReadMovesAreLegal) where
-  module _ (tokens : List ℕ → ℕ → List (ℕ × Token)) where
-    -- what is claimed of the variation from one offset to another
-    Inner : List ℕ → Setup → ℕ → ℕ → Type 0
-    Inner text p from to =
-        IsLegalLine tokens (take (to - 1) text) None p (tokens (take (to - 1) text) (from + 1))
+module _ (law : ReadMovesAreLegal) (tokens : List ℕ → ℕ → List (ℕ × Token)) (text : List ℕ) where
+  line_legal : (inner : Setup → ℕ → Option PgnFault)
+      → ((p : Setup) (from : ℕ) → inner p from ≡ None → IsLegalLine (tokens text) text None p (tokens text (from + 1)))
+      → (all : List (ℕ × Token)) (before : Option Setup) (p : Setup) → line_fault text inner before p all ≡ None
+      → IsLegalLine (tokens text) text before p all
+  line_legal inner h [] before p e = no_more
+  line_legal inner h ((left, token) ∷ more) before p e =
+      by_kind (is_variation text (length text - left) token) (is_end text (length text - left) token) refl refl e
+    where
+      by_before : (o : Option Setup) → is_variation text (length text - left) token ≡ true
+          → option_or (option_map_or (λ start. inner start (length text - left)) o
+          (Some (record { kind = BadToken; offset = length text - left }))) (line_fault text inner o p more) ≡ None
+          → IsLegalLine (tokens text) text o p ((left, token) ∷ more)
+      by_before None v k = absurd (cc)
+      by_before (Some start) v k =
+          let both = none_of_two (inner start (length text - left)) (line_fault text inner (Some start) p more) k in
+          variation v (h start (length text - left) both.0) (line_legal inner h more (Some start) p both.1)
 
-    line_legal : (text : List ℕ) (inner : Setup → ℕ → ℕ → Option PgnFault)
-        → ((p : Setup) (from to : ℕ) → inner p from to ≡ None → Inner text p from to)
-        → (all : List (ℕ × Token)) (before : Option Setup) (p : Setup) → line_fault text inner before p all ≡ None
-        → IsLegalLine tokens text before p all
-    line_legal text inner h [] before p e = no_more
-    line_legal text inner h ((left, token) ∷ more) before p e =
-        by_kind (is_variation text (length text - left) token) refl e
-      where
-        by_before : (o : Option Setup) → is_variation text (length text - left) token ≡ true
-            → option_or (option_map_or (λ start. inner start (length text - left) (next_offset text more)) o
-            (Some (record { kind = BadToken; offset = length text - left }))) (line_fault text inner o p more) ≡ None
-            → IsLegalLine tokens text o p ((left, token) ∷ more)
-        by_before None v k = absurd (cc)
-        by_before (Some start) v k =
-            let both = none_of_two (inner start (length text - left) (next_offset text more))
-            (line_fault text inner (Some start) p more) k in
-            variation v (h start (length text - left) (next_offset text more) both.0)
-            (line_legal text inner h more (Some start) p both.1)
+      by_word_of : (m : Move) (t : Token) → Moves p m t → line_fault text inner (Some p) (after p m) more ≡ None
+          → IsLegalLine (tokens text) text before p ((left, t) ∷ more)
+      by_word_of m t (by_word word denoted) k =
+          move m denoted (law p word m denoted) (line_legal inner h more (Some p) (after p m) k)
 
-        by_move : (r : Result (Option Move) PgnFaultKind) → token_move p token ≡ r
-            → is_variation text (length text - left) token ≡ false
-            → after_token (length text - left) before p r (λ b q. line_fault text inner b q more) ≡ None
-            → IsLegalLine tokens text before p ((left, token) ∷ more)
-        by_move (Ok None) is v k = passed v (over p token is) (line_legal text inner h more before p k)
-        by_move (Ok (Some m)) is v k = by_word_of token (moves p token m is)
-          where
-            by_word_of : (t : Token) → Moves p m t → IsLegalLine tokens text before p ((left, t) ∷ more)
-            by_word_of t (by_word word denoted) =
-                move m denoted (law p word m denoted) (line_legal text inner h more (Some p) _ k)
-        by_move (Err kind) is v k = absurd (cc)
+      by_move : (r : Result (Option Move) PgnFaultKind) → token_move p token ≡ r
+          → is_variation text (length text - left) token ≡ false
+          → after_token (length text - left) before p r (λ b q. line_fault text inner b q more) ≡ None
+          → IsLegalLine (tokens text) text before p ((left, token) ∷ more)
+      by_move (Ok None) is v k = passed v (over p token is) (line_legal inner h more before p k)
+      by_move (Ok (Some m)) is v k = by_word_of m token (moves p token m is) k
+      by_move (Err kind) is v k = absurd (cc)
 
-        by_kind : (b : Bool) → is_variation text (length text - left) token ≡ b
-            → cond b (option_or (option_map_or (λ start. inner start (length text - left) (next_offset text more)) before
-            (Some (record { kind = BadToken; offset = length text - left }))) (line_fault text inner before p more))
-            (after_token (length text - left) before p (token_move p token) (λ b q. line_fault text inner b q more))
-            ≡ None → IsLegalLine tokens text before p ((left, token) ∷ more)
-        by_kind true v k = by_before before v k
-        by_kind false v k = by_move (token_move p token) refl v k
+      by_kind : (opens ends : Bool) → is_variation text (length text - left) token ≡ opens
+          → is_end text (length text - left) token ≡ ends
+          → cond opens (option_or (option_map_or (λ start. inner start (length text - left)) before
+          (Some (record { kind = BadToken; offset = length text - left }))) (line_fault text inner before p more))
+          (cond ends None (after_token (length text - left) before p (token_move p token)
+          (λ b q. line_fault text inner b q more))) ≡ None
+          → IsLegalLine (tokens text) text before p ((left, token) ∷ more)
+      by_kind true ends v w k = by_before before v k
+      by_kind false true v w k = closed w
+      by_kind false false v w k = by_move (token_move p token) refl v k
 
-    variation_legal : (depth : ℕ) (text : List ℕ) (p : Setup) (from to : ℕ)
-        → variation_fault tokens depth text p from to ≡ None → Inner text p from to
-    unfolding variation_fault
-    variation_legal zero text p from to h = absurd (cc)
-    variation_legal (suc depth) text p from to h =
-        line_legal (take (to - 1) text) (λ q i j. variation_fault tokens depth (take (to - 1) text) q i j)
-        (variation_legal depth (take (to - 1) text)) (tokens (take (to - 1) text) (from + 1)) None p h
+  variation_legal : (depth : ℕ) (p : Setup) (from : ℕ) → variation_fault tokens depth text p from ≡ None
+      → IsLegalLine (tokens text) text None p (tokens text (from + 1))
+  unfolding variation_fault
+  variation_legal zero p from h = absurd (cc)
+  variation_legal (suc depth) p from h =
+      line_legal (λ q i. variation_fault tokens depth text q i) (variation_legal depth) (tokens text (from + 1)) None p h
 
 pub variations_legal : ReadMovesAreLegal → VariationsAreLegal
 variations_legal law tokens text start at some h =
-    line_legal law tokens text (λ p from to. variation_fault tokens MOST_NESTED text p from to)
-    (variation_legal law tokens MOST_NESTED text) (tokens text at) None start (by_test (lacks 40 (drop at text)) some h)
+    line_legal law tokens text (λ p from. variation_fault tokens MOST_NESTED text p from)
+    (variation_legal law tokens text MOST_NESTED) (tokens text at) None start (by_test (lacks 40 (drop at text)) some h)
   where
     by_test : (b : Bool) → b ≡ false → cond b None (line_fault text
-        (λ p from to. variation_fault tokens MOST_NESTED text p from to) None start (tokens text at)) ≡ None
-        → line_fault text (λ p from to. variation_fault tokens MOST_NESTED text p from to) None start (tokens text at)
-        ≡ None
+        (λ p from. variation_fault tokens MOST_NESTED text p from) None start (tokens text at)) ≡ None
+        → line_fault text (λ p from. variation_fault tokens MOST_NESTED text p from) None start (tokens text at) ≡ None
     by_test true e k = absurd (cc)
     by_test false e k = k

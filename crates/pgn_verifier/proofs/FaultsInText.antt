@@ -70,5 +70,5 @@ none_without_bytes text at start end h =
     let first : ℕ = after_byte_order_mark text at in
     let none : drop first own ≡ [] =
     nil_from_length (drop first own) (omega (arith, length-drop first own, take_short end.offset text, h)) in
-    ap (λ xs. if lacks 40 xs then None else line_fault own (λ p from to. variation_fault tokens_from MOST_NESTED own p
-    from to) None start (tokens_from own first)) none
+    ap (λ xs. if lacks 40 xs then None else line_fault own (λ p from. variation_fault tokens_from MOST_NESTED own p from)
+    None start (tokens_from own first)) none

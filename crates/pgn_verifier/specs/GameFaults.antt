@@ -70,8 +70,8 @@ variation_in split text at start end =
 
 -- `answer` is what is reported (see `judged`) of the first game from the offset `at` of the text on, and `s` is this
 -- game as far as it was read: at most 20,000 half-moves. Both follow from `tokens`, the only split of the text from
--- `at` on into tokens, and `split`, the only splits of the texts of its variations; a byte order mark at offset 0 is
--- skipped
+-- `at` on into tokens; what its variations have follows from `split_of`, the only splits of its own text, which ends
+-- where the game does. A byte order mark at offset 0 is skipped
 pub record IsJudged (strict : Strictness) (text : List ℕ) (at : ℕ) (s : State)
     (answer : Result (Option PgnEnd) GameFault) : Type 0 where
   pub tokens : List (ℕ × Token)

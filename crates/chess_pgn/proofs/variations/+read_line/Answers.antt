@@ -1,11 +1,8 @@
--- Each token keeps that what is left gives the whole, or its fault is the line's (LinesRead). A variation has a `(` and a
--- `)` (VariationPlaces), so there is a line in it.
-use Rattle.std.proofs.Common.{◌≡◌, ◌-◌, length, take, sym, ap, ◌∙◌, arith}
-use Rattle.std.proofs.lemmas.List.{length-append, take-append-drop}
+-- Each token keeps that what is left gives the whole, or its fault is the line's (LinesRead).
+use Rattle.std.proofs.Common.{sym, ◌∙◌}
 use Rattle.std.proofs.lemmas.Result.{err_from_is_err_and}
 use Rattle.chess_pgn.specs.ties.Seen.{token_seen}
-use Rattle.chess_pgn.proofs.LinesRead.{begun, ended, unread, passed_over, moved_on, faulty, not_opened, faulty_inside, went_inside}
-use Rattle.chess_pgn.proofs.VariationPlaces.{two_bytes, take_length}
+use Rattle.chess_pgn.proofs.LinesRead.{begun, ended, unread, goes_on, passed_over, moved_on, faulty, not_opened, faulty_inside, went_inside}
 use Rattle.chess_pgn.proofs.variations.+read_line.Goals as goal
 
 pub loop-token-init : goal.loop-token-init
@@ -13,11 +10,12 @@ loop-token-init g c =
     begun c.args.depth c.args.text.now c.args.start.now (g.B.Board.position c.set.new.self) c.args.at c.requires
     c.set.ensures.position
 
--- the text's end
+-- the line's end
 pub returns-in_ok-token-in-None : goal.returns-in_ok-token-in-None
 returns-in_ok-token-in-None g c =
     ended c.args.depth c.args.text.now c.args.start.now c.args.at c.loop-token.before
-    (g.B.Board.position c.loop-token.board) c.loop-token.offset c.loop-token.invariant c.in_ok-token.ensures
+    (g.B.Board.position c.loop-token.board) c.loop-token.offset c.loop-token.invariant
+    (rw c.in-None.is at c.in_ok-token.ensures)
 
 -- what can't be read
 pub returns-in_err-token : goal.returns-in_err-token
@@ -37,15 +35,7 @@ returns-in_err-first g c =
     c.loop-token.invariant next.2 next.0 c.in_err-first.field-0.0
     (sym c.is_variation.ensures ∙ c.if-is_variation.true) c.in_err-first.ensures)
 
--- the line in a variation
-pub read_line-requires : goal.read_line-requires
-read_line-requires g c =
-    let next = rw c.in-Some.is at c.in_ok-token.ensures in
-    let long = two_bytes c.args.text.now c.loop-token.offset c.in-Some.token_end (token_seen c.in-Some.token)
-    c.loop-token.invariant.offset next.2 next.0 (sym c.is_variation.ensures ∙ c.if-is_variation.true) in
-    let few = next.2 in
-    omega (arith, take_length (c.in-Some.token_end - 1) c.args.text.now (omega (arith, few)), long)
-
+-- a variation with a fault, and one without
 pub returns-in_err-read_line : goal.returns-in_err-read_line
 returns-in_err-read_line g c =
     let next = rw c.in-Some.is at c.in_ok-token.ensures in
@@ -72,7 +62,8 @@ returns-in_err-left g c =
     rw p.1 (faulty c.args.depth c.args.text.now c.args.start.now c.args.at c.loop-token.before
     (g.B.Board.position c.loop-token.board) c.loop-token.offset c.in-Some.token_end (token_seen c.in-Some.token)
     c.loop-token.invariant next.2 next.0 c.in_err-left.field-0.0 (g.B.Board.position c.play_token.new.board)
-    (sym c.is_variation.ensures ∙ c.if-is_variation.false) (c.in_err-left.ensures))
+    (sym c.is_variation.ensures ∙ c.if-is_variation.false)
+    (goes_on c.args.text.now c.loop-token.offset c.in-Some.token) c.in_err-left.ensures)
 
 pub loop-token-preserved-in-Some : goal.loop-token-preserved-in-Some
 loop-token-preserved-in-Some g c =
@@ -80,7 +71,8 @@ loop-token-preserved-in-Some g c =
     moved_on c.args.depth c.args.text.now c.args.start.now c.args.at c.loop-token.before
     (g.B.Board.position c.loop-token.board) c.loop-token.offset c.in-Some.token_end (token_seen c.in-Some.token)
     c.loop-token.invariant next.2 next.0 c.in-Some-2.left (g.B.Board.position c.play_token.new.board)
-    (sym c.is_variation.ensures ∙ c.if-is_variation.false) c.in_ok-left.ensures
+    (sym c.is_variation.ensures ∙ c.if-is_variation.false)
+    (goes_on c.args.text.now c.loop-token.offset c.in-Some.token) c.in_ok-left.ensures
 
 pub loop-token-preserved-in-None : goal.loop-token-preserved-in-None
 loop-token-preserved-in-None g c =
@@ -88,4 +80,5 @@ loop-token-preserved-in-None g c =
     passed_over c.args.depth c.args.text.now c.args.start.now c.args.at c.loop-token.before
     (g.B.Board.position c.loop-token.board) c.loop-token.offset c.in-Some.token_end (token_seen c.in-Some.token)
     c.loop-token.invariant next.2 next.0 (g.B.Board.position c.play_token.new.board)
-    (sym c.is_variation.ensures ∙ c.if-is_variation.false) c.in_ok-left.ensures
+    (sym c.is_variation.ensures ∙ c.if-is_variation.false)
+    (goes_on c.args.text.now c.loop-token.offset c.in-Some.token) c.in_ok-left.ensures
