@@ -1,5 +1,5 @@
 -- The games that a match writes are verified without a fault.
-use Rattle.std.proofs.Common.{◌≡◌, ◌∙◌, ℕ, ◌+◌, ◌≤◌, ◌<◌, Bool, List, [], ◌∷◌, ◌++◌, length, map, take, None, refl, sym, ap, subst}
+use Rattle.std.proofs.Common.{◌≡◌, ◌∙◌, ℕ, ◌+◌, ◌≤◌, ◌<◌, List, [], ◌∷◌, ◌++◌, length, map, take, None, refl, sym, ap, subst}
 use Rattle.std.specs.Prelude.{codes, flat_map}
 use Rattle.std.specs.List.{enumerate_from}
 use Rattle.byte_devices.specs.Transfers.{OutputTook, all_of}

@@ -1,5 +1,5 @@
 -- What `verify` says of a game that it counts.
-use Rattle.std.specs.Prelude.{◌≡◌, ⊤, ℕ, ◌+◌, ◌-◌, ◌<◌, Bool, List, [], ◌∷◌, ◌++◌, length, take, Some, None, IsTrue}
+use Rattle.std.specs.Prelude.{◌≡◌, ⊤, ℕ, ◌+◌, ◌-◌, ◌<◌, List, [], ◌∷◌, ◌++◌, length, take, Some, None, IsTrue}
 use Rattle.std.specs.List.{filter}
 use Rattle.chess_base.specs.MoveList.{moves}
 use Rattle.chess_base.specs.Moves.{after, is_legal}

@@ -1,6 +1,6 @@
 -- A collection that is cut into files where pieces begin: `verify --keep-going` reports the same of the files as of the
 -- whole.
-use Rattle.std.specs.Prelude.{◌≡◌, ⊤, ℕ, ◌+◌, Bool, true, List, [], ◌∷◌, ◌++◌, length, map}
+use Rattle.std.specs.Prelude.{◌≡◌, ⊤, ℕ, ◌+◌, true, List, [], ◌∷◌, ◌++◌, length, map}
 use Rattle.std.specs.List.{concat, sum_by}
 use Rattle.byte_devices.specs.Bytes.{new_line}
 use Rattle.pgn_pieces.specs.Pieces.{cut, lines_of}

@@ -1,5 +1,5 @@
 -- Both faults are in the text (FaultsInText), so the first of them is.
-use Rattle.std.proofs.Common.{length, sym, subst, ap, ◌∙◌}
+use Rattle.std.proofs.Common.{length, sym, subst}
 use Rattle.chess_game.specs.Game.{verdict_now}
 use Rattle.pgn_verifier.specs.GameFaults.{board_says_otherwise}
 use Rattle.pgn_verifier.proofs.FaultsInText.{InText, first_within, board_within, looked_within}
