@@ -67,6 +67,7 @@ verify_plan_of value = record {
   explain = is_set (codes "explain") value;
   spans = is_set (codes "spans") value;
   names = is_set (codes "names") value;
+  variations = is_set (codes "variations") value;
 }
 
 -- ---- what they mean

@@ -30,6 +30,8 @@ pub struct VerifyPlan {
     pub spans: bool,
     /// Whether the line of a fault ends with the players, event and date of its game.
     pub names: bool,
+    /// Whether the moves in variations are read, too.
+    pub variations: bool,
 }
 
 /// What the arguments ask for.

@@ -67,6 +67,7 @@ fn verify_plan(found: &ArgMatches<'_>) -> VerifyPlan
         explain: is_set(found, "explain"),
         spans: is_set(found, "spans"),
         names: is_set(found, "names"),
+        variations: is_set(found, "variations"),
     }
 }
 

@@ -29,12 +29,14 @@ fn plans_without_arguments(rt: HostRuntime) -> Result<(), Fail> {
     Ok(())
 }
 
-// Arguments of `verify`, and the flags that they set: keep-going, quiet, strict, explain, spans, names.
-const VERIFY: [(&[&str], bool, bool, bool, bool, bool, bool); 21] = [
-    (&["verify"], false, false, false, false, false, false),
+// Arguments of `verify`, and the flags that they set: keep-going, quiet, strict, explain, spans, names,
+// variations.
+const VERIFY: [(&[&str], bool, bool, bool, bool, bool, bool, bool); 23] = [
+    (&["verify"], false, false, false, false, false, false, false),
     (
         &["verify", "--keep-going"],
         true,
+        false,
         false,
         false,
         false,
@@ -49,12 +51,14 @@ const VERIFY: [(&[&str], bool, bool, bool, bool, bool, bool); 21] = [
         false,
         false,
         false,
+        false,
     ),
     (
         &["verify", "--strict"],
         false,
         false,
         true,
+        false,
         false,
         false,
         false,
@@ -67,11 +71,13 @@ const VERIFY: [(&[&str], bool, bool, bool, bool, bool, bool); 21] = [
         true,
         false,
         false,
+        false,
     ),
     (
         &["verify", "--keep-going", "--quiet"],
         true,
         true,
+        false,
         false,
         false,
         false,
@@ -85,12 +91,14 @@ const VERIFY: [(&[&str], bool, bool, bool, bool, bool, bool); 21] = [
         false,
         false,
         false,
+        false,
     ),
     (
         &["verify", "--strict", "--quiet"],
         false,
         true,
         true,
+        false,
         false,
         false,
         false,
@@ -103,6 +111,7 @@ const VERIFY: [(&[&str], bool, bool, bool, bool, bool, bool); 21] = [
         false,
         false,
         false,
+        false,
     ),
     (
         &["verify", "--explain", "--keep-going"],
@@ -110,6 +119,7 @@ const VERIFY: [(&[&str], bool, bool, bool, bool, bool, bool); 21] = [
         false,
         false,
         true,
+        false,
         false,
         false,
     ),
@@ -121,12 +131,14 @@ const VERIFY: [(&[&str], bool, bool, bool, bool, bool, bool); 21] = [
         true,
         false,
         false,
+        false,
     ),
     (
         &["verify", "--strict", "--keep-going", "--quiet"],
         true,
         true,
         true,
+        false,
         false,
         false,
         false,
@@ -139,6 +151,7 @@ const VERIFY: [(&[&str], bool, bool, bool, bool, bool, bool); 21] = [
         false,
         false,
         false,
+        false,
     ),
     (
         &["verify", "--explain", "--strict", "--quiet"],
@@ -146,6 +159,7 @@ const VERIFY: [(&[&str], bool, bool, bool, bool, bool, bool); 21] = [
         true,
         true,
         true,
+        false,
         false,
         false,
     ),
@@ -157,6 +171,7 @@ const VERIFY: [(&[&str], bool, bool, bool, bool, bool, bool); 21] = [
         true,
         false,
         false,
+        false,
     ),
     (
         &["verify", "--explain", "--strict", "--quiet", "--keep-going"],
@@ -164,6 +179,7 @@ const VERIFY: [(&[&str], bool, bool, bool, bool, bool, bool); 21] = [
         true,
         true,
         true,
+        false,
         false,
         false,
     ),
@@ -175,6 +191,7 @@ const VERIFY: [(&[&str], bool, bool, bool, bool, bool, bool); 21] = [
         false,
         true,
         false,
+        false,
     ),
     (
         &["verify", "--spans", "--keep-going"],
@@ -183,6 +200,7 @@ const VERIFY: [(&[&str], bool, bool, bool, bool, bool, bool); 21] = [
         false,
         false,
         true,
+        false,
         false,
     ),
     (
@@ -200,6 +218,7 @@ const VERIFY: [(&[&str], bool, bool, bool, bool, bool, bool); 21] = [
         true,
         true,
         false,
+        false,
     ),
     (
         &["verify", "--names"],
@@ -209,9 +228,31 @@ const VERIFY: [(&[&str], bool, bool, bool, bool, bool, bool); 21] = [
         false,
         false,
         true,
+        false,
     ),
     (
         &["verify", "--names", "--spans", "--quiet"],
+        false,
+        true,
+        false,
+        false,
+        true,
+        true,
+        false,
+    ),
+    (
+        &["verify", "--variations"],
+        false,
+        false,
+        false,
+        false,
+        false,
+        false,
+        true,
+    ),
+    (
+        &["verify", "--strict", "--variations", "--names"],
+        false,
         false,
         true,
         false,
@@ -224,7 +265,7 @@ const VERIFY: [(&[&str], bool, bool, bool, bool, bool, bool); 21] = [
 // The arguments of `verify` go together in any order.
 #[test]
 fn verify_by_its_options(rt: HostRuntime) -> Result<(), Fail> {
-    for (arguments, keep_going, quiet, strict, explain, spans, names) in &VERIFY {
+    for (arguments, keep_going, quiet, strict, explain, spans, names, variations) in &VERIFY {
         let Plan::Verify(plan) = read_words(rt.alloc(), arguments)? else {
             return Err(Fail::new("another plan"));
         };
@@ -238,6 +279,7 @@ fn verify_by_its_options(rt: HostRuntime) -> Result<(), Fail> {
                 explain: *explain,
                 spans: *spans,
                 names: *names,
+                variations: *variations,
             },
         );
     }

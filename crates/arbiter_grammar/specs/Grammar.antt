@@ -45,7 +45,7 @@ match_app names = fold with_rule (new_app (codes "match")) (
 abbrev pub verify_app : App
 verify_app = fold with_rule (new_app (codes "verify"))
     (map flag_rule (codes "keep-going" ∷ codes "quiet" ∷ codes "strict" ∷ codes "explain" ∷ codes "spans"
-    ∷ codes "names" ∷ []))
+    ∷ codes "names" ∷ codes "variations" ∷ []))
 
 -- the subcommand `stub`, which takes any number of positional arguments; `clap` knows them as `words`
 abbrev pub stub_app : App

@@ -66,6 +66,9 @@ With --spans each line ends with the part of the input that the game has: `game 
 begins at byte 0 and ends before byte 412. A game with a fault goes on to the end of its piece, since it is not read
 further.
 
+With --variations the moves in variations are read, too: `game 1: illegal move in a variation at byte 61`. A variation
+replaces the move just before it.
+
 With --names the line of a fault ends with ` | White - Black, Event Date`, each as the last tag of this name has it, but
 at most 40 bytes, with `?` for each byte that is not printable ASCII, and for a tag that is missing.
 
@@ -298,7 +301,8 @@ fn bare_verify_command<'a>(alloc: Global) -> Command<'a>
     .override_usage("arbiter verify [OPTIONS] < FILE")
 }
 
-// The subcommand `verify` with its flags `--keep-going`, `--quiet`, `--strict`, `--explain`, `--spans` and `--names`.
+// The subcommand `verify` with its flags `--keep-going`, `--quiet`, `--strict`, `--explain`, `--spans`,
+// `--names` and `--variations`.
 fn verify_command<'a>(alloc: Global) -> Result<Command<'a>, AllocError>
     ensures app { IfOk result (λ c. app_of c ≡ verify_app) }
     ensures local { IfOk result (λ c. (fields_of c).has_globals ≡ false) }
@@ -313,7 +317,7 @@ fn verify_command<'a>(alloc: Global) -> Result<Command<'a>, AllocError>
         .arg(flag(
             alloc,
             "strict",
-            "Also check the result against the Result tag and the final position",
+            "Also check the variant, and the result against the Result tag and the final position",
         ))?
         .arg(flag(
             alloc,
@@ -329,6 +333,11 @@ fn verify_command<'a>(alloc: Global) -> Result<Command<'a>, AllocError>
             alloc,
             "names",
             "End the line of each fault with the game's players, event and date",
+        ))?
+        .arg(flag(
+            alloc,
+            "variations",
+            "Also read the moves in variations, each from the position before the move that it replaces",
         ))
 }
 

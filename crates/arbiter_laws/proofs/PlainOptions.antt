@@ -49,7 +49,9 @@ of_verify (flag name) (inr (inr (inr (inl e)))) = subst (IsFlag verify_shape) (s
     (record { first = λ rows p. refl; first_fault = λ rows p. refl })
 of_verify (flag name) (inr (inr (inr (inr (inl e))))) = subst (IsFlag verify_shape) (sym e)
     (record { first = λ rows p. refl; first_fault = λ rows p. refl })
-of_verify (flag name) (inr (inr (inr (inr (inr e))))) = subst (IsFlag verify_shape) (sym e)
+of_verify (flag name) (inr (inr (inr (inr (inr (inl e)))))) = subst (IsFlag verify_shape) (sym e)
+    (record { first = λ rows p. refl; first_fault = λ rows p. refl })
+of_verify (flag name) (inr (inr (inr (inr (inr (inr e)))))) = subst (IsFlag verify_shape) (sym e)
     (record { first = λ rows p. refl; first_fault = λ rows p. refl })
 
 -- ---- match

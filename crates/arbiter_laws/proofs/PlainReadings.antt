@@ -204,8 +204,16 @@ module _ (s : Shape) (options : List Given) (name : Text) where
   value_alike default = value_found name options s.rules ∙ ap (option_or (values_in options name)) default
       ∙ or_none (values_in options name)
 
-abbrev plan_with : Bool → Bool → Bool → Bool → Bool → Bool → VerifyPlan
-plan_with a b c d e f = record { keep_going = a; quiet = b; strict = c; explain = d; spans = e; names = f }
+abbrev plan_with : Bool → Bool → Bool → Bool → Bool → Bool → Bool → VerifyPlan
+plan_with a b c d e f g = record {
+  keep_going = a;
+  quiet = b;
+  strict = c;
+  explain = d;
+  spans = e;
+  names = f;
+  variations = g;
+}
 
 verify_alike : (options : List Given)
     → verify_plan_of (matched (rows_of_given verify_shape options)) ≡ verify_plan_of (values_in options)
@@ -214,11 +222,14 @@ verify_alike options =
     let own : Text → Bool = λ name. is_set name (values_in options) in
     let found : Text → Bool = λ name. is_set name (matched (rows_of_given verify_shape options)) in
     ap₂ (λ (a b : Bool). plan_with a b (found (codes "strict")) (found (codes "explain")) (found (codes "spans"))
-    (found (codes "names"))) (alike (codes "keep-going") refl) (alike (codes "quiet") refl)
+    (found (codes "names")) (found (codes "variations"))) (alike (codes "keep-going") refl)
+    (alike (codes "quiet") refl)
     ∙ ap₂ (λ (c d : Bool). plan_with (own (codes "keep-going")) (own (codes "quiet")) c d (found (codes "spans"))
-    (found (codes "names"))) (alike (codes "strict") refl) (alike (codes "explain") refl)
+    (found (codes "names")) (found (codes "variations"))) (alike (codes "strict") refl) (alike (codes "explain") refl)
     ∙ ap₂ (λ (e f : Bool). plan_with (own (codes "keep-going")) (own (codes "quiet")) (own (codes "strict"))
-    (own (codes "explain")) e f) (alike (codes "spans") refl) (alike (codes "names") refl)
+    (own (codes "explain")) e f (found (codes "variations"))) (alike (codes "spans") refl) (alike (codes "names") refl)
+    ∙ ap (λ (g : Bool). plan_with (own (codes "keep-going")) (own (codes "quiet")) (own (codes "strict"))
+    (own (codes "explain")) (own (codes "spans")) (own (codes "names")) g) (alike (codes "variations") refl)
 
 match_alike : (names : OptionNames) (options : List Given)
     → Agrees (matched (rows_of_given (match_shape names) options)) (values_in options)

@@ -36,8 +36,15 @@ AreRefused arguments kinds = (names : OptionNames) → faults_in names arguments
 
 -- the plan of `verify` without flags
 abbrev pub bare_plan : VerifyPlan
-bare_plan =
-    record { keep_going = false; quiet = false; strict = false; explain = false; spans = false; names = false }
+bare_plan = record {
+  keep_going = false;
+  quiet = false;
+  strict = false;
+  explain = false;
+  spans = false;
+  names = false;
+  variations = false;
+}
 
 -- the options of these arguments make the plan of `verify` without flags
 abbrev pub VerifyAsBare : List Text → Type 0

@@ -19,6 +19,7 @@ use Rattle.chess_cecp.specs.Served.{Served}
 use Rattle.chess_arbiter.specs.declared.fault.ProgramFault.{ProgramFault}
 use Rattle.arbiter_cli.specs.declared.plan.VerifyPlan.{VerifyPlan}
 use Rattle.pgn_verifier.specs.declared.fault.VerifyFault.{VerifyFault}
+use Rattle.pgn_verifier.specs.declared.options.Strictness.{Strictness}
 use Rattle.pgn_verifier.specs.declared.options.VerifyOptions.{VerifyOptions}
 use Rattle.pgn_verifier.specs.declared.tally.Verified.{Verified}
 use Rattle.pgn_verifier.specs.declared.tally.Verified.TheVariants.{EachGame}
@@ -47,10 +48,15 @@ abbrev pub Serves : {S : Type 0} → Server S → S → Devices → Devices → 
 Serves {S} respond s d d' status =
     (result : Result End Fault) × (s' : S) × Ran (Served respond s s' result) d d' × (status ≡ status_of result)
 
+-- the faults that are looked for in a game that is read to its end, by the flags `--variations` and `--strict`
+abbrev pub strictness_of : VerifyPlan → Strictness
+strictness_of plan =
+    record { variations = plan.variations; variant = plan.strict; result = plan.strict; board = plan.strict }
+
 -- the options of verifying that these flags ask for
 abbrev pub options_of : VerifyPlan → VerifyOptions
-options_of plan =
-    record { quiet = plan.quiet; strict = plan.strict; spans = plan.spans; names = plan.names; explain = plan.explain }
+options_of p =
+    record { quiet = p.quiet; strict = strictness_of p; spans = p.spans; names = p.names; explain = p.explain }
 
 -- the exit status of `verify`, by its result: 0 if all was verified and no fault was found, otherwise 1
 abbrev pub verify_status : Result Verified VerifyFault → ℕ

@@ -11,7 +11,7 @@ ghost use Rattle.match_runner.specs.declared.fault.GamesFault.{GamesFault};
 ghost use Rattle.pgn_verifier.specs.Collection.{VerifiesCollection};
 ghost use Rattle.pgn_verifier.specs.Verify.{Verifies};
 ghost use Rattle.byte_devices.specs.Transfers.{Devices, Ran};
-ghost use Rattle.chess_arbiter.specs.Program.{RanProgram, Reports, ReportsArguments, Serves, WritesHelp, options_of, status_of, verify_status};
+ghost use Rattle.chess_arbiter.specs.Program.{RanProgram, Reports, ReportsArguments, Serves, WritesHelp, options_of, status_of, strictness_of, verify_status};
 ghost use Rattle.stub_engine.specs.Stub.{stub_response, waiting};
 ghost use Rattle.chess_game.specs.declared.game.TheConstants.{MOST_MOVES};
 
@@ -23,7 +23,7 @@ use chess_cecp::{Session, run_session, serve_lines};
 use chess_game::MOST_MOVES;
 use clap::Error;
 use match_runner::{GamesPlan, Host, Log, play_games_with};
-use pgn_verifier::{Verified, VerifyFault, VerifyOptions, verify, verify_collection};
+use pgn_verifier::{Strictness, Verified, VerifyFault, VerifyOptions, verify, verify_collection};
 use pgn_writer::Tags;
 use std::alloc::{AllocError, Global};
 use std::fmt::Display;
@@ -95,13 +95,25 @@ fn verified_status(verified: Verified) -> u8
     }
 }
 
+// The faults that the flags of `verify` ask for in a game that is read to its end.
+fn strictness_of(plan: VerifyPlan) -> Strictness
+    ensures { result ≡ strictness_of plan }
+{
+    Strictness {
+        variations: plan.variations,
+        variant: plan.strict,
+        result: plan.strict,
+        board: plan.strict,
+    }
+}
+
 // The options that the flags of `verify` ask for.
 fn options_of(plan: VerifyPlan) -> VerifyOptions
     ensures { result ≡ options_of plan }
 {
     VerifyOptions {
         quiet: plan.quiet,
-        strict: plan.strict,
+        strict: strictness_of(plan),
         spans: plan.spans,
         names: plan.names,
         explain: plan.explain,

@@ -11,7 +11,25 @@ const EXPLAIN: &[&str] = &["verify", "--explain"];
 const KEEP_GOING: &[&str] = &["verify", "--keep-going", "--explain"];
 
 // A fault of each kind but one, and each reason: arguments, the text, what is written of it, and the status.
-const KINDS: [(&[&str], &[u8], &[u8], u8); 20] = [
+const KINDS: [(&[&str], &[u8], &[u8], u8); 23] = [
+    (
+        &["verify", "--explain"],
+        b"1. e4 -- *",
+        b"game 1: bad token at byte 6\n# line 1 column 7 -- | rnbqkbnr/pppppppp/8/8/4P3/8/PPPP1PPP/RNBQKBNR b KQkq e3 0 1 | a null move, which chess does not have\n",
+        1,
+    ),
+    (
+        &["verify", "--explain"],
+        b"1. e4 Z0 *",
+        b"game 1: bad token at byte 6\n# line 1 column 7 Z0 | rnbqkbnr/pppppppp/8/8/4P3/8/PPPP1PPP/RNBQKBNR b KQkq e3 0 1 | a null move, which chess does not have\n",
+        1,
+    ),
+    (
+        &["verify", "--explain", "--strict"],
+        b"[Variant \"Atomic\"] 1. e4 *",
+        b"game 1: unknown variant at byte 10\n# line 1 column 11 Atomic\"] | neither normal chess nor Chess960, by a name that is known\n",
+        1,
+    ),
     (
         &["verify", "--explain"],
         b"1. e4 e5\n2. Ke3 *",

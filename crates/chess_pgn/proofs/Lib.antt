@@ -19,6 +19,8 @@ mod TagScans
 mod TagsLeft
 mod TokenPlaces
 mod Variations
+mod LinesRead
+mod PassedWords
 mod Walk
 mod ByteRuns
 mod VariationInsides

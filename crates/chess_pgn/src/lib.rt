@@ -33,7 +33,9 @@ mod tagged_result;
 mod termination;
 mod token;
 pub mod token_parts;
+mod unknown_variant;
 mod variation;
+mod variations;
 mod word_kind;
 mod words;
 
@@ -44,3 +46,5 @@ pub use pgn_writer::{Tags, Termination, outcome_of, write_pgn};
 pub use read::{PgnEnd, PgnFault, PgnFaultKind, read_pgn};
 pub use tag_list::{GameTags, PgnTag, game_tags, tag_text};
 pub use tagged_result::{ResultTag, result_tag};
+pub use unknown_variant::unknown_variant;
+pub use variations::{MOST_NESTED, read_variations};

@@ -1,6 +1,6 @@
 -- The whole text of a game: what is written is read back.
 use Rattle.std.proofs.Common.{◌≡◌, ℕ, suc, ◌+◌, ◌-◌, ◌<◌, ◌≤◌, Bool, true, false, eqb, List, [], ◌∷◌, ◌++◌, length, drop, Option, Some, None, refl, sym, ap, subst, ◌∙◌, append_assoc, arith}
-use Rattle.std.specs.Prelude.{codes, not, Ok, is_some, option_and_then}
+use Rattle.std.specs.Prelude.{codes, not, Ok, is_some, if◌then◌else◌, option_and_then}
 use Rattle.std.proofs.lemmas.Bool.Decides.{nat_tests}
 use Rattle.std.proofs.lemmas.List.{length-append, drop_at}
 use Rattle.std.proofs.lemmas.Slice.Eq.{bytes_eq-Decides}
@@ -32,10 +32,11 @@ use Rattle.chess_pgn.specs.laws.TokenByToken.{SoFar, game_of, nothing_read, toke
 use Rattle.pgn_writer.specs.GameText.{tag_lines, game_tokens, pgn}
 use Rattle.pgn_writer.specs.shared.TagGroups.{fen_lines, start_lines_in, last_lines, further_lines}
 use Rattle.pgn_writer.specs.shared.NumberedMoves.{numbered_moves}
-use Rattle.chess_pgn_laws.specs.PgnLaw.{AreTagTexts, IsReadBack, PgnIsReadBack, ResultIsWritten}
+use Rattle.chess_pgn_laws.specs.PgnLaw.{AreTagTexts, IsReadBack, PgnIsReadBack, ResultIsWritten, VariantIsWritten}
 use Rattle.chess_pgn.specs.Tokens.{Token, begins_line, tokens_of, tokens_from}
 use Rattle.byte_devices.specs.Bytes.{after_byte_order_mark}
 use Rattle.chess_pgn.specs.declared.tagged_result.ResultTag.{ResultTag}
+use Rattle.chess_pgn.specs.UnknownVariants.{is_known_variant}
 use Rattle.pgn_writer.specs.Written.{escaped, tag_line, ended}
 use Rattle.pgn_writer.proofs.shared.Lines.{filled_from}
 use Rattle.pgn_writer.specs.laws.Layout.{AreShort}
@@ -385,3 +386,36 @@ result_law limit tags s before rest texts h tokens split =
     ∙ written_says (codes "Result") tags texts s h.start short (begins_line whole (length before)) rest
     ∙ result_string tags s)
     ∙ outcome_again (outcome_now s)
+
+abbrev if_unknown : ℕ → Bool → Option ℕ
+if_unknown offset b = if b then None else Some offset
+
+-- a variant that is known, by the string of its tag
+known_by_string : (total : ℕ) (o : Option (List ℕ × ℕ))
+    → option_map_or is_known_variant (option_map (λ (tag : List ℕ × ℕ). tag.0) o) true ≡ true
+    → option_and_then (λ (tag : List ℕ × ℕ). if_unknown (total - tag.1) (is_known_variant tag.0)) o ≡ None
+known_by_string total None known = refl
+known_by_string total (Some tag) known = rw known refl
+
+known_again : (v : Variant) → option_map_or is_known_variant (variant_string_of v) true ≡ true
+known_again Normal = refl
+known_again Fischerandom = refl
+
+pub variant_law : VariantIsWritten
+variant_law limit tags s before rest texts h tokens split =
+    let text : List ℕ = pgn [] tags s ++ rest in
+    let whole : List ℕ = before ++ text in
+    let grouping : before ++ pgn [] tags s ++ rest ≡ whole = append_assoc before (pgn [] tags s) rest in
+    let offset : after_byte_order_mark whole (length before) ≡ length before =
+    rw (first_bytes tags s) (no_mark before 91 (drop 1 (pgn [] tags s) ++ rest) refl) in
+    let short = game_is_short (record { limit = limit; state = s }) h in
+    let are : tokens ≡ tokens_of (length text) (begins_line whole (length before)) text =
+    split_read (before ++ pgn [] tags s ++ rest) split
+    ∙ ap (λ xs. tokens_from xs (after_byte_order_mark xs (length before))) grouping
+    ∙ ap (tokens_from whole) offset ∙ tokens_after before text in
+    known_by_string (length (before ++ pgn [] tags s ++ rest)) (last_tag (codes "Variant") (tag_section tokens))
+    (ap (λ o. option_map_or is_known_variant o true) (sym (text_is (codes "Variant") tokens)
+    ∙ ap (text_from (codes "Variant") None) are
+    ∙ written_says (codes "Variant") tags texts s h.start short (begins_line whole (length before)) rest
+    ∙ variant_string tags s)
+    ∙ known_again s.start.variant)

@@ -8,6 +8,7 @@ use Rattle.std.proofs.lemmas.List.{take-take}
 use Rattle.chess_pgn.specs.Tokens.{is_white_space}
 use Rattle.chess_pgn.specs.declared.read.PgnFaultKind.TheVariants.{TooLong}
 use Rattle.pgn_pieces.specs.declared.pieces.TheConstants.{PIECE_LEN}
+use Rattle.pgn_verifier.specs.declared.options.Strictness.{Strictness}
 use Rattle.pgn_verifier.specs.Explanations.{shown, shown_word}
 use Rattle.pgn_verifier.specs.declared.game_fault.FaultKind.TheVariants.{Pgn}
 use Rattle.std.proofs.lemmas.List.Concat.{flat_map-append}
@@ -42,7 +43,7 @@ none = record { games = 0; half_moves = 0; faults = 0 }
 shown_beginning : (bytes : List ℕ) → shown (take 40 bytes) ≡ shown bytes
 shown_beginning bytes = ap (λ xs. shown_word (take_while (λ c. not (is_white_space c)) xs)) (take-take 40 40 bytes (omega arith))
 
-seen_alike : (strict : Bool) (piece : Piece)
+seen_alike : (strict : Strictness) (piece : Piece)
     → placed_in strict piece ≡ reports_seen strict (piece_at piece.offset piece.bytes)
 seen_alike strict piece = by_test (nat_le (length piece.bytes) PIECE_LEN)
   where
@@ -62,14 +63,14 @@ seen_alike strict piece = by_test (nat_le (length piece.bytes) PIECE_LEN)
     by_test true = refl
     by_test false = ap (λ t. too_long_with t ∷ []) (sym (shown_beginning piece.bytes))
 
-all_seen_alike : (strict : Bool) (all : List Piece)
+all_seen_alike : (strict : Strictness) (all : List Piece)
     → flat_map (placed_in strict) all
     ≡ reports_of strict (map (λ (piece : Piece). piece_at piece.offset piece.bytes) all)
 all_seen_alike strict [] = refl
 all_seen_alike strict (piece ∷ more) =
     ap₂ (λ xs ys. xs ++ ys) (seen_alike strict piece) (all_seen_alike strict more)
 
-as_seen : (strict ended : Bool) (text : List ℕ)
+as_seen : (strict : Strictness) (ended : Bool) (text : List ℕ)
     → collection_placed strict ended text ≡ reports_of strict (pieces_seen ended 0 text)
 as_seen strict ended text = all_seen_alike strict (pieces ended 0 text)
 

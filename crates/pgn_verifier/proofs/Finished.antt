@@ -5,6 +5,7 @@ use Rattle.byte_devices.specs.Devices.{InputState, OutputState, Took, Sent, CutS
 use Rattle.byte_devices.specs.Transfers.{Ran}
 use Rattle.byte_devices.proofs.shared.Devices.{appends_more, took_none, breaks_more, failed_more}
 use Rattle.pgn_pieces.specs.Stream.{pieces}
+use Rattle.pgn_verifier.specs.declared.options.Strictness.{Strictness}
 use Rattle.pgn_verifier.specs.declared.options.VerifyOptions.{VerifyOptions}
 use Rattle.pgn_verifier.specs.declared.tally.Tally.{Tally}
 use Rattle.pgn_verifier.specs.declared.tally.Verified.{Verified}
@@ -42,7 +43,7 @@ pub whole_lines : (options : VerifyOptions) (t : Tally) (text : List ℕ) → t 
 whole_lines options t text is =
     ap (λ (u : Tally). report_lines options text (next_number u) (placed_on options.strict 0 text)) is
 
-pub whole_counted : (strict : Bool) (t u : Tally) (text : List ℕ) (v : Verified) → t ≡ none
+pub whole_counted : (strict : Strictness) (t u : Tally) (text : List ℕ) (v : Verified) → t ≡ none
     → u ≡ counted t (placed_on strict 0 text) → v ≡ verified u → v ≡ verified (counts_of (without_spans (placed_on strict 0 text)))
 whole_counted strict t u text v is h e =
     e ∙ ap verified (h ∙ ap (λ (x : Tally). counted x (placed_on strict 0 text)) is

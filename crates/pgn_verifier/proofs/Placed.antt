@@ -1,5 +1,5 @@
 -- Where a fault is: counted from the text's beginning, and from the input's.
-use Rattle.std.proofs.Common.{◌≡◌, ◌≤◌, ◌<◌, ℕ, ◌+◌, ◌-◌, eqb, Bool, true, false, not, cond, List, [], ◌∷◌, ◌++◌, length, take, drop, refl, sym, ap, ◌∙◌, append_assoc, length-drop, arith}
+use Rattle.std.proofs.Common.{◌≡◌, ◌≤◌, ◌<◌, ℕ, ◌+◌, ◌-◌, eqb, Bool, true, false, not, cond, List, ◌++◌, length, take, drop, refl, sym, ap, ◌∙◌, append_assoc, length-drop, arith}
 use Rattle.std.specs.Prelude.{if◌then◌else◌, reverse}
 use Rattle.std.specs.List.{prefix_len, suffix_len}
 use Rattle.std.proofs.Math.Seq.{take-add}

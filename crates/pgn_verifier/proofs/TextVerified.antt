@@ -1,10 +1,11 @@
 -- The games of a text, one after another.
-use Rattle.std.proofs.Common.{◌≡◌, ℕ, zero, suc, ◌+◌, ◌≤◌, ◌<◌, Bool, List, [], ◌∷◌, ◌++◌, length, drop, Option, Some, None, Result, Ok, Err, refl, sym, ap, subst, ◌∙◌, append_assoc, append-nil, arith}
+use Rattle.std.proofs.Common.{◌≡◌, ℕ, zero, suc, ◌+◌, ◌≤◌, ◌<◌, Bool, List, [], ◌∷◌, ◌++◌, length, Option, Some, None, Result, Ok, Err, refl, sym, ap, subst, ◌∙◌, append_assoc, append-nil, arith}
 use Rattle.std.specs.Prelude.{if◌then◌else◌}
 use Rattle.std.specs.Option.{option_map_or}
 use Rattle.byte_devices.specs.Devices.{OutputState, Took, CutShort}
 use Rattle.chess_game.specs.Game.{State}
 use Rattle.chess_pgn.specs.declared.read.PgnEnd.{PgnEnd}
+use Rattle.pgn_verifier.specs.declared.options.Strictness.{Strictness}
 use Rattle.pgn_verifier.specs.declared.game_fault.GameFault.{GameFault}
 use Rattle.pgn_verifier.specs.declared.options.VerifyOptions.{VerifyOptions}
 use Rattle.pgn_verifier.specs.declared.tally.Tally.{Tally}
@@ -17,8 +18,9 @@ use Rattle.pgn_verifier.proofs.LinesWritten.{placed_line, wrote_none, took_after
 -- ---- the reports that are left
 
 -- what is left of a text has no more games than bytes
-left : (goes_on strict : Bool) (start n : ℕ) (text : List ℕ) (at : ℕ) (answer : Result (Option PgnEnd) GameFault)
-    (s : State) → judged_at strict text at ≡ answer → s ≡ (read_at text at).state
+left : (goes_on : Bool) (strict : Strictness) (start n : ℕ) (text : List ℕ) (at : ℕ)
+    (answer : Result (Option PgnEnd) GameFault) (s : State) → judged_at strict text at ≡ answer
+    → s ≡ (read_at text at).state
     → placed_from goes_on strict start (suc n) text at
     ≡ placed_then goes_on start text at (next_at goes_on text at) answer s
     (λ next. placed_from goes_on strict start n text next)

@@ -1,8 +1,9 @@
 -- What verifying a collection reads and writes. The input is cut into pieces (`pieces`), each of which is verified as a
 -- text of its own; a piece that is too long is a fault. Nothing here depends on how the input is cut into reads.
-use Rattle.std.specs.Prelude.{◌≡◌, ◌≤◌, ◌^◌, ℕ, ◌+◌, Bool, true, false, if◌then◌else◌, List, [], ◌∷◌, ◌++◌, length, Result, Ok, Err}
+use Rattle.std.specs.Prelude.{◌≡◌, ◌≤◌, ◌^◌, ℕ, ◌+◌, true, false, if◌then◌else◌, List, [], ◌∷◌, ◌++◌, length, Result, Ok, Err}
 use Rattle.byte_devices.specs.Transfers.{FromInput, ToOutput, IsWhole, nothing, all_of, all_unflushed, BreaksOffIn}
 use Rattle.pgn_pieces.specs.Pieces.{known_pieces}
+use Rattle.pgn_verifier.specs.declared.options.Strictness.{Strictness}
 use Rattle.pgn_verifier.specs.declared.fault.VerifyFault.{VerifyFault}
 use Rattle.pgn_verifier.specs.declared.fault.VerifyFault.TheVariants.{ReadFailed, WriteFailed, NoMemory, InputTooLong}
 use Rattle.pgn_verifier.specs.declared.options.VerifyOptions.{VerifyOptions}
@@ -11,7 +12,7 @@ use Rattle.pgn_verifier.specs.Reports.{Placed, AreReportsIn, report_lines, witho
 
 -- these are the reports on these pieces, piece after piece (`AreReportsIn`). The first piece begins at this offset of
 -- the input, each other one where the one before it ends
-pub data AreCollectionReports (strict : Bool) : ℕ → List (List ℕ) → List Placed → Type 0 where
+pub data AreCollectionReports (strict : Strictness) : ℕ → List (List ℕ) → List Placed → Type 0 where
   no_piece : {offset : ℕ} → AreCollectionReports strict offset [] []
   next_piece : {offset : ℕ} {piece : List ℕ} {pieces : List (List ℕ)} (reports : List Placed) {more : List Placed}
       → AreReportsIn strict offset piece reports → AreCollectionReports strict (offset + length piece) pieces more

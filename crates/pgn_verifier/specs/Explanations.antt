@@ -12,7 +12,7 @@ use Rattle.chess_pgn.specs.Tokens.{is_white_space}
 use Rattle.chess_pgn.specs.declared.read.PgnFaultKind.TheVariants.{BadTag, BadFen, BadToken, IllegalMove, AfterEnd, NoResult}
 use Rattle.pgn_pieces.specs.Places.{line_of, column_of}
 use Rattle.pgn_verifier.specs.declared.game_fault.FaultKind.{FaultKind}
-use Rattle.pgn_verifier.specs.declared.game_fault.FaultKind.TheVariants.{Pgn, ResultDiffers, BoardSaysOtherwise}
+use Rattle.pgn_verifier.specs.declared.game_fault.FaultKind.TheVariants.{Pgn, InVariation, UnknownVariant, ResultDiffers, BoardSaysOtherwise}
 use Rattle.pgn_verifier.specs.WrongParts.{from_field, field_at, field_number, IsTagReason, move_reason, token_reason}
 
 -- ---- the text at a fault
@@ -59,6 +59,10 @@ IsReason (Pgn BadToken) text verdict reason = reason ≡ Some (token_reason text
 IsReason (Pgn IllegalMove) text verdict reason = reason ≡ move_reason text
 -- a move after the end: the verdict that ended the game
 IsReason (Pgn AfterEnd) text verdict reason = reason ≡ option_map (λ v. result_text (verdict_result v)) verdict
+IsReason (InVariation BadToken) text verdict reason = reason ≡ Some (token_reason text)
+-- `unknown variant`
+IsReason UnknownVariant text verdict reason =
+    reason ≡ Some (codes "neither normal chess nor Chess960, by a name that is known")
 -- `result differs`: the first word of the tag Result, which has `tag_len` bytes between its quotes, and the outcome of
 -- the game's termination marker, as in `Result 1-0, ended 0-1`
 IsReason (ResultDiffers tag_len outcome) text verdict reason =
@@ -70,10 +74,13 @@ IsReason _ text verdict reason = reason ≡ None
 
 -- ---- the explanation
 
--- whether the explanation of a fault in a game shows a position: not for a bad tag or a bad FEN
+-- whether the explanation of a fault in a game shows a position: not for a bad tag, a bad FEN or an unknown variant,
+-- and not in a variation
 abbrev pub has_position : FaultKind → Bool
 has_position (Pgn BadTag) = false
 has_position (Pgn (BadFen fault)) = false
+has_position (InVariation kind) = false
+has_position UnknownVariant = false
 has_position _ = true
 
 -- the text that explains a fault: the wrong part, the FEN of the position in which reading stopped, and the reason,

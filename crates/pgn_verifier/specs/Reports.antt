@@ -15,6 +15,7 @@ use Rattle.chess_pgn.specs.declared.read.PgnFaultKind.TheVariants.{TooLong}
 use Rattle.pgn_writer.specs.declared.termination.Termination.{Termination}
 use Rattle.pgn_writer.specs.Terminations.{termination_text}
 use Rattle.pgn_pieces.specs.declared.pieces.TheConstants.{PIECE_LEN}
+use Rattle.pgn_verifier.specs.declared.options.Strictness.{Strictness}
 use Rattle.pgn_verifier.specs.Explanations.{IsReason, shown, is_at_begin, wrong_part, explanation, explanation_line}
 use Rattle.pgn_verifier.specs.GameFaults.{IsJudged, fault_name}
 use Rattle.pgn_verifier.specs.declared.game_fault.FaultKind.TheVariants.{Pgn}
@@ -83,7 +84,8 @@ unread_from goes_on total offset next =
 -- these are the reports on the games of `text`, which begins at the offset `start` of the input: on those from the
 -- text's offset `at` on (the last argument but one), up to the first with a fault after which it isn't read on
 -- (`next_begin`)
-pub data AreReportsOf (goes_on strict : Bool) (start : ℕ) (text : List ℕ) : ℕ → List Placed → Type 0 where
+pub data AreReportsOf (goes_on : Bool) (strict : Strictness) (start : ℕ) (text : List ℕ) : ℕ → List Placed
+    → Type 0 where
   -- no game comes from `at` on
   none_left : {at : ℕ} {s : State} → IsJudged strict text at s (Ok None) → AreReportsOf goes_on strict start text at []
   -- the next game has no fault; the other reports are on the games after it
@@ -121,7 +123,7 @@ AreReports = AreReportsOf false
 
 -- these are the reports on a piece that begins at this offset of the input, as a text of its own, also after faults;
 -- or, if it has more than 16,777,216 bytes, the one report that it is too long, which is a fault at its first byte
-abbrev pub AreReportsIn : Bool → ℕ → List ℕ → List Placed → Type 0
+abbrev pub AreReportsIn : Strictness → ℕ → List ℕ → List Placed → Type 0
 AreReportsIn strict offset piece reports =
     MatchBool (nat_le (length piece) PIECE_LEN) (AreReportsOf true strict offset piece 0 reports)
     (reports ≡ record {

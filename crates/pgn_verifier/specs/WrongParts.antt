@@ -71,6 +71,11 @@ token_reason text =
     then codes "a draw is written 1/2-1/2"
     -- an en dash, the bytes E2 80 93, as in `1–0`
     else if bytes_eq (take 3 text) (226 ∷ 128 ∷ 147 ∷ []) then codes "an en dash, where results have a hyphen"
+    -- a null move, as other programs write it
+    else if list_any (bytes_eq (take_while is_word_byte text)) (codes "--" ∷ codes "Z0" ∷ [])
+    then codes "a null move, which chess does not have"
+    -- a variation with no move before it
+    else if bytes_eq (take 1 text) (codes "(") then codes "no move that this variation replaces"
     -- any other word is not a move, and with any other byte no token begins
     else if list_any is_word_byte (take 1 text) then codes "not a move" else codes "begins no token"
 

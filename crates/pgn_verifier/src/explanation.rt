@@ -9,7 +9,8 @@ ghost use Rattle.chess_game.specs.Game.{current, verdict_now};
 ghost use Rattle.chess_pgn.specs.declared.read.PgnFaultKind.TheVariants.{TooLong};
 ghost use Rattle.pgn_verifier.specs.Explanations.{is_at_begin, wrong_part, has_position, explanation_line, shown};
 ghost use Rattle.chess_game.specs.Results.{outcome_text};
-ghost use Rattle.pgn_verifier.specs.declared.game_fault.FaultKind.TheVariants.{Pgn};
+ghost use Rattle.pgn_verifier.specs.declared.game_fault.FaultKind.TheVariants.{InVariation, Pgn};
+ghost use Rattle.pgn_verifier.specs.GameFaults.{fault_name};
 ghost use Rattle.pgn_verifier.specs.WrongParts.{move_reason};
 ghost use Rattle.pgn_verifier.specs.laws.Reasons.{reason, explanation_of};
 ghost use Rattle.pgn_verifier.specs.ties.Counting.{IsHere};
@@ -17,7 +18,7 @@ ghost use Rattle.pgn_verifier.specs.ties.OnTheWay.{StandsIf, moved, fault_line, 
 ghost use Rattle.pgn_verifier.specs.declared.explanation.TheConstants.{FAULT_LINES_LEN};
 
 use crate::fen_field::{fen_text, field_offset, wrong_field};
-use crate::game_fault::{FaultKind, GameFault, fault_name};
+use crate::game_fault::{FaultKind, GameFault, pgn_fault_name};
 use crate::label::{FaultLabel, Span, append_span};
 use crate::place::Place;
 use crate::shown::{Shown, shown, shown_field};
@@ -30,24 +31,45 @@ use chess_game::{Game, Outcome, Verdict};
 use chess_moves::Board;
 use chess_pgn::PgnFaultKind;
 
-// The most bytes of the lines on a fault: of its own 300, and of the one that explains it 466.
-const FAULT_LINES_LEN: usize = 766;
+// The most bytes of the lines on a fault: of its own 320, and of the one that explains it 466.
+const FAULT_LINES_LEN: usize = 786;
+
+// The reason for an unknown variant.
+const KNOWN_VARIANTS: &[u8] = b"neither normal chess nor Chess960, by a name that is known";
 
 /// The lines on a fault.
 pub(crate) type FaultLines = ArrayVec<u8, FAULT_LINES_LEN>;
+
+// Appends the words by which a line names a game's fault, such as `illegal move`.
+fn append_fault_name(lines: &mut FaultLines, kind: FaultKind)
+    requires { array_vec_len lines.old + 40 ≤ FAULT_LINES_LEN }
+    ensures text { lines.new.items ≡ lines.old.items ++ fault_name kind }
+    ensures len { array_vec_len lines.new ≤ array_vec_len lines.old + 33 }
+{
+    match kind {
+        FaultKind::Pgn(kind) => append(lines, pgn_fault_name(kind)),
+        FaultKind::InVariation(kind) => {
+            append(lines, pgn_fault_name(kind));
+            append(lines, b" in a variation");
+        }
+        FaultKind::UnknownVariant => append(lines, b"unknown variant"),
+        FaultKind::ResultDiffers { .. } => append(lines, b"result differs"),
+        FaultKind::BoardSaysOtherwise => append(lines, b"board says otherwise"),
+    }
+}
 
 // The line of a fault, such as `game 2: illegal move at byte 39`.
 #[tactic(auto, unfolding(crate::specs::Reports::report_line))]
 fn fault_line(label: &FaultLabel, fault: GameFault) -> FaultLines
     ensures text { result.items
         ≡ fault_line label.now.game.number fault (span_written label.now.game.span) label.now.names.items }
-    ensures len { array_vec_len result ≤ 300 }
+    ensures len { array_vec_len result ≤ 320 }
 {
     let mut lines = FaultLines::new();
     append(&mut lines, b"game ");
     append_number(&mut lines, label.game.number as u64);
     append(&mut lines, b": ");
-    append(&mut lines, fault_name(fault.kind));
+    append_fault_name(&mut lines, fault.kind);
     append(&mut lines, b" at byte ");
     append_number(&mut lines, fault.offset as u64);
     append_span(&mut lines, label.game.span);
@@ -178,6 +200,19 @@ fn append_pgn_reason(
     }
 }
 
+// Appends ` | ` and the reason for a fault in a variation; nothing if there is none. `text` is the text from its byte
+// on.
+fn append_variation_reason(lines: &mut FaultLines, kind: PgnFaultKind, text: &[u8])
+    requires { array_vec_len lines.old + 80 ≤ FAULT_LINES_LEN }
+    ensures text { lines.new.items ≡ lines.old.items
+        ++ option_map_or (λ text. codes " | " ++ text) (reason (InVariation kind) text.now None) [] }
+    ensures len { array_vec_len lines.new ≤ array_vec_len lines.old + 80 }
+{
+    if let PgnFaultKind::BadToken = kind {
+        append_part(lines, token_reason(text));
+    }
+}
+
 // Appends ` | Result TEXT, ended OUTCOME`: the text of the tag `Result` and the outcome that ends the game's text.
 fn append_results(lines: &mut FaultLines, tag: &[u8], outcome: Outcome)
     requires { array_vec_len lines.old + 80 ≤ FAULT_LINES_LEN }
@@ -201,6 +236,8 @@ fn append_reason(lines: &mut FaultLines, kind: FaultKind, text: &[u8], verdict: 
 {
     match kind {
         FaultKind::Pgn(kind) => append_pgn_reason(lines, kind, text, verdict),
+        FaultKind::InVariation(kind) => append_variation_reason(lines, kind, text),
+        FaultKind::UnknownVariant => append_part(lines, KNOWN_VARIANTS),
         FaultKind::ResultDiffers { tag_len, outcome } => {
             append_results(lines, &text[..tag_len.min(text.len())], outcome)
         }
@@ -208,13 +245,16 @@ fn append_reason(lines: &mut FaultLines, kind: FaultKind, text: &[u8], verdict: 
     }
 }
 
-// Whether a position is known at a fault: not if a tag or a FEN could not be read.
+// Whether a position is shown at a fault: not at one of the tags, such as a bad FEN, and not in a variation.
 fn has_position(kind: FaultKind) -> bool
     ensures { result ≡ has_position kind }
 {
     !matches!(
         kind,
-        FaultKind::Pgn(PgnFaultKind::BadTag) | FaultKind::Pgn(PgnFaultKind::BadFen(_))
+        FaultKind::Pgn(PgnFaultKind::BadTag)
+            | FaultKind::Pgn(PgnFaultKind::BadFen(_))
+            | FaultKind::InVariation(_)
+            | FaultKind::UnknownVariant
     )
 }
 

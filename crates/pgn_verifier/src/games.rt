@@ -7,11 +7,11 @@ ghost use Rattle.pgn_verifier.specs.laws.Reported.{read_at, judged_at, placed_of
 ghost use Rattle.pgn_verifier.specs.ties.OnTheWay.{StandsIf, Writes, GrowsBy};
 
 use crate::after_fault::AfterFault;
-use crate::contradiction::contradiction;
+use crate::end_faults::end_fault;
 use crate::explanation::{explained_at, fault_lines};
 use crate::game_fault::GameFault;
 use crate::label::{FaultLabel, Label};
-use crate::options::VerifyOptions;
+use crate::options::{Strictness, VerifyOptions};
 use crate::place::Place;
 use crate::report::write_game;
 use crate::start::TextStart;
@@ -33,9 +33,9 @@ pub(crate) fn open_game<'t>(
 }
 
 // Reads the game of a text from the offset `at` on into `game`, and returns its end or its fault; `None` if no game is
-// left. With `strict`, an end that contradicts the tag `Result` or the board is a fault.
+// left. What `strict` names is a fault, too.
 fn judge_game(
-    strict: bool,
+    strict: Strictness,
     text: &[u8],
     at: usize,
     game: &mut Game<Bits<'_>>,
@@ -56,7 +56,7 @@ fn judge_game(
     let Some(end) = read_pgn(text, at, game)? else {
         return Ok(None);
     };
-    match contradiction(strict, text, at, game, end) {
+    match end_fault(strict, text, at, game, end) {
         Some(fault) => Err(fault),
         None => Ok(Some(end)),
     }

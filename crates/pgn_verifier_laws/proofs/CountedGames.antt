@@ -18,6 +18,7 @@ use Rattle.chess_game.specs.declared.game.TheConstants.{MOST_MOVES}
 use Rattle.chess_game.specs.declared.results.Outcome.{Outcome}
 use Rattle.chess_pgn.specs.GameRead.{GameRead, IsRead, tagged_variant}
 use Rattle.chess_pgn.specs.LastTags.{result_tag_of, tag_section}
+use Rattle.chess_pgn.specs.UnknownVariants.{unknown_variant_in}
 use Rattle.chess_pgn.specs.Tokens.{Token, Word}
 use Rattle.chess_pgn.specs.Words.{is_marks}
 use Rattle.chess_pgn.specs.declared.read.PgnEnd.{PgnEnd}
@@ -30,9 +31,10 @@ use Rattle.chess_text.specs.declared.reading.Reading.TheVariants as reads
 use Rattle.chess_text.specs.laws.Laws.{ReadMovesAreLegal}
 use Rattle.pgn_pieces.specs.declared.pieces.TheConstants.{PIECE_LEN}
 use Rattle.chess_pgn.specs.declared.read.PgnFaultKind.TheVariants.{TooLong}
+use Rattle.pgn_verifier.specs.declared.options.Strictness.{Strictness}
 use Rattle.pgn_verifier.specs.Explanations.{shown}
 use Rattle.pgn_verifier.specs.declared.game_fault.FaultKind.TheVariants.{Pgn}
-use Rattle.pgn_verifier.specs.GameFaults.{IsJudged}
+use Rattle.pgn_verifier.specs.GameFaults.{IsJudged, variation_in}
 use Rattle.pgn_verifier.specs.Reports.{AreReportsOf, Placed, Faulty, without_spans, none_left, next_game, next_fault}
 use Rattle.pgn_writer.specs.Outcomes.{outcome_of}
 use Rattle.pgn_verifier_laws.specs.Counted.{AreTold, CountedGamesAreGames, CountedGamesOfPiecesAreGames, HasGame, HasGames}
@@ -122,10 +124,12 @@ ended_at text v tokens taken ((left, t) ∷ ts) s end all (word, is, kind, decla
 
 module _ (legal : ReadMovesAreLegal) (law : GamesAreOfTokens)
     (initial : (v : Variant) → IsSound (initial_setup_of v)) where
-  has_game : (strict : Bool) (text : List ℕ) (at : ℕ) (s : State) (end : PgnEnd)
+  has_game : (strict : Strictness) (text : List ℕ) (at : ℕ) (s : State) (end : PgnEnd)
       → IsJudged strict text at s (Ok (Some end)) → HasGame text at end.offset (length s.moves) end.outcome
   has_game strict text at s end j =
-      let so = judged_so strict (result_tag_of (length text) j.tokens) (verdict_now s) end j.ended (sym j.is) in
+      let so = judged_so strict (variation_in j.split_of text at s.start)
+      (unknown_variant_in (length text) j.tokens)
+      (result_tag_of (length text) j.tokens) (verdict_now s) end j.ended (sym j.is) in
       let r : GameRead = record { state = s; answer = Ok (Some end) } in
       let read : IsRead MOST_MOVES text at r = record {
         tokens = j.tokens;
@@ -153,7 +157,7 @@ module _ (legal : ReadMovesAreLegal) (law : GamesAreOfTokens)
         unended = unended MOST_MOVES s.start [] (move_words of.taken) s.moves of.moves;
       }
 
-  has_games : {goes_on strict : Bool} {start : ℕ} {text : List ℕ} {at : ℕ} {reports : List Placed}
+  has_games : {goes_on : Bool} {strict : Strictness} {start : ℕ} {text : List ℕ} {at : ℕ} {reports : List Placed}
       → AreReportsOf goes_on strict start text at reports → HasGames text at (without_spans reports)
   has_games (none_left j) = tt
   has_games {goes_on} {strict} {start} {text} (next_game {at} {s} {end} {reports} j h) =

@@ -16,6 +16,7 @@ use Rattle.pgn_pieces.specs.Places.{breaks_line}
 use Rattle.pgn_pieces.specs.Stream.{with_offsets, pieces}
 use Rattle.pgn_pieces.specs.declared.pieces.TheConstants.{PIECE_LEN}
 use Rattle.pgn_pieces.proofs.shared.Cuts.{AreLines, no_texts, last_text, next_text, cut_is_all, cut_ends}
+use Rattle.pgn_verifier.specs.declared.options.Strictness.{Strictness}
 use Rattle.pgn_verifier.specs.Reports.{Report, Game, Faulty, counts_of, verified}
 use Rattle.pgn_verifier.specs.declared.game_fault.GameFault.{GameFault}
 use Rattle.pgn_verifier.specs.declared.tally.Verified.TheVariants.{EachGame, FaultReported}
@@ -44,11 +45,12 @@ all_games rs h = ap (λ p. list_all p rs) (sym (fun_ext no_fault))
 
 -- ---- one part
 
-pub record Holds (strict : Bool) (before part after : List ℕ) (at : ℕ) : Type 0 where
+pub record Holds (strict : Strictness) (before part after : List ℕ) (at : ℕ) : Type 0 where
   pub games : List Report
   pub holds : HoldsWhole strict before part after at games
 
-module _ (law : TokenByToken) (strict : Bool) (start : ℕ) (before part after : List ℕ) (closed : IsClosed part after)
+module _ (law : TokenByToken) (strict : Strictness) (plain : strict.variations ≡ false) (start : ℕ)
+    (before part after : List ℕ) (closed : IsClosed part after)
   where
     holds_whole : (k at : ℕ) → BeginsAlike before part after at → at ≤ length part → length part < k + at
         → list_all is_game (reports_from strict start k part at) ≡ true → Holds strict before part after at
@@ -68,7 +70,7 @@ module _ (law : TokenByToken) (strict : Bool) (start : ℕ) (before part after :
           holds = no_more e closed;
         }
         by_judged (Ok (Some end)) e again all =
-            let found = in_text law strict before part after at end begins closed e in
+            let found = in_text law strict plain before part after at end begins closed e in
             let here : length before + end.offset - length before ≡ end.offset = omega arith in
             let inside : length before + end.offset ≤ length before + length part = omega (arith, found.inside) in
             let rest = again end.offset
@@ -83,11 +85,13 @@ module _ (law : TokenByToken) (strict : Bool) (start : ℕ) (before part after :
         by_judged (Err fault) e again all = absurd (cc)
 
 -- a part whose reports are on games holds whole games
-pub part_holds : TokenByToken → (strict : Bool) (start : ℕ) (before part after : List ℕ) → IsClosed part after
-    → BeginsAlike before part after 0 → list_all is_game (reports_on strict start part) ≡ true
+pub part_holds : TokenByToken → (strict : Strictness) → strict.variations ≡ false → (start : ℕ)
+    (before part after : List ℕ) → IsClosed part after → BeginsAlike before part after 0
+    → list_all is_game (reports_on strict start part) ≡ true
     → Holds strict before part after 0
-part_holds law strict start before part after closed begins all =
-    holds_whole law strict start before part after closed (length part + 1) 0 begins (omega arith) (omega arith) all
+part_holds law strict plain start before part after closed begins all =
+    holds_whole law strict plain start before part after closed (length part + 1) 0 begins (omega arith) (omega arith)
+    all
 
 -- ---- where parts begin
 
@@ -176,15 +180,15 @@ next_starts before front end parts ten (inr (line, is, unmarked)) = inr (
 
 -- ---- all parts
 
-record AllHold (strict : Bool) (offset : ℕ) (before : List ℕ) (parts : List (List ℕ)) : Type 0 where
+record AllHold (strict : Strictness) (offset : ℕ) (before : List ℕ) (parts : List (List ℕ)) : Type 0 where
   games : List Report
   holds : AllHoldWhole strict before parts games
   reported : flat_map (reports_in strict) (with_offsets offset parts) ≡ games
 
-nothing_held : (strict : Bool) (offset : ℕ) (before : List ℕ) → AllHold strict offset before []
+nothing_held : (strict : Strictness) (offset : ℕ) (before : List ℕ) → AllHold strict offset before []
 nothing_held strict offset before = record { games = []; holds = no_parts; reported = refl }
 
-module _ (law : TokenByToken) (strict : Bool) where
+module _ (law : TokenByToken) (strict : Strictness) (plain : strict.variations ≡ false) where
   one_part : (first : List ℕ) (parts : List (List ℕ)) (before : List ℕ) (offset : ℕ)
       → BeginsAlike before first (concat parts) 0 → IsClosed first (concat parts)
       → list_all is_game (flat_map (reports_in strict) (with_offsets offset (first ∷ parts))) ≡ true
@@ -207,7 +211,7 @@ module _ (law : TokenByToken) (strict : Bool) where
           (sym (list_all-append is_game (games_of true strict offset first) later) ∙ k) in
           let same : reports_on strict offset first ≡ games_of true strict offset first =
           same_of strict offset first true false both.0 in
-          let part = part_holds law strict offset before first (concat parts) closed begins
+          let part = part_holds law strict plain offset before first (concat parts) closed begins
           (ap (list_all is_game) same ∙ both.0) in
           let rest = again both.1 in
           record {
@@ -217,7 +221,7 @@ module _ (law : TokenByToken) (strict : Bool) where
                 too_long_report (record { offset = offset; bytes = first }) ∷ []) ++ later) e
                 ∙ ap (λ l. l ++ later) (sym same)
                 ∙ ap (λ l. l ++ later)
-                (reported_alike law strict offset before first (concat parts) part.games begins part.holds).alone
+                (reported_alike law strict plain offset before first (concat parts) part.games begins part.holds).alone
                 ∙ ap (λ l. part.games ++ l) rest.reported;
           }
 
@@ -240,11 +244,11 @@ module _ (law : TokenByToken) (strict : Bool) where
 
 pub faultless_alike : TokenByToken → FaultlessTextsAreReportedAlike
 unfolding pieces
-faultless_alike law strict text none unmarked other =
+faultless_alike law strict plain text none unmarked other =
     let games : list_all is_game (flat_map (reports_in strict) (with_offsets 0 (cut text))) ≡ true =
     all_games (collection_reports strict true text) none in
-    let all = all_hold law strict (cut_ends text) other [] 0 (inl (refl, unmarked)) games in
+    let all = all_hold law strict plain (cut_ends text) other [] 0 (inl (refl, unmarked)) games in
     let starts : List ℕ → ℕ = λ part. 0 in
-    all.reported ∙ sym (reported_alone law strict all.holds starts)
-    ∙ sym (all_reported_alike law strict 0 (cut text) all.games all.holds starts)
+    all.reported ∙ sym (reported_alone law strict plain all.holds starts)
+    ∙ sym (all_reported_alike law strict plain 0 (cut text) all.games all.holds starts)
     ∙ ap (reports_on strict 0) (cut_is_all text)

@@ -14,6 +14,7 @@ use Rattle.pgn_pieces.specs.Stream.{with_offsets}
 use Rattle.pgn_pieces.specs.declared.pieces.TheConstants.{PIECE_LEN}
 use Rattle.pgn_pieces.specs.laws.Shards.{begins_in_tag, ends_in_moves, ShardsAreCut}
 use Rattle.pgn_pieces.proofs.shared.Cuts.{cut_is_all, lines_joined}
+use Rattle.pgn_verifier.specs.declared.options.Strictness.{Strictness}
 use Rattle.pgn_verifier.specs.Collection.{AreCollectionReports}
 use Rattle.pgn_verifier.specs.Explanations.{wrong_part}
 use Rattle.pgn_verifier.specs.Reports.{Report, Game, Faulty, Placed, game_begin, unread_from, half_moves_of, without_spans, counts_of}
@@ -112,7 +113,7 @@ fault_moved goes_on by start text at next fault =
     (grouped by start fault.offset)
     (ap (λ k. k + wrong) (grouped by start fault.offset) ∙ grouped by (start + fault.offset) wrong)
 
-moved_from : (goes_on strict : Bool) (by start n : ℕ) (text : List ℕ) (at : ℕ)
+moved_from : (goes_on : Bool) (strict : Strictness) (by start n : ℕ) (text : List ℕ) (at : ℕ)
     → placed_from goes_on strict (by + start) n text at
     ≡ map (moved_placed by) (placed_from goes_on strict start n text at)
 unfolding placed_from
@@ -142,7 +143,7 @@ moved_from goes_on strict by start (suc n) text at =
         ap₂ (λ (p : Placed) (ps : List Placed). p ∷ ps)
         (fault_moved goes_on by start text at (next_at goes_on text at) fault) (on (next_at goes_on text at) later)
 
-moved_in : (strict : Bool) (by offset : ℕ) (bytes : List ℕ)
+moved_in : (strict : Strictness) (by offset : ℕ) (bytes : List ℕ)
     → placed_in strict (record { offset = by + offset; bytes = bytes })
     ≡ map (moved_placed by) (placed_in strict (record { offset = offset; bytes = bytes }))
 moved_in strict by offset bytes = by_test (nat_le (length bytes) PIECE_LEN)
@@ -157,7 +158,7 @@ moved_in strict by offset bytes = by_test (nat_le (length bytes) PIECE_LEN)
         ap (λ (e : ℕ). record (too_long_placed (record { offset = by + offset; bytes = bytes })) { end = e } ∷ [])
         (grouped by offset (length bytes))
 
-moved_all : (strict : Bool) (by offset : ℕ) (all : List (List ℕ))
+moved_all : (strict : Strictness) (by offset : ℕ) (all : List (List ℕ))
     → flat_map (placed_in strict) (with_offsets (by + offset) all)
     ≡ map (moved_placed by) (flat_map (placed_in strict) (with_offsets offset all))
 moved_all strict by offset [] = refl
@@ -183,7 +184,7 @@ offsets_joined offset (bytes ∷ more) rest =
     (offsets_joined (offset + length bytes) more rest
     ∙ ap (λ k. with_offsets (offset + length bytes) more ++ with_offsets k rest) there)
 
-module _ (strict : Bool) (reports : List ℕ → List Placed)
+module _ (strict : Strictness) (reports : List ℕ → List Placed)
     (are : (text : List ℕ) → AreCollectionReports strict 0 (cut text) (reports text)) where
   file_after_file : (offset : ℕ) (files : List (List ℕ))
       → flat_map (placed_in strict) (with_offsets offset (flat_map cut files)) ≡ one_after_another reports offset files

@@ -1,9 +1,10 @@
 -- Without a fault the reports on a text are the same, whether reading goes on after faults or not.
-use Rattle.std.proofs.Common.{◌≡◌, ℕ, zero, suc, ◌+◌, Bool, true, false, List, [], ◌∷◌, length, Option, Some, None, Result, Ok, Err, refl, ap}
+use Rattle.std.proofs.Common.{◌≡◌, ℕ, zero, suc, ◌+◌, Bool, true, List, ◌∷◌, length, Option, Some, None, Result, Ok, Err, refl, ap}
 use Rattle.std.specs.Prelude.{is_some}
 use Rattle.std.specs.List.{list_all}
 use Rattle.chess_game.specs.Game.{State}
 use Rattle.chess_pgn.specs.declared.read.PgnEnd.{PgnEnd}
+use Rattle.pgn_verifier.specs.declared.options.Strictness.{Strictness}
 use Rattle.pgn_verifier.specs.Reports.{Report, Game, half_moves_of}
 use Rattle.pgn_verifier.specs.declared.game_fault.GameFault.{GameFault}
 use Rattle.pgn_verifier.specs.laws.Reported.{games_from, games_of, judged_at, next_at, read_at, report_then}
@@ -12,7 +13,7 @@ use Rattle.pgn_verifier.specs.laws.Reported.{games_from, games_of, judged_at, ne
 abbrev pub is_game : Report → Bool
 is_game r = is_some (half_moves_of r)
 
-module _ (strict : Bool) (start : ℕ) (text : List ℕ) (a b : Bool) where
+module _ (strict : Strictness) (start : ℕ) (text : List ℕ) (a b : Bool) where
   -- if those are on games without a fault that are given by the one way of reading, the other gives the same
   same_from : (n at : ℕ) → list_all is_game (games_from a strict start n text at) ≡ true
       → games_from b strict start n text at ≡ games_from a strict start n text at

@@ -1,6 +1,6 @@
 -- No other reports are those of the definitions than those that are made one after another.
 use Rattle.std.proofs.Common.{◌≡◌, ℕ, zero, suc, ◌+◌, Bool, List, [], ◌∷◌, ◌++◌, length, drop, Option, Some, None, true, false, Result, Ok, Err, refl, sym, ap, subst, ◌∙◌}
-use Rattle.std.proofs.Math.Path.{ap₂}
+use Rattle.std.proofs.Math.Path.{ap₂, fun_ext}
 use Rattle.std.specs.List.{flat_map}
 use Rattle.std.specs.Option.{option_map_or, unwrap_or}
 use Rattle.std.proofs.lemmas.List.{map-append}
@@ -10,6 +10,8 @@ use Rattle.chess_game.specs.Game.{State, verdict_now}
 use Rattle.chess_game.specs.declared.game.TheConstants.{MOST_MOVES}
 use Rattle.chess_pgn.specs.GameRead.{GameRead, pgn_read, read_of_split}
 use Rattle.chess_pgn.specs.LastTags.{result_tag_of}
+use Rattle.chess_pgn.specs.UnknownVariants.{unknown_variant_in}
+use Rattle.chess_pgn.specs.Split.{IsSplit}
 use Rattle.chess_pgn.specs.Tokens.{Token, tokens_from}
 use Rattle.byte_devices.specs.Bytes.{after_byte_order_mark}
 use Rattle.chess_pgn.specs.declared.read.PgnEnd.{PgnEnd}
@@ -17,19 +19,25 @@ use Rattle.chess_pgn.proofs.shared.Tokens.{split_read}
 use Rattle.pgn_pieces.specs.Pieces.{known_pieces}
 use Rattle.pgn_pieces.specs.Stream.{Piece, with_offsets, pieces}
 use Rattle.pgn_pieces.specs.declared.pieces.TheConstants.{PIECE_LEN}
+use Rattle.pgn_verifier.specs.declared.options.Strictness.{Strictness}
 use Rattle.pgn_verifier.specs.Collection.{AreCollectionReports, no_piece, next_piece}
 use Rattle.pgn_verifier.specs.Explanations.{IsReason, explanation}
-use Rattle.pgn_verifier.specs.GameFaults.{judged, IsJudged}
+use Rattle.pgn_verifier.specs.GameFaults.{judged, variation_in, IsJudged}
 use Rattle.pgn_verifier.specs.Reports.{Report, Game, Placed, fault_in, names_of, AreReports, AreReportsOf, none_left, next_game, next_fault, AreReportsIn, without_spans}
 use Rattle.pgn_verifier.specs.declared.game_fault.GameFault.{GameFault}
-use Rattle.pgn_verifier.specs.laws.Reasons.{reason, explanation_of}
+use Rattle.pgn_verifier.specs.laws.Reasons.{reason}
 use Rattle.pgn_verifier_laws.proofs.OnlyReasons.{only_reason}
 use Rattle.pgn_verifier.specs.laws.Reported.{names_at, next_at, read_at, judged_at, report_then, games_from, games_of, reports_on, reports_in, collection_reports, game_placed, fault_placed, placed_then, placed_from, placed_of, placed_on, placed_in, collection_placed, too_long_report, too_long_placed}
 use Rattle.pgn_verifier.proofs.shared.ReportsAre.{are_reports_of, named, goes_on_there}
 
 -- ---- one game
 
-pub only_judged : (strict : Bool) (text : List ℕ) (at : ℕ) (s : State) (answer : Result (Option PgnEnd) GameFault)
+-- how a text is split from each offset on
+same_split : (split : List ℕ → ℕ → List (ℕ × Token))
+    → ((other : List ℕ) (from : ℕ) → IsSplit other from (split other from)) → split ≡ tokens_from
+same_split split splits = fun_ext (λ other. fun_ext (λ from. split_read other (splits other from)))
+
+pub only_judged : (strict : Strictness) (text : List ℕ) (at : ℕ) (s : State) (answer : Result (Option PgnEnd) GameFault)
     → IsJudged strict text at s answer → (s ≡ (read_at text at).state) × (answer ≡ judged_at strict text at)
 unfolding pgn_read
 only_judged strict text at s answer j =
@@ -38,8 +46,13 @@ only_judged strict text at s answer j =
     let read = sym j.read ∙ ap (read_of_split MOST_MOVES (length text)) same in (
       ap (λ (r : GameRead). r.state) read,
       j.is
-          ∙ ap (λ (ts : List (ℕ × Token)). judged strict (result_tag_of (length text) ts) (verdict_now s) j.ended) same
-          ∙ ap (λ (r : GameRead). judged strict (result_tag_of (length text) all) (verdict_now r.state) r.answer) read,
+          ∙ ap (λ (split : List ℕ → ℕ → List (ℕ × Token)). judged strict (variation_in split text at s.start)
+          (unknown_variant_in (length text) j.tokens) (result_tag_of (length text) j.tokens) (verdict_now s) j.ended)
+          (same_split j.split_of j.splits)
+          ∙ ap (λ (ts : List (ℕ × Token)). judged strict (variation_in tokens_from text at s.start)
+          (unknown_variant_in (length text) ts) (result_tag_of (length text) ts) (verdict_now s) j.ended) same
+          ∙ ap (λ (r : GameRead). judged strict (variation_in tokens_from text at r.state.start)
+          (unknown_variant_in (length text) all) (result_tag_of (length text) all) (verdict_now r.state) r.answer) read,
     )
 
 -- ---- a text
@@ -57,7 +70,7 @@ fault_report goes_on start text at next fault names why =
     }
 
 -- what reports are, by how their first game was judged
-abbrev ReportsBy : Bool → Bool → ℕ → List ℕ → ℕ → State → Result (Option PgnEnd) GameFault → List Placed → Type 0
+abbrev ReportsBy : Bool → Strictness → ℕ → List ℕ → ℕ → State → Result (Option PgnEnd) GameFault → List Placed → Type 0
 ReportsBy goes_on strict start text at s (Ok None) reports = reports ≡ []
 ReportsBy goes_on strict start text at s (Ok (Some end)) reports =
     (more : List Placed) × AreReportsOf goes_on strict start text end.offset more
@@ -82,7 +95,7 @@ fault_explained goes_on start text at next fault names s reason there are h =
     (explanation s (drop fault.offset text) fault.kind r))
     (only_reason fault.kind (drop fault.offset text) (verdict_now s) reason h)
 
-module _ (goes_on strict : Bool) (start : ℕ) (text : List ℕ) where
+module _ (goes_on : Bool) (strict : Strictness) (start : ℕ) (text : List ℕ) where
   abbrev ReportsAt : ℕ → List Placed → Type 0
   ReportsAt at reports =
       ReportsBy goes_on strict start text at (read_at text at).state (judged_at strict text at) reports
@@ -145,13 +158,13 @@ module _ (goes_on strict : Bool) (start : ℕ) (text : List ℕ) where
       → reports ≡ placed_of goes_on strict start text
   only_reports_of reports h = one_list (are_reports_of goes_on strict start text) reports h
 
-pub only_reports : (strict : Bool) (start : ℕ) (text : List ℕ) (reports : List Placed)
+pub only_reports : (strict : Strictness) (start : ℕ) (text : List ℕ) (reports : List Placed)
     → AreReports strict start text 0 reports → reports ≡ placed_on strict start text
 only_reports strict start text reports h = only_reports_of false strict start text reports h
 
 -- ---- pieces
 
-only_reports_in : (strict : Bool) (piece : Piece) (reports : List Placed)
+only_reports_in : (strict : Strictness) (piece : Piece) (reports : List Placed)
     → AreReportsIn strict piece.offset piece.bytes reports
     → reports ≡ placed_in strict piece
 only_reports_in strict piece reports h = by_test (nat_le (length piece.bytes) PIECE_LEN) h
@@ -162,21 +175,21 @@ only_reports_in strict piece reports h = by_test (nat_le (length piece.bytes) PI
     by_test true h = only_reports_of true strict piece.offset piece.bytes reports h
     by_test false h = h
 
-pub only_all : {strict : Bool} {offset : ℕ} {all : List (List ℕ)} {reports : List Placed}
+pub only_all : {strict : Strictness} {offset : ℕ} {all : List (List ℕ)} {reports : List Placed}
     → AreCollectionReports strict offset all reports
     → reports ≡ flat_map (placed_in strict) (with_offsets offset all)
 only_all {strict} no_piece = refl
 only_all {strict} (next_piece {offset} {piece} {pieces} reports {more} h rest) =
     ap₂ (λ xs ys. xs ++ ys) (only_reports_in strict (record { offset = offset; bytes = piece }) reports h) (only_all rest)
 
-pub only_collection_reports : (strict ended : Bool) (text : List ℕ) (reports : List Placed)
+pub only_collection_reports : (strict : Strictness) (ended : Bool) (text : List ℕ) (reports : List Placed)
     → AreCollectionReports strict 0 (known_pieces ended text) reports → reports ≡ collection_placed strict ended text
 unfolding pieces
 only_collection_reports strict ended text reports h = only_all h
 
 -- ---- without their spans
 
-same_from : (goes_on strict : Bool) (start n : ℕ) (text : List ℕ) (at : ℕ)
+same_from : (goes_on : Bool) (strict : Strictness) (start n : ℕ) (text : List ℕ) (at : ℕ)
     → without_spans (placed_from goes_on strict start n text at) ≡ games_from goes_on strict start n text at
 unfolding placed_from games_from
 same_from goes_on strict start zero text at = refl
@@ -207,15 +220,15 @@ same_from goes_on strict start (suc n) text at =
         ap (λ rs. (fault_placed goes_on start text at (next_at goes_on text at) fault s).report ∷ rs)
         (on (next_at goes_on text at) later)
 
-pub same_of : (goes_on strict : Bool) (start : ℕ) (text : List ℕ)
+pub same_of : (goes_on : Bool) (strict : Strictness) (start : ℕ) (text : List ℕ)
     → without_spans (placed_of goes_on strict start text) ≡ games_of goes_on strict start text
 same_of goes_on strict start text = same_from goes_on strict start (length text + 1) text 0
 
-pub same_on : (strict : Bool) (start : ℕ) (text : List ℕ)
+pub same_on : (strict : Strictness) (start : ℕ) (text : List ℕ)
     → without_spans (placed_on strict start text) ≡ reports_on strict start text
 same_on strict start text = same_of false strict start text
 
-same_in : (strict : Bool) (piece : Piece) → without_spans (placed_in strict piece) ≡ reports_in strict piece
+same_in : (strict : Strictness) (piece : Piece) → without_spans (placed_in strict piece) ≡ reports_in strict piece
 same_in strict piece = by_test (nat_le (length piece.bytes) PIECE_LEN)
   where
     by_test : (b : Bool)
@@ -224,13 +237,13 @@ same_in strict piece = by_test (nat_le (length piece.bytes) PIECE_LEN)
     by_test true = same_of true strict piece.offset piece.bytes
     by_test false = refl
 
-same_all : (strict : Bool) (all : List Piece)
+same_all : (strict : Strictness) (all : List Piece)
     → without_spans (flat_map (placed_in strict) all) ≡ flat_map (reports_in strict) all
 same_all strict [] = refl
 same_all strict (piece ∷ more) =
     map-append (λ (p : Placed). p.report) (placed_in strict piece) (flat_map (placed_in strict) more)
     ∙ ap₂ (λ xs ys. xs ++ ys) (same_in strict piece) (same_all strict more)
 
-pub same_of_collection : (strict ended : Bool) (text : List ℕ)
+pub same_of_collection : (strict : Strictness) (ended : Bool) (text : List ℕ)
     → without_spans (collection_placed strict ended text) ≡ collection_reports strict ended text
 same_of_collection strict ended text = same_all strict (pieces ended 0 text)

@@ -12,6 +12,7 @@ use Rattle.chess_game.specs.Game.{verdict_now}
 use Rattle.chess_game.specs.declared.game.TheConstants.{MOST_MOVES}
 use Rattle.chess_pgn.specs.GameRead.{GameRead, pgn_read}
 use Rattle.chess_pgn.specs.LastTags.{result_tag_of}
+use Rattle.chess_pgn.specs.UnknownVariants.{unknown_variant_in}
 use Rattle.chess_pgn.specs.Tokens.{is_white_space, tokens_from}
 use Rattle.byte_devices.specs.Bytes.{after_byte_order_mark}
 use Rattle.chess_pgn.specs.declared.read.PgnEnd.{PgnEnd}
@@ -24,7 +25,8 @@ use Rattle.pgn_pieces.specs.Pieces.{cut}
 use Rattle.pgn_pieces.specs.Stream.{Piece, with_offsets, pieces}
 use Rattle.pgn_pieces.specs.declared.pieces.TheConstants.{PIECE_LEN}
 use Rattle.pgn_pieces.proofs.shared.Cuts.{cut_is_all}
-use Rattle.pgn_verifier.specs.GameFaults.{judged}
+use Rattle.pgn_verifier.specs.declared.options.Strictness.{Strictness}
+use Rattle.pgn_verifier.specs.GameFaults.{judged, variation_in}
 use Rattle.pgn_verifier.specs.Reports.{Placed, game_begin}
 use Rattle.pgn_verifier.specs.declared.game_fault.GameFault.{GameFault}
 use Rattle.pgn_verifier.specs.laws.Reported.{next_at, read_at, judged_at, fault_placed, placed_then, placed_from, placed_of, placed_in, collection_placed, too_long_placed}
@@ -48,14 +50,16 @@ begins_within text at h =
 abbrev EndsAfter : ℕ → ℕ → Result (Option PgnEnd) PgnFault → Type 0
 EndsAfter begin total r = IfOk r (λ o. IfSome o (λ e. (begin < e.offset) × (e.offset ≤ total)))
 
-module _ (law : TokenByToken) (strict : Bool) (text : List ℕ) (at : ℕ) (within : at ≤ length text) where
+module _ (law : TokenByToken) (strict : Strictness) (text : List ℕ) (at : ℕ) (within : at ≤ length text) where
   alike : pgn_read MOST_MOVES text (game_begin text at) ≡ pgn_read MOST_MOVES text at
   alike = sym (begins_alike law MOST_MOVES text at)
 
   game_there : (end : PgnEnd) → judged_at strict text at ≡ Ok (Some end)
       → (game_begin text at < end.offset) × (end.offset ≤ length text)
   game_there end is =
-      let read = (judged_so strict (result_tag_of (length text) (tokens_from text (after_byte_order_mark text at)))
+      let read = (judged_so strict (variation_in tokens_from text at (read_at text at).state.start)
+      (unknown_variant_in (length text) (tokens_from text (after_byte_order_mark text at)))
+    (result_tag_of (length text) (tokens_from text (after_byte_order_mark text at)))
       (verdict_now (read_at text at).state) end (read_at text at).answer is).0 in
       subst (EndsAfter (game_begin text at) (length text)) (ap (λ (r : GameRead). r.answer) alike ∙ read)
       (ends_in_text MOST_MOVES text (game_begin text at) (begins_within text at within))
@@ -80,7 +84,9 @@ module _ (law : TokenByToken) (strict : Bool) (text : List ℕ) (at : ℕ) (with
       by_place true e =
           let last : game_begin text at ≡ length text = grind (arith, nat_tests, e) in
           let none : judged_at strict text at ≡ Ok None =
-          ap (judged strict (result_tag_of (length text) (tokens_from text (after_byte_order_mark text at)))
+          ap (judged strict (variation_in tokens_from text at (read_at text at).state.start)
+          (unknown_variant_in (length text) (tokens_from text (after_byte_order_mark text at)))
+    (result_tag_of (length text) (tokens_from text (after_byte_order_mark text at)))
           (verdict_now (read_at text at).state)) (none_there last) in
           let both : Ok None ≡ Err fault = sym none ∙ is in
           absurd (cc)
@@ -109,8 +115,8 @@ placed_next start text at begin end placed reports low some high begins ends mor
     (next (take (begin - at) (drop at text)) (take (end - begin) (drop begin text))
     (omega (arith, begins, between, low)) (omega (arith, begins, ends, game, some)) (omega (arith, game, some)) more)
 
-text_made : TokenByToken → (goes_on strict : Bool) (start n : ℕ) (text : List ℕ) (at : ℕ) → at ≤ length text
-    → MakeUp (start + at) (drop at text) (placed_from goes_on strict start n text at)
+text_made : TokenByToken → (goes_on : Bool) (strict : Strictness) (start n : ℕ) (text : List ℕ) (at : ℕ)
+    → at ≤ length text → MakeUp (start + at) (drop at text) (placed_from goes_on strict start n text at)
 unfolding placed_from
 text_made law goes_on strict start zero text at within = no_more
 text_made law goes_on strict start (suc n) text at within =
@@ -146,7 +152,7 @@ text_made law goes_on strict start (suc n) text at within =
     by_answer (Err fault) e later =
         after_fault fault (fault_there law strict text at within fault e) (next_at goes_on text at) there later
 
-text_begun : TokenByToken → (goes_on strict : Bool) (start : ℕ) (text : List ℕ)
+text_begun : TokenByToken → (goes_on : Bool) (strict : Strictness) (start : ℕ) (text : List ℕ)
     → MakeUp start text (placed_of goes_on strict start text)
 text_begun law goes_on strict start text =
     let first : start + 0 ≡ start = omega arith in
@@ -178,7 +184,7 @@ made_both (next {offset} between game {rest} {placed} {reports} begins ends some
     ∙ ap (λ xs. between ++ xs) (append_assoc game rest more)))
     (next between game begins ends some last)
 
-piece_made : TokenByToken → (strict : Bool) (piece : Piece)
+piece_made : TokenByToken → (strict : Strictness) (piece : Piece)
     → MakeUp piece.offset piece.bytes (placed_in strict piece)
 piece_made law strict piece = by_test (nat_le (length piece.bytes) PIECE_LEN) refl
   where
@@ -190,7 +196,7 @@ piece_made law strict piece = by_test (nat_le (length piece.bytes) PIECE_LEN) re
         subst (λ xs. MakeUp piece.offset xs (too_long_placed piece ∷ [])) (append-nil piece.bytes)
         (next [] piece.bytes (omega arith) refl (omega (arith, long)) no_more)
 
-all_made : TokenByToken → (strict : Bool) (offset : ℕ) (all : List (List ℕ)) (rest : List ℕ)
+all_made : TokenByToken → (strict : Strictness) (offset : ℕ) (all : List (List ℕ)) (rest : List ℕ)
     → MakeUp offset (concat all ++ rest) (flat_map (placed_in strict) (with_offsets offset all))
 all_made law strict offset [] rest = no_more
 all_made law strict offset (piece ∷ more) rest =
@@ -200,7 +206,7 @@ all_made law strict offset (piece ∷ more) rest =
     (concat more ++ rest) (flat_map (placed_in strict) (with_offsets (offset + length piece) more))
     (all_made law strict (offset + length piece) more rest) refl)
 
-collection_made : TokenByToken → (strict ended : Bool) (text : List ℕ)
+collection_made : TokenByToken → (strict : Strictness) (ended : Bool) (text : List ℕ)
     → MakeUp 0 text (collection_placed strict ended text)
 unfolding pieces
 collection_made law strict ended text = by_end ended

@@ -9,19 +9,21 @@ use Rattle.chess_game.specs.declared.game.TheConstants.{MOST_MOVES}
 use Rattle.chess_game.specs.declared.results.Outcome.{Outcome}
 use Rattle.chess_pgn.specs.GameRead.{GameRead, pgn_read}
 use Rattle.pgn_writer.specs.GameText.{pgn, tag_lines, game_tokens}
-use Rattle.chess_pgn.specs.LastTags.{result_tag_of}
 use Rattle.chess_pgn.specs.shared.Kinds.{IsSplitByKinds, IsOf, IsLongest, Blank, ended, token}
 use Rattle.pgn_writer.specs.Terminations.{termination_of}
+use Rattle.chess_pgn.specs.LastTags.{result_tag_of}
+use Rattle.chess_pgn.specs.UnknownVariants.{unknown_variant_in}
 use Rattle.chess_pgn.specs.Tokens.{Token, Skip, begins_line, tokens_from}
 use Rattle.byte_devices.specs.Bytes.{after_byte_order_mark}
 use Rattle.pgn_writer.specs.Written as written
 use Rattle.chess_pgn.specs.declared.read.PgnEnd.{PgnEnd}
 use Rattle.pgn_writer.specs.declared.tags.Tags.{Tags}
 use Rattle.pgn_writer.specs.declared.termination.Termination.{Termination}
-use Rattle.chess_pgn_laws.specs.PgnLaw.{AreTagTexts, IsReadBack, PgnIsReadBack, ResultIsWritten}
+use Rattle.chess_pgn_laws.specs.PgnLaw.{AreTagTexts, IsReadBack, PgnIsReadBack}
 use Rattle.chess_pgn.specs.laws.TokenByToken.{tokens_read}
 use Rattle.chess_pgn.proofs.shared.Tokens.{kinds_read}
-use Rattle.pgn_verifier.specs.GameFaults.{judged}
+use Rattle.pgn_verifier.specs.declared.options.Strictness.{Strictness}
+use Rattle.pgn_verifier.specs.GameFaults.{judged, variation_in}
 use Rattle.pgn_verifier.specs.Reports.{Report, Game}
 use Rattle.pgn_verifier_laws.specs.NoFaults.{begins_with_mark}
 use Rattle.pgn_verifier_laws.specs.Parts.{BeginsAlike, AllHoldWhole, no_parts, next_part}
@@ -32,7 +34,7 @@ use Rattle.pgn_verifier_laws.proofs.Parts.{all_reported_alike}
 use Rattle.pgn_verifier_laws.proofs.PartsAlike.{TokenByToken, read_so, judged_so, no_mark}
 use Rattle.pgn_verifier_laws.proofs.PartsRead.{in_text}
 use Rattle.pgn_verifier_laws.proofs.OnlyReports.{only_judged}
-use Rattle.pgn_verifier_laws.proofs.WrittenGames.{written_games}
+use Rattle.pgn_verifier_laws.proofs.WrittenGames.{TagsAreWritten, written_games}
 use Rattle.pgn_verifier.specs.laws.Reported.{games_from, judged_at, read_at, report_then, reports_from, reports_on}
 
 -- ---- the end of a game's text
@@ -88,7 +90,7 @@ last_tokens body =
     (end_is_longest (begins_line (body ++ 10 ∷ 10 ∷ []) (length body + 1)) [])
     (ended (ap (λ n. drop n (body ++ 10 ∷ 10 ∷ [])) both ∙ drop-append-add body (10 ∷ 10 ∷ []) 2)))
 
-none_after : TokenByToken → (strict : Bool) (body : List ℕ) → 0 < length body
+none_after : TokenByToken → (strict : Strictness) (body : List ℕ) → 0 < length body
     → judged_at strict (body ++ 10 ∷ 10 ∷ []) (length body) ≡ Ok None
 none_after law strict body some =
     let text : List ℕ = body ++ 10 ∷ 10 ∷ [] in
@@ -99,9 +101,10 @@ none_after law strict body some =
     ap (tokens_from text) (no_mark text (length body) some) ∙ sym (kinds_read text (last_tokens body)) in
     let is : pgn_read MOST_MOVES text (length body) ≡ tokens_read MOST_MOVES (length text) own =
     law MOST_MOVES text (length body) ∙ ap (tokens_read MOST_MOVES (length text)) same in
-    ap (λ (r : GameRead). judged strict (result_tag_of (length text) ts) (verdict_now r.state) r.answer) is
+    ap (λ (r : GameRead). judged strict (variation_in tokens_from text (length body) r.state.start)
+    (unknown_variant_in (length text) ts) (result_tag_of (length text) ts) (verdict_now r.state) r.answer) is
 
-nothing_more : (strict : Bool) (start k : ℕ) (text : List ℕ) (at : ℕ) → judged_at strict text at ≡ Ok None
+nothing_more : (strict : Strictness) (start k : ℕ) (text : List ℕ) (at : ℕ) → judged_at strict text at ≡ Ok None
     → reports_from strict start k text at ≡ []
 unfolding games_from
 nothing_more strict start zero text at none = refl
@@ -117,7 +120,9 @@ same_termination end o t offset same =
     let ends : end ≡ record { outcome = o; termination = Some t; offset = offset } = cc in
     ap (λ (e : PgnEnd). e.termination) ends
 
-module _ (law : TokenByToken) (read : PgnIsReadBack) (result : ResultIsWritten) (strict : Bool) where
+module _ (law : TokenByToken) (read : PgnIsReadBack) (result : TagsAreWritten) (strict : Strictness)
+    (plain : strict.variations ≡ false)
+  where
   one_report : (start : ℕ) (g : TaggedGame) → AreTagTexts g.tags
       → IsPlayable (record { limit = MOST_MOVES; state = g.state })
       → reports_on strict start (pgn [] g.tags g.state) ≡ report_of g ∷ []
@@ -128,7 +133,7 @@ module _ (law : TokenByToken) (read : PgnIsReadBack) (result : ResultIsWritten) 
       let all : pgn [] g.tags g.state ++ [] ≡ pgn [] g.tags g.state = append-nil (pgn [] g.tags g.state) in
       let found : HasNoFault strict text 0 g.state (length text) =
       subst (λ t. HasNoFault strict t 0 g.state (length text)) all
-      (written_games read result strict g.tags g.state [] [] texts playable) in
+      (written_games read result strict plain g.tags g.state [] [] texts playable) in
       let only = only_judged strict text 0 found.read (Ok (Some found.end)) found.judged in
       let is : judged_at strict text 0 ≡ Ok (Some found.end) = sym only.1 in
       let moves : (read_at text 0).state.moves ≡ g.state.moves =
@@ -136,7 +141,9 @@ module _ (law : TokenByToken) (read : PgnIsReadBack) (result : ResultIsWritten) 
       let back : IsReadBack g.state T (length text) (pgn_read MOST_MOVES text 0) =
       subst (λ t. IsReadBack g.state T (length text) (pgn_read MOST_MOVES t 0)) all
       (read MOST_MOVES g.tags g.state [] [] texts playable) in
-      let said = judged_so strict (result_tag_of (length text) (tokens_from text (after_byte_order_mark text 0)))
+      let said = judged_so strict (variation_in tokens_from text 0 (read_at text 0).state.start)
+      (unknown_variant_in (length text) (tokens_from text (after_byte_order_mark text 0)))
+    (result_tag_of (length text) (tokens_from text (after_byte_order_mark text 0)))
       (verdict_now (read_at text 0).state) found.end (read_at text 0).answer is in
       let termination : found.end.termination ≡ Some T =
       same_termination found.end (outcome_now g.state) T back.offset (sym said.0 ∙ back.answer) in
@@ -148,7 +155,7 @@ module _ (law : TokenByToken) (read : PgnIsReadBack) (result : ResultIsWritten) 
         length-append tail.0 (10 ∷ 10 ∷ []),
       ) in
       let some : 0 < found.end.offset =
-      (in_text law strict [] text [] 0 found.end (begins_first text [] (inr refl)) (inr refl) is).some_bytes
+      (in_text law strict plain [] text [] 0 found.end (begins_first text [] (inr refl)) (inr refl) is).some_bytes
       in
       let none : judged_at strict text found.end.offset ≡ Ok None =
       ap (λ t. judged_at strict t found.end.offset) tail.1 ∙ ap (judged_at strict (tail.0 ++ 10 ∷ 10 ∷ [])) place
@@ -199,7 +206,7 @@ module _ (law : TokenByToken) (read : PgnIsReadBack) (result : ResultIsWritten) 
       let after : List ℕ = concat (map text_of games) in
       let tail = text_ends g.tags g.state in
       let begins = begins_at before after g starts in
-      let one = part_holds law strict 0 before part after
+      let one = part_holds law strict plain 0 before part after
       (inl (tail.0 ++ 10 ∷ [], tail.1 ∙ sym (append_assoc tail.0 (10 ∷ []) (10 ∷ [])))) begins
       (ap (list_all is_game) (one_report 0 g texts playable)) in
       let rest = all_held games h (before ++ part) (next_starts before g) in
@@ -217,10 +224,10 @@ module _ (law : TokenByToken) (read : PgnIsReadBack) (result : ResultIsWritten) 
   joined [] = refl
   joined (g ∷ games) = ap (λ l. pgn [] g.tags g.state ++ l) (joined games)
 
-pub written_texts : TokenByToken → PgnIsReadBack → ResultIsWritten → WrittenTextsHaveNoFault
-written_texts law read result strict start games h =
-    let held = all_held law read result strict games h [] (inl refl) in
-    ap (reports_on strict start) (joined law read result strict games)
-    ∙ all_reported_alike law strict start (map (λ (g : TaggedGame). pgn [] g.tags g.state) games) held.0 held.1
+pub written_texts : TokenByToken → PgnIsReadBack → TagsAreWritten → WrittenTextsHaveNoFault
+written_texts law read result strict plain start games h =
+    let held = all_held law read result strict plain games h [] (inl refl) in
+    ap (reports_on strict start) (joined law read result strict plain games)
+    ∙ all_reported_alike law strict plain start (map (λ (g : TaggedGame). pgn [] g.tags g.state) games) held.0 held.1
     (λ part. start)
-    ∙ all_reports law read result strict start games h
+    ∙ all_reports law read result strict plain start games h

@@ -1,12 +1,15 @@
 ghost use Rattle.std.specs.Prelude.{◌<◌};
 
 use byte_devices::{Counted, PieceReader};
-use pgn_verifier::{Verified, VerifyFault, VerifyOptions, verify, verify_collection};
+use pgn_verifier::{
+    LENIENT, STRICT_FAULTS, Strictness, Verified, VerifyFault, VerifyOptions, verify,
+    verify_collection,
+};
 use std::process::Abort;
 
 const ALL: VerifyOptions = VerifyOptions {
     quiet: false,
-    strict: false,
+    strict: LENIENT,
     spans: false,
     names: false,
     explain: false,
@@ -14,15 +17,28 @@ const ALL: VerifyOptions = VerifyOptions {
 
 const STRICT: VerifyOptions = VerifyOptions {
     quiet: true,
-    strict: true,
+    strict: STRICT_FAULTS,
     spans: false,
     names: false,
     explain: false,
 };
 
+const VARIATIONS: VerifyOptions = VerifyOptions {
+    quiet: false,
+    strict: Strictness {
+        variations: true,
+        variant: false,
+        result: false,
+        board: false,
+    },
+    spans: false,
+    names: false,
+    explain: true,
+};
+
 const SPANS: VerifyOptions = VerifyOptions {
     quiet: false,
-    strict: false,
+    strict: LENIENT,
     spans: true,
     names: false,
     explain: false,
@@ -30,7 +46,7 @@ const SPANS: VerifyOptions = VerifyOptions {
 
 const NAMES: VerifyOptions = VerifyOptions {
     quiet: false,
-    strict: false,
+    strict: LENIENT,
     spans: false,
     names: true,
     explain: false,
@@ -38,7 +54,7 @@ const NAMES: VerifyOptions = VerifyOptions {
 
 const EXPLAINED: VerifyOptions = VerifyOptions {
     quiet: true,
-    strict: true,
+    strict: STRICT_FAULTS,
     spans: false,
     names: false,
     explain: true,
@@ -115,6 +131,165 @@ fn texts_have_a_line_for_each_game(rt: HostRuntime) {
         Verified::FaultReported,
         b"game 1: result differs at byte 9\n",
     );
+}
+
+// Tags `Variant` with `--strict`, and what is written of them: the names of normal chess and Chess960 are known, in
+// capital or small letters; another name is a fault, which comes before that of the result. Only the last tag counts.
+const VARIANTS: [(&[u8], Verified, &[u8]); 8] = [
+    (b"[Variant \"Standard\"] e4 *", Verified::EachGame, b""),
+    (b"[Variant \"FROM POSITION\"] e4 *", Verified::EachGame, b""),
+    (b"[Variant \"chess960\"] e4 *", Verified::EachGame, b""),
+    (
+        b"[Variant \"Atomic\"] e4 *",
+        Verified::FaultReported,
+        b"game 1: unknown variant at byte 10\n",
+    ),
+    (
+        b"[Variant \"Chess 960\"] e4 *",
+        Verified::FaultReported,
+        b"game 1: unknown variant at byte 10\n",
+    ),
+    (
+        b"[Result \"1-0\"][Variant \"\"] e4 *",
+        Verified::FaultReported,
+        b"game 1: unknown variant at byte 24\n",
+    ),
+    (b"[Variant \"Atomic\"][Variant \"Normal\"] e4 *", Verified::EachGame, b""),
+    (
+        b"[Variant \"Atomic\"] e4 e4 *",
+        Verified::FaultReported,
+        b"game 1: illegal move at byte 22\n",
+    ),
+];
+
+#[test]
+fn unknown_variants_are_faults(rt: HostRuntime) {
+    for (text, wanted, lines) in &VARIANTS {
+        check_cuts(&rt, &rt, false, STRICT, *text, *wanted, *lines);
+    }
+}
+
+// Games with variations, and what is written of them. A variation replaces the move just before it.
+const VARIATION_TEXTS: [(&[u8], Verified, &[u8]); 22] = [
+    (b"1. e4 (1. d4 d5) e5 *", Verified::EachGame, b"game 1: 2 half-moves, *\n"),
+    (b"1. e4 e5 (1... c5 2. Nf3) 2. Nc3 *", Verified::EachGame, b"game 1: 3 half-moves, *\n"),
+    // Two variations replace the same move, and one is in another.
+    (
+        b"1. e4 (1. d4) (1. c4 c5 (1... e5) 2. Nf3) 1... e5 *",
+        Verified::EachGame,
+        b"game 1: 2 half-moves, *\n",
+    ),
+    // Black's move replaces White's: it is not Black's turn.
+    (
+        b"1. e4 (1... e5) e5 *",
+        Verified::FaultReported,
+        b"game 1: illegal move in a variation at byte 12\n# line 1 column 13 e5)\n",
+    ),
+    (
+        b"1. e4 e5 (2. Nf3) *",
+        Verified::FaultReported,
+        b"game 1: illegal move in a variation at byte 13\n# line 1 column 14 Nf3)\n",
+    ),
+    // The second move of a variation, and one of a variation in it.
+    (
+        b"1. e4 (1. d4 d4) e5 *",
+        Verified::FaultReported,
+        b"game 1: illegal move in a variation at byte 13\n# line 1 column 14 d4)\n",
+    ),
+    (
+        b"1. e4 (1. d4 d5 (1... c5 2. c5)) e5 *",
+        Verified::FaultReported,
+        b"game 1: illegal move in a variation at byte 28\n# line 1 column 29 c5))\n",
+    ),
+    // After a variation the line goes on where it was.
+    (
+        b"1. e4 (1. d4) d4 *",
+        Verified::FaultReported,
+        b"game 1: illegal move at byte 14\n# line 1 column 15 d4 | rnbqkbnr/pppppppp/8/8/4P3/8/PPPP1PPP/RNBQKBNR b KQkq e3 0 1\n",
+    ),
+    (
+        b"1. d4 (1. e4 e5 (1... c5) e5) d5 *",
+        Verified::FaultReported,
+        b"game 1: illegal move in a variation at byte 26\n# line 1 column 27 e5)\n",
+    ),
+    // With no move before it in its own line.
+    (
+        b"(1. d4) 1. e4 *",
+        Verified::FaultReported,
+        b"game 1: bad token in a variation at byte 0\n# line 1 column 1 (1. | no move that this variation replaces\n",
+    ),
+    (
+        b"1. e4 ((1. d4) c4) e5 *",
+        Verified::FaultReported,
+        b"game 1: bad token in a variation at byte 7\n# line 1 column 8 (1. | no move that this variation replaces\n",
+    ),
+    // Null moves.
+    (
+        b"1. e4 e5 (1... -- 2. d4) *",
+        Verified::FaultReported,
+        b"game 1: bad token in a variation at byte 15\n# line 1 column 16 -- | a null move, which chess does not have\n",
+    ),
+    (
+        b"1. e4 e5 (1... Z0) *",
+        Verified::FaultReported,
+        b"game 1: bad token in a variation at byte 15\n# line 1 column 16 Z0) | a null move, which chess does not have\n",
+    ),
+    // Comments, `%` lines, glyphs, marks, numbers, results and tags are passed over, and what is in them isn't read.
+    (
+        b"1. e4 (1. d4 {Ke9 (} $1 !? ; Ke9 (\n% Ke9 (\n d5 1-0 [a \"Ke9\"] 2. c4) e5 *",
+        Verified::EachGame,
+        b"game 1: 2 half-moves, *\n",
+    ),
+    (
+        b"1. e4 (1. d4 & d5) e5 *",
+        Verified::FaultReported,
+        b"game 1: bad token in a variation at byte 13\n# line 1 column 14 & | begins no token\n",
+    ),
+    (
+        b"1. e4 (1. d4 Ke9) e5 *",
+        Verified::FaultReported,
+        b"game 1: bad token in a variation at byte 13\n# line 1 column 14 Ke9) | not a move\n",
+    ),
+    // Castling, en passant and a promotion in variations.
+    (
+        b"[FEN \"r3k2r/6P1/8/8/8/8/8/R3K2R w KQkq - 0 1\"] 1. O-O (1. O-O-O) (1. gxh8=Q+) Ke7 *",
+        Verified::EachGame,
+        b"game 1: 2 half-moves, *\n",
+    ),
+    (
+        b"[FEN \"4k3/8/8/8/1p6/8/P7/4K3 w - - 0 1\"] 1. a4 bxa3 (1... b3) (1... bxa3 2. Kd1 (2. Ke2)) *",
+        Verified::EachGame,
+        b"game 1: 2 half-moves, *\n",
+    ),
+    // After mate no move is legal; no draw ends a variation: here the kings are alone.
+    (
+        b"1. f3 e5 2. g4 d5 (2... Qh4# 3. a3) *",
+        Verified::FaultReported,
+        b"game 1: illegal move in a variation at byte 32\n# line 1 column 33 a3)\n",
+    ),
+    (
+        b"[FEN \"4k3/8/8/8/8/8/4p3/4K3 w - - 0 1\"] 1. Kd2 (1. Kxe2 Ke7 2. Ke3) e1=Q+ *",
+        Verified::EachGame,
+        b"game 1: 2 half-moves, *\n",
+    ),
+    // A fault of the game itself comes first, and the games after a game are read.
+    (
+        b"1. e4 (1. d5) e5 2. Ke3 *",
+        Verified::FaultReported,
+        b"game 1: illegal move at byte 20\n# line 1 column 21 Ke3 | rnbqkbnr/pppp1ppp/8/4p3/4P3/8/PPPP1PPP/RNBQKBNR w KQkq e6 0 2\n",
+    ),
+    (
+        b"1. e4 (1. d4) * 1. d4 (1. d5) *",
+        Verified::FaultReported,
+        b"game 1: 1 half-moves, *\ngame 2: illegal move in a variation at byte 26\n# line 1 column 27 d5)\n",
+    ),
+];
+
+#[test]
+fn variations_are_read(rt: HostRuntime) {
+    for (text, wanted, lines) in &VARIATION_TEXTS {
+        check_cuts(&rt, &rt, false, VARIATIONS, *text, *wanted, *lines);
+    }
 }
 
 #[test]

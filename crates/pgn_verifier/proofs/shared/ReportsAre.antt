@@ -1,5 +1,5 @@
 -- The reports that are made one after another are those of the definitions.
-use Rattle.std.proofs.Common.{◌≡◌, ℕ, zero, suc, ◌+◌, ◌<◌, ◌≤◌, Bool, List, [], ◌∷◌, length, drop, Option, Some, None, IfSome, true, false, Result, Ok, Err, IfOk, refl, sym, ap, subst, ◌∙◌, arith}
+use Rattle.std.proofs.Common.{◌≡◌, ℕ, zero, suc, ◌+◌, ◌<◌, ◌≤◌, Bool, List, [], ◌∷◌, length, drop, Option, Some, None, IfSome, true, false, Result, Ok, Err, IfOk, refl, sym, ap, subst, arith}
 use Rattle.std.specs.List.{flat_map}
 use Rattle.std.specs.Option.{option_map_or, unwrap_or}
 use Rattle.std.specs.Prelude.{nat_le, if◌then◌else◌}
@@ -9,7 +9,8 @@ use Rattle.chess_game.specs.declared.game.TheConstants.{MOST_MOVES}
 use Rattle.chess_game.specs.declared.verdicts.Verdict.{Verdict}
 use Rattle.chess_pgn.specs.GameRead.{pgn_read, read_of_split}
 use Rattle.chess_pgn.specs.LastTags.{result_tag_of}
-use Rattle.chess_pgn.specs.Tokens.{Token, tokens_from}
+use Rattle.chess_pgn.specs.UnknownVariants.{unknown_variant_in}
+use Rattle.chess_pgn.specs.Tokens.{tokens_from}
 use Rattle.byte_devices.specs.Bytes.{after_byte_order_mark}
 use Rattle.chess_pgn.specs.declared.read.PgnEnd.{PgnEnd}
 use Rattle.chess_pgn.specs.declared.read.PgnFault.{PgnFault}
@@ -19,9 +20,10 @@ use Rattle.chess_pgn.proofs.shared.Tokens.{read_split, split_read}
 use Rattle.pgn_pieces.specs.Pieces.{known_pieces}
 use Rattle.pgn_pieces.specs.Stream.{Piece, with_offsets, pieces}
 use Rattle.pgn_pieces.specs.declared.pieces.TheConstants.{PIECE_LEN}
+use Rattle.pgn_verifier.specs.declared.options.Strictness.{Strictness}
 use Rattle.pgn_verifier.specs.Collection.{AreCollectionReports, no_piece, next_piece}
-use Rattle.pgn_verifier.specs.GameFaults.{judged, IsJudged}
-use Rattle.pgn_verifier.specs.shared.Contradictions.{contradiction}
+use Rattle.pgn_verifier.specs.GameFaults.{judged, variation_in, IsJudged}
+use Rattle.pgn_verifier.specs.shared.Contradictions.{end_fault}
 use Rattle.pgn_verifier.specs.Reports.{Placed, names_of, next_begin, AreReports, AreReportsOf, none_left, next_game, next_fault, AreReportsIn}
 use Rattle.pgn_verifier.specs.declared.game_fault.GameFault.{GameFault}
 use Rattle.pgn_verifier.specs.laws.Reasons.{reason}
@@ -31,12 +33,14 @@ use Rattle.pgn_verifier.specs.laws.Reported.{names_at, next_at, read_at, judged_
 -- ---- one game
 
 -- what is judged of a text is what `IsJudged` asks for
-pub judged_is : (strict : Bool) (text : List ℕ) (at : ℕ)
+pub judged_is : (strict : Strictness) (text : List ℕ) (at : ℕ)
     → IsJudged strict text at (read_at text at).state (judged_at strict text at)
 unfolding pgn_read
 judged_is strict text at = record {
   tokens = tokens_from text (after_byte_order_mark text at);
   split = read_split text (after_byte_order_mark text at);
+  split_of = tokens_from;
+  splits = read_split;
   ended = (read_at text at).answer;
   read = refl;
   is = refl;
@@ -45,32 +49,36 @@ judged_is strict text at = record {
 -- ---- a text
 
 -- what names a game, by the tokens by which it was judged
-pub named : {strict : Bool} {text : List ℕ} {at : ℕ} {s : State} {r : Result (Option PgnEnd) GameFault}
+pub named : {strict : Strictness} {text : List ℕ} {at : ℕ} {s : State} {r : Result (Option PgnEnd) GameFault}
     → (j : IsJudged strict text at s r) → names_of j.tokens ≡ names_at text at
 named {strict} {text} j = ap names_of (split_read text j.split)
 
 abbrev EndsIn : ℕ → ℕ → Result (Option PgnEnd) GameFault → Type 0
 EndsIn total at r = IfOk r (λ o. IfSome o (λ e. (at < e.offset) × (e.offset ≤ total)))
 
-judged_end : (strict : Bool) (tag : Option ResultTag) (verdict : Option Verdict) (total at : ℕ)
-    (r : Result (Option PgnEnd) PgnFault) → IfOk r (λ o. IfSome o (λ e. (at < e.offset) × (e.offset ≤ total)))
-    → EndsIn total at (judged strict tag verdict r)
-judged_end strict tag verdict total at (Ok None) h = tt
-judged_end strict tag verdict total at (Err f) h = tt
-judged_end strict tag verdict total at (Ok (Some end)) h = by_fault (contradiction strict tag verdict end)
+judged_end : (strict : Strictness) (variation : PgnEnd → Option PgnFault) (unknown : Option ℕ)
+    (tag : Option ResultTag) (verdict : Option Verdict) (total at : ℕ) (r : Result (Option PgnEnd) PgnFault)
+    → IfOk r (λ o. IfSome o (λ e. (at < e.offset) × (e.offset ≤ total)))
+    → EndsIn total at (judged strict variation unknown tag verdict r)
+judged_end strict variation unknown tag verdict total at (Ok None) h = tt
+judged_end strict variation unknown tag verdict total at (Err f) h = tt
+judged_end strict variation unknown tag verdict total at (Ok (Some end)) h =
+    by_fault (end_fault strict variation unknown tag verdict end)
   where
     by_fault : (o : Option GameFault) → EndsIn total at (option_map_or Err o (Ok (Some end)))
     by_fault None = h
     by_fault (Some f) = tt
 
-ends : (strict : Bool) (text : List ℕ) (at : ℕ) → at ≤ length text
+ends : (strict : Strictness) (text : List ℕ) (at : ℕ) → at ≤ length text
     → EndsIn (length text) at (judged_at strict text at)
 ends strict text at h =
-    judged_end strict (result_tag_of (length text) (tokens_from text (after_byte_order_mark text at)))
+    judged_end strict (variation_in tokens_from text at (read_at text at).state.start)
+    (unknown_variant_in (length text) (tokens_from text (after_byte_order_mark text at)))
+    (result_tag_of (length text) (tokens_from text (after_byte_order_mark text at)))
     (verdict_now (read_at text at).state) (length text) at (read_at text at).answer (ends_in_text MOST_MOVES text at h)
 
 -- where reading goes on after a fault, by the tokens by which the game was judged
-pub goes_on_there : {strict : Bool} {text : List ℕ} {at : ℕ} {s : State} {r : Result (Option PgnEnd) GameFault}
+pub goes_on_there : {strict : Strictness} {text : List ℕ} {at : ℕ} {s : State} {r : Result (Option PgnEnd) GameFault}
     → (goes_on : Bool) (j : IsJudged strict text at s r)
     → next_begin goes_on (length text) j.tokens ≡ next_at goes_on text at
 goes_on_there {strict} {text} goes_on j = ap (next_begin goes_on (length text)) (split_read text j.split)
@@ -82,14 +90,16 @@ later_there true text at h = end_in_text text at h
 later_there false text at h = tt
 
 -- at a text's end no game is left
-pub none_at_end : (strict : Bool) (text : List ℕ) → judged_at strict text (length text) ≡ Ok None
+pub none_at_end : (strict : Strictness) (text : List ℕ) → judged_at strict text (length text) ≡ Ok None
 unfolding pgn_read
 none_at_end strict text =
-    ap (λ ts. judged strict (result_tag_of (length text) ts)
+    ap (λ ts. judged strict
+    (variation_in tokens_from text (length text) (read_of_split MOST_MOVES (length text) ts).state.start)
+    (unknown_variant_in (length text) ts) (result_tag_of (length text) ts)
     (verdict_now (read_of_split MOST_MOVES (length text) ts).state)
     (read_of_split MOST_MOVES (length text) ts).answer) (none_from_end text)
 
-module _ (goes_on strict : Bool) (start : ℕ) (text : List ℕ) where
+module _ (goes_on : Bool) (strict : Strictness) (start : ℕ) (text : List ℕ) where
   nothing_there : AreReportsOf goes_on strict start text (length text) []
   nothing_there = none_left (subst (IsJudged strict text (length text) (read_at text (length text)).state)
       (none_at_end strict text) (judged_is strict text (length text)))
@@ -141,13 +151,13 @@ module _ (goes_on strict : Bool) (start : ℕ) (text : List ℕ) where
   are_reports_of = from_here (length text + 1) 0 (omega arith) (omega arith)
 
 -- the reports on a text are those that `AreReports` asks for
-pub are_reports : (strict : Bool) (start : ℕ) (text : List ℕ)
+pub are_reports : (strict : Strictness) (start : ℕ) (text : List ℕ)
     → AreReports strict start text 0 (placed_on strict start text)
 are_reports strict start text = are_reports_of false strict start text
 
 -- ---- pieces
 
-reports_are_in : (strict : Bool) (piece : Piece)
+reports_are_in : (strict : Strictness) (piece : Piece)
     → AreReportsIn strict piece.offset piece.bytes (placed_in strict piece)
 reports_are_in strict piece = by_test (nat_le (length piece.bytes) PIECE_LEN)
   where
@@ -158,7 +168,7 @@ reports_are_in strict piece = by_test (nat_le (length piece.bytes) PIECE_LEN)
     by_test true = are_reports_of true strict piece.offset piece.bytes
     by_test false = refl
 
-are_all : (strict : Bool) (offset : ℕ) (all : List (List ℕ))
+are_all : (strict : Strictness) (offset : ℕ) (all : List (List ℕ))
     → AreCollectionReports strict offset all (flat_map (placed_in strict) (with_offsets offset all))
 are_all strict offset [] = no_piece
 are_all strict offset (piece ∷ more) =
@@ -166,7 +176,7 @@ are_all strict offset (piece ∷ more) =
     (reports_are_in strict (record { offset = offset; bytes = piece })) (are_all strict (offset + length piece) more)
 
 -- the reports on a collection are those that `AreCollectionReports` asks for
-pub are_collection_reports : (strict ended : Bool) (text : List ℕ)
+pub are_collection_reports : (strict : Strictness) (ended : Bool) (text : List ℕ)
     → AreCollectionReports strict 0 (known_pieces ended text) (collection_placed strict ended text)
 unfolding pieces
 are_collection_reports strict ended text = are_all strict 0 (known_pieces ended text)

@@ -13,7 +13,7 @@ use Rattle.chess_pgn.proofs.shared.Tags.{name_comes, opening_read, NameIs, name_
 use Rattle.pgn_verifier.specs.Explanations.{IsReason}
 use Rattle.pgn_verifier.specs.WrongParts.{HasName, HasOpening, HasString, IsTagReason, no_name, no_value, not_closed, no_bracket}
 use Rattle.pgn_verifier.specs.declared.game_fault.FaultKind.{FaultKind}
-use Rattle.pgn_verifier.specs.declared.game_fault.FaultKind.TheVariants.{Pgn, ResultDiffers, BoardSaysOtherwise}
+use Rattle.pgn_verifier.specs.declared.game_fault.FaultKind.TheVariants.{Pgn, InVariation, UnknownVariant, ResultDiffers, BoardSaysOtherwise}
 use Rattle.pgn_verifier.specs.laws.Reasons.{string_reason, value_reason, name_reason, tag_reason, reason}
 
 -- ---- the parts of a tag that a text has are those that are read
@@ -136,5 +136,16 @@ reason_is (Pgn pgn.TooLong) text verdict = refl
 reason_is (Pgn pgn.UnclosedComment) text verdict = refl
 reason_is (Pgn pgn.UnclosedVariation) text verdict = refl
 reason_is (Pgn pgn.NoResult) text verdict = refl
+reason_is (InVariation pgn.BadTag) text verdict = refl
+reason_is (InVariation (pgn.BadFen fault)) text verdict = refl
+reason_is (InVariation pgn.BadToken) text verdict = refl
+reason_is (InVariation pgn.IllegalMove) text verdict = refl
+reason_is (InVariation pgn.AmbiguousMove) text verdict = refl
+reason_is (InVariation pgn.AfterEnd) text verdict = refl
+reason_is (InVariation pgn.TooLong) text verdict = refl
+reason_is (InVariation pgn.UnclosedComment) text verdict = refl
+reason_is (InVariation pgn.UnclosedVariation) text verdict = refl
+reason_is (InVariation pgn.NoResult) text verdict = refl
+reason_is UnknownVariant text verdict = refl
 reason_is (ResultDiffers tag_len outcome) text verdict = refl
 reason_is BoardSaysOtherwise text verdict = refl

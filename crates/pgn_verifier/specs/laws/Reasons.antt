@@ -13,7 +13,7 @@ use Rattle.chess_pgn.specs.declared.read.PgnFaultKind.TheVariants.{BadTag, BadFe
 use Rattle.pgn_verifier.specs.Explanations.{explanation, shown}
 use Rattle.pgn_verifier.specs.WrongParts.{move_reason, token_reason}
 use Rattle.pgn_verifier.specs.declared.game_fault.FaultKind.{FaultKind}
-use Rattle.pgn_verifier.specs.declared.game_fault.FaultKind.TheVariants.{Pgn, ResultDiffers, BoardSaysOtherwise}
+use Rattle.pgn_verifier.specs.declared.game_fault.FaultKind.TheVariants.{Pgn, InVariation, UnknownVariant, ResultDiffers, BoardSaysOtherwise}
 
 -- ---- tags
 
@@ -47,6 +47,9 @@ reason (Pgn (BadFen fault)) text verdict = Some (fen_fault_name fault)
 reason (Pgn BadToken) text verdict = Some (token_reason text)
 reason (Pgn IllegalMove) text verdict = move_reason text
 reason (Pgn AfterEnd) text verdict = option_map (λ v. result_text (verdict_result v)) verdict
+reason (InVariation BadToken) text verdict = Some (token_reason text)
+reason UnknownVariant text verdict =
+    Some (codes "neither normal chess nor Chess960, by a name that is known")
 reason (ResultDiffers tag_len outcome) text verdict =
     Some (codes "Result " ++ (shown (take tag_len text) ++ (codes ", ended " ++ outcome_text outcome)))
 reason BoardSaysOtherwise text verdict = option_map (λ v. result_text (verdict_result v)) verdict

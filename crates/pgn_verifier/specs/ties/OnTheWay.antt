@@ -4,6 +4,7 @@ use Rattle.std.specs.Prelude.{◌≡◌, ◌<◌, ℕ, true, false, List, [], �
 use Rattle.std.specs.List.{flat_map, fold}
 use Rattle.std.specs.Option.{option_map_or}
 use Rattle.chess_pgn.specs.declared.read.PgnFaultKind.TheVariants.{TooLong}
+use Rattle.pgn_verifier.specs.declared.options.Strictness.{Strictness}
 use Rattle.pgn_verifier.specs.Explanations.{shown}
 use Rattle.pgn_verifier.specs.GameFaults.{fault_name}
 use Rattle.chess_game.specs.Results.{outcome_text}
@@ -88,8 +89,9 @@ too_long_seen piece = record {
   report = Faulty (record { kind = Pgn TooLong; offset = piece.offset }) piece.offset (shown piece.beginning);
 }
 
--- the reports on the games of a piece (`placed_in`), from what is seen of it; `strict`: results are compared
-abbrev pub reports_seen : Bool → PieceSeen → List Placed
+-- the reports on the games of a piece (`placed_in`), from what is seen of it; `strict`: what is looked for at a game's
+-- end
+abbrev pub reports_seen : Strictness → PieceSeen → List Placed
 reports_seen strict piece =
     option_map_or (placed_of true strict piece.offset) piece.bytes (too_long_seen piece ∷ [])
 
@@ -115,8 +117,8 @@ abbrev pub fault_line : ℕ → GameFault → List ℕ → List ℕ → List ℕ
 fault_line number fault span names =
     report_line number (fault_name fault.kind ++ (codes " at byte " ++ (decimal fault.offset ++ (span ++ names))))
 
--- the reports on the games of these pieces, in order; `strict`: results are compared
-abbrev pub reports_of : Bool → List PieceSeen → List Placed
+-- the reports on the games of these pieces, in order; `strict`: what is looked for at a game's end
+abbrev pub reports_of : Strictness → List PieceSeen → List Placed
 reports_of strict pieces = flat_map (reports_seen strict) pieces
 
 -- the counts `t` with one more report: it adds a game and its half-moves, or a fault

@@ -1,5 +1,5 @@
 -- The bounds of the line and the column are those of the text (Known).
-use Rattle.std.proofs.Common.{ap, sym, subst, arith}
+use Rattle.std.proofs.Common.{sym, subst, arith}
 use Rattle.pgn_verifier.specs.ties.Counting.{Known}
 use Rattle.pgn_verifier.proofs.Placed.{known_at_start}
 use Rattle.pgn_verifier.proofs.place.Place.counted_to.Goals as goal
