@@ -116,7 +116,7 @@ pub data AreReportsOf (goes_on : Bool) (strict : Strictness) (start : ℕ) (text
       } ∷ reports)
 
 -- the reports on a text up to the first game with a fault
-abbrev pub AreReports : Bool → ℕ → List ℕ → ℕ → List Placed → Type 0
+abbrev pub AreReports : Strictness → ℕ → List ℕ → ℕ → List Placed → Type 0
 AreReports = AreReportsOf false
 
 -- ---- the reports on the games of pieces
