@@ -61,10 +61,9 @@ after_token at before p (Ok None) later = later before p
 after_token at before p (Ok (Some m)) later = later (Some p) (after p m)
 after_token at before p (Err kind) later = Some (record { kind = kind; offset = at })
 
--- the first fault of a line of the text from these tokens on, where its position is `p`; `None` without one. The line
--- of a variation ends at its `)` (`is_end`). `before` is the position before the line's last move, if it
--- has one: there a variation begins, and without it the variation is a fault. `inside` gives the first fault of the
--- variation at an offset
+-- the first fault of a line of the text from these tokens on, in the position `p`; the line of a variation ends at its
+-- `)`. `before` is the position before the line's last move, if it has one: there a variation begins, and without it
+-- the variation is a fault. `inside` gives the first fault of the variation at an offset
 abbrev pub line_fault : List ℕ → (Setup → ℕ → Option PgnFault) → Option Setup → Setup → List (ℕ × Token)
     → Option PgnFault
 line_fault text inside before p [] = None
