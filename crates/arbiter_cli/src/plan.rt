@@ -18,11 +18,12 @@ use match_runner::GamesPlan;
 /// How the games on the standard input are verified.
 #[derive(Clone, Copy, Debug, PartialEq, Eq)]
 pub struct VerifyPlan {
-    /// Whether verifying continues after a fault, with the next piece, and writes totals at the end.
+    /// Whether verifying continues after a fault, where its game ends, and writes totals at the end.
     pub keep_going: bool,
     /// Whether only games with a fault are reported.
     pub quiet: bool,
-    /// Whether the result is also checked against the tag Result and the final position.
+    /// Whether the variant is to be known, and the result is also checked against the tag Result and the final
+    /// position.
     pub strict: bool,
     /// Whether each fault is followed by a line that says where it is and why.
     pub explain: bool,

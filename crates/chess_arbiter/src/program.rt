@@ -120,8 +120,8 @@ fn options_of(plan: VerifyPlan) -> VerifyOptions
     }
 }
 
-// Verifies the input's games: with `--keep-going` piece by piece, so that a fault ends only its piece; otherwise as one
-// text up to its first fault.
+// Verifies the input's games: with `--keep-going` piece by piece, also after faults; otherwise as one text up to its
+// first fault.
 fn verify_as<R: Input, W: Output>(
     alloc: Global,
     plan: VerifyPlan,
@@ -266,10 +266,11 @@ fn matched<H: Host, W: Output, E: Output>(
 /// - No arguments, or `session`: a session of at most 20,000 half-moves.
 /// - `verify`: the games of the input, one line for each up to the first fault. With `--keep-going` an input of any
 ///   length, cut into pieces: one begins at the first byte, at a tag line after a line of moves, and at a second Event
-///   tag line. A fault ends only its piece, and totals follow at the end. `--quiet` leaves out games without a fault;
-///   with `--strict` a result that contradicts the tag Result or the final position is a fault too; with `--spans` each
-///   line says where its game is; with `--names` the line of a fault ends with the game's players, event and date;
-///   with `--explain` a second line explains each fault.
+///   tag line. After a fault reading continues where its game ends, and totals follow at the end. `--quiet` leaves out
+///   games without a fault; with `--strict` a result that contradicts the tag Result or the final position is a fault
+///   too, and a variant that is not known; with `--variations` so is one in a variation; with `--spans` each line says
+///   where its game is; with `--names` the line of a fault ends with the game's players, event and date; with
+///   `--explain` a second line explains each fault.
 /// - `match` with `--white`, `--black` and perhaps `--games`, `--level`, `--fen`, `--variant`, `--draws`, `--date`,
 ///   `--log`, `--flag` and `--reply-timeout`: games between two engines that the host starts, the text of each game, and
 ///   then the score. The input is left untouched.

@@ -40,8 +40,8 @@ abbrev pub collection_text : VerifyOptions → List Placed → FromInput → Lis
 collection_text options reports i =
     report_lines options i.text 1 reports ++ (if i.ended then counts_line (counts_of (without_spans reports)) else [])
 
--- what verifying a collection reads (`i`) and writes (`o`), by its result: the reports on its pieces, where a fault
--- ends only its own piece. Before the input's end the last piece read is left out, since it may go on (`known_pieces`)
+-- what verifying a collection reads (`i`) and writes (`o`), by its result: the reports on its pieces, also after
+-- faults. Before the input's end the last piece read is left out, since it may go on (`known_pieces`)
 abbrev pub VerifiesCollection : VerifyOptions → Result Verified VerifyFault → FromInput → ToOutput → Type 0
 VerifiesCollection options result i o = (reports : List Placed)
     × AreCollectionReports options.strict 0 (known_pieces i.ended i.text) reports
