@@ -1,23 +1,29 @@
 -- What a session answers to some lines by its game.
 use Prim.Native.String.{String as Text}
-use Rattle.std.proofs.Common.{◌≡◌, ◌∙◌, ◌≤◌, ℕ, Bool, true, false, List, [], ◌∷◌, ◌++◌, length, Option, None, Some, refl, ap, arith}
-use Rattle.std.specs.Prelude.{codes, if◌then◌else◌, nat_le, Err}
+use Rattle.std.proofs.Common.{◌≡◌, ◌∙◌, ◌-◌, ◌<◌, ◌≤◌, ℕ, Bool, true, false, List, [], ◌∷◌, ◌++◌, length, Option, None, Some, refl, ap, arith}
+use Rattle.std.specs.Prelude.{codes, if◌then◌else◌, nat_le, take, Err}
 use Rattle.std.specs.Option.{option_map_or}
+use Rattle.std.proofs.lemmas.Bool.{lt-leb}
 use Rattle.std.proofs.lemmas.Bool.Decides.{nat_tests}
+use Rattle.byte_devices.specs.Bytes.{new_line}
 use Rattle.chess_base.specs.Attacks.{is_clear, could_capture, attacks, is_attacked, is_in_check}
 use Rattle.chess_base.specs.Castling.{king_square, right_is_sound}
 use Rattle.chess_base.specs.Faults.{rights_are_sound}
 use Rattle.chess_base.specs.Men.{is_of, is_man}
+use Rattle.chess_base.specs.Initial.{initial_setup}
+use Rattle.chess_base.specs.MoveList as list
 use Rattle.chess_base.specs.Sound.{has_one_king, no_pawn_on_end_ranks, has_at_most_16, target_is_sound}
 use Rattle.chess_base.specs.Squares.{squares, some_square, each_square, is_between}
+use Rattle.chess_base.specs.declared.man.Move.{Move}
 use Rattle.chess_base.specs.declared.fen_fault.FenFault.{FenFault}
 use Rattle.chess_base.specs.declared.fen_fault.FenFault.TheVariants as faults
 use Rattle.chess_base.specs.declared.man.Variant.{Variant}
-use Rattle.chess_base.specs.declared.man.Variant.TheVariants.{Normal}
+use Rattle.chess_base.specs.declared.man.Variant.TheVariants.{Normal, Fischerandom}
 use Rattle.chess_fen.specs.Reading.{fen_reading_as}
 use Rattle.chess_fen.specs.Texts.{may_name_right}
-use Rattle.chess_game.specs.Ends.{claim_comment, claims, draw_claim, result_text}
-use Rattle.chess_game.specs.Game.{State, contradicts_verdict, current, is_over, verdict_now}
+use Rattle.chess_fen.specs.Writing.{fen}
+use Rattle.chess_game.specs.Ends.{claim_comment, claims, draw_claim, result_text, verdict_result}
+use Rattle.chess_game.specs.Game.{State, contradicts_verdict, current, from_start, is_over, played, taken_back, verdict_now}
 use Rattle.chess_game.specs.declared.results.Declared.{Declared}
 use Rattle.chess_game.specs.declared.results.Outcome.TheVariants.{WhiteWins, Draw}
 use Rattle.chess_game.specs.declared.verdicts.DrawClaim.{DrawClaim}
@@ -25,17 +31,22 @@ use Rattle.chess_game.specs.declared.verdicts.DrawClaim.TheVariants.{Threefold, 
 use Rattle.chess_game.specs.declared.verdicts.Verdict.{Verdict}
 use Rattle.chess_game.specs.declared.verdicts.Verdict.TheVariants.{WhiteMates, BlackMates}
 use Rattle.chess_text.specs.Moves.{reading}
+use Rattle.chess_text.specs.San.{is_fischerandom}
+use Rattle.chess_text.specs.declared.reading.Reading.{Reading}
+use Rattle.chess_text.specs.declared.reading.Reading.TheVariants as reads
 use Rattle.text_lines.specs.Words.{argument_of}
 use Rattle.chess_cecp.specs.Commands.{command_of, is_ignored, named_command}
-use Rattle.chess_cecp.specs.Declaring.{read_result, result_comment}
+use Rattle.chess_cecp.specs.Declaring.{read_result, result_comment, state_text}
 use Rattle.chess_cecp.specs.Held.{SessionSeen}
-use Rattle.chess_cecp.specs.Serving.{Response, becomes}
-use Rattle.chess_cecp.specs.Session.{answers, claim_row, declares, move_row, reading_row, result_row, row, setboard_row}
+use Rattle.chess_cecp.specs.Serving.{Response, becomes, says}
+use Rattle.chess_cecp.specs.Session.{answers, becomes_judged, claim_row, declares, move_row, moves_text, reading_row, result_row, row, setboard_row, take_back_row}
 use Rattle.chess_cecp.specs.declared.command.Command.{Command}
-use Rattle.chess_cecp.specs.declared.command.Command.TheVariants.{Claim, Declare, SetBoard, UserMove}
-use Rattle.chess_cecp_laws.specs.GameLines.{Declares, GameLinesAreAnswered}
-use Rattle.chess_cecp_laws.specs.SessionLines.{IsAnswered}
+use Rattle.chess_cecp.specs.declared.command.Command.TheVariants.{Claim, Declare, Remove, SetBoard, ShowFen, ShowMoves, ShowState, Undo, UserMove}
+use Rattle.chess_cecp.specs.declared.command.Command.TheVariants as commands
+use Rattle.chess_cecp_laws.specs.GameLines.{Declares, GameLinesAreAnswered, Plays}
+use Rattle.chess_cecp_laws.specs.SessionLines.{Becomes, IsAnswered, IsIgnored}
 use Rattle.chess_cecp_laws.proofs.SessionLines.{answered, if_false, if_true, responds, with_game}
+use Rattle.chess_cecp_laws.proofs.ShownLines.{fen_shown, moves_shown, state_shown}
 
 -- the row of this line in the table
 abbrev row_of : SessionSeen → List ℕ → Command → Response State
@@ -74,6 +85,52 @@ long_move limit s text e h =
     else reading_row s text (reading (current s) text)) e
     ∙ if_true (nat_le limit (length s.moves)) (answers s (codes "Error (game too long): ") text)
     (reading_row s text (reading (current s) text)) (full limit (length s.moves) h)
+
+-- a text that is read so in a game that is on
+read_move : (limit : ℕ) (s : State) (text : List ℕ) (read : Reading) → is_over s ≡ false → length s.moves < limit
+    → reading (current s) text ≡ read → move_row limit s text ≡ reading_row s text read
+read_move limit s text read e h is =
+    if_false (is_over s) (answers s (codes "Illegal move (game over): ") text)
+    (if nat_le limit (length s.moves) then answers s (codes "Error (game too long): ") text
+    else reading_row s text (reading (current s) text)) e
+    ∙ if_false (nat_le limit (length s.moves)) (answers s (codes "Error (game too long): ") text)
+    (reading_row s text (reading (current s) text)) (lt-leb limit (length s.moves) h)
+    ∙ ap (reading_row s text) is
+
+-- a game, with the answer by this verdict
+abbrev judged_by : State → Option Verdict → Response State
+judged_by s v = says s (option_map_or (λ x. result_text (verdict_result x) ++ new_line ∷ []) v [])
+
+judged : (s : State) (v : Option Verdict) → verdict_now s ≡ v → becomes_judged s ≡ judged_by s v
+judged s v e = ap (judged_by s) e
+
+-- the game with these moves, and no declared result
+abbrev with_moves : State → List Move → State
+with_moves s ms = record s { moves = ms; declared = None }
+
+one_back : (s : State) (m : Move) → s.moves ≡ m ∷ []
+    → take_back_row 1 (codes "undo") s ≡ becomes (from_start s.start)
+one_back s m e =
+    if_true (nat_le 1 (length s.moves)) (becomes (taken_back s 1))
+    (answers s (codes "Error (command not legal now): ") (codes "undo"))
+    (ap (λ (ms : List Move). nat_le 1 (length ms)) e)
+    ∙ ap (λ (ms : List Move). becomes (with_moves s (take (length ms - 1) ms))) e
+
+two_back : (s : State) (m n : Move) → s.moves ≡ m ∷ n ∷ []
+    → take_back_row 2 (codes "remove") s ≡ becomes (from_start s.start)
+two_back s m n e =
+    if_true (nat_le 2 (length s.moves)) (becomes (taken_back s 2))
+    (answers s (codes "Error (command not legal now): ") (codes "remove"))
+    (ap (λ (ms : List Move). nat_le 2 (length ms)) e)
+    ∙ ap (λ (ms : List Move). becomes (with_moves s (take (length ms - 2) ms))) e
+
+not_two_back : (s : State) (m : Move) → s.moves ≡ m ∷ []
+    → take_back_row 2 (codes "remove") s
+    ≡ answers s (codes "Error (command not legal now): ") (codes "remove")
+not_two_back s m e =
+    if_false (nat_le 2 (length s.moves)) (becomes (taken_back s 2))
+    (answers s (codes "Error (command not legal now): ") (codes "remove"))
+    (ap (λ (ms : List Move). nat_le 2 (length ms)) e)
 
 -- a draw that may be claimed, or none
 abbrev claimed : State → Option DrawClaim → Response State
@@ -158,6 +215,120 @@ module _ (session : SessionSeen) where
       (answers s (codes "Error (game too long): ") (codes "e4")) refl (long_move session.limit s (codes "e4") e h)
       refl refl refl
 
+  on_move : (answer : Text) (m : Move) (v : Option Verdict) → is_over s ≡ false → length s.moves < session.limit
+      → reading (current s) (codes "e4") ≡ reads.Move m → verdict_now (played s m) ≡ v
+      → (judged_by (played s m) v).text ≡ codes answer → Plays session "usermove e4" answer m
+  unfolding argument_of command_of named_command is_ignored
+  on_move answer m v e h is verdict text =
+      let first = responds session "usermove e4" UserMove refl in
+      let reply : move_row session.limit s (codes "e4") ≡ judged_by (played s m) v =
+      read_move session.limit s (codes "e4") (reads.Move m) e h is ∙ judged (played s m) v verdict in record {
+        text = ap (λ (r : Response SessionSeen). r.text) first ∙ ap (λ (r : Response State). r.text) reply ∙ text;
+        state = ap (λ (r : Response SessionSeen). r.state) first
+            ∙ ap (λ (r : Response State). with_game session r.state) reply;
+      }
+
+  quiet_move : (m : Move) → is_over s ≡ false → length s.moves < session.limit
+      → reading (current s) (codes "e4") ≡ reads.Move m → verdict_now (played s m) ≡ None
+      → Plays session "usermove e4" "" m
+  quiet_move m e h is none = on_move "" m None e h is none refl
+
+  mating_move : (m : Move) → is_over s ≡ false → length s.moves < session.limit
+      → reading (current s) (codes "e4") ≡ reads.Move m → verdict_now (played s m) ≡ Some WhiteMates
+      → Plays session "usermove e4" "1-0 {White mates}\n" m
+  unfolding result_text
+  mating_move m e h is mates = on_move "1-0 {White mates}\n" m (Some WhiteMates) e h is mates refl
+
+  several_moves : is_over s ≡ false → length s.moves < session.limit
+      → reading (current s) (codes "e4") ≡ reads.Ambiguous
+      → IsAnswered session "usermove e4" "Error (ambiguous move): e4\n"
+  unfolding argument_of command_of named_command is_ignored
+  several_moves e h is =
+      by_row session "usermove e4" "Error (ambiguous move): e4\n" UserMove
+      (answers s (codes "Error (ambiguous move): ") (codes "e4")) refl
+      (read_move session.limit s (codes "e4") reads.Ambiguous e h is) refl refl refl
+
+  no_move : is_over s ≡ false → length s.moves < session.limit
+      → reading (current s) (codes "e4") ≡ reads.NoSuch → IsAnswered session "usermove e4" "Illegal move: e4\n"
+  unfolding argument_of command_of named_command is_ignored
+  no_move e h is =
+      by_row session "usermove e4" "Illegal move: e4\n" UserMove
+      (answers s (codes "Illegal move: ") (codes "e4")) refl
+      (read_move session.limit s (codes "e4") reads.NoSuch e h is) refl refl refl
+
+  undo : (m : Move) → s.moves ≡ m ∷ [] → Becomes session "undo" (from_start s.start)
+  unfolding command_of named_command is_ignored
+  undo m e =
+      let first = responds session "undo" Undo refl in
+      let back = one_back s m e in record {
+        text = ap (λ (r : Response SessionSeen). r.text) first ∙ ap (λ (r : Response State). r.text) back;
+        state = ap (λ (r : Response SessionSeen). r.state) first
+            ∙ ap (λ (r : Response State). with_game session r.state) back;
+      }
+
+  remove_one : (m : Move) → s.moves ≡ m ∷ []
+      → IsAnswered session "remove" "Error (command not legal now): remove\n"
+  unfolding command_of named_command is_ignored
+  remove_one m e =
+      by_row session "remove" "Error (command not legal now): remove\n" Remove
+      (answers s (codes "Error (command not legal now): ") (codes "remove")) refl (not_two_back s m e) refl refl refl
+
+  remove : (m n : Move) → s.moves ≡ m ∷ n ∷ [] → Becomes session "remove" (from_start s.start)
+  unfolding command_of named_command is_ignored
+  remove m n e =
+      let first = responds session "remove" Remove refl in
+      let back = two_back s m n e in record {
+        text = ap (λ (r : Response SessionSeen). r.text) first ∙ ap (λ (r : Response State). r.text) back;
+        state = ap (λ (r : Response SessionSeen). r.state) first
+            ∙ ap (λ (r : Response State). with_game session r.state) back;
+      }
+
+  normal : s.start.variant ≡ Fischerandom → Becomes session "variant normal" (from_start initial_setup)
+  unfolding argument_of command_of named_command is_ignored
+  normal e =
+      let first = responds session "variant normal" commands.Variant refl in record {
+        text = ap (λ (r : Response SessionSeen). r.text) first;
+        state = ap (λ (r : Response SessionSeen). r.state) first
+            ∙ ap (with_game session) (if_true (is_fischerandom s.start.variant) (from_start initial_setup) s
+            (ap is_fischerandom e));
+      }
+
+  still_normal : s.start.variant ≡ Normal → IsIgnored session "variant normal"
+  unfolding argument_of command_of named_command is_ignored
+  still_normal e =
+      answered session "variant normal" "" commands.Variant refl refl
+      (ap (with_game session) (if_false (is_fischerandom s.start.variant) (from_start initial_setup) s
+      (ap is_fischerandom e))) refl
+
+  -- what is shown of the game
+  abbrev shows : List ℕ → List ℕ → List ℕ
+  shows front text = front ++ (text ++ new_line ∷ [])
+
+  fen_line : s ≡ from_start initial_setup
+      → IsAnswered session "showfen" "# fen rnbqkbnr/pppppppp/8/8/8/8/PPPPPPPP/RNBQKBNR w KQkq - 0 1\n"
+  unfolding command_of named_command is_ignored
+  fen_line e =
+      by_row session "showfen" "# fen rnbqkbnr/pppppppp/8/8/8/8/PPPPPPPP/RNBQKBNR w KQkq - 0 1\n" ShowFen
+      (answers s (codes "# fen ") (fen (current s))) refl refl
+      (ap (shows (codes "# fen ")) (ap (λ (x : State). fen (current x)) e ∙ fen_shown)) refl refl
+
+  moves_line : s ≡ from_start initial_setup → IsAnswered session "showmoves"
+      "# moves 20 b1a3 b1c3 g1f3 g1h3 a2a3 a2a4 b2b3 b2b4 c2c3 c2c4 d2d3 d2d4 e2e3 e2e4 f2f3 f2f4 g2g3 g2g4 h2h3 h2h4\n"
+  unfolding command_of named_command is_ignored
+  moves_line e =
+      by_row session "showmoves" _ ShowMoves
+      (answers s (codes "# moves ") (moves_text (current s) (list.moves (current s)))) refl refl
+      (ap (shows (codes "# moves "))
+      (ap (λ (x : State). moves_text (current x) (list.moves (current x))) e ∙ moves_shown)) refl refl
+
+  state_line : s ≡ from_start initial_setup → IsAnswered session "showstate"
+      "# state ply 0 rep 1 clock 0 claims none verdict none declared none\n"
+  unfolding command_of named_command is_ignored
+  state_line e =
+      by_row session "showstate" "# state ply 0 rep 1 clock 0 claims none verdict none declared none\n" ShowState
+      (answers s (codes "# state ply ") (state_text s)) refl refl
+      (ap (shows (codes "# state ply ")) (ap state_text e ∙ state_shown)) refl refl
+
   claim_after_end : is_over s ≡ true → IsAnswered session "claim" "Error (command not legal now): claim\n"
   unfolding command_of named_command is_ignored
   claim_after_end e =
@@ -234,6 +405,18 @@ game_lines_are_answered session = record {
   move_after_end = move_after_end session;
   claim_after_end = claim_after_end session;
   too_long = too_long session;
+  quiet_move = quiet_move session;
+  mating_move = mating_move session;
+  several_moves = several_moves session;
+  no_move = no_move session;
+  undo = undo session;
+  remove_one = remove_one session;
+  remove = remove session;
+  normal_again = normal session;
+  still_normal = still_normal session;
+  shown_fen = fen_line session;
+  shown_moves = moves_line session;
+  shown_state = state_line session;
   no_claim = no_claim session;
   threefold = threefold session;
   fifty_moves = fifty_moves session;

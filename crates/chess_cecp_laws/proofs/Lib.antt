@@ -3,4 +3,5 @@ mod PlayedWords
 mod Undone
 mod ShownFens
 mod SessionLines
+mod ShownLines
 mod GameLines

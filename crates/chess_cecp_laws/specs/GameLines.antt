@@ -1,16 +1,20 @@
 -- Lines of an interface that a session answers by its game, as texts (CECP, version 2; `claim` is this project's own).
-use Rattle.std.specs.Prelude.{◌≡◌, ◌≤◌, Bool, true, false, codes, length, None, Some}
+use Rattle.std.specs.Prelude.{◌≡◌, ◌<◌, ◌≤◌, Bool, true, false, [], ◌∷◌, codes, length, None, Some}
 use Prim.Native.String.{String as Text}
-use Rattle.chess_base.specs.declared.man.Variant.TheVariants.{Normal}
+use Rattle.chess_base.specs.declared.man.Move.{Move}
+use Rattle.chess_base.specs.declared.man.Variant.TheVariants.{Normal, Fischerandom}
+use Rattle.chess_base.specs.Initial.{initial_setup}
 use Rattle.chess_game.specs.Ends.{claims, draw_claim}
-use Rattle.chess_game.specs.Game.{State, is_over, verdict_now}
+use Rattle.chess_game.specs.Game.{State, current, from_start, is_over, played, verdict_now}
 use Rattle.chess_game.specs.declared.results.Declared.{Declared}
 use Rattle.chess_game.specs.declared.results.Outcome.{Outcome}
 use Rattle.chess_game.specs.declared.results.Outcome.TheVariants.{WhiteWins, Draw}
 use Rattle.chess_game.specs.declared.verdicts.DrawClaim.TheVariants.{Threefold, FiftyMoves}
 use Rattle.chess_game.specs.declared.verdicts.Verdict.TheVariants.{WhiteMates, BlackMates}
+use Rattle.chess_text.specs.Moves.{reading}
+use Rattle.chess_text.specs.declared.reading.Reading.TheVariants as reads
 use Rattle.chess_cecp.specs.Held.{SessionSeen}
-use Rattle.chess_cecp_laws.specs.SessionLines.{IsAnswered, response_to}
+use Rattle.chess_cecp_laws.specs.SessionLines.{Becomes, IsAnswered, IsIgnored, response_to}
 
 -- the session once this result is declared
 abbrev pub with_result : SessionSeen → Declared → SessionSeen
@@ -22,6 +26,11 @@ pub record Declares (session : SessionSeen) (line answer : Text) (outcome : Outc
   pub state : (response_to session line).state
       ≡ with_result session (record { outcome = outcome; comment = codes comment })
 
+-- the line is answered so, and this move is played
+pub record Plays (session : SessionSeen) (line answer : Text) (m : Move) : Type 0 where
+  pub text : (response_to session line).text ≡ codes answer
+  pub state : (response_to session line).state ≡ record session { state = played session.state m }
+
 -- in this session these lines are answered so, by what its game is
 pub record ByTheGame (session : SessionSeen) : Type 0 where
   -- a game that is over
@@ -32,6 +41,36 @@ pub record ByTheGame (session : SessionSeen) : Type 0 where
   -- a game that has as many half-moves as it may have
   pub too_long : is_over session.state ≡ false → session.limit ≤ length session.state.moves
       → IsAnswered session "usermove e4" "Error (game too long): e4\n"
+  -- a game that is on, in which `e4` denotes a move that ends nothing, one that mates, several moves, or none
+  pub quiet_move : (m : Move) → is_over session.state ≡ false → length session.state.moves < session.limit
+      → reading (current session.state) (codes "e4") ≡ reads.Move m
+      → verdict_now (played session.state m) ≡ None → Plays session "usermove e4" "" m
+  pub mating_move : (m : Move) → is_over session.state ≡ false → length session.state.moves < session.limit
+      → reading (current session.state) (codes "e4") ≡ reads.Move m
+      → verdict_now (played session.state m) ≡ Some WhiteMates → Plays session "usermove e4" "1-0 {White mates}\n" m
+  pub several_moves : is_over session.state ≡ false → length session.state.moves < session.limit
+      → reading (current session.state) (codes "e4") ≡ reads.Ambiguous
+      → IsAnswered session "usermove e4" "Error (ambiguous move): e4\n"
+  pub no_move : is_over session.state ≡ false → length session.state.moves < session.limit
+      → reading (current session.state) (codes "e4") ≡ reads.NoSuch
+      → IsAnswered session "usermove e4" "Illegal move: e4\n"
+  -- a game of one half-move, and one of two, with a declared result or without
+  pub undo : (m : Move) → session.state.moves ≡ m ∷ [] → Becomes session "undo" (from_start session.state.start)
+  pub remove_one : (m : Move) → session.state.moves ≡ m ∷ []
+      → IsAnswered session "remove" "Error (command not legal now): remove\n"
+  pub remove : (m n : Move) → session.state.moves ≡ m ∷ n ∷ []
+      → Becomes session "remove" (from_start session.state.start)
+  -- a game of Chess960, and one of normal chess
+  pub normal_again : session.state.start.variant ≡ Fischerandom
+      → Becomes session "variant normal" (from_start initial_setup)
+  pub still_normal : session.state.start.variant ≡ Normal → IsIgnored session "variant normal"
+  -- a game that has just begun
+  pub shown_fen : session.state ≡ from_start initial_setup
+      → IsAnswered session "showfen" "# fen rnbqkbnr/pppppppp/8/8/8/8/PPPPPPPP/RNBQKBNR w KQkq - 0 1\n"
+  pub shown_moves : session.state ≡ from_start initial_setup → IsAnswered session "showmoves"
+      "# moves 20 b1a3 b1c3 g1f3 g1h3 a2a3 a2a4 b2b3 b2b4 c2c3 c2c4 d2d3 d2d4 e2e3 e2e4 f2f3 f2f4 g2g3 g2g4 h2h3 h2h4\n"
+  pub shown_state : session.state ≡ from_start initial_setup → IsAnswered session "showstate"
+      "# state ply 0 rep 1 clock 0 claims none verdict none declared none\n"
   -- a game in which no draw can be claimed, and one in which it can
   pub no_claim : is_over session.state ≡ false
       → draw_claim (claims session.state.start session.state.moves) ≡ None

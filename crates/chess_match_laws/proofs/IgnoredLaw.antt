@@ -14,7 +14,7 @@ use Rattle.chess_match.specs.laws.Laws.{is_pong, line_kind}
 use Rattle.chess_match_laws.specs.Ignored.{IsIgnored, OtherLinesAreIgnored, is_talk}
 
 -- the time is not yet used up
-in_time : (left used : ℕ) → used ≤ left → nat_lt left used ≡ false
+pub in_time : (left used : ℕ) → used ≤ left → nat_lt left used ≡ false
 in_time left used h = grind (arith, nat_tests, h)
 
 module _ (r : Rules) (S : Colour) (m : Match) where

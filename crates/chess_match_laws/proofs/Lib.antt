@@ -35,4 +35,5 @@ mod PrefixLaw
 mod LinesDue
 mod WorkedLines
 mod IgnoredLaw
+mod ClaimLaw
 mod Answering

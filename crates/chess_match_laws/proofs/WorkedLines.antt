@@ -1,11 +1,17 @@
--- Lines of engines, time controls and ends of a match, by computation.
+-- Lines of engines and to them, time controls and ends of a match, by computation.
 use Rattle.std.proofs.Common.{refl}
 use Rattle.std.specs.Fmt.{digits}
+use Rattle.chess_base.specs.Initial.{initial_setup, initial_setup_of}
+use Rattle.chess_base.specs.Men.{is_of, is_man}
+use Rattle.chess_base.specs.Moves.{after}
+use Rattle.chess_text.specs.San.{shown_move}
+use Rattle.chess_match.specs.Lines.{bytes_of}
+use Rattle.chess_match.specs.Rules.{has_bare_king}
 use Rattle.text_lines.specs.Words.{argument_of, command_number}
 use Rattle.cecp_engine.specs.EngineLines.{kind_of}
 use Rattle.cecp_engine.specs.Items.{has_word, item_of, items_of, plays_fischerandom, takes}
 use Rattle.cecp_engine.specs.Levels.{allotted, base_of, base_text, decimals_text, increment_text, level_reading, level_text, milliseconds_of, thousandths_of}
-use Rattle.chess_match_laws.specs.Worked.{EndsAreWorded, FeaturesAreOn, ItemsAreRead, LevelsGive, LinesSay, LosersLose}
+use Rattle.chess_match_laws.specs.Worked.{EndsAreWorded, FeaturesAreOn, ItemsAreRead, KingsAreBare, LevelsGive, LinesAreSent, LinesSay, LosersLose}
 
 pub lines_say : LinesSay
 unfolding argument_of command_number kind_of
@@ -63,6 +69,21 @@ levels_give = record {
   second = refl;
   increments = refl;
 }
+
+pub lines_are_sent : LinesAreSent
+unfolding after allotted bytes_of digits initial_setup initial_setup_of item_of items_of shown_move takes
+lines_are_sent = record {
+  handshake = refl;
+  only_white = refl;
+  second_handshake = refl;
+  first_turn = refl;
+  answer = refl;
+  later_turn = refl;
+}
+
+pub kings_are_bare : KingsAreBare
+unfolding has_bare_king is_of is_man
+kings_are_bare = record { king = refl; knight = refl; pawn = refl }
 
 pub losers_lose : LosersLose
 losers_lose = record {

@@ -4,4 +4,5 @@ pub mod Rows
 pub mod Answering
 pub mod Worked
 pub mod Ignored
+pub mod Claims
 pub mod Handshakes

@@ -1,12 +1,22 @@
--- Lines of engines, time controls and ends of a match, worked out.
-use Rattle.std.specs.Prelude.{◌≡◌, ℕ, Bool, true, false, List, [], ◌∷◌, codes, map, None, Some}
+-- Lines of engines and to them, time controls and ends of a match, worked out.
+use Rattle.std.specs.Prelude.{◌≡◌, ℕ, Bool, true, false, List, [], ◌∷◌, codes, map, Option, None, Some}
 use Prim.Native.String.{String as Text}
 use Rattle.chess_base.specs.declared.man.Colour.{Colour}
 use Rattle.chess_base.specs.declared.man.Colour.TheVariants.{White, Black}
+use Rattle.chess_base.specs.declared.man.Kind.TheVariants.{King, Queen, Knight, Pawn}
+use Rattle.chess_base.specs.declared.man.Man.{Man}
+use Rattle.chess_base.specs.declared.man.Move.{Move}
+use Rattle.chess_base.specs.ByColour.{by_colour}
+use Rattle.chess_base.specs.Initial.{initial_setup, man_of}
 use Rattle.chess_game.specs.declared.results.Outcome.TheVariants.{WhiteWins, BlackWins, Draw, Unfinished}
 use Rattle.cecp_engine.specs.EngineLines.{LineKind, Features, Moves, Resigns, OffersDraw, ClaimsDraw, ClaimsWin, Rejects, Answers, SaysElse, kind_of}
 use Rattle.cecp_engine.specs.Items.{Item, items_of, plays_fischerandom, takes}
 use Rattle.cecp_engine.specs.Levels.{LevelSeen, allotted, level_of, level_text}
+use Rattle.chess_match.specs.Effects.{AfterMove, Match, beginning, handshake_done, opening}
+use Rattle.chess_match.specs.Events.{Seat}
+use Rattle.chess_match.specs.Lines.{SentLine, bytes_of}
+use Rattle.chess_match.specs.Rules.{Rules, has_bare_king, rules_of}
+use Rattle.chess_match.specs.declared.draws.Draws.TheVariants as rules_of_draws
 use Rattle.chess_match.specs.Reasons.{comment_of, outcome_by_reason}
 use Rattle.chess_match.specs.declared.reason.MatchFault.{MatchFault}
 use Rattle.chess_match.specs.declared.reason.MatchFault.TheVariants.{Ended, Read, Write, NoDone, NoPing, NoSetboard, Flood, NoVariant, NoHandshake, NoAnswer}
@@ -93,6 +103,71 @@ pub record LevelsGive : Type 0 where
   pub second : allotted forty_in_five 40 ≡ 600000
   -- 12 seconds more for each move made
   pub increments : allotted two_and_twelve 3 ≡ 156000
+
+-- ---- lines that are sent
+
+-- a match from the initial position, of 40 moves in 5 minutes for each side, in which draws are claimed
+abbrev pub worked_rules : Rules
+worked_rules =
+    rules_of initial_setup (λ S. forty_in_five) (record { flag = false; reply = None }) rules_of_draws.Claimed 20000
+
+-- an engine that said these items, and whose moves took so many milliseconds
+abbrev pub seat_of : Text → List ℕ → Seat
+seat_of items used = record { items = items_of (codes items); used = used; offers = false }
+
+-- e2e4 and e7e5
+abbrev pub e4 : Move
+e4 = record { from = 12; to = 28; promotion = None }
+
+abbrev pub e5 : Move
+e5 = record { from = 52; to = 36; promotion = None }
+
+-- this match after 1 e4, for which White took 1,000 milliseconds; Black's engine has `usermove` on, White's has not
+abbrev pub after_e4 : Match
+after_e4 = record {
+  phase = AfterMove White;
+  seat = by_colour (seat_of "" (1000 ∷ [])) (seat_of "usermove=1" []);
+  played = e4 ∷ [];
+  count = 0;
+  since = None;
+}
+
+-- and after 1 e4 e5, for which Black took 2,000 milliseconds
+abbrev pub after_e5 : Match
+after_e5 = record {
+  phase = AfterMove Black;
+  seat = by_colour (seat_of "" (1000 ∷ [])) (seat_of "usermove=1" (2000 ∷ []));
+  played = e4 ∷ e5 ∷ [];
+  count = 0;
+  since = None;
+}
+
+-- these lines are sent as this text
+abbrev pub AreSentAs : List SentLine → Text → Type 0
+AreSentAs lines text = bytes_of lines ≡ codes text
+
+-- what engines are sent before a game, and where their turns are opened
+pub record LinesAreSent : Type 0 where
+  pub handshake : AreSentAs (beginning.to White) "xboard\nprotover 2\n"
+  pub only_white : AreSentAs (beginning.to Black) ""
+  pub second_handshake : AreSentAs ((handshake_done worked_rules White beginning.after).to Black) "xboard\nprotover 2\n"
+  pub first_turn : AreSentAs (opening worked_rules beginning.after White) "time 30000\notim 30000\ngo\n"
+  -- a first turn after a move: the move comes before the clocks
+  pub answer : AreSentAs (opening worked_rules after_e4 Black) "usermove e2e4\ntime 30000\notim 29900\ngo\n"
+  -- a later turn: the move comes after them
+  pub later_turn : AreSentAs (opening worked_rules after_e5 White) "time 29900\notim 29800\ne7e5\n"
+
+-- ---- bare kings
+
+-- whether White has only its king, with these pieces on the board
+abbrev pub is_bare : List (Option Man) → Bool
+is_bare men = has_bare_king White men
+
+-- a bare king, whatever the other side has, and kings that are not bare
+pub record KingsAreBare : Type 0 where
+  pub king : is_bare (man_of White King ∷ None ∷ man_of Black King ∷ man_of Black Queen ∷ []) ≡ true
+  pub knight : is_bare (man_of White King ∷ man_of White Knight ∷ man_of Black King ∷ []) ≡ false
+  pub pawn : is_bare (man_of Black King ∷ man_of White King ∷ man_of White Pawn ∷ []) ≡ false
 
 -- ---- ends
 

@@ -17,5 +17,8 @@ pub use laws::{
     setups_are_these_lines, silences_end_matches, silences_leave_no_line, time_forfeits_are_shown,
     times_are_clocks, turns_are_opened_once, used_times_are_differences, verdicts_end_matches,
 };
-pub use lines::other_lines_are_ignored;
-pub use worked::{engine_lines_are_worked_out, levels_are_worked_out, losers_lose};
+pub use lines::{draw_claims_end_matches, other_lines_are_ignored};
+pub use worked::{
+    bare_kings_are_worked_out, engine_lines_are_worked_out, levels_are_worked_out, losers_lose,
+    sent_lines_are_worked_out,
+};

@@ -1,6 +1,15 @@
 //! Laws of single lines of an engine. A caller learns one by calling its function, which does nothing.
 
+ghost use Rattle.chess_match_laws.specs.Claims.{DrawClaimsEndMatches};
 ghost use Rattle.chess_match_laws.specs.Ignored.{OtherLinesAreIgnored};
+
+/// States a law and does nothing: by `1/2-1/2` in a turn, in time or after its move, a side ends the match as a draw if
+/// one may be claimed by threefold repetition or 50 moves.
+///
+/// It refuses a claim that only offers a draw.
+pub fn draw_claims_end_matches()
+    ensures { DrawClaimsEndMatches }
+{}
 
 /// States a law and does nothing: in a setup each line but `pong 1` is ignored, in a turn an engine's thinking, its
 /// `feature` lines, a `pong` with another number than the latest `ping`, and `Illegal move` before any move was sent.

@@ -1,6 +1,6 @@
 //! Laws of lines, time controls and ends, worked out. A caller learns one by calling its function, which does nothing.
 
-ghost use Rattle.chess_match_laws.specs.Worked.{EndsAreWorded, FeaturesAreOn, ItemsAreRead, LevelsGive, LinesSay, LosersLose};
+ghost use Rattle.chess_match_laws.specs.Worked.{EndsAreWorded, FeaturesAreOn, ItemsAreRead, KingsAreBare, LevelsGive, LinesAreSent, LinesSay, LosersLose};
 
 /// States a law and does nothing: what some lines of engines say, which items a `feature` line has, and which features
 /// an engine has on by them.
@@ -13,6 +13,20 @@ pub fn engine_lines_are_worked_out()
 /// States a law and does nothing: what some time controls are, and how much time they give after some moves.
 pub fn levels_are_worked_out()
     ensures { LevelsGive }
+{}
+
+/// States a law and does nothing: the lines by which handshakes and turns are opened in a match of 40 moves in 5
+/// minutes, byte by byte: in an engine's first turn the move comes before the clocks, in later turns after them.
+///
+/// It refuses another version of the protocol, and `time` and `otim` that are exchanged.
+pub fn sent_lines_are_worked_out()
+    ensures { LinesAreSent }
+{}
+
+/// States a law and does nothing: with a king alone, whatever the other side has, a side has a bare king; with a knight
+/// or a pawn more it has not.
+pub fn bare_kings_are_worked_out()
+    ensures { KingsAreBare }
 {}
 
 /// States a law and does nothing: the side that resigns, forfeits on time, moves illegally or out of turn, claims

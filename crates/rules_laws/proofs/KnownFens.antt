@@ -1,5 +1,6 @@
 -- FENs that are refused or taken, by computation.
 use Rattle.std.proofs.Common.{refl}
+use Rattle.std.specs.Fmt.{digits}
 use Rattle.chess_base.specs.Attacks.{is_clear, could_capture, attacks, is_attacked, is_in_check}
 use Rattle.chess_base.specs.Castling.{king_square, right_is_sound}
 use Rattle.chess_base.specs.Faults.{rights_are_sound}
@@ -7,12 +8,13 @@ use Rattle.chess_base.specs.Men.{is_of, is_man}
 use Rattle.chess_base.specs.Sound.{has_one_king, no_pawn_on_end_ranks, has_at_most_16, target_is_sound}
 use Rattle.chess_base.specs.Squares.{squares, some_square, each_square, is_between}
 use Rattle.chess_fen.specs.Texts.{may_name_right}
+use Rattle.chess_fen.specs.Writing.{placement_text}
 use Rattle.rules_laws.specs.KnownPositions.{FensAreRefused}
 
 pub fens_are_refused : FensAreRefused
 unfolding squares some_square each_square is_between is_of is_man is_clear could_capture attacks is_attacked
     is_in_check king_square right_is_sound rights_are_sound has_one_king no_pawn_on_end_ranks has_at_most_16
-    target_is_sound may_name_right
+    target_is_sound may_name_right placement_text digits
 fens_are_refused = record {
   no_king = refl;
   two_kings = refl;
@@ -25,6 +27,7 @@ fens_are_refused = record {
   right = refl;
   no_pawn = refl;
   start_taken = refl;
+  target_taken = refl;
   own_pawn = refl;
   target = refl;
   check = refl;
@@ -36,4 +39,9 @@ fens_are_refused = record {
   counter = refl;
   one_counter = refl;
   no_counters = refl;
+  number_0 = refl;
+  six_digits = refl;
+  seven_digits = refl;
+  outermost = refl;
+  inner = refl;
 }

@@ -23,4 +23,6 @@ lines_lead_to_fens = record {
   castling = ((refl, (refl, (refl, (refl, (refl, (refl, (refl, (refl, (refl, (refl, tt)))))))))), refl);
   en_passant = ((refl, (refl, (refl, (refl, (refl, tt))))), refl);
   promotion = ((refl, (refl, (refl, (refl, (refl, (refl, (refl, (refl, (refl, tt))))))))), refl);
+  rook_moved = ((refl, (refl, (refl, tt))), refl);
+  rook_captured = ((refl, (refl, (refl, (refl, (refl, tt))))), refl);
 }

@@ -11,9 +11,13 @@ use Rattle.chess_base.specs.Moves.{is_double_advance, is_en_passant, pawn_advanc
 use Rattle.chess_base.specs.Sound.{has_one_king, no_pawn_on_end_ranks, has_at_most_16, target_is_sound}
 use Rattle.chess_base.specs.Squares.{squares, some_square, each_square, is_between}
 use Rattle.chess_fen.specs.Texts.{may_name_right}
-use Rattle.chess_text.specs.Moves.{described}
+use Rattle.chess_fen.specs.Writing.{placement_text}
+use Rattle.chess_game.specs.Ends.{has_bishop_on, has_insufficient_material, result_text, verdict}
+use Rattle.chess_game.specs.Same.{is_same_position, legal_en_passant_square, repetition_count, same_men, same_rights}
+use Rattle.chess_text.specs.Parts.{unmarked}
+use Rattle.chess_text.specs.Moves.{denotes, denotes_described, described}
 use Rattle.chess_text.specs.San.{rival_starts, check_mark, san}
-use Rattle.rules_laws.specs.KnownTexts.{MovesAreNumbered, MovesAreWritten, TagsAreInOrder}
+use Rattle.rules_laws.specs.KnownTexts.{MovesAreNumbered, MovesAreWritten, ResultsAreWorded, TagsAreInOrder, TextsDenoteMoves}
 
 pub moves_are_written : MovesAreWritten
 unfolding squares some_square each_square is_between is_of is_man is_clear could_capture attacks is_attacked
@@ -33,13 +37,44 @@ moves_are_written = record {
   mate = refl;
 }
 
+pub texts_denote_moves : TextsDenoteMoves
+unfolding squares some_square each_square is_between is_of is_man is_clear could_capture attacks is_attacked
+    is_in_check is_castling_to castling king_square right_is_sound rights_are_sound has_one_king no_pawn_on_end_ranks
+    has_at_most_16 target_is_sound may_name_right is_en_passant captured_square described denotes denotes_described
+    unmarked
+texts_denote_moves = record { capture = refl; knight = refl; promotion = refl; castling = refl }
+
+pub results_are_worded : ResultsAreWorded
+unfolding result_text
+results_are_worded = record {
+  white_mates = refl;
+  black_mates = refl;
+  stalemate = refl;
+  insufficient = refl;
+  fivefold = refl;
+  seventy_five_moves = refl;
+  no_claim = refl;
+  threefold = refl;
+  fifty_moves = refl;
+  both = refl;
+}
+
 pub moves_are_numbered : MovesAreNumbered
 unfolding squares some_square each_square is_between is_of is_man is_clear could_capture attacks is_attacked
     is_in_check is_castling_to castling castle_of castling_way_is_empty castling_way_is_safe castles initial_setup
-    initial_setup_of all_moves moves is_double_advance is_en_passant pawn_advances pawn_captures pawn_moves
-    man_moves is_pseudo_legal captured_square men_after rights_after target_after resets_clock halfmove_after after
-    is_legal described rival_starts check_mark san digits
-moves_are_numbered = refl
+    initial_setup_of king_square right_is_sound rights_are_sound has_one_king no_pawn_on_end_ranks has_at_most_16
+    target_is_sound may_name_right all_moves moves is_double_advance is_en_passant pawn_advances pawn_captures
+    pawn_moves man_moves is_pseudo_legal captured_square men_after rights_after target_after resets_clock
+    halfmove_after after is_legal described rival_starts check_mark san digits verdict has_bishop_on
+    has_insufficient_material
+moves_are_numbered = record { white_first = refl; black_first = refl }
 
 pub tags_are_in_order : TagsAreInOrder
-tags_are_in_order s = refl
+unfolding squares some_square each_square is_between is_of is_man is_clear could_capture attacks is_attacked
+    is_in_check is_castling_to castling castle_of castling_way_is_empty castling_way_is_safe castles initial_setup
+    initial_setup_of king_square right_is_sound rights_are_sound has_one_king no_pawn_on_end_ranks has_at_most_16
+    target_is_sound may_name_right all_moves moves is_double_advance is_en_passant pawn_advances pawn_captures
+    pawn_moves man_moves is_pseudo_legal captured_square men_after rights_after target_after resets_clock
+    halfmove_after after is_legal placement_text digits verdict has_bishop_on has_insufficient_material same_men
+    same_rights legal_en_passant_square is_same_position repetition_count
+tags_are_in_order = record { first = λ s. refl; mate = refl; chess960 = refl; normal = refl }

@@ -1,13 +1,13 @@
 -- What chess players and programmers know: which FEN a line leads to, which positions are the same, and which FENs are
 -- refused.
-use Rattle.std.specs.Prelude.{◌≡◌, Bool, true, false, List, [], ◌∷◌, ◌++◌, codes, Some, is_some, Err}
+use Rattle.std.specs.Prelude.{◌≡◌, Bool, true, false, List, [], ◌∷◌, ◌++◌, codes, Some, is_some, option_map, Err}
 use Prim.Native.String.{String as Text}
 use Rattle.std.specs.Result.{result_ok}
 use Rattle.chess_base.specs.declared.fen_fault.FenFault.{FenFault}
 use Rattle.chess_base.specs.declared.fen_fault.FenFault.TheVariants.{Fields, Placement, Side, Castling, EnPassant, Counters, Kings, Pawns, Men, Check}
 use Rattle.chess_base.specs.declared.man.Kind.TheVariants.{Queen}
 use Rattle.chess_base.specs.declared.man.Move.{Move}
-use Rattle.chess_base.specs.declared.man.Variant.TheVariants.{Normal}
+use Rattle.chess_base.specs.declared.man.Variant.TheVariants.{Normal, Fischerandom}
 use Rattle.chess_base.specs.Initial.{initial_setup}
 use Rattle.chess_fen.specs.Reading.{fen_reading_as}
 use Rattle.chess_fen.specs.Writing.{fen}
@@ -45,6 +45,12 @@ pub record LinesLeadToFens : Type 0 where
   pub promotion : LeadsTo (move_by "h2" "h4" ∷ move_by "g7" "g5" ∷ move_by "h4" "g5" ∷ move_by "h7" "h6" ∷
       move_by "g5" "h6" ∷ move_by "g8" "f6" ∷ move_by "h6" "h7" ∷ move_by "f6" "g8" ∷ promotes "h7" "g8" ∷ [])
       "rnbqkbQr/pppppp2/8/8/8/8/PPPPPPP1/RNBQKBNR b KQkq - 0 5"
+  -- 1 a4 a5 2 Ra3: White's right on the queen side is lost
+  pub rook_moved : LeadsTo (move_by "a2" "a4" ∷ move_by "a7" "a5" ∷ move_by "a1" "a3" ∷ [])
+      "rnbqkbnr/1ppppppp/8/p7/P7/R7/1PPPPPPP/1NBQKBNR b Kkq - 1 2"
+  -- 1 b3 g6 2 Bb2 a6 3 Bxh8: Black's right on the king side is lost with the rook
+  pub rook_captured : LeadsTo (move_by "b2" "b3" ∷ move_by "g7" "g6" ∷ move_by "c1" "b2" ∷ move_by "a7" "a6" ∷
+      move_by "b2" "h8" ∷ []) "rnbqkbnB/1ppppp1p/p5p1/8/8/1P6/P1PPPPPP/RN1QKBNR b KQq - 0 3"
 
 -- ---- the same position
 
@@ -87,6 +93,10 @@ IsRefused text fault = fen_reading_as Normal (codes text) ≡ Err fault
 abbrev pub IsTaken : Text → Type 0
 IsTaken text = is_some (result_ok (fen_reading_as Normal (codes text))) ≡ true
 
+-- a FEN of Chess960 is taken, and this FEN is written of its position
+abbrev pub IsWrittenAs : Text → Text → Type 0
+IsWrittenAs text written = option_map fen (result_ok (fen_reading_as Fischerandom (codes text))) ≡ Some (codes written)
+
 -- FENs that are refused, each by one fault, and neighbours that are taken
 pub record FensAreRefused : Type 0 where
   pub no_king : IsRefused "8/8/8/8/8/8/8/4K3 w - - 0 1" Kings
@@ -99,9 +109,10 @@ pub record FensAreRefused : Type 0 where
   pub no_rook : IsRefused "4k3/8/8/8/8/8/8/4K2N w K - 0 1" Castling
   pub no_king_on_e1 : IsRefused "4k3/8/8/8/8/8/8/3K3R w K - 0 1" Castling
   pub right : IsTaken "4k3/8/8/8/8/8/8/4K2R w K - 0 1"
-  -- targets without a pawn that went over them, with a piece where it started, and of the side on move
+  -- targets without a pawn that went over them, with a piece where it started or on the target, and of the side on move
   pub no_pawn : IsRefused "4k3/8/8/8/8/8/8/4K3 w - e6 0 1" EnPassant
   pub start_taken : IsRefused "4k3/4q3/8/4p3/8/8/8/4K3 w - e6 0 1" EnPassant
+  pub target_taken : IsRefused "4k3/8/4n3/4p3/8/8/8/4K3 w - e6 0 1" EnPassant
   pub own_pawn : IsRefused "4k3/8/8/8/4P3/8/8/4K3 w - e3 0 1" EnPassant
   pub target : IsTaken "4k3/8/8/4p3/8/8/8/4K3 w - e6 0 1"
   -- the side that is not on move is in check
@@ -115,3 +126,10 @@ pub record FensAreRefused : Type 0 where
   pub counter : IsRefused "4k3/8/8/8/8/8/8/4K3 w - - 0 x" Counters
   pub one_counter : IsRefused "4k3/8/8/8/8/8/8/4K3 w - - 0" Fields
   pub no_counters : IsTaken "4k3/8/8/8/8/8/8/4K3 w - -"
+  -- a fullmove number of 0 is taken, and counters have at most six digits
+  pub number_0 : IsTaken "4k3/8/8/8/8/8/8/4K3 w - - 0 0"
+  pub six_digits : IsTaken "4k3/8/8/8/8/8/8/4K3 w - - 100000 1"
+  pub seven_digits : IsRefused "4k3/8/8/8/8/8/8/4K3 w - - 0000000 1" Counters
+  -- in Chess960 a side's letter names the outermost rook on that side, and rights are written by the rooks' files
+  pub outermost : IsWrittenAs "4k3/8/8/8/8/8/8/RR2K1RR w KQ - 0 1" "4k3/8/8/8/8/8/8/RR2K1RR w HA - 0 1"
+  pub inner : IsWrittenAs "4k3/8/8/8/8/8/8/RR2K1RR w GB - 0 1" "4k3/8/8/8/8/8/8/RR2K1RR w GB - 0 1"

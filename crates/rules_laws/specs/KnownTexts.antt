@@ -1,15 +1,22 @@
 -- Moves and games that chess players know, as SAN and PGN write them (PGN standard of 1994).
-use Rattle.std.specs.Prelude.{◌≡◌, ℕ, List, [], ◌∷◌, codes, option_map, take, Option, None, Some}
+use Rattle.std.specs.Prelude.{◌≡◌, ℕ, Bool, true, false, not, ◌&&◌, List, [], ◌∷◌, codes, option_map, take, drop, Option, None, Some}
 use Prim.Native.String.{String as Text}
+use Rattle.std.specs.List.{list_all, list_any}
 use Rattle.std.specs.Result.{result_ok}
 use Rattle.chess_base.specs.declared.man.Move.{Move}
-use Rattle.chess_base.specs.declared.man.Variant.TheVariants.{Normal}
-use Rattle.chess_base.specs.Initial.{initial_setup}
+use Rattle.chess_base.specs.declared.man.Variant.TheVariants.{Normal, Fischerandom}
+use Rattle.chess_base.specs.Initial.{initial_setup, initial_setup_of}
 use Rattle.chess_fen.specs.Reading.{fen_reading_as}
-use Rattle.chess_game.specs.Game.{State}
+use Rattle.chess_game.specs.Ends.{draw_claim, result_text, verdict_result}
+use Rattle.chess_game.specs.Game.{State, from_start}
 use Rattle.chess_game.specs.declared.tags.HowEnded.TheVariants as how
+use Rattle.chess_game.specs.declared.verdicts.DrawClaim.{DrawClaim}
+use Rattle.chess_game.specs.declared.verdicts.DrawClaim.TheVariants.{Threefold, FiftyMoves}
+use Rattle.chess_game.specs.declared.verdicts.Verdict.{Verdict}
+use Rattle.chess_game.specs.declared.verdicts.Verdict.TheVariants.{WhiteMates, BlackMates, Stalemate, InsufficientMaterial, FivefoldRepetition, SeventyFiveMoves}
+use Rattle.chess_text.specs.Moves.{denotes}
 use Rattle.chess_text.specs.San.{san}
-use Rattle.pgn_writer.specs.GameText.{move_tokens, tag_lines}
+use Rattle.pgn_writer.specs.GameText.{game_tokens, move_tokens, tag_lines}
 use Rattle.pgn_writer.specs.declared.tags.Tags.{Tags}
 use Rattle.rules_laws.specs.KnownGames.{fools_mate, move_by}
 use Rattle.rules_laws.specs.KnownPositions.{promotes}
@@ -38,12 +45,65 @@ pub record MovesAreWritten : Type 0 where
   pub castling : IsWritten "4k3/8/8/8/8/8/8/R3K3 w Q - 0 1" (move_by "e1" "c1") "O-O-O"
   pub mate : IsWritten "6k1/5ppp/8/8/8/8/8/R3K3 w - - 0 1" (move_by "a1" "a8") "Ra8#"
 
+-- in the position of a FEN each of the first texts denotes the move, and none of the others
+abbrev pub AreItsTexts : Text → Move → List (List ℕ) → List (List ℕ) → Type 0
+AreItsTexts text m texts others = option_map
+    (λ p. list_all (λ w. denotes p w m) texts && not (list_any (λ w. denotes p w m) others))
+    (result_ok (fen_reading_as Normal (codes text))) ≡ Some true
+
+-- texts that denote a move, beside its SAN, and others that don't
+pub record TextsDenoteMoves : Type 0 where
+  pub capture : AreItsTexts "4k3/8/8/3p4/4P3/8/8/4K3 w - - 0 1" (move_by "e4" "d5")
+      (codes "exd5" ∷ codes "ed5" ∷ codes "e4d5" ∷ codes "e4xd5" ∷ codes "exd5!?" ∷ codes "exd5+" ∷ [])
+      (codes "d5" ∷ codes "dxe4" ∷ codes "exd6" ∷ codes "Exd5" ∷ codes "exd5=Q" ∷ [])
+  -- which of two knights goes may be left out, or said by more than is needed
+  pub knight : AreItsTexts "4k3/8/8/8/8/5N2/8/1N2K3 w - - 0 1" (move_by "b1" "d2")
+      (codes "Nbd2" ∷ codes "N1d2" ∷ codes "Nb1d2" ∷ codes "Nd2" ∷ codes "b1d2" ∷ [])
+      (codes "Nfd2" ∷ codes "N3d2" ∷ codes "Nbxd2" ∷ codes "nbd2" ∷ codes "d2" ∷ [])
+  pub promotion : AreItsTexts "4k3/P7/8/8/8/8/8/4K3 w - - 0 1" (promotes "a7" "a8")
+      (codes "a8=Q+" ∷ codes "a8=Q" ∷ codes "a8Q" ∷ codes "a8q" ∷ codes "a8=q" ∷ codes "a7a8q" ∷ [])
+      (codes "a8" ∷ codes "a7a8" ∷ codes "a8=N" ∷ codes "a8==Q" ∷ [])
+  pub castling : AreItsTexts "4k3/8/8/8/8/8/8/R3K3 w Q - 0 1" (move_by "e1" "c1")
+      (codes "O-O-O" ∷ codes "0-0-0" ∷ codes "e1c1" ∷ []) (codes "O-O" ∷ codes "o-o-o" ∷ codes "Kc1" ∷ [])
+
+-- ---- results
+
+-- the board's verdict is written so
+abbrev pub IsWorded : Verdict → Text → Type 0
+IsWorded v text = result_text (verdict_result v) ≡ codes text
+
+-- the draw that is declared where these may be claimed
+abbrev pub claimed : (threefold fifty_moves : Bool) → Option DrawClaim
+claimed threefold fifty_moves = draw_claim (record { threefold = threefold; fifty_moves = fifty_moves })
+
+-- how verdicts are written, and which draw is declared: threefold repetition first
+pub record ResultsAreWorded : Type 0 where
+  pub white_mates : IsWorded WhiteMates "1-0 {White mates}"
+  pub black_mates : IsWorded BlackMates "0-1 {Black mates}"
+  pub stalemate : IsWorded Stalemate "1/2-1/2 {Stalemate}"
+  pub insufficient : IsWorded InsufficientMaterial "1/2-1/2 {Insufficient material}"
+  pub fivefold : IsWorded FivefoldRepetition "1/2-1/2 {Fivefold repetition}"
+  pub seventy_five_moves : IsWorded SeventyFiveMoves "1/2-1/2 {75-move rule}"
+  pub no_claim : claimed false false ≡ None
+  pub threefold : claimed true false ≡ Some Threefold
+  pub fifty_moves : claimed false true ≡ Some FiftyMoves
+  pub both : claimed true true ≡ Some Threefold
+
 -- ---- PGN
 
--- the fool's mate has these tokens: numbers before White's moves alone
-abbrev pub MovesAreNumbered : Type 0
-MovesAreNumbered = move_tokens initial_setup fools_mate
-    ≡ codes "1." ∷ codes "f3" ∷ codes "e5" ∷ codes "2." ∷ codes "g4" ∷ codes "Qh4#" ∷ []
+-- the tokens of a game from the position of a FEN by these moves
+abbrev pub tokens_from : Text → List Move → Option (List (List ℕ))
+tokens_from text ms = option_map (λ p. game_tokens (record { start = p; moves = ms; declared = None }))
+    (result_ok (fen_reading_as Normal (codes text)))
+
+-- moves are numbered so
+pub record MovesAreNumbered : Type 0 where
+  -- the fool's mate: numbers before White's moves alone
+  pub white_first : move_tokens initial_setup fools_mate
+      ≡ codes "1." ∷ codes "f3" ∷ codes "e5" ∷ codes "2." ∷ codes "g4" ∷ codes "Qh4#" ∷ []
+  -- a game that Black begins with move 12: that move has a number too
+  pub black_first : tokens_from "4k3/4P3/8/8/8/8/8/4K3 b - - 0 12" (move_by "e8" "e7" ∷ [])
+      ≡ Some (codes "12..." ∷ codes "Kxe7" ∷ codes "1/2-1/2" ∷ [])
 
 -- the tags of a game between A and B
 abbrev pub known_tags : Tags
@@ -57,8 +117,24 @@ known_tags = record {
   ended = how.Normal;
 }
 
--- each game between A and B begins with these lines (section 8.1.1)
-abbrev pub TagsAreInOrder : Type 0
-TagsAreInOrder = (s : State) → take 6 (tag_lines known_tags s)
-    ≡ codes "[Event \"Casual game\"]" ∷ codes "[Site \"?\"]" ∷ codes "[Date \"2024.12.31\"]" ∷ codes "[Round \"-\"]"
-    ∷ codes "[White \"A\"]" ∷ codes "[Black \"B\"]" ∷ []
+-- the lines of a game's tags after that of Black
+abbrev pub last_tags : State → List (List ℕ)
+last_tags s = drop 6 (tag_lines known_tags s)
+
+-- the tags of games between A and B are these lines
+pub record TagsAreInOrder : Type 0 where
+  -- the first six of each game (section 8.1.1)
+  pub first : (s : State) → take 6 (tag_lines known_tags s)
+      ≡ codes "[Event \"Casual game\"]" ∷ codes "[Site \"?\"]" ∷ codes "[Date \"2024.12.31\"]"
+      ∷ codes "[Round \"-\"]" ∷ codes "[White \"A\"]" ∷ codes "[Black \"B\"]" ∷ []
+  -- the others of a mate from another position, and of a game of Chess960 that is on (sections 9.7 and 9.8.1)
+  pub mate : option_map (λ p. last_tags (from_start p))
+      (result_ok (fen_reading_as Normal (codes "7k/6Q1/6K1/8/8/8/8/8 b - - 0 1")))
+      ≡ Some (codes "[Result \"1-0\"]" ∷ codes "[FEN \"7k/6Q1/6K1/8/8/8/8/8 b - - 0 1\"]"
+      ∷ codes "[SetUp \"1\"]" ∷ codes "[Termination \"normal\"]" ∷ [])
+  pub chess960 : last_tags (from_start (initial_setup_of Fischerandom))
+      ≡ codes "[Result \"*\"]" ∷ codes "[FEN \"rnbqkbnr/pppppppp/8/8/8/8/PPPPPPPP/RNBQKBNR w HAha - 0 1\"]"
+      ∷ codes "[SetUp \"1\"]" ∷ codes "[Termination \"unterminated\"]" ∷ codes "[Variant \"fischerandom\"]" ∷ []
+  -- in normal chess from the initial position there is no FEN
+  pub normal : last_tags (from_start initial_setup)
+      ≡ codes "[Result \"*\"]" ∷ codes "[Termination \"unterminated\"]" ∷ []

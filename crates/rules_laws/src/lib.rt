@@ -26,4 +26,7 @@ pub use moves::{
     en_passant_follows_a_double_advance, first_moves_are_these, known_games_end,
     lines_end_at_the_first_piece, pieces_reach_by_tables,
 };
-pub use texts::{known_moves_are_written, moves_are_numbered, tags_are_in_order};
+pub use texts::{
+    known_moves_are_written, known_texts_denote_moves, moves_are_numbered, results_are_worded,
+    tags_are_in_order,
+};

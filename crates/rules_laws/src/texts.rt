@@ -1,7 +1,7 @@
 //! Laws of moves and games as they are written, by computation. A caller learns one by calling its function, which does
 //! nothing.
 
-ghost use Rattle.rules_laws.specs.KnownTexts.{MovesAreNumbered, MovesAreWritten, TagsAreInOrder};
+ghost use Rattle.rules_laws.specs.KnownTexts.{MovesAreNumbered, MovesAreWritten, ResultsAreWorded, TagsAreInOrder, TextsDenoteMoves};
 
 /// A law: the contract says it, and the function does nothing. SAN distinguishes pieces of one kind as players do, and
 /// marks check and mate (PGN standard of 1994, section 8.2.3).
@@ -11,14 +11,30 @@ pub fn known_moves_are_written()
     ensures { MovesAreWritten }
 {}
 
+/// A law: the contract says it, and the function does nothing. Beside its SAN a move may be written in other ways, as
+/// `ed5`, `e4xd5` or `exd5!?` for `exd5`, and `0-0-0` for castling; some texts that look alike don't denote it.
+///
+/// It refuses a capture that needs its `x`, a promotion that needs its `=`, and a text with a mark such as `!` that is
+/// not read.
+pub fn known_texts_denote_moves()
+    ensures { TextsDenoteMoves }
+{}
+
+/// A law: the contract says it, and the function does nothing. Each verdict of the board is written so, such as
+/// `1-0 {White mates}`. Where a draw may be claimed by threefold repetition and by 50 moves, the former is declared.
+pub fn results_are_worded()
+    ensures { ResultsAreWorded }
+{}
+
 /// A law: the contract says it, and the function does nothing. The fool's mate is written with numbers before White's
-/// moves alone (PGN standard of 1994, section 8.2.2).
+/// moves alone; a game that Black begins has a number before its first move too (PGN standard of 1994, section 8.2.2).
 pub fn moves_are_numbered()
     ensures { MovesAreNumbered }
 {}
 
-/// A law: the contract says it, and the function does nothing. The first six tags of a game are these, in this order
-/// (PGN standard of 1994, section 8.1.1).
+/// A law: the contract says it, and the function does nothing. The first six tags of a game are these, in this order;
+/// and so are the others of three games: one from the initial position, one from another, and one of Chess960 (PGN
+/// standard of 1994, sections 8.1.1, 9.7 and 9.8.1).
 pub fn tags_are_in_order()
     ensures { TagsAreInOrder }
 {}

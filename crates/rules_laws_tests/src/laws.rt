@@ -4,9 +4,9 @@ use rules_laws::{
     first_moves_are_these, games_are_mirrored, halfmove_clocks_count_quiet_moves,
     insufficient_material_never_mates, known_endings_are_judged, known_fens_are_refused,
     known_games_end, known_lines_lead_to_these_fens, known_moves_are_written,
-    known_positions_are_the_same, known_positions_have_so_many_moves, lines_end_at_the_first_piece,
-    moves_are_mirrored, moves_are_numbered, pieces_reach_by_tables,
-    repetitions_and_quiet_moves_end_a_game, tags_are_in_order,
+    known_positions_are_the_same, known_positions_have_so_many_moves, known_texts_denote_moves,
+    lines_end_at_the_first_piece, moves_are_mirrored, moves_are_numbered, pieces_reach_by_tables,
+    repetitions_and_quiet_moves_end_a_game, results_are_worded, tags_are_in_order,
 };
 
 #[test]
@@ -44,6 +44,8 @@ fn laws_of_known_positions_are_called() {
 #[test]
 fn laws_of_texts_are_called() {
     known_moves_are_written();
+    known_texts_denote_moves();
     moves_are_numbered();
+    results_are_worded();
     tags_are_in_order();
 }

@@ -1,0 +1,5 @@
+use Rattle.rules_laws.proofs.KnownTexts.{texts_denote_moves}
+use Rattle.rules_laws.proofs.texts.known_texts_denote_moves.Goals as goal
+
+pub returns : goal.returns
+returns c = texts_denote_moves

@@ -1,0 +1,5 @@
+use Rattle.rules_laws.proofs.KnownTexts.{results_are_worded}
+use Rattle.rules_laws.proofs.texts.results_are_worded.Goals as goal
+
+pub returns : goal.returns
+returns c = results_are_worded
