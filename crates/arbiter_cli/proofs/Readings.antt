@@ -1,19 +1,14 @@
 -- What was parsed, taken as written and planned is a reading of the arguments.
-use Rattle.std.proofs.Common.{◌≡◌, ◌∙◌, ◌≤◌, ℕ, true, false, refl, ap, ap₂, sym, subst, inl, inr, option_map, unwrap_or, [], codes, IfOk, IfErr, IfSome, List, Option, Some, None, Result, Ok, Err, Bor}
-use Rattle.std.specs.Prelude.{◌*◌}
+use Rattle.std.proofs.Common.{◌≡◌, ◌∙◌, ◌≤◌, ℕ, true, false, refl, ap, ap₂, sym, subst, inl, inr, option_map, unwrap_or, [], codes, IfOk, IfErr, IfSome, List, Option, Some, None, Result, Ok, Err, Bor, ◌*◌}
 use Rattle.clap.specs.Words.{HasKind, IsAmong, Kinds, Row, Text, found_of, kind_of, rows_of, subcommand_of, subcommand_rows_of}
-use Rattle.clap.specs.declared.error.Error.{Error}
-use Rattle.clap.specs.declared.parser.matches.ArgMatches.{ArgMatches}
+use Rattle.clap.specs.{declared.error.Error.Error, declared.parser.matches.ArgMatches.ArgMatches}
 use Rattle.arbiter_grammar.specs.Grammar.{AreOptionNames, IsComplete, IsParsed, OptionNames, arbiter_app, asked, faults_in}
 use Rattle.arbiter_cli.specs.Plans.{IsMatchPlan, IsPlanOf, IsReadAs, IsReading, Said, Values, is_date, is_set, levels_asked, levels_by, levels_start_and_date, number_of, said_by, start_asked}
 use Rattle.arbiter_cli.specs.ties.Requests.{IsJudged, IsJudgedFault, IsMatchOf, IsPlanFault, IsPlanned, IsRequestOf, Refuses, levels_in, patience_by, start_of}
 use Rattle.match_runner.specs.declared.plan.GamesPlan.{GamesPlan}
 use Rattle.chess_match.specs.declared.patience.Patience.{Patience}
-use Rattle.arbiter_cli.specs.declared.fault.WordsFault.{WordsFault}
+use Rattle.arbiter_cli.specs.{declared.fault.WordsFault.WordsFault, declared.plan.Plan.Plan, declared.request.MatchRequest.MatchRequest, declared.request.Request.Request}
 use Rattle.arbiter_cli.specs.declared.fault.WordsFault.TheVariants.{Words, NoMemory, BadLevel, BadFen, BadDate}
-use Rattle.arbiter_cli.specs.declared.plan.Plan.{Plan}
-use Rattle.arbiter_cli.specs.declared.request.MatchRequest.{MatchRequest}
-use Rattle.arbiter_cli.specs.declared.request.Request.{Request}
 use Rattle.arbiter_cli.specs.declared.request.Request.TheVariants as request
 use Rattle.arbiter_cli.proofs.shared.Turns.{read_as}
 

@@ -2,23 +2,17 @@
 use Rattle.std.proofs.Common.{◌≡◌, ◌∙◌, ◌<◌, ℕ, List, [], length, lit<, codes, Result, Ok, Err, refl, sym, ap, subst, inr, false, arith}
 use Rattle.clap.specs.Words.{IsAmong, Text, kind_of}
 use Rattle.arbiter_grammar.specs.Grammar.{asked}
-use Rattle.arbiter_cli.specs.Plans.{IsReading, said_by}
+use Rattle.arbiter_cli.specs.{Plans.IsReading, Plans.said_by, declared.fault.WordsFault.WordsFault, declared.plan.Plan.Plan, declared.plan.VerifyPlan.VerifyPlan}
 use Rattle.arbiter_laws.specs.Arguments.{AskFor, PlansAreNamed, VerifyAsBare, VerifyIsAsAsked, bare_plan, command_name}
-use Rattle.arbiter_laws.specs.PlainArguments.{PlainArgumentsAreRead}
-use Rattle.arbiter_cli.specs.declared.fault.WordsFault.{WordsFault}
+use Rattle.arbiter_laws.specs.{PlainArguments.PlainArgumentsAreRead, Programs.PlainArgumentsAreFollowed, Programs.ServesSession, Programs.VerifiesGames}
 use Rattle.arbiter_cli.specs.declared.fault.WordsFault.TheVariants as faults
-use Rattle.arbiter_cli.specs.declared.plan.Plan.{Plan}
-use Rattle.arbiter_cli.specs.declared.plan.VerifyPlan.{VerifyPlan}
 use Rattle.arbiter_cli.specs.declared.plan.Plan.TheVariants.{Session, Verify, Stub, Match}
 use Rattle.byte_devices.specs.Devices.{InputState}
 use Rattle.byte_devices.specs.Transfers.{Devices, InputGave, Ran, nothing}
-use Rattle.byte_devices.proofs.shared.Transfers.{came, took_nothing}
-use Rattle.byte_devices.proofs.shared.Devices.{consumes_none}
-use Rattle.arbiter_laws.specs.Programs.{PlainArgumentsAreFollowed, ServesSession, VerifiesGames}
+use Rattle.byte_devices.proofs.{shared.Transfers.came, shared.Transfers.took_nothing, shared.Devices.consumes_none}
 use Rattle.chess_arbiter.specs.Program.{Does, Surroundings, options_of}
 use Rattle.match_runner.specs.GamesTable.{HostStep}
-use Rattle.pgn_verifier.specs.Verify.{Verifies}
-use Rattle.pgn_verifier.specs.declared.options.VerifyOptions.{VerifyOptions}
+use Rattle.pgn_verifier.specs.{Verify.Verifies, declared.options.VerifyOptions.VerifyOptions}
 use Rattle.pgn_verifier.specs.declared.fault.VerifyFault.TheVariants as verifying
 
 pub shorter : (xs ys : Text) → length xs < length ys → xs ≡ ys → ⊥

@@ -1,41 +1,27 @@
 -- Plain arguments are read as what they say.
-use Rattle.std.proofs.Common.{◌≡◌, ◌∙◌, ◌||◌, Bool, true, false, not, List, [], ◌∷◌, Option, Some, None, Result, Ok, Err, codes, find, fold, flat_map, is_some, option_map, refl, sym, subst, ap, ap₂, lit<}
-use Rattle.std.specs.Prelude.{◌*◌, if◌then◌else◌, unwrap_or}
+use Rattle.std.proofs.Common.{◌≡◌, ◌∙◌, ◌||◌, Bool, true, false, not, List, [], ◌∷◌, Option, Some, None, Result, Ok, Err, codes, find, fold, flat_map, is_some, option_map, refl, sym, subst, ap, ap₂, lit<, bytes_eq, ◌*◌, if◌then◌else◌, unwrap_or}
 use Rattle.std.specs.Option.{option_map_or, option_or}
-use Rattle.std.specs.Str.{bytes_eq}
 use Rattle.clap.specs.Words.{Kinds, Row, Text, first_of}
 use Rattle.clap.specs.Faults.{check_fault, defaults_fault, entered_fault, level_fault, settle_fault, turn_fault, walk_fault}
 use Rattle.clap.specs.Kinds.{check_kinds, or_else}
 use Rattle.clap.specs.Simple.{App, Shape, built, entered, label_of, names_of, rows_at}
 use Rattle.clap.specs.Walk.{Walk, answers_to, finished, nothing_held, rows_after, settled, walk, walk_from, walked}
-use Rattle.clap.proofs.FaultLemmas.{stopped_fault}
-use Rattle.clap.proofs.WalkLemmas.{walk_stopped}
+use Rattle.clap.proofs.{FaultLemmas.stopped_fault, WalkLemmas.walk_stopped}
 use Rattle.arbiter_grammar.specs.Grammar.{AreOptionNames, OptionNames, arbiter_app, asked, faults_in}
-use Rattle.chess_base.specs.declared.man.Variant.{Variant}
-use Rattle.chess_base.specs.declared.fen_fault.FenFault.{FenFault}
-use Rattle.chess_base.specs.declared.setup.Setup.{Setup}
-use Rattle.chess_base.specs.Initial.{initial_setup_of}
+use Rattle.chess_base.specs.{declared.man.Variant.Variant, declared.fen_fault.FenFault.FenFault, declared.setup.Setup.Setup, Initial.initial_setup_of, declared.man.Variant.TheVariants.Normal, declared.man.Variant.TheVariants.Fischerandom}
 use Rattle.chess_fen.specs.Reading.{fen_reading_as}
-use Rattle.chess_base.specs.declared.man.Variant.TheVariants.{Normal, Fischerandom}
 use Rattle.arbiter_cli.specs.Plans.{IsMatchPlan, IsReadAs, Said, Values, is_date, is_set, levels_asked, levels_by, levels_start_and_date, number_of, said_by, start_asked, variant_in, verify_plan_of}
-use Rattle.arbiter_cli.specs.declared.plan.Plan.{Plan}
+use Rattle.arbiter_cli.specs.{declared.plan.Plan.Plan, declared.plan.VerifyPlan.VerifyPlan, declared.fault.WordsFault.WordsFault}
 use Rattle.arbiter_cli.specs.declared.plan.Plan.TheVariants.{Session, Verify, Stub, Match}
 use Rattle.match_runner.specs.declared.plan.GamesPlan.{GamesPlan}
-use Rattle.chess_match.specs.declared.draws.Draws.{Draws}
-use Rattle.chess_match.specs.declared.draws.Draws.TheVariants.{Automatic}
+use Rattle.chess_match.specs.{declared.draws.Draws.Draws, declared.draws.Draws.TheVariants.Automatic, declared.patience.Patience.Patience}
 use Rattle.chess_match.specs.declared.draws.Draws.TheVariants as draws
-use Rattle.chess_match.specs.declared.patience.Patience.{Patience}
-use Rattle.arbiter_cli.specs.declared.plan.VerifyPlan.{VerifyPlan}
-use Rattle.arbiter_cli.specs.declared.fault.WordsFault.{WordsFault}
 use Rattle.arbiter_cli.specs.declared.fault.WordsFault.TheVariants.{Words, NoMemory, BadLevel, BadFen, BadDate}
 use Rattle.arbiter_laws.specs.PlainArguments.{CommandLine, Given, IsOfMatch, IsOfVerify, IsPlain, PlainArgumentsAreRead, arguments_of, empty, match, said_in, session, stub, values_in, verify, written}
 use Rattle.arbiter_laws.proofs.Literals as literals
 use Rattle.arbiter_laws.proofs.PlainOptions.{match_shape, of_match, of_verify, stub_shape, verify_shape}
-use Rattle.arbiter_laws.proofs.PlainRows.{default_in, value_found, value_given}
-use Rattle.arbiter_laws.proofs.PlainStub.{replies_are, replies_pass}
-use Rattle.arbiter_laws.proofs.PlainWalk.{all_known, rows_of_given, takes_options}
+use Rattle.arbiter_laws.proofs.{PlainRows.default_in, PlainRows.value_found, PlainRows.value_given, PlainStub.replies_are, PlainStub.replies_pass, PlainWalk.all_known, PlainWalk.rows_of_given, PlainWalk.takes_options, PlainArguments.shorter}
 use Rattle.arbiter_cli.proofs.shared.Turns.{date_asked, read_as}
-use Rattle.arbiter_laws.proofs.PlainArguments.{shorter}
 
 -- ---- the first argument names the subcommand
 

@@ -1,15 +1,11 @@
 -- What arguments do that ask for no plan.
 use Rattle.std.proofs.Common.{◌≡◌, ◌≢◌, ◌∙◌, ◌⊎◌, ℕ, List, [], ◌∷◌, Ok, Err, sym, subst, inl, inr}
 use Rattle.clap.specs.Words.{IsAmong, Kinds, Text, kind_of}
-use Rattle.clap.specs.declared.error.kind.ErrorKind.{ErrorKind}
-use Rattle.clap.specs.declared.error.kind.ErrorKind.TheVariants.{DisplayHelp, DisplayVersion}
-use Rattle.arbiter_cli.specs.Plans.{IsReading}
-use Rattle.arbiter_laws.specs.Arguments.{AreRefused}
-use Rattle.arbiter_cli.specs.declared.fault.WordsFault.{WordsFault}
+use Rattle.clap.specs.{declared.error.kind.ErrorKind.ErrorKind, declared.error.kind.ErrorKind.TheVariants.DisplayHelp, declared.error.kind.ErrorKind.TheVariants.DisplayVersion}
+use Rattle.arbiter_cli.specs.{Plans.IsReading, declared.fault.WordsFault.WordsFault, declared.plan.Plan.Plan}
+use Rattle.arbiter_laws.specs.{Arguments.AreRefused, Programs.RefusesArguments, Programs.ShowsHelp}
 use Rattle.arbiter_cli.specs.declared.fault.WordsFault.TheVariants as faults
-use Rattle.arbiter_cli.specs.declared.plan.Plan.{Plan}
 use Rattle.byte_devices.specs.Devices.{OutputState}
-use Rattle.arbiter_laws.specs.Programs.{RefusesArguments, ShowsHelp}
 use Rattle.chess_arbiter.specs.Program.{WritesHelp, ReportsArguments}
 use Rattle.arbiter_laws.proofs.PlainArguments.{both_same}
 

@@ -1,39 +1,19 @@
 -- Castling by sets: its squares are on one rank, and its ways are sets.
-use Rattle.chess_base.proofs.shared.Squares.{each_square_same}
+use Rattle.chess_base.proofs.{shared.Squares.each_square_same, shared.Changes.no_en_passant, shared.Men.in_board, shared.Men.is_man-kind, shared.Parts.castling_way_is_empty_by}
 use mathlib.Core.Bool.{and-true}
 use Rattle.std.proofs.Common.{◌≡◌, ℕ, ◌<◌, Bool, true, false, not, ◌&&◌, ◌||◌, ◌==◌, Option, Some, None, is_none, refl, sym, ap, subst, ◌∙◌, arith}
 use Rattle.std.proofs.lemmas.Bool.{and_parts, eqb-true}
 use Rattle.std.specs.List.{list_any}
-use Rattle.chess_base.specs.declared.castling.Castle.{Castle}
-use Rattle.chess_base.specs.declared.man.CastlingSide.{CastlingSide}
-use Rattle.chess_base.specs.declared.man.CastlingSide.TheVariants.{KingSide, QueenSide}
-use Rattle.chess_base.specs.declared.man.Colour.{Colour}
-use Rattle.chess_base.specs.declared.man.Colour.TheVariants.{White, Black}
-use Rattle.chess_base.specs.declared.man.Kind.TheVariants.{King, Rook, Pawn}
-use Rattle.chess_base.specs.declared.man.Move.{Move}
-use Rattle.chess_base.specs.declared.man.Variant.{Variant}
-use Rattle.chess_base.specs.declared.man.Variant.TheVariants.{Normal, Fischerandom}
-use Rattle.chess_base.specs.declared.setup.Setup.{Setup}
-use Rattle.chess_base.specs.Attacks.{is_attacked}
+use Rattle.chess_base.specs.{declared.castling.Castle.Castle, declared.man.CastlingSide.CastlingSide, declared.man.CastlingSide.TheVariants.KingSide, declared.man.CastlingSide.TheVariants.QueenSide, declared.man.Colour.Colour, declared.man.Colour.TheVariants.White, declared.man.Colour.TheVariants.Black, declared.man.Kind.TheVariants.King, declared.man.Kind.TheVariants.Rook, declared.man.Kind.TheVariants.Pawn, declared.man.Move.Move, declared.man.Variant.Variant, declared.man.Variant.TheVariants.Normal, declared.man.Variant.TheVariants.Fischerandom, declared.setup.Setup.Setup, Attacks.is_attacked, shared.Parts.is_on_side_of_king, MoveList.move_of, shared.Splits.castles_or_moves, Sound.IsSound}
 use Rattle.chess_base.specs.Castling.{home_square, king_home_file, rook_file, castled_king_file, castled_rook_file, right_of, king_square, is_to_side, are_placed_for_castling, right_is_sound, names_castling_with, castling, castle_from, castle_of, castles, is_on_way, castling_way_is_empty, castling_way_is_safe, castling_rook_to, mover_end}
-use Rattle.chess_base.specs.shared.Parts.{is_on_side_of_king}
 use Rattle.chess_base.specs.Men.{Men, man_at, other, is_man, first_rank}
-use Rattle.chess_base.specs.MoveList.{move_of}
 use Rattle.chess_base.specs.Moves.{is_pseudo_legal, is_legal, promotion_fits, arriving_man, second_square_emptied, steps_of}
-use Rattle.chess_base.specs.shared.Splits.{castles_or_moves}
-use Rattle.chess_base.specs.Sound.{IsSound}
 use Rattle.chess_base.specs.Squares.{rank, each_square, some_square, squares}
 use Rattle.chess_base.proofs.shared.Castling.{right_is_sound_of, placed_for_right, says_from_castling, castling_says, castle_there, no_castle, castled_king_file-below, castled_rook_file-below}
-use Rattle.chess_base.proofs.shared.Changes.{no_en_passant}
-use Rattle.chess_base.proofs.shared.Men.{in_board, is_man-kind}
-use Rattle.chess_base.proofs.shared.Parts.{castling_way_is_empty_by}
 use Rattle.chess_moves.proofs.shared.AnyMove.{any-filter}
-use Rattle.chess_moves.specs.Promoting.{would_promote}
-use Rattle.chess_moves.specs.Sets.{contains, members}
+use Rattle.chess_moves.specs.{Promoting.would_promote, Sets.contains, Sets.members}
 use Rattle.chess_bits.specs.ties.Goes.{goes}
-use Rattle.chess_bits.proofs.Patterns.{pattern_by, officer_goes, not_promoting}
-use Rattle.chess_bits.proofs.TargetsOf.{man_told}
-use Rattle.chess_bits.proofs.BetweenSquares.{none_square}
+use Rattle.chess_bits.proofs.{Patterns.pattern_by, Patterns.officer_goes, Patterns.not_promoting, TargetsOf.man_told, BetweenSquares.none_square}
 
 -- ---- the squares of a castling are on one rank
 

@@ -2,35 +2,14 @@
 use Rattle.std.proofs.Common.{◌≡◌, ℕ, ◌<◌, inl, inr, Bool, true, false, not, ◌&&◌, ◌||◌, ◌==◌, cond, Option, Some, None, is_none, refl, sym, ap, ◌∙◌, arith}
 use Rattle.std.proofs.lemmas.Bool.Decides.{nat_tests}
 use Rattle.std.proofs.lemmas.Bool.{and_parts, or_left, or_right, both_ways, cases_Bool, eqb-true, eq-eqb, false_from_ne_true}
-use Rattle.chess_base.specs.declared.castling.Castle.{Castle}
-use Rattle.chess_base.specs.declared.man.CastlingSide.{CastlingSide}
-use Rattle.chess_base.specs.declared.man.CastlingSide.TheVariants.{KingSide, QueenSide}
-use Rattle.chess_base.specs.declared.man.Colour.{Colour}
-use Rattle.chess_base.specs.declared.man.Colour.TheVariants.{White, Black}
-use Rattle.chess_base.specs.declared.man.Kind.TheVariants.{King, Rook, Pawn}
-use Rattle.chess_base.specs.declared.man.Man.{Man}
-use Rattle.chess_base.specs.declared.man.Move.{Move}
-use Rattle.chess_base.specs.declared.man.Variant.TheVariants.{Normal}
-use Rattle.chess_base.specs.declared.setup.Setup.{Setup}
-use Rattle.chess_base.specs.Attacks.{is_clear, is_attacked}
+use Rattle.chess_base.specs.{declared.castling.Castle.Castle, declared.man.CastlingSide.CastlingSide, declared.man.CastlingSide.TheVariants.KingSide, declared.man.CastlingSide.TheVariants.QueenSide, declared.man.Colour.Colour, declared.man.Colour.TheVariants.White, declared.man.Colour.TheVariants.Black, declared.man.Kind.TheVariants.King, declared.man.Kind.TheVariants.Rook, declared.man.Kind.TheVariants.Pawn, declared.man.Man.Man, declared.man.Move.Move, declared.man.Variant.TheVariants.Normal, declared.setup.Setup.Setup, Attacks.is_clear, Attacks.is_attacked, Before.mover_to, Sound.IsSound, Squares.is_between, shared.Lines.is_between_on_file, shared.Lines.is_between_on_rank, shared.Lines.is_between_on_diagonal}
 use Rattle.chess_base.specs.Castling.{home_square, king_home_file, rook_file, castled_king_file, castled_rook_file, right_of, castling, castle_from, castle_of, is_on_way, castling_way_is_empty, castling_way_is_safe, mover_end, castling_rook_to}
-use Rattle.chess_base.specs.Before.{mover_to}
 use Rattle.chess_base.specs.Men.{Men, man_at, other, is_of, is_man}
 use Rattle.chess_base.specs.Moves.{is_pseudo_legal, is_legal, arriving_man, men_after, second_square_emptied}
-use Rattle.chess_base.specs.Sound.{IsSound}
-use Rattle.chess_base.specs.Squares.{is_between}
-use Rattle.chess_base.specs.shared.Lines.{is_between_on_file, is_between_on_rank, is_between_on_diagonal}
 use Rattle.chess_base.proofs.shared.Castling.{says_from_castling, castling_says, castle_there, no_castle, castled_king_file-below, castled_rook_file-below, home_square-below}
-use Rattle.chess_base.proofs.shared.Changes.{no_en_passant}
-use Rattle.chess_base.proofs.shared.MenAfter.{man_after, man_at-men_after}
-use Rattle.chess_base.proofs.shared.Men.{in_board, is_man-kind}
-use Rattle.chess_bits.proofs.BoardSets.{theirs_of}
-use Rattle.chess_bits.proofs.CastlingAtHome.{at_home, stands}
-use Rattle.chess_base.proofs.shared.Squares.{each_square-all, each_square-at}
-use Rattle.chess_base.proofs.shared.Geometry.{is_between-end}
-use Rattle.chess_bits.proofs.CastlingBySets.{king_goes, castle_pattern}
+use Rattle.chess_base.proofs.{shared.Changes.no_en_passant, shared.MenAfter.man_after, shared.MenAfter.man_at-men_after, shared.Men.in_board, shared.Men.is_man-kind, shared.Squares.each_square-all, shared.Squares.each_square-at, shared.Geometry.is_between-end}
+use Rattle.chess_bits.proofs.{BoardSets.theirs_of, CastlingAtHome.at_home, CastlingAtHome.stands, CastlingBySets.king_goes, CastlingBySets.castle_pattern, Quiet.attacked_before, Quiet.could_capture_as_clear, Quiet.lands_same}
 use Rattle.chess_bits.proofs.KingAfter.{mover_own, king_lands, check_after, legal_is}
-use Rattle.chess_bits.proofs.Quiet.{attacked_before, could_capture_as_clear, lands_same}
 
 -- ---- squares at home
 

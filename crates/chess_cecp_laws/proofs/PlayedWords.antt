@@ -1,29 +1,16 @@
 -- The words of a game that was read: each denotes a move where a move may be played, and these are the game's moves.
-use Rattle.std.proofs.Common.{◌≡◌, ℕ, Bool, true, false, cond, List, [], ◌∷◌, ◌++◌, length, drop, Option, Some, None, is_some, Result, Ok, Err, refl, sym, subst, ◌∙◌, inl, inr, ◌⊎◌, append_assoc, append-nil}
-use Rattle.std.specs.Prelude.{◌||◌, ◌+◌, ◌-◌, nat_lt, slice_get}
-use Rattle.std.specs.List.{list_all, filter_map}
-use Rattle.std.specs.Option.{option_map_or}
-use Rattle.std.specs.Result.{result_err}
-use Rattle.chess_base.specs.declared.man.Move.{Move}
-use Rattle.chess_base.specs.declared.man.Variant.{Variant}
-use Rattle.chess_base.specs.declared.setup.Setup.{Setup}
-use Rattle.chess_base.specs.Initial.{initial_setup_of}
+use Rattle.std.proofs.Common.{◌≡◌, ℕ, Bool, true, false, cond, List, [], ◌∷◌, ◌++◌, length, drop, Option, Some, None, is_some, Result, Ok, Err, refl, sym, subst, ◌∙◌, inl, inr, ◌⊎◌, append_assoc, append-nil, ◌||◌, ◌+◌, ◌-◌, nat_lt, slice_get}
+use Rattle.std.specs.{List.list_all, List.filter_map, Option.option_map_or, Result.result_err}
+use Rattle.chess_base.specs.{declared.man.Move.Move, declared.man.Variant.Variant, declared.setup.Setup.Setup, Initial.initial_setup_of}
 use Rattle.byte_devices.specs.Bytes.{is_digit, after_byte_order_mark}
 use Rattle.chess_game.specs.Game.{State, from_start, played, current, verdict_now}
-use Rattle.chess_game.specs.declared.results.Outcome.{Outcome}
-use Rattle.chess_game.specs.declared.verdicts.Verdict.{Verdict}
-use Rattle.chess_text.specs.declared.reading.Reading.{Reading}
+use Rattle.chess_game.specs.{declared.results.Outcome.Outcome, declared.verdicts.Verdict.Verdict}
+use Rattle.chess_text.specs.{declared.reading.Reading.Reading, Moves.reading}
 use Rattle.chess_text.specs.declared.reading.Reading.TheVariants as reads
-use Rattle.chess_text.specs.Moves.{reading}
-use Rattle.chess_pgn.specs.declared.read.PgnEnd.{PgnEnd}
-use Rattle.chess_pgn.specs.declared.read.PgnFault.{PgnFault}
-use Rattle.chess_pgn.specs.declared.read.PgnFaultKind.TheVariants.{AfterEnd, TooLong}
-use Rattle.pgn_writer.specs.declared.termination.Termination.{Termination}
+use Rattle.chess_pgn.specs.{declared.read.PgnEnd.PgnEnd, declared.read.PgnFault.PgnFault, declared.read.PgnFaultKind.TheVariants.AfterEnd, declared.read.PgnFaultKind.TheVariants.TooLong, LastTags.says_nothing, LastTags.tag_section, Words.is_marks}
+use Rattle.pgn_writer.specs.{declared.termination.Termination.Termination, Outcomes.outcome_of}
 use Rattle.chess_pgn.specs.GameRead.{GameRead, Row, Goes_on, Ends, Fails, failed, move_row, row, after_row, moves_read, last_start, tagged_variant, read_after_tags, pgn_read}
-use Rattle.chess_pgn.specs.LastTags.{says_nothing, tag_section}
 use Rattle.chess_pgn.specs.Tokens.{Token, Skip, Tag, Word, Bad_tag, Unclosed_comment, Unclosed_variation, Bad, tokens_from}
-use Rattle.pgn_writer.specs.Outcomes.{outcome_of}
-use Rattle.chess_pgn.specs.Words.{is_marks}
 use Rattle.chess_pgn.proofs.shared.Games.{fens, termination_in}
 
 -- from the game `s` on each word denotes the move at its index, where the game has no verdict and fewer than `limit`

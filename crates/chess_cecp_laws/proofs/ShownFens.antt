@@ -1,29 +1,14 @@
 -- A position that was shown is set.
-use Rattle.std.proofs.Common.{◌≡◌, ◌∙◌, ◌≤◌, ℕ, false, eqb, List, [], ◌∷◌, ◌++◌, length, length-append, drop, take, Option, None, Some, Ok, refl, sym, ap, subst, arith}
-use Rattle.std.specs.Prelude.{codes}
-use Rattle.std.proofs.Math.Seq.{take-append_seam}
-use Rattle.std.proofs.lemmas.Bool.Decides.{nat_tests}
-use Rattle.chess_base.specs.Letters.{letter, letter_by}
-use Rattle.chess_base.specs.Sound.{IsSound}
-use Rattle.chess_base.specs.declared.man.Colour.{Colour}
-use Rattle.chess_base.specs.declared.man.Colour.TheVariants.{White, Black}
-use Rattle.chess_base.specs.declared.man.Kind.{Kind}
+use Rattle.std.proofs.Common.{◌≡◌, ◌∙◌, ◌≤◌, ℕ, false, eqb, List, [], ◌∷◌, ◌++◌, length, length-append, drop, take, Option, None, Some, Ok, refl, sym, ap, subst, arith, codes}
+use Rattle.std.proofs.{Math.Seq.take-append_seam, lemmas.Bool.Decides.nat_tests}
+use Rattle.chess_base.specs.{Letters.letter, Letters.letter_by, Sound.IsSound, declared.man.Colour.Colour, declared.man.Colour.TheVariants.White, declared.man.Colour.TheVariants.Black, declared.man.Kind.Kind, declared.man.Man.Man, declared.setup.Setup.Setup}
 use Rattle.chess_base.specs.declared.man.Kind.TheVariants.{King, Queen, Rook, Bishop, Knight, Pawn}
-use Rattle.chess_base.specs.declared.man.Man.{Man}
-use Rattle.chess_base.specs.declared.setup.Setup.{Setup}
-use Rattle.chess_fen.specs.Reading.{fen_reading_as}
+use Rattle.chess_fen.specs.{Reading.fen_reading_as, laws.Laws.WrittenIsReadBack}
 use Rattle.chess_fen.specs.Writing.{fen, fen_rank, placement_text, raised}
-use Rattle.chess_fen.specs.laws.Laws.{WrittenIsReadBack}
 use Rattle.chess_game.specs.Game.{current}
 use Rattle.chess_game.proofs.shared.Lines.{IsSound-position_after, variant-position_after}
-use Rattle.text_lines.specs.Lines.{LineSeen, without_front_blanks}
-use Rattle.text_lines.specs.Words.{argument_of}
-use Rattle.chess_cecp.specs.Commands.{command_of, is_ignored, named_command}
-use Rattle.chess_cecp.specs.Held.{SessionSeen}
-use Rattle.chess_cecp.specs.Serving.{Response}
-use Rattle.chess_cecp.specs.Session.{row, session_response, setboard_row}
-use Rattle.chess_cecp.specs.declared.command.Command.{Command}
-use Rattle.chess_cecp.specs.declared.command.Command.TheVariants.{SetBoard, ShowFen}
+use Rattle.text_lines.specs.{Lines.LineSeen, Lines.without_front_blanks, Words.argument_of}
+use Rattle.chess_cecp.specs.{Commands.command_of, Commands.is_ignored, Commands.named_command, Held.SessionSeen, Serving.Response, Session.row, Session.session_response, Session.setboard_row, declared.command.Command.Command, declared.command.Command.TheVariants.SetBoard, declared.command.Command.TheVariants.ShowFen}
 use Rattle.chess_cecp_laws.specs.SetBoard.{SetboardTakesShownFens}
 
 -- ---- a FEN begins with no space or tab

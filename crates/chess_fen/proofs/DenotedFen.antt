@@ -1,15 +1,8 @@
 -- A text is read exactly where it denotes a position, and what its first fault says.
-use Rattle.std.proofs.Common.{◌≡◌, ◌≢◌, ℕ, ◌⊎◌, inl, inr, Bool, true, false, List, [], ◌∷◌, ◌++◌, length, take, drop, Option, Some, None, Result, Ok, Err, refl, sym, ap, subst, ◌∙◌, arith}
-use Rattle.std.specs.Prelude.{codes, max, IfOk}
-use Rattle.chess_base.specs.declared.man.Colour.{Colour}
-use Rattle.chess_base.specs.declared.man.Rights.{Rights}
-use Rattle.chess_base.specs.declared.man.Variant.{Variant}
-use Rattle.chess_base.specs.declared.setup.Setup.{Setup}
-use Rattle.chess_base.specs.Men.{Men}
-use Rattle.chess_base.specs.Sound.{IsSound}
+use Rattle.std.proofs.Common.{◌≡◌, ◌≢◌, ℕ, ◌⊎◌, inl, inr, Bool, true, false, List, [], ◌∷◌, ◌++◌, length, take, drop, Option, Some, None, Result, Ok, Err, refl, sym, ap, subst, ◌∙◌, arith, codes, max, IfOk}
+use Rattle.chess_base.specs.{declared.man.Colour.Colour, declared.man.Rights.Rights, declared.man.Variant.Variant, declared.setup.Setup.Setup, Men.Men, Sound.IsSound, declared.fen_fault.FenFault.FenFault}
 use Rattle.chess_base.specs.Faults.{conditions, conditions_if, first_failing, setup_fault}
 use Rattle.chess_base.proofs.shared.Sound.{first_failing-conditions_if, no_fault_from_IsSound}
-use Rattle.chess_base.specs.declared.fen_fault.FenFault.{FenFault}
 use Rattle.chess_base.specs.declared.fen_fault.FenFault.TheVariants as faults
 use Rattle.text_lines.specs.Words.{short_number}
 use Rattle.chess_fen.specs.RightNames.{names_rights_well}

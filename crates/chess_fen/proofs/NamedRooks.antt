@@ -1,27 +1,15 @@
 -- In Chess960 the letters of a field of rights name rooks: that of each right is named by just one.
-use Rattle.std.proofs.Common.{◌≡◌, ◌≢◌, ℕ, zero, suc, ◌+◌, ◌-◌, ◌%◌, ◌<◌, ◌≤◌, inl, inr, Bool, true, false, cond, eqb, ◌&&◌, ◌||◌, List, [], ◌∷◌, ◌++◌, map, Option, Some, None, refl, sym, ap, subst, ◌∙◌, arith}
-use Rattle.std.specs.Prelude.{find, unwrap_or}
+use Rattle.std.proofs.Common.{◌≡◌, ◌≢◌, ℕ, zero, suc, ◌+◌, ◌-◌, ◌%◌, ◌<◌, ◌≤◌, inl, inr, Bool, true, false, cond, eqb, ◌&&◌, ◌||◌, List, [], ◌∷◌, ◌++◌, map, Option, Some, None, refl, sym, ap, subst, ◌∙◌, arith, find, unwrap_or}
 use Rattle.std.specs.List.{AllByRecursion, filter}
-use Rattle.std.proofs.lemmas.Bool.Decides.{nat_tests}
+use Rattle.std.proofs.{lemmas.Bool.Decides.nat_tests, lemmas.List.Elements.filter-append}
 use Rattle.std.proofs.lemmas.Bool.{and_parts, eqb-true, eq-eqb, cases_lt}
-use Rattle.std.proofs.lemmas.List.Elements.{filter-append}
-use Rattle.chess_base.specs.declared.man.Colour.{Colour}
-use Rattle.chess_base.specs.declared.man.Colour.TheVariants.{White, Black}
-use Rattle.chess_base.specs.declared.man.CastlingSide.{CastlingSide}
-use Rattle.chess_base.specs.declared.man.CastlingSide.TheVariants.{KingSide, QueenSide}
-use Rattle.chess_base.specs.declared.man.Kind.TheVariants.{Rook}
-use Rattle.chess_base.specs.declared.man.Variant.TheVariants.{Fischerandom}
-use Rattle.chess_base.specs.Squares.{file, rank}
+use Rattle.chess_base.specs.{declared.man.Colour.Colour, declared.man.Colour.TheVariants.White, declared.man.Colour.TheVariants.Black, declared.man.CastlingSide.CastlingSide, declared.man.CastlingSide.TheVariants.KingSide, declared.man.CastlingSide.TheVariants.QueenSide, declared.man.Kind.TheVariants.Rook, declared.man.Variant.TheVariants.Fischerandom, Squares.file, Squares.rank, shared.Splits.right_is_sound_at}
 use Rattle.chess_base.specs.Men.{Men, man_at, is_man, first_rank}
 use Rattle.chess_base.specs.Castling.{home_square, king_square, is_to_side, right_is_sound, right_of}
-use Rattle.chess_base.specs.shared.Splits.{right_is_sound_at}
-use Rattle.chess_fen.specs.Texts.{first_letter, names_file}
+use Rattle.chess_fen.specs.{Texts.first_letter, Texts.names_file, ties.Reader.nowhere, ties.Reader.outer_rook, ties.Loops.edge_file, ties.Loops.rook_among, laws.Laws.RightsAreNamed}
 use Rattle.chess_fen.specs.RightNames.{side_letter, from_edge, is_towards, names_right, rook_by}
 use Rattle.chess_fen.proofs.RooksNamed.{option_by, option_in, in_chess960, as_named, of_named}
-use Rattle.chess_fen.specs.ties.Reader.{nowhere, outer_rook}
-use Rattle.chess_fen.specs.ties.Loops.{edge_file, rook_among}
 use Rattle.chess_fen.specs.laws.NamedRooks.{IsOutermost, NamesRook, NamesNone, RightIsNamed}
-use Rattle.chess_fen.specs.laws.Laws.{RightsAreNamed}
 use Rattle.chess_fen.proofs.RookAmong.{outer_among}
 use Rattle.chess_fen.proofs.RightsBack.{Beside, beside, no_side_letter, own_file, file_back, file_in, names_own, rook_own}
 

@@ -1,25 +1,14 @@
 -- A FEN is read as normal chess as it is defined for normal chess alone.
-use Rattle.std.proofs.Common.{◌≡◌, ℕ, Bool, true, false, List, [], ◌∷◌, ◌++◌, take, drop, Option, Some, None, Result, Ok, refl, ap, subst, if◌then◌else◌, ◌∙◌}
-use Rattle.std.specs.Prelude.{codes, max, IfOk}
-use Rattle.std.specs.Option.{ok_or}
-use Rattle.chess_base.specs.declared.fen_fault.FenFault.{FenFault}
+use Rattle.std.proofs.Common.{◌≡◌, ℕ, Bool, true, false, List, [], ◌∷◌, ◌++◌, take, drop, Option, Some, None, Result, Ok, refl, ap, subst, if◌then◌else◌, ◌∙◌, ok_or, codes, max, IfOk}
+use Rattle.chess_base.specs.{declared.fen_fault.FenFault.FenFault, declared.man.Colour.Colour, declared.man.Colour.TheVariants.White, declared.man.Colour.TheVariants.Black, declared.man.CastlingSide.TheVariants.KingSide, declared.man.CastlingSide.TheVariants.QueenSide, declared.man.Rights.Rights, declared.man.Variant.TheVariants.Normal, declared.setup.Setup.Setup, Men.Men}
 use Rattle.chess_base.specs.declared.fen_fault.FenFault.TheVariants as faults
-use Rattle.chess_base.specs.declared.man.Colour.{Colour}
-use Rattle.chess_base.specs.declared.man.Colour.TheVariants.{White, Black}
-use Rattle.chess_base.specs.declared.man.CastlingSide.TheVariants.{KingSide, QueenSide}
-use Rattle.chess_base.specs.declared.man.Rights.{Rights}
-use Rattle.chess_base.specs.declared.man.Variant.TheVariants.{Normal}
-use Rattle.chess_base.specs.declared.setup.Setup.{Setup}
 use Rattle.chess_base.specs.Faults.{conditions, conditions_if, rights_are_sound, first_failing, setup_fault}
-use Rattle.chess_base.specs.Men.{Men}
 use Rattle.chess_base.proofs.shared.Normal.{normal_kept}
-use Rattle.chess_fen.specs.Reading.{◌>>=◌, side_of, fen_reading_as}
+use Rattle.chess_fen.specs.{Reading.◌>>=◌, Reading.side_of, Reading.fen_reading_as, RightNames.names_rights_well}
 use Rattle.text_lines.specs.Words.{short_number}
 use Rattle.chess_fen.specs.Texts.{may_name_right, placement_of, target_of, fields_of, is_castling_field}
 use Rattle.chess_fen.specs.laws.Normal.{normal_rights_named, normal_setup_by, normal_setup_in, normal_rights_are_sound, normal_fault, normal_sound, normal_fen_reading}
-use Rattle.chess_fen.specs.RightNames.{names_rights_well}
-use Rattle.chess_fen.proofs.DenotedFen.{reading_in_variant}
-use Rattle.chess_fen.proofs.RooksNamed.{rights_as_options, wells_as_options}
+use Rattle.chess_fen.proofs.{DenotedFen.reading_in_variant, RooksNamed.rights_as_options, RooksNamed.wells_as_options}
 use Rattle.chess_fen.proofs.Steps.{steps_to, steps, denoted_by, unless_fault, if_fit, denoted_in, third, reading-steps}
 
 stand_kept : (p : Setup) → p.variant ≡ Normal → rights_are_sound p ≡ normal_rights_are_sound p

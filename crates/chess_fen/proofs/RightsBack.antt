@@ -1,33 +1,14 @@
 -- In Chess960, the letters that are written for available rights name them.
-use Rattle.std.proofs.Common.{◌≡◌, ℕ, ◌+◌, ◌-◌, ◌<◌, ◌≤◌, ◌⊎◌, inl, inr, Bool, true, false, cond, eqb, leb, ltb, List, [], ◌∷◌, ◌++◌, length, map, Option, Some, None, refl, sym, ap, ◌∙◌, append-nil, arith}
-use Rattle.std.specs.Prelude.{IsTrue}
+use Rattle.std.proofs.Common.{◌≡◌, ℕ, ◌+◌, ◌-◌, ◌<◌, ◌≤◌, ◌⊎◌, inl, inr, Bool, true, false, cond, eqb, leb, ltb, List, [], ◌∷◌, ◌++◌, length, map, Option, Some, None, refl, sym, ap, ◌∙◌, append-nil, arith, IsTrue, length-append}
 use Rattle.std.specs.List.{AllByRecursion, filter, list_all}
-use Rattle.std.proofs.lemmas.Bool.{and_parts, eqb-true, ltb-true}
-use Rattle.std.proofs.lemmas.Bool.Decides.{nat_tests}
-use Rattle.std.proofs.lemmas.List.{length-append}
-use Rattle.std.proofs.lemmas.List.Elements.{filter-append}
-use Rattle.std.proofs.lemmas.List.Sums.{sum_by-append, sum_by-cons}
-use Rattle.chess_base.specs.declared.man.Colour.{Colour}
-use Rattle.chess_base.specs.declared.man.Colour.TheVariants.{White, Black}
-use Rattle.chess_base.specs.declared.man.CastlingSide.{CastlingSide}
-use Rattle.chess_base.specs.declared.man.CastlingSide.TheVariants.{KingSide, QueenSide}
-use Rattle.chess_base.specs.declared.man.Kind.TheVariants.{Rook}
-use Rattle.chess_base.specs.declared.man.Rights.{Rights}
-use Rattle.chess_base.specs.declared.man.Variant.{Variant}
-use Rattle.chess_base.specs.declared.man.Variant.TheVariants.{Fischerandom}
-use Rattle.chess_base.specs.Squares.{file, rank}
+use Rattle.std.proofs.{lemmas.Bool.and_parts, lemmas.Bool.eqb-true, lemmas.Bool.ltb-true, lemmas.Bool.Decides.nat_tests, lemmas.List.Elements.filter-append, lemmas.List.Sums.sum_by-append, lemmas.List.Sums.sum_by-cons}
+use Rattle.chess_base.specs.{declared.man.Colour.Colour, declared.man.Colour.TheVariants.White, declared.man.Colour.TheVariants.Black, declared.man.CastlingSide.CastlingSide, declared.man.CastlingSide.TheVariants.KingSide, declared.man.CastlingSide.TheVariants.QueenSide, declared.man.Kind.TheVariants.Rook, declared.man.Rights.Rights, declared.man.Variant.Variant, declared.man.Variant.TheVariants.Fischerandom, Squares.file, Squares.rank, shared.Parts.is_on_side_of_king, shared.Splits.right_is_sound_at}
 use Rattle.chess_base.specs.Men.{Men, man_at, is_man, other, first_rank}
 use Rattle.chess_base.specs.Castling.{home_square, king_square, is_to_side, right_of}
-use Rattle.chess_base.specs.shared.Parts.{is_on_side_of_king}
-use Rattle.chess_base.specs.shared.Splits.{right_is_sound_at}
-use Rattle.chess_fen.specs.ties.Loops.{or_dash, right_text}
-use Rattle.chess_fen.proofs.RightLetters.{rights_are}
+use Rattle.chess_fen.specs.{ties.Loops.or_dash, ties.Loops.right_text, ties.Reader.times, ties.Reader.names_once, Writing.rights_text}
+use Rattle.chess_fen.proofs.{RightLetters.rights_are, RooksNamed.option_by, RooksNamed.option_in, RooksNamed.in_chess960, Joined.all_append}
 use Rattle.chess_fen.specs.Texts.{first_letter, names_file, may_name_right, is_castling_field}
 use Rattle.chess_fen.specs.RightNames.{side_letter, is_towards, names_right, rook_by}
-use Rattle.chess_fen.proofs.RooksNamed.{option_by, option_in, in_chess960}
-use Rattle.chess_fen.specs.ties.Reader.{times, names_once}
-use Rattle.chess_fen.specs.Writing.{rights_text}
-use Rattle.chess_fen.proofs.Joined.{all_append}
 
 -- what an available right says of king and rook
 pub record Beside (men : Men) (c : Colour) (w : CastlingSide) (s : ℕ) : Type 0 where

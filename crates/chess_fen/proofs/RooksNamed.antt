@@ -1,19 +1,8 @@
 -- What the letters of a castling field say of a right, as an option of an option: `None` for `Wrong`, `Some None` for
 -- `Absent`. Proofs about rights use this form; here it is shown to say the same as `right_in`.
-use Rattle.std.proofs.Common.{◌≡◌, ℕ, Bool, true, false, ◌&&◌, List, [], ◌∷◌, map, Option, Some, None, if◌then◌else◌, refl, sym, ap, ◌∙◌}
-use Rattle.std.specs.Prelude.{is_some}
-use Rattle.std.specs.Bool.{then_some}
-use Rattle.std.specs.List.{filter, list_all}
-use Rattle.std.specs.Option.{option_flatten, option_map_or}
-use Rattle.chess_base.specs.declared.man.CastlingSide.{CastlingSide}
-use Rattle.chess_base.specs.declared.man.CastlingSide.TheVariants.{KingSide, QueenSide}
-use Rattle.chess_base.specs.declared.man.Colour.{Colour}
-use Rattle.chess_base.specs.declared.man.Colour.TheVariants.{White, Black}
-use Rattle.chess_base.specs.declared.man.Rights.{Rights}
-use Rattle.chess_base.specs.declared.man.Variant.{Variant}
-use Rattle.chess_base.specs.declared.man.Variant.TheVariants.{Normal, Fischerandom}
-use Rattle.chess_base.specs.Castling.{home_square, rook_file, rights_by}
-use Rattle.chess_base.specs.Men.{Men}
+use Rattle.std.proofs.Common.{◌≡◌, ℕ, Bool, true, false, ◌&&◌, List, [], ◌∷◌, map, Option, Some, None, if◌then◌else◌, refl, sym, ap, ◌∙◌, is_some}
+use Rattle.std.specs.{Bool.then_some, List.filter, List.list_all, Option.option_flatten, Option.option_map_or}
+use Rattle.chess_base.specs.{declared.man.CastlingSide.CastlingSide, declared.man.CastlingSide.TheVariants.KingSide, declared.man.CastlingSide.TheVariants.QueenSide, declared.man.Colour.Colour, declared.man.Colour.TheVariants.White, declared.man.Colour.TheVariants.Black, declared.man.Rights.Rights, declared.man.Variant.Variant, declared.man.Variant.TheVariants.Normal, declared.man.Variant.TheVariants.Fischerandom, Castling.home_square, Castling.rook_file, Castling.rights_by, Men.Men}
 use Rattle.chess_fen.specs.RightNames.{all_rights, side_letter, names_right, rook_by, NamedRight, Absent, At, Wrong, right_by, right_in, is_named_well, names_rights_well, rook_of, rights_in}
 use Rattle.chess_fen.specs.Texts.{occurs}
 

@@ -1,47 +1,20 @@
 -- What is written for a position is read as that position.
-use Rattle.std.proofs.Common.{◌≡◌, ℕ, zero, suc, ◌+◌, ◌*◌, ◌<◌, ◌≤◌, inl, inr, true, eqb, leb, ltb, List, [], ◌∷◌, ◌++◌, length, take, drop, map, Option, Some, None, refl, sym, ap, subst, ◌∙◌, arith, rules}
-use Rattle.std.specs.Prelude.{replicate, decimal, is_some, Ok, max}
-use Rattle.std.specs.Bool.{then_some}
-use Rattle.std.specs.Option.{option_flatten}
-use Rattle.std.specs.List.{AllZip, list_all, slice_split}
-use Rattle.std.proofs.lemmas.Bool.Decides.{nat_tests}
-use Rattle.std.proofs.lemmas.List.{append-nil, length-take, length-drop, take_all, length-append}
-use Rattle.std.proofs.lemmas.Fmt.{digits_decimal, decimal_is_IsNumeral, decimal_nonempty}
-use Rattle.std.specs.Str.Parse.{digits_value}
-use Rattle.std.proofs.lemmas.Str.Parse.{IsNumeralModel, numerals_by_value}
-use Rattle.chess_base.specs.declared.man.Man.{Man}
-use Rattle.chess_base.specs.declared.man.Colour.{Colour}
-use Rattle.chess_base.specs.declared.man.Colour.TheVariants.{White, Black}
-use Rattle.chess_base.specs.declared.man.CastlingSide.{CastlingSide}
-use Rattle.chess_base.specs.declared.man.CastlingSide.TheVariants.{KingSide, QueenSide}
-use Rattle.chess_base.specs.declared.man.Rights.{Rights}
-use Rattle.chess_base.specs.declared.man.Variant.{Variant}
-use Rattle.chess_base.specs.declared.man.Variant.TheVariants.{Normal, Fischerandom}
-use Rattle.chess_base.specs.declared.setup.Setup.{Setup}
-use Rattle.chess_base.specs.Letters.{letter}
+use Rattle.std.proofs.Common.{◌≡◌, ℕ, zero, suc, ◌+◌, ◌*◌, ◌<◌, ◌≤◌, inl, inr, true, eqb, leb, ltb, List, [], ◌∷◌, ◌++◌, length, take, drop, map, Option, Some, None, refl, sym, ap, subst, ◌∙◌, arith, rules, take-add, replicate, decimal, is_some, Ok, max, append-nil, length-take, length-drop, take_all, length-append}
+use Rattle.std.specs.{Bool.then_some, Option.option_flatten, List.AllZip, List.list_all, List.slice_split, Str.Parse.digits_value}
+use Rattle.std.proofs.{lemmas.Bool.Decides.nat_tests, lemmas.Fmt.digits_decimal, lemmas.Fmt.decimal_is_IsNumeral, lemmas.Fmt.decimal_nonempty, lemmas.Str.Parse.IsNumeralModel, lemmas.Str.Parse.numerals_by_value}
+use Rattle.chess_base.specs.{declared.man.Man.Man, declared.man.Colour.Colour, declared.man.Colour.TheVariants.White, declared.man.Colour.TheVariants.Black, declared.man.CastlingSide.CastlingSide, declared.man.CastlingSide.TheVariants.KingSide, declared.man.CastlingSide.TheVariants.QueenSide, declared.man.Rights.Rights, declared.man.Variant.Variant, declared.man.Variant.TheVariants.Normal, declared.man.Variant.TheVariants.Fischerandom, declared.setup.Setup.Setup, Letters.letter, Men.Men, Sound.IsSound, shared.Splits.right_is_sound_at}
 use Rattle.byte_devices.specs.Bytes.{is_digit}
-use Rattle.chess_base.specs.Men.{Men}
-use Rattle.chess_base.specs.Sound.{IsSound}
 use Rattle.chess_base.specs.Castling.{home_square, rook_file, right_of, right_is_sound}
-use Rattle.chess_base.specs.shared.Splits.{right_is_sound_at}
 use Rattle.chess_base.proofs.shared.Castling.{right_is_sound_of}
-use Rattle.std.proofs.Math.Seq.{take-add}
 use Rattle.text_lines.specs.Words.{short_number}
 use Rattle.chess_fen.specs.RightNames.{side_letter, right_in, names_rights_well, rook_of}
 use Rattle.chess_fen.specs.Texts.{from_top, placement_of, occurs, may_name_right, is_castling_field, fields_of}
 use Rattle.chess_fen.specs.Writing.{fen_rank, placement_text, side_text, rights_text, target_text, fen}
-use Rattle.chess_fen.specs.Denotation.{DenotesSquares, DenotesRank}
-use Rattle.chess_fen.specs.ties.Reader.{right_named}
+use Rattle.chess_fen.specs.{Denotation.DenotesSquares, Denotation.DenotesRank, ties.Reader.right_named}
 use Rattle.chess_fen.specs.ties.Loops.{or_dash, ranks_down, run_text, row_text, ranks_text}
-use Rattle.chess_fen.proofs.DenotedFields.{placement-denoted, side-text, target-denoted}
-use Rattle.chess_fen.proofs.RightLetters.{letters, rights_are}
-use Rattle.chess_fen.proofs.RightsBack.{Stand, right_back, text_is_castling}
+use Rattle.chess_fen.proofs.{DenotedFields.placement-denoted, DenotedFields.side-text, DenotedFields.target-denoted, RightLetters.letters, RightLetters.rights_are, RightsBack.Stand, RightsBack.right_back, RightsBack.text_is_castling, WrittenRanks.moved, WrittenRanks.row_is, Lengths.short_decimal, Joined.each_weaker, Joined.slice_split-join, Joined.fields_of-join, Steps.denoted_in, Steps.third}
 use Rattle.chess_fen.proofs.RooksNamed.{option_in, options_are_well, rook_is, wells_as_options}
-use Rattle.chess_fen.proofs.WrittenRanks.{moved, row_is}
-use Rattle.chess_fen.proofs.Lengths.{short_decimal}
 use Rattle.chess_fen.proofs.FenBytes.{target_fits, rows_plain, fields, counters_fit, fields_plain}
-use Rattle.chess_fen.proofs.Joined.{each_weaker, slice_split-join, fields_of-join}
-use Rattle.chess_fen.proofs.Steps.{denoted_in, third}
 
 -- ---- numbers
 

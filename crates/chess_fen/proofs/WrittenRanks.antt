@@ -1,10 +1,7 @@
 -- Writing a rank's squares and then the ranks, from the eighth down.
-use Rattle.std.proofs.Common.{◌≡◌, ℕ, zero, suc, ◌+◌, ◌-◌, ◌*◌, ◌<◌, List, [], ◌∷◌, ◌++◌, take, drop, Option, Some, None, refl, sym, ap, ◌∙◌, append_assoc, append-nil, arith}
-use Rattle.std.specs.Prelude.{replicate}
-use Rattle.chess_base.specs.declared.man.Man.{Man}
-use Rattle.chess_base.specs.Letters.{letter}
-use Rattle.chess_fen.specs.Writing.{raised, fen_rank}
-use Rattle.chess_fen.specs.ties.Loops.{run_text, row_text, ranks_text}
+use Rattle.std.proofs.Common.{◌≡◌, ℕ, zero, suc, ◌+◌, ◌-◌, ◌*◌, ◌<◌, List, [], ◌∷◌, ◌++◌, take, drop, Option, Some, None, refl, sym, ap, ◌∙◌, append_assoc, append-nil, arith, replicate}
+use Rattle.chess_base.specs.{declared.man.Man.Man, Letters.letter}
+use Rattle.chess_fen.specs.{Writing.raised, Writing.fen_rank, ties.Loops.run_text, ties.Loops.row_text, ties.Loops.ranks_text}
 
 -- ---- a rank
 

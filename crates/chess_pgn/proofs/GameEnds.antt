@@ -1,22 +1,12 @@
 -- Where a game ends, token by token: what is left gives the whole.
-use Rattle.std.proofs.Common.{◌≡◌, ◌≤◌, ◌<◌, ℕ, zero, suc, ◌+◌, ◌-◌, Bool, true, false, cond, List, [], ◌∷◌, length, drop, Option, Some, None, IfSome, refl, sym, ap, subst, ◌∙◌, one-add, arith, rules}
-use Rattle.std.specs.Prelude.{slice_get, ◌==◌}
+use Rattle.std.proofs.Common.{◌≡◌, ◌≤◌, ◌<◌, ℕ, zero, suc, ◌+◌, ◌-◌, Bool, true, false, cond, List, [], ◌∷◌, length, drop, Option, Some, None, IfSome, refl, sym, ap, subst, ◌∙◌, one-add, arith, rules, option_map, length-drop, slice_get, ◌==◌}
 use Rattle.std.specs.List.{cons_option, filter_map, prefix_len}
-use Rattle.std.specs.Option.{option_map}
-use Rattle.std.proofs.lemmas.List.{length-drop}
 use Rattle.byte_devices.specs.Bytes.{after_byte_order_mark}
 use Rattle.chess_game.specs.declared.results.Outcome.{Outcome}
-use Rattle.chess_pgn.specs.GameEnds.{ends_at, after_tags, game_end}
-use Rattle.chess_pgn.specs.LastTags.{may_precede_tags}
+use Rattle.chess_pgn.specs.{GameEnds.ends_at, GameEnds.after_tags, GameEnds.game_end, LastTags.may_precede_tags, declared.token.TokenFault.TokenFault, ties.GameSteps.IsWithin, ties.Seen.fault_seen, ties.TagsPassed.IsAfterTags}
 use Rattle.chess_pgn.specs.Tokens.{Token, Skip, Tag, Word, Bad_tag, Unclosed_comment, Unclosed_variation, Bad, token_at, tokens_of, begins_line, tokens_from}
-use Rattle.chess_pgn.specs.declared.token.TokenFault.{TokenFault}
 use Rattle.chess_pgn.specs.declared.token.TokenFault.TheVariants as fault
-use Rattle.chess_pgn.specs.ties.GameSteps.{IsWithin}
-use Rattle.chess_pgn.specs.ties.Seen.{fault_seen}
-use Rattle.chess_pgn.specs.ties.TagsPassed.{IsAfterTags}
-use Rattle.chess_pgn.proofs.FaultPlaces.{not_before}
-use Rattle.chess_pgn.proofs.TokenPlaces.{within}
-use Rattle.chess_pgn.proofs.Walk.{no_token, shorter}
+use Rattle.chess_pgn.proofs.{FaultPlaces.not_before, TokenPlaces.within, Walk.no_token, Walk.shorter}
 use Rattle.pgn_writer.specs.Outcomes.{outcome_of}
 
 outcome_has_bytes : (word : List ℕ) (o : Outcome) → Some o ≡ outcome_of word → 0 < length word

@@ -1,17 +1,12 @@
 -- Lines of moves (a game's own, or those of a variation), token by token: what is left gives the whole.
 use Rattle.std.proofs.Common.{◌≡◌, ℕ, zero, suc, ◌+◌, ◌-◌, ◌≤◌, Bool, true, false, cond, List, [], ◌∷◌, length, Option, Some, None, IfSome, IfErr, Result, Ok, Err, refl, sym, ap, ◌∙◌, inl, inr, arith}
-use Rattle.std.specs.Option.{option_map_or, option_or}
-use Rattle.std.specs.Result.{result_err}
-use Rattle.chess_base.specs.declared.man.Move.{Move}
-use Rattle.chess_base.specs.declared.setup.Setup.{Setup}
-use Rattle.chess_pgn.specs.declared.read.PgnFault.{PgnFault}
-use Rattle.chess_pgn.specs.declared.read.PgnFaultKind.{PgnFaultKind}
-use Rattle.chess_pgn.specs.declared.read.PgnFaultKind.TheVariants.{BadToken, TooLong}
+use Rattle.std.specs.{Option.option_map_or, Option.option_or, Result.result_err}
+use Rattle.chess_base.specs.{declared.man.Move.Move, declared.setup.Setup.Setup}
+use Rattle.chess_pgn.specs.{declared.read.PgnFault.PgnFault, declared.read.PgnFaultKind.PgnFaultKind, declared.read.PgnFaultKind.TheVariants.BadToken, declared.read.PgnFaultKind.TheVariants.TooLong, ties.Seen.token_seen}
 use Rattle.chess_pgn.specs.Tokens.{Token, Skip, Tag, Word, Bad_tag, Unclosed_comment, Unclosed_variation, Bad, tokens_from}
 use Rattle.chess_pgn.specs.Variations.{is_end, is_variation, after_token, token_move, line_fault, variation_fault}
 use Rattle.chess_pgn.specs.declared.token.Token as code
 use Rattle.chess_pgn.specs.declared.token.Token.TheVariants as seen
-use Rattle.chess_pgn.specs.ties.Seen.{token_seen}
 use Rattle.chess_pgn.specs.ties.LineSteps.{EndsLine, IsUnread, inside, opening, played}
 
 -- a line was read up to `here`, where its position is `p`, and `before` the one before its last move: what is read from

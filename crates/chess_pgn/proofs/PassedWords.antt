@@ -1,14 +1,10 @@
 -- Which words of a line are passed over, by their kinds.
-use Rattle.std.proofs.Common.{◌≡◌, ℕ, Bool, true, false, List, Option, Some, None, refl}
-use Rattle.std.specs.Prelude.{◌||◌, is_some, if◌then◌else◌}
-use Rattle.std.specs.List.{list_all}
-use Rattle.std.specs.Option.{option_map_or}
+use Rattle.std.proofs.Common.{◌≡◌, ℕ, Bool, true, false, List, Option, Some, None, refl, ◌||◌, is_some, if◌then◌else◌}
+use Rattle.std.specs.{List.list_all, Option.option_map_or}
 use Rattle.byte_devices.specs.Bytes.{is_digit}
 use Rattle.chess_game.specs.declared.results.Outcome.{Outcome}
-use Rattle.chess_pgn.specs.declared.word_kind.WordKind.{WordKind}
+use Rattle.chess_pgn.specs.{declared.word_kind.WordKind.WordKind, Words.is_marks, laws.WordKinds.word_kind}
 use Rattle.chess_pgn.specs.declared.word_kind.WordKind.TheVariants.{End, Number, Marks, Move}
-use Rattle.chess_pgn.specs.Words.{is_marks}
-use Rattle.chess_pgn.specs.laws.WordKinds.{word_kind}
 use Rattle.pgn_writer.specs.Outcomes.{outcome_of}
 
 -- whether words of this kind are passed over

@@ -1,25 +1,14 @@
 -- Without a fault each move of each variation is legal: by how deep variations are nested, and then token by token.
-use Rattle.std.proofs.Common.{◌≡◌, ℕ, zero, suc, ◌+◌, ◌-◌, Bool, true, false, cond, List, [], ◌∷◌, length, drop, Option, Some, None, Result, Ok, Err, refl, ap}
-use Rattle.std.specs.Prelude.{◌||◌, is_some}
-use Rattle.std.specs.List.{list_all}
-use Rattle.std.specs.Option.{option_map_or, option_or}
+use Rattle.std.proofs.Common.{◌≡◌, ℕ, zero, suc, ◌+◌, ◌-◌, Bool, true, false, cond, List, [], ◌∷◌, length, drop, Option, Some, None, Result, Ok, Err, refl, ap, ◌||◌, is_some}
+use Rattle.std.specs.{List.list_all, Option.option_map_or, Option.option_or}
 use Rattle.byte_devices.specs.Bytes.{is_digit}
-use Rattle.chess_base.specs.declared.man.Move.{Move}
-use Rattle.chess_base.specs.declared.setup.Setup.{Setup}
-use Rattle.chess_base.specs.Moves.{after}
-use Rattle.chess_text.specs.declared.reading.Reading.{Reading}
+use Rattle.chess_base.specs.{declared.man.Move.Move, declared.setup.Setup.Setup, Moves.after}
+use Rattle.chess_text.specs.{declared.reading.Reading.Reading, Moves.reading, laws.Laws.ReadMovesAreLegal}
 use Rattle.chess_text.specs.declared.reading.Reading.TheVariants as reads
-use Rattle.chess_text.specs.Moves.{reading}
-use Rattle.chess_text.specs.laws.Laws.{ReadMovesAreLegal}
 use Rattle.pgn_writer.specs.Outcomes.{outcome_of}
-use Rattle.chess_pgn.specs.declared.read.PgnFault.{PgnFault}
-use Rattle.chess_pgn.specs.declared.read.PgnFaultKind.{PgnFaultKind}
-use Rattle.chess_pgn.specs.declared.read.PgnFaultKind.TheVariants.{BadToken}
-use Rattle.chess_pgn.specs.declared.variations.TheConstants.{MOST_NESTED}
-use Rattle.chess_pgn.specs.Split.{lacks}
+use Rattle.chess_pgn.specs.{declared.read.PgnFault.PgnFault, declared.read.PgnFaultKind.PgnFaultKind, declared.read.PgnFaultKind.TheVariants.BadToken, declared.variations.TheConstants.MOST_NESTED, Split.lacks, Words.is_marks}
 use Rattle.chess_pgn.specs.Tokens.{Token, Skip, Tag, Word, Bad_tag, Unclosed_comment, Unclosed_variation, Bad}
 use Rattle.chess_pgn.specs.Variations.{word_move, token_move, is_end, is_variation, after_token, line_fault, variation_fault}
-use Rattle.chess_pgn.specs.Words.{is_marks}
 use Rattle.chess_pgn_laws.specs.LegalVariations.{is_passed, IsLegalLine, no_more, closed, passed, move, variation, VariationsAreLegal}
 
 abbrev found : Move → Result (Option Move) PgnFaultKind

@@ -1,57 +1,26 @@
 -- The whole text of a game: what is written is read back.
-use Rattle.std.proofs.Common.{◌≡◌, ℕ, suc, ◌+◌, ◌-◌, ◌<◌, ◌≤◌, Bool, true, false, eqb, List, [], ◌∷◌, ◌++◌, length, drop, Option, Some, None, refl, sym, ap, subst, ◌∙◌, append_assoc, arith}
-use Rattle.std.specs.Prelude.{codes, not, Ok, is_some, if◌then◌else◌, option_and_then}
-use Rattle.std.proofs.lemmas.Bool.Decides.{nat_tests}
-use Rattle.std.proofs.lemmas.List.{length-append, drop_at}
-use Rattle.std.proofs.lemmas.Slice.Eq.{bytes_eq-Decides}
-use Rattle.chess_base.specs.declared.man.Variant.{Variant}
-use Rattle.chess_base.specs.declared.man.Variant.TheVariants.{Normal, Fischerandom}
-use Rattle.chess_base.specs.declared.setup.Setup.{Setup}
-use Rattle.chess_base.specs.Initial.{initial_setup, initial_setup_of}
-use Rattle.chess_base.specs.Options.{list_if}
-use Rattle.chess_base.specs.laws.Laws.{AfterIsSound}
-use Rattle.chess_fen.specs.laws.Laws.{WrittenIsReadBack}
-use Rattle.chess_fen.specs.Reading.{fen_reading_as}
-use Rattle.chess_base.specs.Sound.{IsSound}
-use Rattle.chess_fen.specs.Writing.{fen, is_initial}
-use Rattle.chess_game.specs.declared.verdicts.Verdict.{Verdict}
+use Rattle.std.proofs.Common.{◌≡◌, ℕ, suc, ◌+◌, ◌-◌, ◌<◌, ◌≤◌, Bool, true, false, eqb, List, [], ◌∷◌, ◌++◌, length, drop, Option, Some, None, refl, sym, ap, subst, ◌∙◌, append_assoc, arith, length-append, drop_at, codes, not, Ok, is_some, if◌then◌else◌, option_and_then}
+use Rattle.std.proofs.{lemmas.Bool.Decides.nat_tests, lemmas.Slice.Eq.bytes_eq-Decides}
+use Rattle.chess_base.specs.{declared.man.Variant.Variant, declared.man.Variant.TheVariants.Normal, declared.man.Variant.TheVariants.Fischerandom, declared.setup.Setup.Setup, Initial.initial_setup, Initial.initial_setup_of, Options.list_if, laws.Laws.AfterIsSound, Sound.IsSound}
+use Rattle.chess_fen.specs.{laws.Laws.WrittenIsReadBack, Reading.fen_reading_as, Writing.fen, Writing.is_initial}
+use Rattle.chess_game.specs.{declared.verdicts.Verdict.Verdict, Ends.verdict_result, Results.outcome_text, declared.results.Declared.Declared, declared.results.Outcome.Outcome}
 use Rattle.chess_game.specs.Game.{State, from_start, outcome_now, verdict_now, IsPlayable}
 use Rattle.std.specs.Option.{option_map, option_map_or, option_or}
-use Rattle.chess_game.specs.Ends.{verdict_result}
-use Rattle.chess_game.specs.Results.{outcome_text}
-use Rattle.chess_game.specs.declared.results.Declared.{Declared}
-use Rattle.chess_game.specs.declared.results.Outcome.{Outcome}
 use Rattle.chess_game.specs.declared.results.Outcome.TheVariants.{WhiteWins, BlackWins, Draw, Unfinished}
-use Rattle.pgn_writer.specs.declared.tags.Tags.{Tags}
-use Rattle.pgn_writer.specs.declared.termination.Termination.{Termination}
-use Rattle.pgn_writer.specs.Terminations.{termination_text, termination_of}
+use Rattle.pgn_writer.specs.{declared.tags.Tags.Tags, declared.termination.Termination.Termination, Terminations.termination_text, Terminations.termination_of, Outcomes.outcome_of, GameText.tag_lines, GameText.game_tokens, GameText.pgn, shared.NumberedMoves.numbered_moves, Written.escaped, Written.tag_line, Written.ended, laws.Layout.AreShort}
 use Rattle.chess_pgn.specs.GameRead.{GameRead, declared_after, variant_named, tagged_variant, pgn_read}
-use Rattle.chess_pgn.specs.LastTags.{tag_section, last_tag}
-use Rattle.pgn_writer.specs.Outcomes.{outcome_of}
+use Rattle.chess_pgn.specs.{LastTags.tag_section, LastTags.last_tag, declared.tagged_result.ResultTag.ResultTag, UnknownVariants.is_known_variant}
 use Rattle.chess_pgn.specs.laws.TokenByToken.{SoFar, game_of, nothing_read, tokens_read}
-use Rattle.pgn_writer.specs.GameText.{tag_lines, game_tokens, pgn}
 use Rattle.pgn_writer.specs.shared.TagGroups.{fen_lines, start_lines_in, last_lines, further_lines}
-use Rattle.pgn_writer.specs.shared.NumberedMoves.{numbered_moves}
 use Rattle.chess_pgn_laws.specs.PgnLaw.{AreTagTexts, IsReadBack, PgnIsReadBack, ResultIsWritten, VariantIsWritten}
 use Rattle.chess_pgn.specs.Tokens.{Token, begins_line, tokens_of, tokens_from}
 use Rattle.byte_devices.specs.Bytes.{after_byte_order_mark}
-use Rattle.chess_pgn.specs.declared.tagged_result.ResultTag.{ResultTag}
-use Rattle.chess_pgn.specs.UnknownVariants.{is_known_variant}
-use Rattle.pgn_writer.specs.Written.{escaped, tag_line, ended}
-use Rattle.pgn_writer.proofs.shared.Lines.{filled_from}
-use Rattle.pgn_writer.specs.laws.Layout.{AreShort}
-use Rattle.pgn_writer.proofs.shared.GameTexts.{pgn_filled}
-use Rattle.pgn_writer.proofs.shared.GameTexts.{game_numbered}
-use Rattle.pgn_writer.proofs.shared.GameTexts.{game_is_short}
-use Rattle.chess_pgn.proofs.shared.Games.{reads_alike}
+use Rattle.pgn_writer.proofs.{shared.Lines.filled_from, shared.GameTexts.pgn_filled, shared.GameTexts.game_numbered, shared.GameTexts.game_is_short}
+use Rattle.chess_pgn.proofs.{shared.Games.reads_alike, shared.Games.initial_variant, shared.Tokens.split_read, shared.Tokens.enough}
 use Rattle.chess_pgn_laws.proofs.PgnMoves.{outcome_some, filled_long, outcome_read, read_so_far, moves_read}
 use Rattle.chess_pgn_laws.proofs.PgnPieces.{read_on, TakesLine, empty_line, tagged, ended_game, plain_tag, termination_tag, fen_tag}
-use Rattle.chess_pgn_laws.proofs.PgnTags.{tag_text_in_line}
-use Rattle.chess_pgn_laws.proofs.LastTexts.{text_from, text_is}
+use Rattle.chess_pgn_laws.proofs.{PgnTags.tag_text_in_line, LastTexts.text_from, LastTexts.text_is}
 use Rattle.chess_pgn_laws.proofs.TagTexts.{string_of, tags_of, result_string, variant_string_of, variant_string, said_on, text_says, outcome_in_line}
-use Rattle.chess_pgn.proofs.shared.Tokens.{split_read}
-use Rattle.chess_pgn.proofs.shared.Tokens.{enough}
-use Rattle.chess_pgn.proofs.shared.Games.{initial_variant}
 
 -- ---- the tags
 

@@ -1,22 +1,16 @@
 -- What was logged, put together.
-use Rattle.std.proofs.Common.{◌≡◌, ℕ, suc, ◌+◌, ◌<◌, min, length, drop, take, get_or, not, Bool, true, false, List, [], ◌∷◌, ◌++◌, refl, ap, sym, ◌∙◌, subst, append_assoc, append-nil, Option, Some, None, Result, Ok, Err, arith}
+use Rattle.std.proofs.Common.{◌≡◌, ℕ, suc, ◌+◌, ◌<◌, min, length, drop, take, get_or, not, Bool, true, false, List, [], ◌∷◌, ◌++◌, refl, ap, sym, ◌∙◌, subst, append_assoc, append-nil, Option, Some, None, Result, Ok, Err, arith, is_err, ◌==◌, ◌||◌, nat_lt, flat_map, if◌then◌else◌}
 use native.Mathlib.Numerals.{unary_clauses}
-use Rattle.std.specs.Prelude.{◌==◌, ◌||◌, nat_lt, flat_map, if◌then◌else◌}
 use Rattle.std.specs.List.{onto_first, position_or_len}
-use Rattle.std.specs.Result.{is_err}
-use Rattle.std.proofs.lemmas.Bool.Decides.{nat_tests}
-use Rattle.std.proofs.lemmas.List.{drop_min, drop_more}
-use Rattle.byte_devices.specs.Bytes.{byte, new_line}
-use Rattle.chess_base.specs.declared.man.Colour.{Colour}
-use Rattle.chess_base.specs.declared.man.Colour.TheVariants.{White, Black}
-use Rattle.byte_devices.specs.Devices.{OutputState, Sends}
+use Rattle.std.proofs.{lemmas.Bool.Decides.nat_tests, lemmas.List.drop_min, lemmas.List.drop_more}
+use Rattle.byte_devices.specs.{Bytes.byte, Bytes.new_line, Devices.OutputState, Devices.Sends}
+use Rattle.chess_base.specs.{declared.man.Colour.Colour, declared.man.Colour.TheVariants.White, declared.man.Colour.TheVariants.Black}
 use Rattle.byte_devices.specs.Transfers.{OutputTook, nothing, all_of, all_for}
 use Rattle.byte_devices.proofs.shared.Transfers.{broke, some_for, took_all, took_each, took_more, took_nothing, took_some}
 use Rattle.chess_match.specs.Notes.{Note, Gives, WasNoted}
 use Rattle.match_runner.specs.Log.{LogSeen, Logged, LogsNote, lines_in, log_from, log_line, log_seen, moment_after, note_text}
 use Rattle.match_runner.specs.ties.Logging.{Adds, IsLog, LogsPending, first_of_text, log_of_text, moment_from, noted_by, text_of_log}
-use Rattle.match_runner.specs.declared.log.Log.{Log}
-use Rattle.match_runner.specs.declared.log.Pending.{Pending}
+use Rattle.match_runner.specs.{declared.log.Log.Log, declared.log.Pending.Pending}
 
 -- ---- the output
 

@@ -1,17 +1,9 @@
 -- The lines of a log are read back from its text.
-use Rattle.std.proofs.Common.{◌≡◌, ◌∙◌, ℕ, Bool, true, false, List, [], ◌∷◌, ◌++◌, map, refl, sym, ap, append_assoc, append-nil, Some, None, arith, rules}
-use Rattle.std.specs.Prelude.{◌==◌, codes, decimal, flat_map, if◌then◌else◌}
-use Rattle.std.proofs.lemmas.Bool.{and_parts}
-use Rattle.std.proofs.lemmas.Bool.Decides.{nat_tests}
-use Rattle.std.specs.Str.Parse.{digits_value}
-use Rattle.std.specs.List.{AllByRecursion, list_all}
-use Rattle.std.proofs.lemmas.List.{append_cancel_left}
-use Rattle.std.proofs.lemmas.List.Concat.{flat_map-append}
-use Rattle.std.proofs.lemmas.Fmt.{decimal_injective, digits_decimal}
-use Rattle.std.proofs.lemmas.Str.Parse.{IsNumeralModel, numerals_by_value}
+use Rattle.std.proofs.Common.{◌≡◌, ◌∙◌, ℕ, Bool, true, false, List, [], ◌∷◌, ◌++◌, map, refl, sym, ap, append_assoc, append-nil, Some, None, arith, rules, ◌==◌, codes, decimal, flat_map, if◌then◌else◌}
+use Rattle.std.proofs.{lemmas.Bool.and_parts, lemmas.Bool.Decides.nat_tests, lemmas.List.append_cancel_left, lemmas.List.Concat.flat_map-append, lemmas.Fmt.decimal_injective, lemmas.Fmt.digits_decimal, lemmas.Str.Parse.IsNumeralModel, lemmas.Str.Parse.numerals_by_value}
+use Rattle.std.specs.{Str.Parse.digits_value, List.AllByRecursion, List.list_all}
 use Rattle.byte_devices.specs.Bytes.{byte, is_digit, new_line, shown_byte}
-use Rattle.chess_base.specs.Men.{same_colour}
-use Rattle.chess_base.specs.declared.man.Colour.{Colour}
+use Rattle.chess_base.specs.{Men.same_colour, declared.man.Colour.Colour}
 use Rattle.chess_match.specs.Events.{Line, Opened, Silent, OutputEnds, FailsToRead, FailsToWrite}
 use Rattle.chess_match.specs.Notes.{Note, Happened, Gives}
 use Rattle.match_runner.specs.Log.{lines_in, log_from, log_line, moment_after, note_text}

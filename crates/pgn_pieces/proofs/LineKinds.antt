@@ -1,17 +1,10 @@
 -- The kind of a line that may go on.
-use Rattle.std.proofs.Common.{◌≡◌, ◌≤◌, ◌<◌, ℕ, zero, suc, ◌+◌, eqb, leb, Bool, true, false, List, [], ◌∷◌, ◌++◌, length, take, drop, cond, refl, sym, ap, ◌∙◌, length-drop, append_assoc, arith}
-use Rattle.std.specs.Prelude.{if◌then◌else◌, ◌&&◌, ◌||◌, not, nat_lt, codes}
+use Rattle.std.proofs.Common.{◌≡◌, ◌≤◌, ◌<◌, ℕ, zero, suc, ◌+◌, eqb, leb, Bool, true, false, List, [], ◌∷◌, ◌++◌, length, take, drop, cond, refl, sym, ap, ◌∙◌, length-drop, append_assoc, arith, bytes_eq, if◌then◌else◌, ◌&&◌, ◌||◌, not, nat_lt, codes}
 use Rattle.std.specs.List.{list_any, prefix_len, take_while}
-use Rattle.std.specs.Str.{bytes_eq}
-use Rattle.std.proofs.lemmas.Bool.{and_parts, leb-true}
-use Rattle.std.proofs.lemmas.Bool.Decides.{nat_tests}
-use Rattle.std.proofs.lemmas.List.{take-append-le, drop-append-le, take_all}
-use Rattle.std.proofs.lemmas.List.Folds.{prefix_len-append, length-prefix_len}
-use Rattle.std.proofs.lemmas.List.Sums.{prefix_len-le-length}
+use Rattle.std.proofs.{lemmas.Bool.and_parts, lemmas.Bool.leb-true, lemmas.Bool.Decides.nat_tests, lemmas.List.take-append-le, lemmas.List.drop-append-le, lemmas.List.take_all, lemmas.List.Folds.prefix_len-append, lemmas.List.Folds.length-prefix_len, lemmas.List.Sums.prefix_len-le-length}
 use Rattle.pgn_pieces.specs.Pieces.{without_blanks, front_of, tag_name, after_name, after_tag, is_tag_line, is_event_line, is_moves_line}
 use Rattle.byte_devices.specs.Bytes.{is_blank, is_name_byte}
-use Rattle.pgn_pieces.specs.ties.Fronts.{begins_tag, is_empty_front}
-use Rattle.pgn_pieces.specs.ties.Held.{SameKind, SameTag, IsDecided}
+use Rattle.pgn_pieces.specs.{ties.Fronts.begins_tag, ties.Fronts.is_empty_front, ties.Held.SameKind, ties.Held.SameTag, ties.Held.IsDecided}
 
 abbrev without_mark : List ℕ → List ℕ
 without_mark text = if bytes_eq (take 3 text) (239 ∷ 187 ∷ 191 ∷ []) then drop 3 text else text

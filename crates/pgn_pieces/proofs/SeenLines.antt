@@ -1,17 +1,9 @@
 -- What is known of a piece's lines, as more of them come.
-use Rattle.std.proofs.Common.{◌≡◌, ◌≤◌, ◌<◌, ℕ, ◌+◌, Bool, true, false, List, [], ◌∷◌, ◌++◌, length, take, drop, refl, sym, ap, subst, ◌∙◌, inl, inr, append_assoc, append-nil, length-append, length-drop, arith}
-use Rattle.std.specs.Prelude.{◌&&◌, ◌||◌}
+use Rattle.std.proofs.Common.{◌≡◌, ◌≤◌, ◌<◌, ℕ, ◌+◌, Bool, true, false, List, [], ◌∷◌, ◌++◌, length, take, drop, refl, sym, ap, subst, ◌∙◌, inl, inr, append_assoc, append-nil, length-append, length-drop, arith, ◌&&◌, ◌||◌, take-append-drop, take_all}
 use Rattle.std.specs.List.{list_any, concat}
-use Rattle.std.proofs.Math.Seq.{take-length, take-add}
-use Rattle.std.proofs.lemmas.Bool.{and_parts, or_cases}
-use Rattle.std.proofs.lemmas.List.{take-append-drop, take_all}
-use Rattle.std.proofs.lemmas.List.Folds.{list_any-append}
-use Rattle.pgn_pieces.specs.declared.line_kinds.Kind.{Kind}
-use Rattle.pgn_pieces.specs.declared.piece_end.Seen.{Seen}
-use Rattle.pgn_pieces.specs.declared.piece_end.Step.TheVariants.{Begins, Waits, Belongs}
+use Rattle.std.proofs.{Math.Seq.take-length, Math.Seq.take-add, lemmas.Bool.and_parts, lemmas.Bool.or_cases, lemmas.List.Folds.list_any-append}
+use Rattle.pgn_pieces.specs.{declared.line_kinds.Kind.Kind, declared.piece_end.Seen.Seen, declared.piece_end.Step.TheVariants.Begins, declared.piece_end.Step.TheVariants.Waits, declared.piece_end.Step.TheVariants.Belongs, Places.breaks_line, ties.Cutting.cut_lines, ties.Cutting.piece_of}
 use Rattle.pgn_pieces.specs.Pieces.{lines_of, is_tag_line, is_event_line, is_moves_line, begins_piece, cut}
-use Rattle.pgn_pieces.specs.Places.{breaks_line}
-use Rattle.pgn_pieces.specs.ties.Cutting.{cut_lines, piece_of}
 use Rattle.pgn_pieces.specs.ties.Held.{AreSeen, HasSeen, MayGoOn, IsDecided, IsWhole, SameTag, Ends, Steps, Looks, has_line_end}
 use Rattle.pgn_pieces.proofs.LineKinds.{decided_on, same_tag, tag_stays}
 use Rattle.pgn_pieces.proofs.CutLines.{whole_line, first_line, concat_more, goes_on, ends_here, begun, last_line, some_bytes, cut_is}

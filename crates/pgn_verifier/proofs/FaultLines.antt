@@ -1,18 +1,9 @@
 -- The lines on a fault, by what its label says, are those of its report.
-use Rattle.std.proofs.Common.{◌≡◌, ℕ, ◌+◌, List, [], ◌++◌, length, drop, Option, Some, ap, ◌∙◌}
-use Rattle.std.specs.Option.{option_map, unwrap_or}
-use Rattle.std.specs.Prelude.{if◌then◌else◌}
+use Rattle.std.proofs.Common.{◌≡◌, ℕ, ◌+◌, List, [], ◌++◌, length, drop, Option, Some, ap, ◌∙◌, if◌then◌else◌, option_map, unwrap_or}
 use Rattle.chess_game.specs.Game.{State}
 use Rattle.pgn_verifier.specs.Explanations.{is_at_begin, shown, wrong_part, explanation_line}
 use Rattle.pgn_verifier.specs.Reports.{game_begin, names_text, span_text, unread_from, unread_text}
-use Rattle.pgn_verifier.specs.declared.after_fault.AfterFault.{AfterFault}
-use Rattle.pgn_verifier.specs.declared.game_fault.GameFault.{GameFault}
-use Rattle.pgn_verifier.specs.declared.label.FaultLabel.{FaultLabel}
-use Rattle.pgn_verifier.specs.declared.options.VerifyOptions.{VerifyOptions}
-use Rattle.pgn_verifier.specs.declared.start.TextStart.{TextStart}
-use Rattle.pgn_verifier.specs.declared.tally.Tally.{Tally}
-use Rattle.pgn_verifier.specs.laws.Reasons.{explanation_of}
-use Rattle.pgn_verifier.specs.laws.Reported.{names_at, next_at, fault_placed}
+use Rattle.pgn_verifier.specs.{declared.after_fault.AfterFault.AfterFault, declared.game_fault.GameFault.GameFault, declared.label.FaultLabel.FaultLabel, declared.options.VerifyOptions.VerifyOptions, declared.start.TextStart.TextStart, declared.tally.Tally.Tally, laws.Reasons.explanation_of, laws.Reported.names_at, laws.Reported.next_at, laws.Reported.fault_placed}
 use Rattle.pgn_verifier.specs.ties.OnTheWay.{moved, fault_line, next_number, span_written, unread_written}
 use Rattle.pgn_verifier.proofs.LinesWritten.{placed_line}
 

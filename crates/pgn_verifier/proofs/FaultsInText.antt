@@ -1,20 +1,11 @@
 -- The fault of a game whose end contradicts its tags or the board is in the text.
-use Rattle.std.proofs.Common.{◌≡◌, ℕ, zero, suc, ◌<◌, ◌≤◌, Bool, true, false, List, [], ◌∷◌, length, take, drop, Option, Some, None, Result, Ok, Err, IfErr, ap, arith}
+use Rattle.std.proofs.Common.{◌≡◌, ℕ, zero, suc, ◌<◌, ◌≤◌, Bool, true, false, List, [], ◌∷◌, length, take, drop, Option, Some, None, Result, Ok, Err, IfErr, ap, arith, if◌then◌else◌, IfSome}
 use Rattle.std.proofs.lemmas.List.{length-append, length-drop, nil_from_length, take-append-drop}
 use Rattle.byte_devices.specs.Bytes.{after_byte_order_mark}
 use Rattle.chess_base.specs.declared.setup.Setup.{Setup}
-use Rattle.chess_pgn.specs.Split.{lacks}
-use Rattle.chess_pgn.specs.Tokens.{tokens_from}
-use Rattle.chess_pgn.specs.Variations.{line_fault, variation_fault}
-use Rattle.chess_pgn.specs.declared.variations.TheConstants.{MOST_NESTED}
-use Rattle.std.specs.Prelude.{if◌then◌else◌, IfSome}
+use Rattle.chess_pgn.specs.{Split.lacks, Tokens.tokens_from, Variations.line_fault, Variations.variation_fault, declared.variations.TheConstants.MOST_NESTED, declared.read.PgnEnd.PgnEnd, declared.read.PgnFault.PgnFault, declared.tagged_result.ResultTag.ResultTag}
 use Rattle.std.specs.Option.{option_eq, option_or}
-use Rattle.chess_game.specs.Game.{contradicts_verdict}
-use Rattle.chess_game.specs.declared.verdicts.Verdict.{Verdict}
-use Rattle.chess_game.specs.Results.{same_outcome}
-use Rattle.chess_pgn.specs.declared.read.PgnEnd.{PgnEnd}
-use Rattle.chess_pgn.specs.declared.read.PgnFault.{PgnFault}
-use Rattle.chess_pgn.specs.declared.tagged_result.ResultTag.{ResultTag}
+use Rattle.chess_game.specs.{Game.contradicts_verdict, declared.verdicts.Verdict.Verdict, Results.same_outcome}
 use Rattle.pgn_verifier.specs.GameFaults.{looked_for, result_differs, board_says_otherwise, variation_in}
 use Rattle.pgn_verifier.specs.declared.game_fault.GameFault.{GameFault}
 

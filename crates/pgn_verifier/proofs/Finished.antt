@@ -5,19 +5,12 @@ use Rattle.byte_devices.specs.Devices.{InputState, OutputState, Took, Sent, CutS
 use Rattle.byte_devices.specs.Transfers.{Ran}
 use Rattle.byte_devices.proofs.shared.Devices.{appends_more, took_none, breaks_more, failed_more}
 use Rattle.pgn_pieces.specs.Stream.{pieces}
-use Rattle.pgn_verifier.specs.declared.options.Strictness.{Strictness}
-use Rattle.pgn_verifier.specs.declared.options.VerifyOptions.{VerifyOptions}
-use Rattle.pgn_verifier.specs.declared.tally.Tally.{Tally}
-use Rattle.pgn_verifier.specs.declared.tally.Verified.{Verified}
+use Rattle.pgn_verifier.specs.{declared.options.Strictness.Strictness, declared.options.VerifyOptions.VerifyOptions, declared.tally.Tally.Tally, declared.tally.Verified.Verified, declared.fault.VerifyFault.TheVariants.WriteFailed, declared.fault.VerifyFault.TheVariants.NoMemory, Collection.VerifiesCollection, laws.Reported.placed_on, laws.Reported.collection_placed}
 use Rattle.pgn_pieces.specs.declared.pieces.PieceFault.TheVariants as piece
 use Rattle.pgn_pieces.proofs.shared.Inputs.{nothing_read}
-use Rattle.pgn_verifier.specs.declared.fault.VerifyFault.TheVariants.{WriteFailed, NoMemory}
 use Rattle.pgn_verifier.specs.Reports.{report_lines, without_spans, counts_line, counts_of, verified}
-use Rattle.pgn_verifier.specs.Collection.{VerifiesCollection}
-use Rattle.pgn_verifier.specs.laws.Reported.{placed_on, collection_placed}
 use Rattle.pgn_verifier.specs.ties.OnTheWay.{WritesCollection, StandsIf, next_number, counted, text_lines, collection_lines}
-use Rattle.pgn_verifier.proofs.LinesWritten.{all_counted}
-use Rattle.pgn_verifier.proofs.Verifying.{collection_verified, collection_broke_off, reading_stopped}
+use Rattle.pgn_verifier.proofs.{LinesWritten.all_counted, Verifying.collection_verified, Verifying.collection_broke_off, Verifying.reading_stopped}
 
 abbrev pub none : Tally
 none = record { games = 0; half_moves = 0; faults = 0 }

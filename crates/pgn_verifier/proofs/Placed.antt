@@ -1,20 +1,11 @@
 -- Where a fault is: counted from the text's beginning, and from the input's.
-use Rattle.std.proofs.Common.{◌≡◌, ◌≤◌, ◌<◌, ℕ, ◌+◌, ◌-◌, eqb, Bool, true, false, not, cond, List, ◌++◌, length, take, drop, refl, sym, ap, ◌∙◌, append_assoc, length-drop, arith}
-use Rattle.std.specs.Prelude.{if◌then◌else◌, reverse}
-use Rattle.std.specs.List.{prefix_len, suffix_len}
-use Rattle.std.proofs.Math.Seq.{take-add}
-use Rattle.std.proofs.lemmas.Bool.Decides.{nat_tests}
+use Rattle.std.proofs.Common.{◌≡◌, ◌≤◌, ◌<◌, ℕ, ◌+◌, ◌-◌, eqb, Bool, true, false, not, cond, List, ◌++◌, length, take, drop, refl, sym, ap, ◌∙◌, append_assoc, length-drop, arith, take-add, if◌then◌else◌, reverse}
+use Rattle.std.specs.List.{prefix_len, suffix_len, sum_by}
+use Rattle.std.proofs.{lemmas.Bool.Decides.nat_tests, lemmas.List.Folds.prefix_len-append, lemmas.List.Sums.count_by-le-length, lemmas.List.Sums.prefix_len-le-length, lemmas.List.Sums.sum_by-append}
 use Rattle.std.proofs.lemmas.List.{take-take, take-append-le, drop-append-le, length-take, length-reverse, reverse-append}
-use Rattle.std.proofs.lemmas.List.Folds.{prefix_len-append}
-use Rattle.std.proofs.lemmas.List.Sums.{count_by-le-length, prefix_len-le-length, sum_by-append}
 use Rattle.pgn_pieces.specs.Places.{ends_line, breaks_line, line_ends, line_of, column_of}
-use Rattle.pgn_verifier.specs.declared.place.Place.{Place}
-use Rattle.pgn_verifier.specs.declared.start.TextStart.{TextStart}
-use Rattle.pgn_pieces.specs.Stream.{PieceSeen}
-use Rattle.pgn_pieces.specs.laws.Places.{IsInPlace}
-use Rattle.std.specs.List.{sum_by}
-use Rattle.pgn_verifier.specs.ties.Counting.{Known, column_on}
-use Rattle.pgn_verifier.specs.ties.OnTheWay.{StandsAt, PieceStandsAt}
+use Rattle.pgn_verifier.specs.{declared.place.Place.Place, declared.start.TextStart.TextStart, ties.Counting.Known, ties.Counting.column_on, ties.OnTheWay.StandsAt, ties.OnTheWay.PieceStandsAt}
+use Rattle.pgn_pieces.specs.{Stream.PieceSeen, laws.Places.IsInPlace}
 
 abbrev last_line_len : List ℕ → ℕ
 last_line_len text = suffix_len (λ c. not (breaks_line c)) text

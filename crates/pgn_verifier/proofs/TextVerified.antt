@@ -1,17 +1,12 @@
 -- The games of a text, one after another.
-use Rattle.std.proofs.Common.{◌≡◌, ℕ, zero, suc, ◌+◌, ◌≤◌, ◌<◌, Bool, List, [], ◌∷◌, ◌++◌, length, Option, Some, None, Result, Ok, Err, refl, sym, ap, subst, ◌∙◌, append_assoc, append-nil, arith}
-use Rattle.std.specs.Prelude.{if◌then◌else◌}
+use Rattle.std.proofs.Common.{◌≡◌, ℕ, zero, suc, ◌+◌, ◌≤◌, ◌<◌, Bool, List, [], ◌∷◌, ◌++◌, length, Option, Some, None, Result, Ok, Err, refl, sym, ap, subst, ◌∙◌, append_assoc, append-nil, arith, if◌then◌else◌}
 use Rattle.std.specs.Option.{option_map_or}
 use Rattle.byte_devices.specs.Devices.{OutputState, Took, CutShort}
 use Rattle.chess_game.specs.Game.{State}
 use Rattle.chess_pgn.specs.declared.read.PgnEnd.{PgnEnd}
-use Rattle.pgn_verifier.specs.declared.options.Strictness.{Strictness}
-use Rattle.pgn_verifier.specs.declared.game_fault.GameFault.{GameFault}
-use Rattle.pgn_verifier.specs.declared.options.VerifyOptions.{VerifyOptions}
-use Rattle.pgn_verifier.specs.declared.tally.Tally.{Tally}
+use Rattle.pgn_verifier.specs.{declared.options.Strictness.Strictness, declared.game_fault.GameFault.GameFault, declared.options.VerifyOptions.VerifyOptions, declared.tally.Tally.Tally, declared.start.TextStart.TextStart}
 use Rattle.pgn_verifier.specs.Reports.{Placed, game_begin, span_text, report_lines}
 use Rattle.pgn_verifier.specs.laws.Reported.{read_at, judged_at, next_at, game_placed, fault_placed, placed_then, placed_from, placed_of}
-use Rattle.pgn_verifier.specs.declared.start.TextStart.{TextStart}
 use Rattle.pgn_verifier.specs.ties.OnTheWay.{StandsIf, game_line, with_report, next_number, Writes, counted}
 use Rattle.pgn_verifier.proofs.LinesWritten.{placed_line, wrote_none, took_after, broke_after, writes_after, one_line, first_broke, counted_after}
 

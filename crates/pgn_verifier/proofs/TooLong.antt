@@ -1,18 +1,11 @@
 -- A piece that is too long is reported in one line, or two.
-use Rattle.std.proofs.Common.{◌≡◌, ℕ, ◌+◌, Bool, true, List, [], ◌∷◌, ◌++◌, Some, None, Ok, Err, refl, sym, ap, subst, ◌∙◌, append-nil}
-use Rattle.std.specs.Prelude.{if◌then◌else◌}
+use Rattle.std.proofs.Common.{◌≡◌, ℕ, ◌+◌, Bool, true, List, [], ◌∷◌, ◌++◌, Some, None, Ok, Err, refl, sym, ap, subst, ◌∙◌, append-nil, if◌then◌else◌}
 use Rattle.std.specs.Option.{option_map_or}
 use Rattle.byte_devices.specs.Devices.{OutputState, Took, CutShort}
 use Rattle.chess_pgn.specs.declared.read.PgnFaultKind.TheVariants.{TooLong}
-use Rattle.pgn_pieces.specs.Places.{line_of, column_of}
-use Rattle.pgn_pieces.specs.Stream.{PieceSeen}
-use Rattle.pgn_verifier.specs.Explanations.{shown, explanation_line}
+use Rattle.pgn_pieces.specs.{Places.line_of, Places.column_of, Stream.PieceSeen}
+use Rattle.pgn_verifier.specs.{Explanations.shown, Explanations.explanation_line, declared.game_fault.FaultKind.TheVariants.Pgn, declared.options.VerifyOptions.VerifyOptions, declared.start.TextStart.TextStart, declared.tally.Tally.Tally, laws.Reported.placed_of}
 use Rattle.pgn_verifier.specs.Reports.{names_text, report_lines, span_text, unread_text}
-use Rattle.pgn_verifier.specs.declared.game_fault.FaultKind.TheVariants.{Pgn}
-use Rattle.pgn_verifier.specs.declared.options.VerifyOptions.{VerifyOptions}
-use Rattle.pgn_verifier.specs.declared.start.TextStart.{TextStart}
-use Rattle.pgn_verifier.specs.declared.tally.Tally.{Tally}
-use Rattle.pgn_verifier.specs.laws.Reported.{placed_of}
 use Rattle.pgn_verifier.specs.ties.OnTheWay.{StandsIf, PieceStandsIf, Writes, counted, fault_line, next_number, reports_seen, too_long_seen}
 
 -- the lines on a piece that is too long, which begins at the offset `at` with these bytes; `span` and `names`: the end

@@ -1,22 +1,14 @@
 -- White space before a game is skipped: from the game's first byte on the same is read.
-use Rattle.std.proofs.Common.{◌≡◌, ℕ, ◌+◌, ◌-◌, ◌<◌, ◌≤◌, ◌||◌, ◌==◌, eqb, Bool, true, false, cond, List, [], ◌∷◌, length, drop, None, one-add, refl, sym, ap, ◌∙◌, arith}
-use Rattle.std.specs.List.{filter_map, prefix_len}
-use Rattle.std.specs.Option.{option_map_or}
-use Rattle.std.specs.Prelude.{codes, slice_get}
+use Rattle.std.proofs.Common.{◌≡◌, ℕ, ◌+◌, ◌-◌, ◌<◌, ◌≤◌, ◌||◌, ◌==◌, eqb, Bool, true, false, cond, List, [], ◌∷◌, length, drop, None, one-add, refl, sym, ap, ◌∙◌, arith, drop-drop, codes, slice_get}
+use Rattle.std.specs.{List.filter_map, List.prefix_len, Option.option_map_or}
 use Rattle.std.proofs.lemmas.Bool.Decides.{nat_tests}
-use Rattle.std.proofs.lemmas.List.{drop-drop}
 use Rattle.chess_base.specs.declared.man.Variant.TheVariants.{Normal}
-use Rattle.chess_pgn.specs.GameEnds.{ends_at, game_end}
-use Rattle.chess_pgn.specs.GameRead.{pgn_read, variant_named}
-use Rattle.chess_pgn.specs.LastTags.{may_precede_tags}
+use Rattle.chess_pgn.specs.{GameEnds.ends_at, GameEnds.game_end, GameRead.pgn_read, GameRead.variant_named, LastTags.may_precede_tags, laws.TokenByToken.game_of, laws.TokenByToken.nothing_read, laws.TokenByToken.tokens_read}
 use Rattle.chess_pgn.specs.Tokens.{Token, Skip, begins_line, is_white_space, tokens_from}
 use Rattle.byte_devices.specs.Bytes.{after_byte_order_mark}
-use Rattle.chess_pgn.specs.laws.TokenByToken.{game_of, nothing_read, tokens_read}
 use Rattle.chess_pgn.specs.shared.Kinds.{IsOf, IsLongest, Blank, token}
-use Rattle.chess_pgn.proofs.shared.Tags.{last_step}
-use Rattle.chess_pgn.proofs.shared.Tokens.{read_kinds, kinds_read}
-use Rattle.pgn_verifier.specs.Reports.{game_begin}
-use Rattle.pgn_verifier.specs.laws.Reported.{next_at}
+use Rattle.chess_pgn.proofs.{shared.Tags.last_step, shared.Tokens.read_kinds, shared.Tokens.kinds_read}
+use Rattle.pgn_verifier.specs.{Reports.game_begin, laws.Reported.next_at}
 use Rattle.pgn_verifier_laws.proofs.PartsAlike.{TokenByToken, not_before, no_mark}
 
 blank_is_longest : (b : Bool) (c : ℕ) (rest : List ℕ) → is_white_space c ≡ true → IsLongest (IsOf b Blank) (c ∷ []) rest

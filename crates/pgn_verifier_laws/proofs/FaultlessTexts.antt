@@ -1,32 +1,18 @@
 -- If no fault is reported on a text's pieces, then their reports are those on the text.
-use Rattle.std.proofs.Common.{◌≡◌, ℕ, zero, suc, ◌+◌, ◌-◌, ◌<◌, ◌≤◌, Bool, true, false, cond, eqb, not, List, [], ◌∷◌, ◌++◌, length, get_or, drop, take, Option, Some, None, Result, Ok, Err, refl, sym, ap, subst, ◌∙◌, inl, inr, ◌⊎◌, append_assoc, append-nil, length-append, arith}
-use Rattle.std.specs.Prelude.{nat_le, if◌then◌else◌, ◌&&◌, ◌||◌}
+use Rattle.std.proofs.Common.{◌≡◌, ℕ, zero, suc, ◌+◌, ◌-◌, ◌<◌, ◌≤◌, Bool, true, false, cond, eqb, not, List, [], ◌∷◌, ◌++◌, length, get_or, drop, take, Option, Some, None, Result, Ok, Err, refl, sym, ap, subst, ◌∙◌, inl, inr, ◌⊎◌, append_assoc, append-nil, length-append, arith, bytes_eq, nat_le, if◌then◌else◌, ◌&&◌, ◌||◌}
 use Rattle.std.specs.List.{concat, flat_map, list_all, list_any}
-use Rattle.std.specs.Str.{bytes_eq}
-use Rattle.std.proofs.lemmas.Bool.{and_parts, or_parts, eqb-true}
-use Rattle.std.proofs.lemmas.Bool.Decides.{nat_tests}
-use Rattle.std.proofs.lemmas.List.{get_or_at, reverse-append}
-use Rattle.std.proofs.Math.Path.{fun_ext}
-use Rattle.std.proofs.lemmas.List.Folds.{list_all-append, sum_by-zero}
-use Rattle.chess_pgn.specs.Tokens.{begins_line}
+use Rattle.std.proofs.{lemmas.Bool.and_parts, lemmas.Bool.or_parts, lemmas.Bool.eqb-true, lemmas.Bool.Decides.nat_tests, lemmas.List.get_or_at, lemmas.List.reverse-append, Math.Path.fun_ext, lemmas.List.Folds.list_all-append, lemmas.List.Folds.sum_by-zero}
+use Rattle.chess_pgn.specs.{Tokens.begins_line, declared.read.PgnEnd.PgnEnd}
 use Rattle.byte_devices.specs.Bytes.{after_byte_order_mark}
-use Rattle.chess_pgn.specs.declared.read.PgnEnd.{PgnEnd}
-use Rattle.pgn_pieces.specs.Pieces.{cut}
-use Rattle.pgn_pieces.specs.Places.{breaks_line}
-use Rattle.pgn_pieces.specs.Stream.{with_offsets, pieces}
-use Rattle.pgn_pieces.specs.declared.pieces.TheConstants.{PIECE_LEN}
+use Rattle.pgn_pieces.specs.{Pieces.cut, Places.breaks_line, Stream.with_offsets, Stream.pieces, declared.pieces.TheConstants.PIECE_LEN}
 use Rattle.pgn_pieces.proofs.shared.Cuts.{AreLines, no_texts, last_text, next_text, cut_is_all, cut_ends}
-use Rattle.pgn_verifier.specs.declared.options.Strictness.{Strictness}
+use Rattle.pgn_verifier.specs.{declared.options.Strictness.Strictness, declared.game_fault.GameFault.GameFault, declared.tally.Verified.TheVariants.EachGame, declared.tally.Verified.TheVariants.FaultReported}
 use Rattle.pgn_verifier.specs.Reports.{Report, Game, Faulty, counts_of, verified}
-use Rattle.pgn_verifier.specs.declared.game_fault.GameFault.{GameFault}
-use Rattle.pgn_verifier.specs.declared.tally.Verified.TheVariants.{EachGame, FaultReported}
 use Rattle.pgn_verifier_laws.specs.NoFaults.{begins_with_mark, ends_with_return, FaultlessTextsAreReportedAlike}
 use Rattle.pgn_verifier_laws.specs.Parts.{BeginsAlike, HoldsWhole, no_more, game, AllHoldWhole, no_parts, next_part}
 use Rattle.pgn_verifier_laws.proofs.Parts.{next_begins, reported_alike, reported_alone, all_reported_alike}
-use Rattle.pgn_verifier_laws.proofs.PartsAlike.{TokenByToken, no_mark}
-use Rattle.pgn_verifier_laws.proofs.PartsRead.{IsClosed, in_text}
+use Rattle.pgn_verifier_laws.proofs.{PartsAlike.TokenByToken, PartsAlike.no_mark, PartsRead.IsClosed, PartsRead.in_text, GoesOn.is_game, GoesOn.same_of}
 use Rattle.pgn_verifier.specs.laws.Reported.{collection_reports, judged_at, read_at, report_then, games_from, games_of, reports_from, reports_in, reports_on, too_long_report}
-use Rattle.pgn_verifier_laws.proofs.GoesOn.{is_game, same_of}
 
 -- ---- reports without a fault
 

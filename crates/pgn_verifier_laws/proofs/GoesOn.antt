@@ -1,12 +1,9 @@
 -- Without a fault the reports on a text are the same, whether reading goes on after faults or not.
-use Rattle.std.proofs.Common.{◌≡◌, ℕ, zero, suc, ◌+◌, Bool, true, List, ◌∷◌, length, Option, Some, None, Result, Ok, Err, refl, ap}
-use Rattle.std.specs.Prelude.{is_some}
+use Rattle.std.proofs.Common.{◌≡◌, ℕ, zero, suc, ◌+◌, Bool, true, List, ◌∷◌, length, Option, Some, None, Result, Ok, Err, refl, ap, is_some}
 use Rattle.std.specs.List.{list_all}
 use Rattle.chess_game.specs.Game.{State}
 use Rattle.chess_pgn.specs.declared.read.PgnEnd.{PgnEnd}
-use Rattle.pgn_verifier.specs.declared.options.Strictness.{Strictness}
-use Rattle.pgn_verifier.specs.Reports.{Report, Game, half_moves_of}
-use Rattle.pgn_verifier.specs.declared.game_fault.GameFault.{GameFault}
+use Rattle.pgn_verifier.specs.{declared.options.Strictness.Strictness, Reports.Report, Reports.Game, Reports.half_moves_of, declared.game_fault.GameFault.GameFault}
 use Rattle.pgn_verifier.specs.laws.Reported.{games_from, games_of, judged_at, next_at, read_at, report_then}
 
 -- whether a report is on a game without a fault

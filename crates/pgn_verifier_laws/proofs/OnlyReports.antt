@@ -1,31 +1,14 @@
 -- No other reports are those of the definitions than those that are made one after another.
-use Rattle.std.proofs.Common.{◌≡◌, ℕ, zero, suc, ◌+◌, Bool, List, [], ◌∷◌, ◌++◌, length, drop, Option, Some, None, true, false, Result, Ok, Err, refl, sym, ap, subst, ◌∙◌}
-use Rattle.std.proofs.Math.Path.{ap₂, fun_ext}
-use Rattle.std.specs.List.{flat_map}
+use Rattle.std.proofs.Common.{◌≡◌, ℕ, zero, suc, ◌+◌, Bool, List, [], ◌∷◌, ◌++◌, length, drop, Option, Some, None, true, false, Result, Ok, Err, refl, sym, ap, subst, ◌∙◌, flat_map, MatchBool, nat_le, if◌then◌else◌}
+use Rattle.std.proofs.{Math.Path.ap₂, Math.Path.fun_ext, lemmas.List.map-append}
 use Rattle.std.specs.Option.{option_map_or, unwrap_or}
-use Rattle.std.proofs.lemmas.List.{map-append}
-use Rattle.std.specs.Prelude.{nat_le, if◌then◌else◌}
-use Rattle.std.specs.Bool.{MatchBool}
-use Rattle.chess_game.specs.Game.{State, verdict_now}
-use Rattle.chess_game.specs.declared.game.TheConstants.{MOST_MOVES}
-use Rattle.chess_pgn.specs.GameRead.{GameRead, pgn_read, read_of_split}
-use Rattle.chess_pgn.specs.LastTags.{result_tag_of}
-use Rattle.chess_pgn.specs.UnknownVariants.{unknown_variant_in}
-use Rattle.chess_pgn.specs.Split.{IsSplit}
-use Rattle.chess_pgn.specs.Tokens.{Token, tokens_from}
+use Rattle.chess_game.specs.{Game.State, Game.verdict_now, declared.game.TheConstants.MOST_MOVES}
+use Rattle.chess_pgn.specs.{GameRead.GameRead, GameRead.pgn_read, GameRead.read_of_split, LastTags.result_tag_of, UnknownVariants.unknown_variant_in, Split.IsSplit, Tokens.Token, Tokens.tokens_from, declared.read.PgnEnd.PgnEnd}
 use Rattle.byte_devices.specs.Bytes.{after_byte_order_mark}
-use Rattle.chess_pgn.specs.declared.read.PgnEnd.{PgnEnd}
 use Rattle.chess_pgn.proofs.shared.Tokens.{split_read}
-use Rattle.pgn_pieces.specs.Pieces.{known_pieces}
-use Rattle.pgn_pieces.specs.Stream.{Piece, with_offsets, pieces}
-use Rattle.pgn_pieces.specs.declared.pieces.TheConstants.{PIECE_LEN}
-use Rattle.pgn_verifier.specs.declared.options.Strictness.{Strictness}
-use Rattle.pgn_verifier.specs.Collection.{AreCollectionReports, no_piece, next_piece}
-use Rattle.pgn_verifier.specs.Explanations.{IsReason, explanation}
-use Rattle.pgn_verifier.specs.GameFaults.{judged, variation_in, IsJudged}
+use Rattle.pgn_pieces.specs.{Pieces.known_pieces, Stream.Piece, Stream.with_offsets, Stream.pieces, declared.pieces.TheConstants.PIECE_LEN}
+use Rattle.pgn_verifier.specs.{declared.options.Strictness.Strictness, Collection.AreCollectionReports, Collection.no_piece, Collection.next_piece, Explanations.IsReason, Explanations.explanation, GameFaults.judged, GameFaults.variation_in, GameFaults.IsJudged, declared.game_fault.GameFault.GameFault, laws.Reasons.reason}
 use Rattle.pgn_verifier.specs.Reports.{Report, Game, Placed, fault_in, names_of, AreReports, AreReportsOf, none_left, next_game, next_fault, AreReportsIn, without_spans}
-use Rattle.pgn_verifier.specs.declared.game_fault.GameFault.{GameFault}
-use Rattle.pgn_verifier.specs.laws.Reasons.{reason}
 use Rattle.pgn_verifier_laws.proofs.OnlyReasons.{only_reason}
 use Rattle.pgn_verifier.specs.laws.Reported.{names_at, next_at, read_at, judged_at, report_then, games_from, games_of, reports_on, reports_in, collection_reports, game_placed, fault_placed, placed_then, placed_from, placed_of, placed_on, placed_in, collection_placed, too_long_report, too_long_placed}
 use Rattle.pgn_verifier.proofs.shared.ReportsAre.{are_reports_of, named, goes_on_there}

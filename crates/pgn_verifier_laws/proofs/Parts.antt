@@ -1,35 +1,20 @@
 -- A game that is read in a text is read in each part of it that holds the game.
-use Rattle.std.proofs.Common.{◌≡◌, ℕ, zero, suc, ◌+◌, ◌-◌, ◌<◌, ◌≤◌, true, false, List, [], ◌∷◌, ◌++◌, length, take, drop, Option, Some, None, Ok, Err, refl, sym, ap, subst, ◌∙◌, append_assoc, append-nil, length-append, arith}
-use Rattle.std.specs.Prelude.{is_some, nat_le, if◌then◌else◌}
-use Rattle.std.specs.List.{concat, flat_map, list_all}
-use Rattle.std.specs.Option.{option_map_or}
+use Rattle.std.proofs.Common.{◌≡◌, ℕ, zero, suc, ◌+◌, ◌-◌, ◌<◌, ◌≤◌, true, false, List, [], ◌∷◌, ◌++◌, length, take, drop, Option, Some, None, Ok, Err, refl, sym, ap, subst, ◌∙◌, append_assoc, append-nil, length-append, arith, le-leb, is_some, nat_le, if◌then◌else◌}
+use Rattle.std.specs.{List.concat, List.flat_map, List.list_all, Option.option_map_or}
 use Rattle.std.proofs.Math.Seq.{drop-length, take-length}
-use Rattle.std.proofs.lemmas.Bool.{le-leb}
 use Rattle.std.proofs.lemmas.List.{take-append-drop, take-append-le, length-drop, append_cancel_left}
-use Rattle.chess_game.specs.Game.{State, verdict_now}
-use Rattle.chess_game.specs.declared.game.TheConstants.{MOST_MOVES}
-use Rattle.chess_game.specs.declared.verdicts.Verdict.{Verdict}
+use Rattle.chess_game.specs.{Game.State, Game.verdict_now, declared.game.TheConstants.MOST_MOVES, declared.verdicts.Verdict.Verdict}
 use Rattle.chess_pgn.specs.GameRead.{GameRead, pgn_read, read_of_split, tagged_variant}
-use Rattle.chess_pgn.specs.LastTags.{tag_section, result_tag_of}
-use Rattle.chess_pgn.specs.UnknownVariants.{unknown_variant_in}
+use Rattle.chess_pgn.specs.{LastTags.tag_section, LastTags.result_tag_of, UnknownVariants.unknown_variant_in, Tokens.Token, Tokens.begins_line, Tokens.tokens_from, declared.read.PgnEnd.PgnEnd, laws.TokenByToken.game_of, laws.TokenByToken.nothing_read, laws.TokenByToken.tokens_read}
 use Rattle.chess_pgn.specs.shared.Kinds.{IsOf, IsLongest, Kind, ended}
-use Rattle.chess_pgn.specs.Tokens.{Token, begins_line, tokens_from}
 use Rattle.byte_devices.specs.Bytes.{after_byte_order_mark}
-use Rattle.chess_pgn.specs.declared.read.PgnEnd.{PgnEnd}
-use Rattle.chess_pgn.specs.laws.TokenByToken.{game_of, nothing_read, tokens_read}
 use Rattle.chess_pgn.proofs.shared.Tokens.{read_kinds, kinds_read}
-use Rattle.pgn_verifier.specs.declared.options.Strictness.{Strictness}
-use Rattle.pgn_verifier.specs.GameFaults.{judged, variation_in}
+use Rattle.pgn_verifier.specs.{declared.options.Strictness.Strictness, GameFaults.judged, GameFaults.variation_in, Reports.Report, Reports.Game}
 use Rattle.pgn_verifier_laws.specs.Parts.{BeginsAlike, GamesAreInParts, HoldsWhole, no_more, game, WholeGamesAreReportedAlike, AllHoldWhole, no_parts, next_part, TextsAreReportedInParts, PiecesAreReportedAlike}
-use Rattle.pgn_pieces.specs.Pieces.{cut}
-use Rattle.pgn_pieces.specs.Stream.{with_offsets, pieces}
-use Rattle.pgn_pieces.specs.declared.pieces.TheConstants.{PIECE_LEN}
+use Rattle.pgn_pieces.specs.{Pieces.cut, Stream.with_offsets, Stream.pieces, declared.pieces.TheConstants.PIECE_LEN}
 use Rattle.pgn_pieces.proofs.shared.Cuts.{cut_is_all}
-use Rattle.pgn_verifier.specs.Reports.{Report, Game}
-use Rattle.pgn_verifier_laws.proofs.GoesOn.{is_game, same_of}
-use Rattle.pgn_verifier_laws.proofs.GamesAlike.{Fits, found}
+use Rattle.pgn_verifier_laws.proofs.{GoesOn.is_game, GoesOn.same_of, GamesAlike.Fits, GamesAlike.found, PartsRead.skips_to_end}
 use Rattle.pgn_verifier_laws.proofs.PartsAlike.{TokenByToken, there, lines, over, same_variant, outcome_in, same_result, same_known, judged_so, agrees, not_before, no_mark}
-use Rattle.pgn_verifier_laws.proofs.PartsRead.{skips_to_end}
 use Rattle.pgn_verifier.specs.laws.Reported.{read_at, report_then, games_from, games_of, reports_from, reports_in, reports_on, too_long_report}
 
 -- ---- the part

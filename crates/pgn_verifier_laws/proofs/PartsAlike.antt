@@ -1,40 +1,25 @@
 -- What is alike in a text and in a part of it: places, steps, tags, and whether results agree.
-use Rattle.std.proofs.Common.{◌≡◌, ℕ, zero, suc, ◌+◌, ◌-◌, ◌<◌, ◌≤◌, Bool, true, false, cond, eqb, List, [], ◌∷◌, ◌++◌, length, get_or, take, drop, Option, Some, None, Result, Ok, Err, refl, sym, ap, ◌∙◌, arith}
-use Rattle.std.specs.Prelude.{is_some, nat_lt, not, codes, map, if◌then◌else◌, ◌&&◌, option_and_then}
+use Rattle.std.proofs.Common.{◌≡◌, ℕ, zero, suc, ◌+◌, ◌-◌, ◌<◌, ◌≤◌, Bool, true, false, cond, eqb, List, [], ◌∷◌, ◌++◌, length, get_or, take, drop, Option, Some, None, Result, Ok, Err, refl, sym, ap, ◌∙◌, arith, bytes_eq, is_some, nat_lt, not, codes, map, if◌then◌else◌, ◌&&◌, option_and_then}
 use Rattle.std.specs.List.{last_or, cons_option, prefix_len}
 use Rattle.std.specs.Option.{option_map, option_map_or, option_or, option_eq}
-use Rattle.std.specs.Str.{bytes_eq}
-use Rattle.std.proofs.Math.Seq.{drop-append-add}
-use Rattle.std.proofs.lemmas.Bool.Decides.{nat_tests}
-use Rattle.std.proofs.lemmas.List.{drop-append-le, get_or_append_left, get_or-append-add}
-use Rattle.chess_base.specs.declared.fen_fault.FenFault.{FenFault}
-use Rattle.chess_base.specs.declared.man.Variant.TheVariants.{Normal}
-use Rattle.chess_base.specs.declared.setup.Setup.{Setup}
+use Rattle.std.proofs.{Math.Seq.drop-append-add, lemmas.Bool.Decides.nat_tests, lemmas.List.drop-append-le, lemmas.List.get_or_append_left, lemmas.List.get_or-append-add}
+use Rattle.chess_base.specs.{declared.fen_fault.FenFault.FenFault, declared.man.Variant.TheVariants.Normal, declared.setup.Setup.Setup}
 use Rattle.chess_fen.specs.Reading.{fen_reading_as}
 use Rattle.chess_game.specs.Game.{State, current, verdict_now, contradicts_verdict}
-use Rattle.chess_game.specs.Results.{same_outcome}
-use Rattle.chess_game.specs.declared.results.Outcome.{Outcome}
-use Rattle.chess_game.specs.declared.verdicts.Verdict.{Verdict}
-use Rattle.chess_text.specs.declared.reading.Reading.{Reading}
+use Rattle.chess_game.specs.{Results.same_outcome, declared.results.Outcome.Outcome, declared.verdicts.Verdict.Verdict}
+use Rattle.chess_text.specs.{declared.reading.Reading.Reading, Moves.reading}
 use Rattle.chess_text.specs.declared.reading.Reading.TheVariants as reads
-use Rattle.chess_text.specs.Moves.{reading}
 use Rattle.chess_pgn.specs.GameRead.{GameRead, pgn_read, tagged_variant, variant_named}
 use Rattle.chess_pgn.specs.LastTags.{may_precede_tags, tag_section, tags_named, last_tag, result_tag_of}
-use Rattle.chess_pgn.specs.shared.Kinds.{IsFault}
+use Rattle.chess_pgn.specs.{shared.Kinds.IsFault, laws.WordKinds.word_kind, declared.read.PgnEnd.PgnEnd, declared.read.PgnFault.PgnFault, declared.tagged_result.ResultTag.ResultTag, UnknownVariants.is_known_variant, UnknownVariants.unknown_variant_in}
 use Rattle.chess_pgn.specs.Tokens.{Token, Skip, Tag, Word, Bad_tag, Unclosed_comment, Unclosed_variation, Bad, begins_line, tokens_from}
 use Rattle.byte_devices.specs.Bytes.{after_byte_order_mark}
 use Rattle.pgn_writer.specs.Outcomes.{outcome_of}
-use Rattle.chess_pgn.specs.laws.WordKinds.{word_kind}
-use Rattle.chess_pgn.specs.declared.read.PgnEnd.{PgnEnd}
-use Rattle.chess_pgn.specs.declared.read.PgnFault.{PgnFault}
-use Rattle.chess_pgn.specs.declared.tagged_result.ResultTag.{ResultTag}
-use Rattle.chess_pgn.specs.UnknownVariants.{is_known_variant, unknown_variant_in}
 use Rattle.chess_pgn.specs.laws.TokenByToken.{SoFar, Step, On, Stop, ends, move_step, word_step, fen_step, step, read_rest_with, game_of, tokens_read}
 use Rattle.chess_pgn.proofs.shared.Words.{word_cases}
-use Rattle.pgn_verifier.specs.declared.options.Strictness.{Strictness}
+use Rattle.pgn_verifier.specs.{declared.options.Strictness.Strictness, declared.game_fault.GameFault.GameFault}
 use Rattle.pgn_verifier.specs.GameFaults.{looked_for, result_differs, board_says_otherwise, judged}
 use Rattle.pgn_verifier.specs.shared.Contradictions.{contradiction, end_fault, variant_fault, variation_fault}
-use Rattle.pgn_verifier.specs.declared.game_fault.GameFault.{GameFault}
 
 -- what is read of a text is read token by token
 abbrev pub TokenByToken : Type 0

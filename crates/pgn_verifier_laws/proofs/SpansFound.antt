@@ -1,41 +1,19 @@
 -- The spans of reports are found one after another in the text.
-use Rattle.std.proofs.Common.{◌≡◌, ℕ, zero, suc, ◌+◌, ◌-◌, ◌<◌, ◌≤◌, eqb, Bool, true, false, List, [], ◌∷◌, ◌++◌, length, take, drop, Option, Some, None, IfSome, Result, Ok, Err, IfOk, refl, sym, ap, subst, ◌∙◌, append_assoc, append-nil, length-append, arith}
-use Rattle.std.specs.List.{concat, flat_map}
-use Rattle.std.specs.Option.{option_map_or}
-use Rattle.std.specs.Prelude.{nat_le, if◌then◌else◌}
-use Rattle.std.proofs.Math.Seq.{drop-length}
-use Rattle.std.proofs.lemmas.Bool.Decides.{nat_tests}
-use Rattle.std.proofs.lemmas.List.{drop-drop, length-drop, length-take-le, take-append-drop}
-use Rattle.std.proofs.lemmas.List.Folds.{concat-append}
-use Rattle.std.proofs.lemmas.List.Sums.{prefix_len-le-length}
-use Rattle.chess_game.specs.Game.{verdict_now}
-use Rattle.chess_game.specs.declared.game.TheConstants.{MOST_MOVES}
-use Rattle.chess_pgn.specs.GameRead.{GameRead, pgn_read}
-use Rattle.chess_pgn.specs.LastTags.{result_tag_of}
-use Rattle.chess_pgn.specs.UnknownVariants.{unknown_variant_in}
-use Rattle.chess_pgn.specs.Tokens.{is_white_space, tokens_from}
+use Rattle.std.proofs.Common.{◌≡◌, ℕ, zero, suc, ◌+◌, ◌-◌, ◌<◌, ◌≤◌, eqb, Bool, true, false, List, [], ◌∷◌, ◌++◌, length, take, drop, Option, Some, None, IfSome, Result, Ok, Err, IfOk, refl, sym, ap, subst, ◌∙◌, append_assoc, append-nil, length-append, arith, nat_le, if◌then◌else◌, drop-drop, length-drop, length-take-le, take-append-drop}
+use Rattle.std.specs.{List.concat, List.flat_map, Option.option_map_or}
+use Rattle.std.proofs.{Math.Seq.drop-length, lemmas.Bool.Decides.nat_tests, lemmas.List.Folds.concat-append, lemmas.List.Sums.prefix_len-le-length}
+use Rattle.chess_game.specs.{Game.verdict_now, declared.game.TheConstants.MOST_MOVES}
+use Rattle.chess_pgn.specs.{GameRead.GameRead, GameRead.pgn_read, LastTags.result_tag_of, UnknownVariants.unknown_variant_in, Tokens.is_white_space, Tokens.tokens_from, declared.read.PgnEnd.PgnEnd, declared.read.PgnFault.PgnFault, laws.TokenByToken.tokens_read}
 use Rattle.byte_devices.specs.Bytes.{after_byte_order_mark}
-use Rattle.chess_pgn.specs.declared.read.PgnEnd.{PgnEnd}
-use Rattle.chess_pgn.specs.declared.read.PgnFault.{PgnFault}
-use Rattle.chess_pgn.specs.laws.TokenByToken.{tokens_read}
 use Rattle.chess_pgn.specs.shared.Kinds as kinds
-use Rattle.chess_pgn.proofs.shared.Ends.{ends_in_text}
-use Rattle.chess_pgn.proofs.shared.Tokens.{kinds_read}
-use Rattle.pgn_pieces.specs.Pieces.{cut}
-use Rattle.pgn_pieces.specs.Stream.{Piece, with_offsets, pieces}
-use Rattle.pgn_pieces.specs.declared.pieces.TheConstants.{PIECE_LEN}
+use Rattle.chess_pgn.proofs.{shared.Ends.ends_in_text, shared.Tokens.kinds_read}
+use Rattle.pgn_pieces.specs.{Pieces.cut, Stream.Piece, Stream.with_offsets, Stream.pieces, declared.pieces.TheConstants.PIECE_LEN}
 use Rattle.pgn_pieces.proofs.shared.Cuts.{cut_is_all}
-use Rattle.pgn_verifier.specs.declared.options.Strictness.{Strictness}
-use Rattle.pgn_verifier.specs.GameFaults.{judged, variation_in}
-use Rattle.pgn_verifier.specs.Reports.{Placed, game_begin}
-use Rattle.pgn_verifier.specs.declared.game_fault.GameFault.{GameFault}
+use Rattle.pgn_verifier.specs.{declared.options.Strictness.Strictness, GameFaults.judged, GameFaults.variation_in, Reports.Placed, Reports.game_begin, declared.game_fault.GameFault.GameFault}
 use Rattle.pgn_verifier.specs.laws.Reported.{next_at, read_at, judged_at, fault_placed, placed_then, placed_from, placed_of, placed_in, collection_placed, too_long_placed}
 use Rattle.pgn_verifier.proofs.shared.ReportsAre.{later_there}
 use Rattle.pgn_verifier_laws.specs.Spans.{MakeUp, no_more, next, SpansMakeUpTheText, SpansMakeUpTheCollection}
-use Rattle.pgn_verifier_laws.proofs.BlanksSkipped.{begins_alike, begins_later, goes_on_alike}
-use Rattle.pgn_verifier_laws.proofs.OnlyReports.{only_reports, only_collection_reports}
-use Rattle.pgn_verifier_laws.proofs.PartsAlike.{TokenByToken, judged_so, no_mark}
-use Rattle.pgn_verifier_laws.proofs.PartsRead.{mark_within}
+use Rattle.pgn_verifier_laws.proofs.{BlanksSkipped.begins_alike, BlanksSkipped.begins_later, BlanksSkipped.goes_on_alike, OnlyReports.only_reports, OnlyReports.only_collection_reports, PartsAlike.TokenByToken, PartsAlike.judged_so, PartsAlike.no_mark, PartsRead.mark_within}
 
 -- ---- where a game is
 

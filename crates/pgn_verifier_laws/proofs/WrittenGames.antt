@@ -1,32 +1,16 @@
 -- A game as it is written is read back, its variant is known, and neither its tag Result nor the board contradicts its
 -- outcome.
-use Rattle.std.proofs.Common.{◌≡◌, ℕ, Bool, true, false, List, [], ◌++◌, length, Option, Some, None, Ok, Err, refl, sym, ap, subst, ◌∙◌}
-use Rattle.std.specs.Prelude.{option_and_then}
+use Rattle.std.proofs.Common.{◌≡◌, ℕ, Bool, true, false, List, [], ◌++◌, length, Option, Some, None, Ok, Err, refl, sym, ap, subst, ◌∙◌, option_and_then}
 use Rattle.std.specs.Option.{option_map, option_map_or, option_or}
-use Rattle.chess_game.specs.Ends.{verdict_result}
-use Rattle.chess_game.specs.Game.{outcome_now, verdict_now}
-use Rattle.chess_game.specs.Results.{same_outcome}
-use Rattle.chess_game.specs.declared.game.TheConstants.{MOST_MOVES}
-use Rattle.chess_game.specs.declared.results.Declared.{Declared}
-use Rattle.chess_game.specs.declared.results.Outcome.{Outcome}
+use Rattle.chess_game.specs.{Ends.verdict_result, Game.outcome_now, Game.verdict_now, Results.same_outcome, declared.game.TheConstants.MOST_MOVES, declared.results.Declared.Declared, declared.results.Outcome.Outcome, declared.verdicts.Verdict.Verdict}
 use Rattle.chess_game.specs.declared.results.Outcome.TheVariants.{WhiteWins, BlackWins, Draw, Unfinished}
-use Rattle.chess_game.specs.declared.verdicts.Verdict.{Verdict}
-use Rattle.chess_pgn.specs.GameRead.{GameRead, pgn_read}
-use Rattle.pgn_writer.specs.GameText.{pgn}
-use Rattle.chess_pgn.specs.LastTags.{result_tag_of}
-use Rattle.chess_pgn.specs.UnknownVariants.{unknown_variant_in}
-use Rattle.pgn_writer.specs.Terminations.{termination_of}
-use Rattle.chess_pgn.specs.Tokens.{tokens_from}
+use Rattle.chess_pgn.specs.{GameRead.GameRead, GameRead.pgn_read, LastTags.result_tag_of, UnknownVariants.unknown_variant_in, Tokens.tokens_from, declared.read.PgnEnd.PgnEnd, declared.read.PgnFault.PgnFault, declared.tagged_result.ResultTag.ResultTag}
+use Rattle.pgn_writer.specs.{GameText.pgn, Terminations.termination_of}
 use Rattle.byte_devices.specs.Bytes.{after_byte_order_mark}
-use Rattle.chess_pgn.specs.declared.read.PgnEnd.{PgnEnd}
-use Rattle.chess_pgn.specs.declared.read.PgnFault.{PgnFault}
-use Rattle.pgn_verifier.specs.declared.game_fault.GameFault.{GameFault}
-use Rattle.chess_pgn.specs.declared.tagged_result.ResultTag.{ResultTag}
+use Rattle.pgn_verifier.specs.{declared.game_fault.GameFault.GameFault, declared.options.Strictness.Strictness, shared.Contradictions.end_fault, shared.Contradictions.variant_fault}
 use Rattle.chess_pgn_laws.specs.PgnLaw.{PgnIsReadBack, ResultIsWritten, VariantIsWritten}
 use Rattle.chess_pgn.proofs.shared.Tokens.{read_split}
-use Rattle.pgn_verifier.specs.declared.options.Strictness.{Strictness}
 use Rattle.pgn_verifier.specs.GameFaults.{looked_for, result_differs, board_says_otherwise, judged, variation_in, IsJudged}
-use Rattle.pgn_verifier.specs.shared.Contradictions.{end_fault, variant_fault}
 use Rattle.pgn_verifier.proofs.shared.ReportsAre.{judged_is}
 use Rattle.pgn_verifier_laws.specs.WrittenGames.{WrittenGamesHaveNoFault}
 

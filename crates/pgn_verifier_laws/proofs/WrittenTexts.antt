@@ -1,40 +1,23 @@
 -- Written games, one after another, have no fault.
-use Rattle.std.proofs.Common.{◌≡◌, ℕ, zero, suc, ◌+◌, ◌-◌, ◌<◌, Bool, false, List, [], ◌∷◌, ◌++◌, length, drop, Some, None, Ok, refl, sym, ap, subst, ◌∙◌, inl, inr, ◌⊎◌, append_assoc, append-nil, length-append, arith}
-use Rattle.std.specs.Prelude.{map}
+use Rattle.std.proofs.Common.{◌≡◌, ℕ, zero, suc, ◌+◌, ◌-◌, ◌<◌, Bool, false, List, [], ◌∷◌, ◌++◌, length, drop, Some, None, Ok, refl, sym, ap, subst, ◌∙◌, inl, inr, ◌⊎◌, append_assoc, append-nil, length-append, arith, map}
 use Rattle.std.specs.List.{concat, flat_map, list_all}
-use Rattle.std.proofs.Math.Seq.{drop-append-add}
-use Rattle.std.proofs.lemmas.Grind.{flat_map-append}
+use Rattle.std.proofs.{Math.Seq.drop-append-add, lemmas.Grind.flat_map-append}
 use Rattle.chess_game.specs.Game.{State, outcome_now, verdict_now, IsPlayable}
-use Rattle.chess_game.specs.declared.game.TheConstants.{MOST_MOVES}
-use Rattle.chess_game.specs.declared.results.Outcome.{Outcome}
-use Rattle.chess_pgn.specs.GameRead.{GameRead, pgn_read}
-use Rattle.pgn_writer.specs.GameText.{pgn, tag_lines, game_tokens}
+use Rattle.chess_game.specs.{declared.game.TheConstants.MOST_MOVES, declared.results.Outcome.Outcome}
+use Rattle.chess_pgn.specs.{GameRead.GameRead, GameRead.pgn_read, LastTags.result_tag_of, UnknownVariants.unknown_variant_in, declared.read.PgnEnd.PgnEnd, laws.TokenByToken.tokens_read}
+use Rattle.pgn_writer.specs.{GameText.pgn, GameText.tag_lines, GameText.game_tokens, Terminations.termination_of, declared.tags.Tags.Tags, declared.termination.Termination.Termination}
 use Rattle.chess_pgn.specs.shared.Kinds.{IsSplitByKinds, IsOf, IsLongest, Blank, ended, token}
-use Rattle.pgn_writer.specs.Terminations.{termination_of}
-use Rattle.chess_pgn.specs.LastTags.{result_tag_of}
-use Rattle.chess_pgn.specs.UnknownVariants.{unknown_variant_in}
 use Rattle.chess_pgn.specs.Tokens.{Token, Skip, begins_line, tokens_from}
 use Rattle.byte_devices.specs.Bytes.{after_byte_order_mark}
 use Rattle.pgn_writer.specs.Written as written
-use Rattle.chess_pgn.specs.declared.read.PgnEnd.{PgnEnd}
-use Rattle.pgn_writer.specs.declared.tags.Tags.{Tags}
-use Rattle.pgn_writer.specs.declared.termination.Termination.{Termination}
 use Rattle.chess_pgn_laws.specs.PgnLaw.{AreTagTexts, IsReadBack, PgnIsReadBack}
-use Rattle.chess_pgn.specs.laws.TokenByToken.{tokens_read}
 use Rattle.chess_pgn.proofs.shared.Tokens.{kinds_read}
-use Rattle.pgn_verifier.specs.declared.options.Strictness.{Strictness}
-use Rattle.pgn_verifier.specs.GameFaults.{judged, variation_in}
-use Rattle.pgn_verifier.specs.Reports.{Report, Game}
+use Rattle.pgn_verifier.specs.{declared.options.Strictness.Strictness, GameFaults.judged, GameFaults.variation_in, Reports.Report, Reports.Game}
 use Rattle.pgn_verifier_laws.specs.NoFaults.{begins_with_mark}
 use Rattle.pgn_verifier_laws.specs.Parts.{BeginsAlike, AllHoldWhole, no_parts, next_part}
 use Rattle.pgn_verifier_laws.specs.WrittenGames.{HasNoFault, TaggedGame, AreWritable, written_text, report_of, WrittenTextsHaveNoFault}
-use Rattle.pgn_verifier_laws.proofs.FaultlessTexts.{part_holds, begins_first, begins_later}
-use Rattle.pgn_verifier_laws.proofs.GoesOn.{is_game}
-use Rattle.pgn_verifier_laws.proofs.Parts.{all_reported_alike}
+use Rattle.pgn_verifier_laws.proofs.{FaultlessTexts.part_holds, FaultlessTexts.begins_first, FaultlessTexts.begins_later, GoesOn.is_game, Parts.all_reported_alike, PartsRead.in_text, OnlyReports.only_judged, WrittenGames.TagsAreWritten, WrittenGames.written_games}
 use Rattle.pgn_verifier_laws.proofs.PartsAlike.{TokenByToken, read_so, judged_so, no_mark}
-use Rattle.pgn_verifier_laws.proofs.PartsRead.{in_text}
-use Rattle.pgn_verifier_laws.proofs.OnlyReports.{only_judged}
-use Rattle.pgn_verifier_laws.proofs.WrittenGames.{TagsAreWritten, written_games}
 use Rattle.pgn_verifier.specs.laws.Reported.{games_from, judged_at, read_at, report_then, reports_from, reports_on}
 
 -- ---- the end of a game's text

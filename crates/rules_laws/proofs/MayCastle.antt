@@ -1,33 +1,17 @@
 -- When castling is legal in normal chess.
-use Rattle.std.proofs.Common.{◌≡◌, ◌≢◌, ℕ, ◌<◌, ◌⊎◌, inl, inr, Bool, true, false, Option, Some, None, refl, sym, subst, ap, ◌∙◌, arith, ◌==◌, ◌&&◌, ◌||◌, not, is_none, nat_lt, length}
+use Rattle.std.proofs.Common.{◌≡◌, ◌≢◌, ℕ, ◌<◌, ◌⊎◌, inl, inr, Bool, true, false, Option, Some, None, refl, sym, subst, ap, ◌∙◌, arith, ◌==◌, ◌&&◌, ◌||◌, not, is_none, nat_lt, length, if◌then◌else◌}
 use Rattle.std.proofs.lemmas.Bool.{and_parts, and_from, and_right, both_ways, cases_eq, eqb-true, eq-eqb, ne_eqb, not-true, not_from_false, or_cases, or_left, or_right, false_from_ne_true}
 use Rattle.std.specs.List.{AllByRecursion}
-use Rattle.std.specs.Prelude.{if◌then◌else◌}
-use Rattle.chess_base.specs.declared.castling.Castle.{Castle}
-use Rattle.chess_base.specs.declared.man.Colour.{Colour}
-use Rattle.chess_base.specs.declared.man.Colour.TheVariants.{White, Black}
-use Rattle.chess_base.specs.declared.man.CastlingSide.{CastlingSide}
-use Rattle.chess_base.specs.declared.man.CastlingSide.TheVariants.{KingSide, QueenSide}
-use Rattle.chess_base.specs.declared.man.Kind.{Kind}
+use Rattle.chess_base.specs.{declared.castling.Castle.Castle, declared.man.Colour.Colour, declared.man.Colour.TheVariants.White, declared.man.Colour.TheVariants.Black, declared.man.CastlingSide.CastlingSide, declared.man.CastlingSide.TheVariants.KingSide, declared.man.CastlingSide.TheVariants.QueenSide, declared.man.Kind.Kind, declared.man.Man.Man, declared.man.Move.Move, declared.man.Variant.Variant, declared.man.Variant.TheVariants.Normal, declared.man.Variant.TheVariants.Fischerandom, declared.setup.Setup.Setup, Squares.each_square, Squares.squares, Squares.is_between, Sound.IsSound, Sound.has_one_king, shared.Splits.could_capture_as, shared.Splits.names_castling}
 use Rattle.chess_base.specs.declared.man.Kind.TheVariants.{King, Queen, Rook, Bishop, Knight, Pawn}
-use Rattle.chess_base.specs.declared.man.Man.{Man}
-use Rattle.chess_base.specs.declared.man.Move.{Move}
-use Rattle.chess_base.specs.declared.man.Variant.{Variant}
-use Rattle.chess_base.specs.declared.man.Variant.TheVariants.{Normal, Fischerandom}
-use Rattle.chess_base.specs.declared.setup.Setup.{Setup}
-use Rattle.chess_base.specs.Squares.{each_square, squares, is_between}
 use Rattle.chess_base.specs.Men.{Men, man_at, is_man, is_of, other, same_colour, same_kind}
 use Rattle.chess_base.specs.Attacks.{attacks, could_capture, is_attacked, is_clear, is_in_check}
 use Rattle.chess_base.specs.Castling.{home_square, king_home_file, rook_file, castled_king_file, right_of, is_on_way, names_castling_with, are_placed_for_castling, castling, is_castling_to, castle_from, castle_of, castling_needs_empty, castling_way_is_empty, castling_way_is_safe, castles}
 use Rattle.chess_base.specs.Moves.{is_legal, is_pseudo_legal, moves_as, after, arriving_man, man_moves}
-use Rattle.chess_base.specs.Sound.{IsSound, has_one_king}
-use Rattle.chess_base.specs.shared.Splits.{could_capture_as, names_castling}
-use Rattle.chess_base.proofs.shared.Kings.{one_king, one_king_of}
+use Rattle.chess_base.proofs.{shared.Kings.one_king, shared.Kings.one_king_of, shared.Parts.castling_way_is_empty_by, shared.Geometry.is_between-end}
 use Rattle.chess_base.proofs.shared.Men.{same_kind-true, is_none-None, no_other, is_of-none, is_man-none, is_man-rook_as_king}
 use Rattle.chess_base.proofs.shared.MoveKinds.{MoveKind, ManMoves, Castles, PawnMoves, moves_from_pattern}
-use Rattle.chess_base.proofs.shared.Parts.{castling_way_is_empty_by}
 use Rattle.chess_base.proofs.shared.Squares.{each_square-all, each_square-at, some_square-at, some_square-none}
-use Rattle.chess_base.proofs.shared.Geometry.{is_between-end}
 use Rattle.rules_laws.specs.Castled.{castling_of, castling_move, empty_squares, safe_squares, MayCastle, NormalCastlingIsLegal}
 use Rattle.rules_laws.proofs.Castled.{named, too_far, one_side, no_king_of_pawn, normal_named, normal_placed, is_castle}
 use Rattle.rules_laws.proofs.Pieces.{attacks_as, king_is_near, after_castle, attacks_of}

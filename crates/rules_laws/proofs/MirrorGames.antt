@@ -1,46 +1,24 @@
 -- Whole games in the mirror.
-use Rattle.std.proofs.Common.{◌≡◌, ℕ, ◌+◌, ◌<◌, Bool, true, false, cond, Some, None, Option, refl, sym, ap, ap₂, ◌∙◌, arith, ◌==◌, nat_le, subst, ◌&&◌, List, [], ◌∷◌, length, map, count_by}
+use Rattle.std.proofs.Common.{◌≡◌, ℕ, ◌+◌, ◌<◌, Bool, true, false, cond, Some, None, Option, refl, sym, ap, ap₂, ◌∙◌, arith, ◌==◌, nat_le, subst, ◌&&◌, List, [], ◌∷◌, length, map, count_by, option_map, if◌then◌else◌}
 use Rattle.std.proofs.lemmas.Bool.{and_parts, both_ways, eqb-true, ne_eqb}
-use Rattle.std.proofs.lemmas.List.Sums.{sum_by-cons}
-use Rattle.std.specs.Cmp.{both_ways as same_tests}
-use Rattle.std.specs.List.{list_any}
-use Rattle.std.specs.Option.{option_map}
-use Rattle.std.specs.Prelude.{if◌then◌else◌}
-use Rattle.chess_base.specs.declared.man.CastlingSide.{CastlingSide}
-use Rattle.chess_base.specs.declared.man.CastlingSide.TheVariants.{KingSide, QueenSide}
-use Rattle.chess_base.specs.declared.man.Colour.{Colour}
-use Rattle.chess_base.specs.declared.man.Colour.TheVariants.{White, Black}
-use Rattle.chess_base.specs.declared.man.Kind.TheVariants.{King, Pawn}
-use Rattle.chess_base.specs.declared.man.Man.{Man}
-use Rattle.chess_base.specs.declared.man.Move.{Move}
-use Rattle.chess_base.specs.declared.setup.Setup.{Setup}
-use Rattle.chess_base.specs.Squares.{rank, is_at, some_square}
+use Rattle.std.proofs.{lemmas.List.Sums.sum_by-cons, Math.Bool.and_comm}
+use Rattle.std.specs.{Cmp.both_ways as same_tests, List.list_any}
+use Rattle.chess_base.specs.{declared.man.CastlingSide.CastlingSide, declared.man.CastlingSide.TheVariants.KingSide, declared.man.CastlingSide.TheVariants.QueenSide, declared.man.Colour.Colour, declared.man.Colour.TheVariants.White, declared.man.Colour.TheVariants.Black, declared.man.Kind.TheVariants.King, declared.man.Kind.TheVariants.Pawn, declared.man.Man.Man, declared.man.Move.Move, declared.setup.Setup.Setup, Squares.rank, Squares.is_at, Squares.some_square, Attacks.is_in_check, MoveList.moves, MoveList.move_of, Sound.IsSound, shared.Parts.crossed_rank}
 use Rattle.chess_base.specs.Men.{Men, man_at, is_man, other, first_rank, same_kind}
-use Rattle.chess_base.specs.Attacks.{is_in_check}
 use Rattle.chess_base.specs.Castling.{right_of, is_castling_to, castling, castle_of, castles}
-use Rattle.chess_base.specs.MoveList.{moves, move_of}
 use Rattle.chess_base.specs.Moves.{is_legal, is_pseudo_legal, after, is_en_passant, is_double_advance, pawn_advances, pawn_captures, pawn_moves, man_moves, captured_square, men_after, rights_after, target_after, resets_clock, halfmove_after, promotion_fits}
-use Rattle.chess_base.specs.Sound.{IsSound}
-use Rattle.chess_base.specs.shared.Parts.{crossed_rank}
-use Rattle.chess_base.proofs.shared.Changes.{at_target}
-use Rattle.chess_base.proofs.shared.LegalMoves.{IsSound-after}
-use Rattle.chess_base.proofs.shared.Men.{is_man-kind}
+use Rattle.chess_base.proofs.{shared.Changes.at_target, shared.LegalMoves.IsSound-after, shared.Men.is_man-kind, shared.Castling.says_from_castling, shared.Castling.castling_says, shared.Squares.each_square_same, shared.Squares.some_square_same}
 use Rattle.chess_base.proofs.shared.MoveKinds.{MoveKind, ManMoves, Castles, PawnMoves, unpromoted_below, Moves-from_legal}
-use Rattle.chess_base.proofs.shared.Castling.{says_from_castling, castling_says}
-use Rattle.chess_base.proofs.shared.Squares.{each_square_same, some_square_same}
 use Rattle.chess_moves.proofs.shared.AnyMove.{AllFound, any_by_start}
-use Rattle.chess_game.specs.Ends.{has_insufficient_material}
-use Rattle.chess_game.specs.Line.{positions_of, position_after, IsLine}
+use Rattle.chess_game.specs.{Ends.has_insufficient_material, Line.positions_of, Line.position_after, Line.IsLine}
 use Rattle.chess_game.specs.Same.{same_man, same_men, same_square, same_colour_rights, same_rights, legal_en_passant_square, is_same_position, repetition_count}
 use Rattle.chess_game.proofs.shared.Lines.{IsSound-position_after}
 use Rattle.rules_laws.specs.Mirror.{mirrored, mirrored_men, mirrored_rights, mirrored_setup, mirrored_move, mirrored_verdict, MirrorGamesAlike}
 use Rattle.rules_laws.proofs.NoMove.{judged, has_none, none_from, none_to, some_numbers}
 use Rattle.rules_laws.proofs.MirrorAttacks.{mirrored_in, twice, each_mirrored, some_mirrored, flipped, man_at-mirrored, same_colour-other, is_in_check-mirrored}
 use Rattle.rules_laws.proofs.MirrorAttacks as attacks
-use Rattle.rules_laws.proofs.MirrorMoves.{target_in, rook_in, en_passant-mirrored}
-use Rattle.rules_laws.proofs.MirrorAfter.{mirror_is_as_legal, mirror_moves_alike}
+use Rattle.rules_laws.proofs.{MirrorMoves.target_in, MirrorMoves.rook_in, MirrorMoves.en_passant-mirrored, MirrorAfter.mirror_is_as_legal, MirrorAfter.mirror_moves_alike}
 use Rattle.rules_laws.proofs.MirrorEndings.{move_twice, none_in_mirror, none_from_mirror, material-mirrored}
-use Rattle.std.proofs.Math.Bool.{and_comm}
 
 -- ---- positions but for their fullmove numbers
 

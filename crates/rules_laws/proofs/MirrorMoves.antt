@@ -1,33 +1,12 @@
 -- Moves in the mirror: a move is pseudo-legal exactly if its mirror is.
-use Rattle.std.proofs.Common.{◌≡◌, ◌≢◌, ℕ, ◌<◌, Bool, true, false, cond, Some, None, Option, refl, sym, ap, ap₂, ◌∙◌, arith, ◌==◌, subst, ◌||◌, ◌&&◌, not, is_none, option_and_then}
+use Rattle.std.proofs.Common.{◌≡◌, ◌≢◌, ℕ, ◌<◌, Bool, true, false, cond, Some, None, Option, refl, sym, ap, ap₂, ◌∙◌, arith, ◌==◌, subst, ◌||◌, ◌&&◌, not, is_none, option_and_then, option_map}
 use Rattle.std.proofs.lemmas.Bool.{and_parts, and_from, both_ways, eqb-true, eq-eqb, lt-ltb, not-true, or_left, or_right}
-use Rattle.std.specs.Option.{option_map}
-use Rattle.chess_base.specs.declared.castling.Castle.{Castle}
-use Rattle.chess_base.specs.declared.man.CastlingSide.{CastlingSide}
-use Rattle.chess_base.specs.declared.man.CastlingSide.TheVariants.{KingSide, QueenSide}
-use Rattle.chess_base.specs.declared.man.Colour.{Colour}
-use Rattle.chess_base.specs.declared.man.Colour.TheVariants.{White, Black}
-use Rattle.chess_base.specs.declared.man.Kind.{Kind}
-use Rattle.chess_base.specs.declared.man.Kind.TheVariants.{King, Rook, Pawn}
-use Rattle.chess_base.specs.declared.man.Man.{Man}
-use Rattle.chess_base.specs.declared.man.Move.{Move}
-use Rattle.chess_base.specs.declared.man.Rights.{Rights}
-use Rattle.chess_base.specs.declared.man.Variant.{Variant}
-use Rattle.chess_base.specs.declared.man.Variant.TheVariants.{Normal, Fischerandom}
-use Rattle.chess_base.specs.declared.setup.Setup.{Setup}
-use Rattle.chess_base.specs.Squares.{rank, is_at}
+use Rattle.chess_base.specs.{declared.castling.Castle.Castle, declared.man.CastlingSide.CastlingSide, declared.man.CastlingSide.TheVariants.KingSide, declared.man.CastlingSide.TheVariants.QueenSide, declared.man.Colour.Colour, declared.man.Colour.TheVariants.White, declared.man.Colour.TheVariants.Black, declared.man.Kind.Kind, declared.man.Kind.TheVariants.King, declared.man.Kind.TheVariants.Rook, declared.man.Kind.TheVariants.Pawn, declared.man.Man.Man, declared.man.Move.Move, declared.man.Rights.Rights, declared.man.Variant.Variant, declared.man.Variant.TheVariants.Normal, declared.man.Variant.TheVariants.Fischerandom, declared.setup.Setup.Setup, Squares.rank, Squares.is_at, Attacks.is_attacked, Sound.IsSound, Sound.no_pawn_on_end_ranks, shared.Parts.crossed_rank, shared.Splits.names_castling, shared.Splits.castles_or_moves}
 use Rattle.chess_base.specs.Men.{Men, man_at, is_man, other, forward, first_rank, pawn_rank, same_colour, same_kind}
-use Rattle.chess_base.specs.Attacks.{is_attacked}
 use Rattle.chess_base.specs.Castling.{home_square, king_home_file, castled_king_file, castled_rook_file, right_of, names_castling_with, is_castling_to, castling, castle_from, castle_of, is_on_way, castling_way_is_empty, castling_way_is_safe, castles}
 use Rattle.chess_base.specs.Moves.{is_double_advance, is_en_passant, pawn_advances, pawn_captures, pawn_moves, man_moves, moves_as, is_pseudo_legal}
-use Rattle.chess_base.specs.Sound.{IsSound, no_pawn_on_end_ranks}
-use Rattle.chess_base.specs.shared.Parts.{crossed_rank}
-use Rattle.chess_base.specs.shared.Splits.{names_castling, castles_or_moves}
 use Rattle.chess_base.proofs.shared.Castling.{castling_rook_is_there, right_is_sound_of, castled_king_file-below, castled_rook_file-below, home_square-below}
-use Rattle.chess_base.proofs.shared.Changes.{at_target}
-use Rattle.chess_base.proofs.shared.Men.{in_board}
-use Rattle.chess_base.proofs.shared.Parts.{castling_way_is_empty_by}
-use Rattle.chess_base.proofs.shared.Squares.{each_square-at, each_square_same}
+use Rattle.chess_base.proofs.{shared.Changes.at_target, shared.Men.in_board, shared.Parts.castling_way_is_empty_by, shared.Squares.each_square-at, shared.Squares.each_square_same}
 use Rattle.rules_laws.specs.Mirror.{mirrored, mirrored_men, mirrored_rights, mirrored_setup, mirrored_move}
 use Rattle.rules_laws.proofs.MirrorAttacks.{mirrored_in, other_rank, rank_in, same_square, same_ranks, each_mirrored, flipped, man_at-mirrored, same_colour-other, is_of-mirrored, is_man-mirrored, is_none-mirrored, is_between-mirrored, attacks-mirrored, is_attacked-mirrored}
 

@@ -1,20 +1,8 @@
 -- For lists and texts of moves: when a move castles, which squares that names, and the rights of a sound position.
 use Rattle.std.proofs.Common.{◌≡◌, ◌⊎◌, inl, inr, Bool, true, false, cond, ℕ, ◌<◌, Option, Some, None, refl, ap, ◌∙◌, arith}
 use Rattle.std.proofs.lemmas.Bool.{and_parts}
-use Rattle.chess_base.specs.declared.man.Colour.{Colour}
-use Rattle.chess_base.specs.declared.man.Variant.{Variant}
-use Rattle.chess_base.specs.declared.man.Kind.TheVariants.{King, Rook}
-use Rattle.chess_base.specs.declared.man.CastlingSide.{CastlingSide}
-use Rattle.chess_base.specs.declared.man.CastlingSide.TheVariants.{KingSide, QueenSide}
-use Rattle.chess_base.specs.declared.man.Move.{Move}
-use Rattle.chess_base.specs.Men.{man_at, is_man, Men}
-use Rattle.chess_base.specs.declared.setup.Setup.{Setup}
+use Rattle.chess_base.specs.{declared.man.Colour.Colour, declared.man.Variant.Variant, declared.man.Kind.TheVariants.King, declared.man.Kind.TheVariants.Rook, declared.man.CastlingSide.CastlingSide, declared.man.CastlingSide.TheVariants.KingSide, declared.man.CastlingSide.TheVariants.QueenSide, declared.man.Move.Move, Men.man_at, Men.is_man, Men.Men, declared.setup.Setup.Setup, shared.Splits.names_castling, shared.Splits.castle_with, shared.Splits.right_is_sound_at, Before.mover_to, Before.castle_by, declared.man.Colour.TheVariants.White, declared.man.Colour.TheVariants.Black, declared.man.Variant.TheVariants.Normal, declared.man.Variant.TheVariants.Fischerandom, Sound.IsSound}
 use Rattle.chess_base.specs.Castling.{home_square, right_of, castling, is_castling_to, castled_king_file, castled_rook_file, castle_from, castle_of, mover_end, are_placed_for_castling, right_is_sound}
-use Rattle.chess_base.specs.shared.Splits.{names_castling, castle_with, right_is_sound_at}
-use Rattle.chess_base.specs.Before.{mover_to, castle_by}
-use Rattle.chess_base.specs.declared.man.Colour.TheVariants.{White, Black}
-use Rattle.chess_base.specs.declared.man.Variant.TheVariants.{Normal, Fischerandom}
-use Rattle.chess_base.specs.Sound.{IsSound}
 
 castling_by : (a b : Bool) (w : CastlingSide) → cond a (Some KingSide) (cond b (Some QueenSide) None) ≡ Some w
     → ((w ≡ KingSide) × (a ≡ true)) ⊎ ((w ≡ QueenSide) × (b ≡ true))

@@ -1,16 +1,12 @@
 -- For proofs about lines: what lies between two of the squares of a line.
 use Rattle.std.proofs.Common.{◌≡◌, ℕ, ◌<◌, ◌*◌, ◌+◌, nat_lt, ◌-◌, inl, inr, Bool, true, false, ◌&&◌, ◌||◌, not, ◌==◌, is_none, refl, sym, ap, ◌∙◌, arith}
-use Rattle.std.proofs.lemmas.Bool.Decides.{nat_tests}
-use Rattle.std.proofs.lemmas.Bool.{cases_order, eqb-true}
+use Rattle.std.proofs.{lemmas.Bool.Decides.nat_tests, lemmas.Bool.cases_order, lemmas.Bool.eqb-true}
 use Rattle.std.specs.Int.{abs_diff}
 use Rattle.chess_base.specs.Squares.{file, rank, is_strictly_between, share_diagonal, is_between}
-use Rattle.chess_base.specs.declared.line.Line.{Line}
+use Rattle.chess_base.specs.{declared.line.Line.Line, Men.Men, Men.man_at, Attacks.is_clear}
 use Rattle.chess_base.specs.declared.line.Line.TheVariants.{Rank, File, Diagonal, Antidiagonal}
-use Rattle.chess_base.specs.Men.{Men, man_at}
-use Rattle.chess_base.specs.Attacks.{is_clear}
 use Rattle.chess_base.specs.shared.Lines.{same_line, is_between_on_file, is_between_on_rank, is_between_on_diagonal}
-use Rattle.chess_base.proofs.shared.Parts.{is_between_is}
-use Rattle.chess_base.proofs.shared.Squares.{each_square_same}
+use Rattle.chess_base.proofs.{shared.Parts.is_between_is, shared.Squares.each_square_same}
 
 -- ---- which squares are between two does not depend on their order
 

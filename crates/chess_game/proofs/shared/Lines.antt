@@ -1,11 +1,7 @@
 -- For crates that follow a game: the position after its moves.
 use Rattle.std.proofs.Common.{◌≡◌, List, [], ◌∷◌, ◌++◌, refl, ◌∙◌}
-use Rattle.chess_base.specs.declared.man.Move.{Move}
-use Rattle.chess_base.specs.declared.setup.Setup.{Setup}
-use Rattle.chess_base.specs.Moves.{after}
-use Rattle.chess_base.specs.Sound.{IsSound}
-use Rattle.chess_base.proofs.shared.After.{variant-after}
-use Rattle.chess_base.proofs.shared.LegalMoves.{IsSound-after}
+use Rattle.chess_base.specs.{declared.man.Move.Move, declared.setup.Setup.Setup, Moves.after, Sound.IsSound}
+use Rattle.chess_base.proofs.{shared.After.variant-after, shared.LegalMoves.IsSound-after}
 use Rattle.chess_game.specs.Line.{IsLine, position_after}
 
 -- the position after moves and one more

@@ -1,32 +1,13 @@
 -- The reports that are made one after another are those of the definitions.
-use Rattle.std.proofs.Common.{◌≡◌, ℕ, zero, suc, ◌+◌, ◌<◌, ◌≤◌, Bool, List, [], ◌∷◌, length, drop, Option, Some, None, IfSome, true, false, Result, Ok, Err, IfOk, refl, sym, ap, subst, arith}
-use Rattle.std.specs.List.{flat_map}
+use Rattle.std.proofs.Common.{◌≡◌, ℕ, zero, suc, ◌+◌, ◌<◌, ◌≤◌, Bool, List, [], ◌∷◌, length, drop, Option, Some, None, IfSome, true, false, Result, Ok, Err, IfOk, refl, sym, ap, subst, arith, flat_map, MatchBool, nat_le, if◌then◌else◌}
 use Rattle.std.specs.Option.{option_map_or, unwrap_or}
-use Rattle.std.specs.Prelude.{nat_le, if◌then◌else◌}
-use Rattle.std.specs.Bool.{MatchBool}
-use Rattle.chess_game.specs.Game.{State, verdict_now}
-use Rattle.chess_game.specs.declared.game.TheConstants.{MOST_MOVES}
-use Rattle.chess_game.specs.declared.verdicts.Verdict.{Verdict}
-use Rattle.chess_pgn.specs.GameRead.{pgn_read, read_of_split}
-use Rattle.chess_pgn.specs.LastTags.{result_tag_of}
-use Rattle.chess_pgn.specs.UnknownVariants.{unknown_variant_in}
-use Rattle.chess_pgn.specs.Tokens.{tokens_from}
+use Rattle.chess_game.specs.{Game.State, Game.verdict_now, declared.game.TheConstants.MOST_MOVES, declared.verdicts.Verdict.Verdict}
+use Rattle.chess_pgn.specs.{GameRead.pgn_read, GameRead.read_of_split, LastTags.result_tag_of, UnknownVariants.unknown_variant_in, Tokens.tokens_from, declared.read.PgnEnd.PgnEnd, declared.read.PgnFault.PgnFault, declared.tagged_result.ResultTag.ResultTag}
 use Rattle.byte_devices.specs.Bytes.{after_byte_order_mark}
-use Rattle.chess_pgn.specs.declared.read.PgnEnd.{PgnEnd}
-use Rattle.chess_pgn.specs.declared.read.PgnFault.{PgnFault}
-use Rattle.chess_pgn.specs.declared.tagged_result.ResultTag.{ResultTag}
-use Rattle.chess_pgn.proofs.shared.Ends.{ends_in_text, end_in_text, none_from_end}
-use Rattle.chess_pgn.proofs.shared.Tokens.{read_split, split_read}
-use Rattle.pgn_pieces.specs.Pieces.{known_pieces}
-use Rattle.pgn_pieces.specs.Stream.{Piece, with_offsets, pieces}
-use Rattle.pgn_pieces.specs.declared.pieces.TheConstants.{PIECE_LEN}
-use Rattle.pgn_verifier.specs.declared.options.Strictness.{Strictness}
-use Rattle.pgn_verifier.specs.Collection.{AreCollectionReports, no_piece, next_piece}
-use Rattle.pgn_verifier.specs.GameFaults.{judged, variation_in, IsJudged}
-use Rattle.pgn_verifier.specs.shared.Contradictions.{end_fault}
+use Rattle.chess_pgn.proofs.{shared.Ends.ends_in_text, shared.Ends.end_in_text, shared.Ends.none_from_end, shared.Tokens.read_split, shared.Tokens.split_read}
+use Rattle.pgn_pieces.specs.{Pieces.known_pieces, Stream.Piece, Stream.with_offsets, Stream.pieces, declared.pieces.TheConstants.PIECE_LEN}
+use Rattle.pgn_verifier.specs.{declared.options.Strictness.Strictness, Collection.AreCollectionReports, Collection.no_piece, Collection.next_piece, GameFaults.judged, GameFaults.variation_in, GameFaults.IsJudged, shared.Contradictions.end_fault, declared.game_fault.GameFault.GameFault, laws.Reasons.reason}
 use Rattle.pgn_verifier.specs.Reports.{Placed, names_of, next_begin, AreReports, AreReportsOf, none_left, next_game, next_fault, AreReportsIn}
-use Rattle.pgn_verifier.specs.declared.game_fault.GameFault.{GameFault}
-use Rattle.pgn_verifier.specs.laws.Reasons.{reason}
 use Rattle.pgn_verifier.proofs.shared.TagReasons.{reason_is}
 use Rattle.pgn_verifier.specs.laws.Reported.{names_at, next_at, read_at, judged_at, game_placed, fault_placed, placed_then, placed_from, placed_of, placed_on, placed_in, collection_placed, too_long_placed}
 

@@ -1,6 +1,5 @@
 -- Each token keeps that what is left gives the whole, or its fault is the line's (LinesRead).
-use Rattle.std.proofs.Common.{sym, ◌∙◌}
-use Rattle.std.proofs.lemmas.Result.{err_from_is_err_and}
+use Rattle.std.proofs.{Common.sym, Common.◌∙◌, lemmas.Result.err_from_is_err_and}
 use Rattle.chess_pgn.specs.ties.Seen.{token_seen}
 use Rattle.chess_pgn.proofs.LinesRead.{begun, ended, unread, goes_on, passed_over, moved_on, faulty, not_opened, faulty_inside, went_inside}
 use Rattle.chess_pgn.proofs.variations.+read_line.Goals as goal

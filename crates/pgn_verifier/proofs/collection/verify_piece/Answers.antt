@@ -1,7 +1,6 @@
 -- A piece that is too long has one report (TooLong).
 use Rattle.std.proofs.Common.{true, ◌∙◌, refl, sym, subst}
-use Rattle.byte_devices.specs.Devices.{Took, CutShort}
-use Rattle.byte_devices.specs.declared.traits.WriteFault.{WriteFault}
+use Rattle.byte_devices.specs.{Devices.Took, Devices.CutShort, declared.traits.WriteFault.WriteFault}
 use Rattle.pgn_pieces.specs.Stream.{current}
 use Rattle.pgn_verifier.specs.ties.OnTheWay.{span_written, unread_written}
 use Rattle.pgn_verifier.proofs.TooLong.{stands_there, too_long_written, too_long_broke}

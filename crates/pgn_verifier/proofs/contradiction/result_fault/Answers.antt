@@ -1,8 +1,7 @@
 -- The fault is in the text (FaultsInText.tag_within). The tag is that of the text's only split.
 use Rattle.std.proofs.Common.{◌≡◌, length, ap, sym, subst, ◌∙◌, arith}
 use Rattle.std.proofs.lemmas.Grind.{common_steps}
-use Rattle.chess_pgn.specs.LastTags.{result_tag_of}
-use Rattle.chess_pgn.specs.Tokens.{tokens_from}
+use Rattle.chess_pgn.specs.{LastTags.result_tag_of, Tokens.tokens_from}
 use Rattle.byte_devices.specs.Bytes.{after_byte_order_mark}
 use Rattle.chess_pgn.proofs.shared.Tokens.{split_read}
 use Rattle.pgn_verifier.proofs.FaultsInText.{InText, tag_within}

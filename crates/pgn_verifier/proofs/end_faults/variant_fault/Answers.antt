@@ -1,8 +1,7 @@
 -- The tag is that of the text's only split.
 use Rattle.std.proofs.Common.{◌≡◌, length, ap, ◌∙◌, arith}
 use Rattle.std.proofs.lemmas.Grind.{common_steps}
-use Rattle.chess_pgn.specs.UnknownVariants.{unknown_variant_in}
-use Rattle.chess_pgn.specs.Tokens.{tokens_from}
+use Rattle.chess_pgn.specs.{UnknownVariants.unknown_variant_in, Tokens.tokens_from}
 use Rattle.byte_devices.specs.Bytes.{after_byte_order_mark}
 use Rattle.chess_pgn.proofs.shared.Tokens.{split_read}
 use Rattle.pgn_verifier.proofs.end_faults.variant_fault.Goals as goal

@@ -1,6 +1,5 @@
 -- The part that is wrong begins in the text.
-use Rattle.std.proofs.Common.{◌≤◌, ◌+◌, length, drop, sym, ap, subst, ◌∙◌, length-drop, arith}
-use Rattle.std.specs.Prelude.{if◌then◌else◌}
+use Rattle.std.proofs.Common.{◌≤◌, ◌+◌, length, drop, sym, ap, subst, ◌∙◌, length-drop, arith, if◌then◌else◌}
 use Rattle.pgn_verifier.specs.Explanations.{wrong_part}
 use Rattle.byte_devices.proofs.shared.Devices.{rest_is}
 use Rattle.pgn_verifier.proofs.explanation.explained_at.Goals as goal

@@ -1,11 +1,8 @@
 -- The place is the one of the definition. The parts were put one after the other, and the definition groups them to the
 -- right.
-use Rattle.std.proofs.Common.{◌≡◌, ◌+◌, ◌++◌, drop, sym, ap, ◌∙◌, append_assoc}
-use Rattle.std.specs.Prelude.{if◌then◌else◌}
+use Rattle.std.proofs.Common.{◌≡◌, ◌+◌, ◌++◌, drop, sym, ap, ◌∙◌, append_assoc, if◌then◌else◌}
 use Rattle.pgn_pieces.specs.Places.{line_of, column_of}
-use Rattle.pgn_verifier.specs.Explanations.{is_at_begin, wrong_part, explanation_line}
-use Rattle.pgn_verifier.specs.laws.Reasons.{explanation_of}
-use Rattle.pgn_verifier.specs.ties.OnTheWay.{fault_line, span_written}
+use Rattle.pgn_verifier.specs.{Explanations.is_at_begin, Explanations.wrong_part, Explanations.explanation_line, laws.Reasons.explanation_of, ties.OnTheWay.fault_line, ties.OnTheWay.span_written}
 use Rattle.pgn_verifier.proofs.Placed.{either_moved}
 use Rattle.byte_devices.proofs.shared.Devices.{rest_is}
 use Rattle.pgn_verifier.proofs.explanation.fault_lines.Goals as goal

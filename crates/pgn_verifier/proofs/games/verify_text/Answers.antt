@@ -1,18 +1,11 @@
 -- The games up to here were reported (TextVerified.SoFar). A game more keeps that, and so does a fault after which
 -- reading goes on; no game, any other fault and a failed write each end it by one lemma (for the lines on a fault:
 -- FaultLines).
-use Rattle.std.proofs.Common.{◌≡◌, ◌+◌, ◌∙◌, ◌++◌, ℕ, List, ◌∷◌, [], Ok, length, sym, ap, subst, arith}
-use Rattle.std.specs.Prelude.{if◌then◌else◌}
-use Rattle.byte_devices.specs.Devices.{Took, CutShort}
-use Rattle.byte_devices.specs.declared.traits.WriteFault.{WriteFault}
-use Rattle.pgn_verifier.specs.declared.tally.Tally.{Tally}
+use Rattle.std.proofs.Common.{◌≡◌, ◌+◌, ◌∙◌, ◌++◌, ℕ, List, ◌∷◌, [], Ok, length, sym, ap, subst, arith, if◌then◌else◌}
+use Rattle.byte_devices.specs.{Devices.Took, Devices.CutShort, declared.traits.WriteFault.WriteFault}
+use Rattle.pgn_verifier.specs.{declared.tally.Tally.Tally, declared.place.Place.Place, declared.start.TextStart.TextStart, ties.Counting.Known, ties.OnTheWay.StandsIf, ties.OnTheWay.Writes, ties.OnTheWay.game_line}
 use Rattle.pgn_verifier.specs.laws.Reported.{next_at, game_placed, fault_placed, placed_of}
-use Rattle.pgn_verifier.specs.declared.place.Place.{Place}
-use Rattle.pgn_verifier.specs.declared.start.TextStart.{TextStart}
-use Rattle.pgn_verifier.specs.ties.Counting.{Known}
-use Rattle.pgn_verifier.specs.ties.OnTheWay.{StandsIf, Writes, game_line}
-use Rattle.pgn_verifier.proofs.FaultLines.{fault_lines_are}
-use Rattle.pgn_verifier.proofs.Placed.{known_at_start}
+use Rattle.pgn_verifier.proofs.{FaultLines.fault_lines_are, Placed.known_at_start}
 use Rattle.pgn_verifier.proofs.TextVerified.{SoFar, begun, span_at, all_written, game_written, game_broke, fault_passed, fault_written, fault_broke}
 use Rattle.std.proofs.lemmas.Result.{err_from_is_err_and}
 use Rattle.pgn_verifier.proofs.games.verify_text.Goals as goal

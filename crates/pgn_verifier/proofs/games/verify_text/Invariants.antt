@@ -1,6 +1,5 @@
 use Rattle.std.proofs.Common.{◌≡◌, List, length, ◌-◌}
-use Rattle.pgn_verifier.specs.Reports.{Placed}
-use Rattle.pgn_verifier.specs.ties.Counting.{Known}
+use Rattle.pgn_verifier.specs.{Reports.Placed, ties.Counting.Known}
 use Rattle.pgn_verifier.proofs.TextVerified.{SoFar}
 use Rattle.pgn_verifier.proofs.games.verify_text.Given as goal
 use Rattle.chess_game.specs.declared.game.TheConstants.{MOST_MOVES}

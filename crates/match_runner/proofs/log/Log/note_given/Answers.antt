@@ -1,6 +1,5 @@
 -- At first nothing was logged; then a line more, and again.
-use Rattle.std.proofs.Common.{◌≡◌, ℕ, List, [], ◌++◌, ◌∙◌, length, refl, subst, sym, true}
-use Rattle.std.specs.Prelude.{◌==◌}
+use Rattle.std.proofs.Common.{◌≡◌, ℕ, List, [], ◌++◌, ◌∙◌, length, refl, subst, sym, true, ◌==◌}
 use Rattle.byte_devices.specs.Bytes.{byte}
 use Rattle.chess_base.specs.declared.man.Colour.{Colour}
 use Rattle.match_runner.specs.Log.{Logged, log_line, log_seen}
