@@ -1,6 +1,6 @@
 -- What a run (a call of a function such as `run_session`) reads from an input and writes to an output, by however many
 -- reads and writes, and how the devices' states before and after it agree with that.
-use Rattle.std.specs.Prelude.{◌≡◌, ℕ, ◌-◌, nat_lt, Bool, true, false, if◌then◌else◌, List, [], ◌++◌, length, take}
+use Rattle.std.specs.Prelude.{◌≡◌, ℕ, ◌-◌, Bool, true, false, if◌then◌else◌, List, [], ◌++◌, length, take}
 use Rattle.std.specs.Io.KnownBytes.{Appends, Consumes, IsAtEnd}
 use Rattle.byte_devices.specs.Devices.{InputState, OutputState, saturating_increment, saturating_add, Begins}
 
@@ -85,10 +85,9 @@ nothing = record { flushed = []; left = []; any_flush = false; failed = false }
 abbrev pub all_of : List ℕ → ToOutput
 all_of text = record { flushed = text; left = []; any_flush = true; failed = false }
 
--- all of this text was written and flushed, with a flush for each of these items, such as lines that are answered; so
--- there was none without an item
-abbrev pub all_for : {A : Type 0} → List A → List ℕ → ToOutput
-all_for items text = record { flushed = text; left = []; any_flush = nat_lt 0 (length items); failed = false }
+-- all of this text was written and flushed, and nothing failed; `flushes` is whether a flush succeeded
+abbrev pub all_flushed : Bool → List ℕ → ToOutput
+all_flushed flushes text = record { flushed = text; left = []; any_flush = flushes; failed = false }
 
 -- all of this text was written, no flush succeeded, and nothing failed
 abbrev pub all_unflushed : List ℕ → ToOutput

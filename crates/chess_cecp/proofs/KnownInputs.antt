@@ -2,8 +2,8 @@
 use Rattle.std.proofs.Common.{◌≡◌, ℕ, Bool, true, false, List, [], ◌∷◌, ◌++◌, Option, Some, None, Ok, refl, sym, ap, ◌∙◌, append-nil, subst, IfSome}
 use Rattle.std.proofs.KnownBytes.{Consumes-whole}
 use Rattle.std.specs.Io.KnownBytes.{Consumes}
-use Rattle.byte_devices.specs.Transfers.{FromInput, Devices, InputGave, OutputTook, Ran, all_for}
-use Rattle.byte_devices.proofs.shared.Transfers.{some_for}
+use Rattle.byte_devices.specs.Transfers.{FromInput, Devices, InputGave, OutputTook, Ran}
+use Rattle.byte_devices.proofs.shared.Transfers.{all_for, some_for}
 use Rattle.text_lines.specs.Lines.{LineSeen, stream_lines}
 use Rattle.chess_cecp.specs.{Serving.Response, Serving.Server, Serving.responses, Served.Served, Served.lines_read, laws.KnownInput.AreFirstLines, laws.KnownInput.AnswersInput, laws.KnownInput.lines_of, declared.run.End.End, declared.run.End.TheVariants.Quit, declared.run.End.TheVariants.InputEnded, declared.session.TheConstants.COMMAND_LEN}
 use Rattle.chess_cecp.proofs.LinesOn.{first_lines, stays_ended}

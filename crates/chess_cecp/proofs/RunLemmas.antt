@@ -3,9 +3,9 @@ use Rattle.std.proofs.Common.{◌≡◌, ℕ, ◌+◌, ◌-◌, ◌≤◌, inl, 
 use Rattle.std.proofs.{Math.Seq.take-append-add, Math.Seq.take-append_seam, lemmas.Grind.common_steps}
 use Rattle.std.specs.Io.KnownBytes.{Consumes, IsAtEnd}
 use Rattle.byte_devices.specs.Devices.{InputState, OutputState, Sent, CutShort, saturating_increment}
-use Rattle.byte_devices.specs.Transfers.{InputGave, OutputTook, Ran, all_for}
+use Rattle.byte_devices.specs.Transfers.{InputGave, OutputTook, Ran}
 use Rattle.byte_devices.proofs.shared.Devices.{consumes_more, consumes_none}
-use Rattle.byte_devices.proofs.shared.Transfers.{saturating_increment_if, came, broke, some_for, took_nothing, took_last, took_one_more, took_some_more}
+use Rattle.byte_devices.proofs.shared.Transfers.{saturating_increment_if, came, broke, all_for, some_for, took_nothing, took_last, took_one_more, took_some_more}
 use Rattle.text_lines.specs.Lines.{LineSeen, Held, nothing_held, stream_lines, lines_held}
 use Rattle.text_lines.specs.Next.{before_piece, Waits, GotLine, GotLast, NextLine}
 use Rattle.text_lines.proofs.shared.Lines.{nothing_left}

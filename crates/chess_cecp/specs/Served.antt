@@ -1,7 +1,7 @@
 -- What a server of lines reads and writes, as a session does, for each of the four ways to end: by a line such as
 -- `quit`, by the input's end, by a read that failed, by a write or a flush that failed.
-use Rattle.std.specs.Prelude.{◌≡◌, ◌≤◌, ℕ, Bool, true, false, List, length, take, slice_get, Some, Result, Ok, Err}
-use Rattle.byte_devices.specs.Transfers.{FromInput, ToOutput, IsWhole, all_for, BreaksOffIn}
+use Rattle.std.specs.Prelude.{◌≡◌, ◌≤◌, ℕ, nat_lt, Bool, true, false, List, length, take, slice_get, Some, Result, Ok, Err}
+use Rattle.byte_devices.specs.Transfers.{FromInput, ToOutput, IsWhole, all_flushed, BreaksOffIn}
 use Rattle.text_lines.specs.Lines.{LineSeen, stream_lines}
 use Rattle.chess_cecp.specs.Serving.{Server, responses}
 use Rattle.chess_cecp.specs.declared.run.End.{End}
@@ -25,14 +25,14 @@ lines_before_last_read i = stream_lines COMMAND_LEN false i.early
 -- if a line was read, a flush succeeded, even if all answers are empty. `s` and `s'` are the states before and after
 abbrev pub AnswersAll : {S : Type 0} → Server S → S → S → Bool → FromInput → ToOutput → Type 0
 AnswersAll respond s s' ends i o = let due = responses respond s (lines_read i) in
-    (o ≡ all_for (lines_read i) due.text) × (s' ≡ due.state) × (due.ends ≡ ends)
+    (o ≡ all_flushed (nat_lt 0 (length (lines_read i))) due.text) × (s' ≡ due.state) × (due.ends ≡ ends)
 
 -- the server `respond` answered the lines `before`, with none of which it ends, and their answers were flushed. Then a
 -- write or a flush failed in the answer to `line`: a beginning of it was written and not flushed, maybe nothing or all.
 -- `s` is the state before all this, and `s'` the one after `line`
 abbrev pub BreaksOffAt : {S : Type 0} → Server S → S → S → List LineSeen → LineSeen → ToOutput → Type 0
 BreaksOffAt respond s s' before line o = let due = responses respond s before in let last = respond due.state line in
-    (due.ends ≡ false) × BreaksOffIn (all_for before due.text) last.text o × (s' ≡ last.state)
+    (due.ends ≡ false) × BreaksOffIn (all_flushed (nat_lt 0 (length before)) due.text) last.text o × (s' ≡ last.state)
 
 -- what the server `respond` reads (`i`) and writes (`o`), by the result of the run. `s` and `s'` are the server's
 -- states before and after

@@ -1,8 +1,8 @@
 -- What each device of a desk did in a whole match.
 use Rattle.std.proofs.Common.{◌≡◌, ℕ, Bool, true, false, List, [], ◌∷◌, ◌++◌, refl, sym, ◌∙◌, subst, append_assoc, append-nil, Option, None, Some, MatchBool, if◌then◌else◌}
 use Rattle.byte_devices.specs.Devices.{OutputState, CutShort}
-use Rattle.byte_devices.specs.Transfers.{ToOutput, Devices, OutputTook, all_of, all_for}
-use Rattle.byte_devices.proofs.shared.Transfers.{broke, some_for, took_each, took_nothing, took_some_more}
+use Rattle.byte_devices.specs.Transfers.{ToOutput, Devices, OutputTook, all_of}
+use Rattle.byte_devices.proofs.shared.Transfers.{broke, all_for, some_for, took_each, took_nothing, took_some_more}
 use Rattle.chess_base.specs.{declared.man.Colour.Colour, ByColour.of_colour, Men.same_colour, Options.list_if}
 use Rattle.chess_game.specs.Game as game
 use Rattle.text_lines.specs.Lines.{Held, nothing_held}

@@ -3,7 +3,7 @@
 use Rattle.std.specs.Prelude.{◌≡◌, ◌||◌, ℕ, true, nat_lt, List, [], ◌∷◌, ◌++◌, length, codes, Option, None, Some}
 use Rattle.std.specs.List.{count_by, flat_map, last_or, list_any}
 use Rattle.chess_base.specs.declared.man.Colour.{Colour}
-use Rattle.byte_devices.specs.Transfers.{FromInput, ToOutput, Devices, RanWithWaits, all_for, BreaksOffIn}
+use Rattle.byte_devices.specs.Transfers.{FromInput, ToOutput, Devices, RanWithWaits, all_flushed, BreaksOffIn}
 use Rattle.chess_game.specs.Game as game
 use Rattle.chess_game.specs.Results.{cut_tag}
 use Rattle.cecp_engine.specs.Items.{last_said}
@@ -52,9 +52,9 @@ pub record SaidBy (S : Colour) (H : List Act) (i : FromInput) : Type 0 where
 -- second list could not be sent
 abbrev pub WasSent : List SentLine → List (List SentLine) → ToOutput → Type 0
 -- no block failed: all lines were written and flushed, and no call failed
-WasSent sent [] o = o ≡ all_for sent (bytes_of sent)
+WasSent sent [] o = o ≡ all_flushed (nat_lt 0 (length sent)) (bytes_of sent)
 -- a block failed, after the lines that were sent
-WasSent sent (block ∷ []) o = BreaksOffIn (all_for sent (bytes_of sent)) (bytes_of block) o
+WasSent sent (block ∷ []) o = BreaksOffIn (all_flushed (nat_lt 0 (length sent)) (bytes_of sent)) (bytes_of block) o
 -- no more than one block fails
 WasSent sent _ o = ⊥
 

@@ -5,8 +5,8 @@ use Rattle.std.proofs.{lemmas.List.Concat.flat_map-append, lemmas.List.FromFn.le
 use Rattle.match_runner.specs.{declared.plan.GamesPlan.GamesPlan, Log.LogSeen, Log.Logged, Log.log_from, declared.fault.GamesFault.GamesFault, declared.games.GamesPlayed.GamesPlayed, declared.score.Score.Score}
 use Rattle.chess_base.specs.{Men.other, Men.same_colour, Options.list_if, declared.man.Colour.Colour, declared.man.Colour.TheVariants.White, declared.man.Colour.TheVariants.Black}
 use Rattle.byte_devices.specs.Devices.{OutputState, Begins, CutShort, Sent}
-use Rattle.byte_devices.specs.Transfers.{ToOutput, OutputTook, all_of, all_for}
-use Rattle.byte_devices.proofs.shared.Transfers.{broke, took_last, took_nothing, took_one_more, took_some_more}
+use Rattle.byte_devices.specs.Transfers.{ToOutput, OutputTook, all_of}
+use Rattle.byte_devices.proofs.shared.Transfers.{broke, all_for, took_last, took_nothing, took_one_more, took_some_more}
 use Rattle.chess_game.specs.{Game.Seen, Results.same_outcome, declared.results.Outcome.Outcome, declared.results.Outcome.TheVariants.Draw, declared.results.Outcome.TheVariants.Unfinished}
 use Rattle.chess_match.specs.{Reasons.comment_of, Reasons.win_of, Notes.Note, Played.World, Played.PlayedNoting, declared.run.Setup.Setup, declared.reason.MatchFault.MatchFault, declared.reason.Reason.TheVariants.Faulted, declared.run.MatchEnd.MatchEnd}
 use Rattle.pgn_writer.specs.{GameText.pgn, declared.tags.Tags.Tags}

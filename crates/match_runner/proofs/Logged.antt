@@ -5,8 +5,8 @@ use Rattle.std.specs.List.{onto_first, position_or_len}
 use Rattle.std.proofs.{lemmas.Bool.Decides.nat_tests, lemmas.List.drop_min, lemmas.List.drop_more}
 use Rattle.byte_devices.specs.{Bytes.byte, Bytes.new_line, Devices.OutputState, Devices.Sends}
 use Rattle.chess_base.specs.{declared.man.Colour.Colour, declared.man.Colour.TheVariants.White, declared.man.Colour.TheVariants.Black}
-use Rattle.byte_devices.specs.Transfers.{OutputTook, nothing, all_of, all_for}
-use Rattle.byte_devices.proofs.shared.Transfers.{broke, some_for, took_all, took_each, took_more, took_nothing, took_some}
+use Rattle.byte_devices.specs.Transfers.{OutputTook, nothing, all_of}
+use Rattle.byte_devices.proofs.shared.Transfers.{broke, all_for, some_for, took_all, took_each, took_more, took_nothing, took_some}
 use Rattle.chess_match.specs.Notes.{Note, Gives, WasNoted}
 use Rattle.match_runner.specs.Log.{LogSeen, Logged, LogsNote, lines_in, log_from, log_line, log_seen, moment_after, note_text}
 use Rattle.match_runner.specs.ties.Logging.{Adds, IsLog, LogsPending, first_of_text, log_of_text, moment_from, noted_by, text_of_log}

@@ -1,6 +1,6 @@
 -- The games of a match: who plays which colour, how each is reported, and the score. A match is here all games of a
 -- plan between two engines; in chess_match it is one game.
-use Rattle.std.specs.Prelude.{◌≡◌, ◌⊎◌, ℕ, ◌+◌, ◌<◌, ◌≤◌, ◌%◌, ◌==◌, Bool, false, if◌then◌else◌, List, [], ◌∷◌, ◌++◌, length, count_by, flat_map, codes, decimal, Option, None, Some, Result, Ok, Err}
+use Rattle.std.specs.Prelude.{◌≡◌, ◌⊎◌, ℕ, ◌+◌, ◌<◌, ◌≤◌, ◌%◌, ◌==◌, nat_lt, Bool, false, if◌then◌else◌, List, [], ◌∷◌, ◌++◌, length, count_by, flat_map, codes, decimal, Option, None, Some, Result, Ok, Err}
 use Rattle.std.specs.Option.{option_to_list}
 use Rattle.std.specs.List.{AllByRecursion, enumerate_from}
 use Rattle.byte_devices.specs.Bytes.{new_line}
@@ -14,7 +14,7 @@ use Rattle.chess_base.specs.declared.by_colour.ByColour.{ByColour}
 use Rattle.chess_base.specs.declared.man.Colour.{Colour}
 use Rattle.chess_base.specs.declared.man.Colour.TheVariants.{White, Black}
 use Rattle.byte_devices.specs.Devices.{OutputState}
-use Rattle.byte_devices.specs.Transfers.{ToOutput, OutputTook, all_of, all_for, BreaksOffIn}
+use Rattle.byte_devices.specs.Transfers.{ToOutput, OutputTook, all_of, all_flushed, BreaksOffIn}
 use Rattle.chess_match.specs.Acts.{Act}
 use Rattle.chess_match.specs.ByDevice.{notes_of}
 use Rattle.chess_match.specs.Reasons.{colour_name, comment_of, win_of}
@@ -191,6 +191,10 @@ AreAllGames plan games (Some (number, side, fault)) =
 
 -- ---- what a match writes
 
+-- the PGN of these games was written and flushed, and nothing failed; with no games there was no flush
+abbrev pub games_flushed : GamesPlan → List GameRecord → ToOutput
+games_flushed plan games = all_flushed (nat_lt 0 (length games)) (game_texts plan games)
+
 -- what playing a match writes to the output (`o`), by its result. The PGN of `games` was written and flushed;
 -- `unwritten` is a game that was played after them, if its PGN could not be written. All were played as the plan says
 -- (`IsOfPlan`)
@@ -207,14 +211,14 @@ WritesGames plan (Err (Game number text)) games None o = (side : Colour) × (fau
 -- there was no fault
 WritesGames plan (Err WriteFailed) games (Some unwritten) o =
     FaultlessGames plan games × (length games < plan.games) × IsOfPlan plan (length games + 1) unwritten
-    × BreaksOffIn (all_for games (game_texts plan games)) (game_text plan (length games + 1) unwritten) o
+    × BreaksOffIn (games_flushed plan games) (game_text plan (length games + 1) unwritten) o
 -- a write or flush failed in the score, after all games, the last of which may have a fault
 WritesGames plan (Err WriteFailed) games None o = (fault : Option (ℕ × Colour × MatchFault))
-    × AreAllGames plan games fault × BreaksOffIn (all_for games (game_texts plan games)) (score_line games) o
+    × AreAllGames plan games fault × BreaksOffIn (games_flushed plan games) (score_line games) o
 -- `CanNotStart` or `NoMemory`: the engines of the game after `games`, in which there was no fault, could not be
 -- started; no score was written
 WritesGames plan (Err fault) games None o = FaultlessGames plan games × (length games < plan.games)
-    × IsStartFault plan.white.now plan.black.now fault × (o ≡ all_for games (game_texts plan games))
+    × IsStartFault plan.white.now plan.black.now fault × (o ≡ games_flushed plan games)
 -- no other result comes with a game that was played and could not be written
 WritesGames plan _ games (Some unwritten) o = ⊥
 

@@ -1,13 +1,13 @@
 -- What a log of a match holds: a line for each line that an engine sends or is sent, as XBoard's debug file has them,
 -- and one for each line that had not come or is too long, each end of an engine's output, and each failure to read or
 -- write.
-use Rattle.std.specs.Prelude.{◌≡◌, ℕ, ◌==◌, if◌then◌else◌, List, [], ◌∷◌, ◌++◌, flat_map, map, codes, decimal, Bool, true, false, Some, None}
+use Rattle.std.specs.Prelude.{◌≡◌, ℕ, ◌==◌, nat_lt, if◌then◌else◌, List, [], ◌∷◌, ◌++◌, length, flat_map, map, codes, decimal, Bool, true, false, Some, None}
 use Rattle.std.specs.List.{onto_first}
 use Rattle.byte_devices.specs.Bytes.{byte, new_line, shown_byte}
 use Rattle.chess_base.specs.declared.man.Colour.{Colour}
 use Rattle.chess_base.specs.Men.{same_colour}
 use Rattle.byte_devices.specs.Devices.{OutputState, Begins}
-use Rattle.byte_devices.specs.Transfers.{ToOutput, OutputTook, all_for}
+use Rattle.byte_devices.specs.Transfers.{ToOutput, OutputTook, all_flushed}
 use Rattle.chess_match.specs.Events.{Line, Opened, Silent, OutputEnds, FailsToRead, FailsToWrite}
 use Rattle.chess_match.specs.Notes.{Note, Happened, Gives}
 use Rattle.match_runner.specs.declared.log.Log.{Log}
@@ -69,7 +69,7 @@ log_seen o broken = record { output = o; broken = broken }
 -- what logging a text writes to the output (`o`), by whether the log is then broken: all of the text, flushed, or
 -- nothing for an empty text; or a beginning of it, maybe nothing or all, partly flushed, before a write or flush failed
 abbrev pub LogsText : Bool → List ℕ → ToOutput → Type 0
-LogsText false text o = o ≡ all_for text text
+LogsText false text o = o ≡ all_flushed (nat_lt 0 (length text)) text
 LogsText true text o = Begins (o.flushed ++ o.left) text × (o.failed ≡ true)
 
 -- from its state `l` to `l'` a log was given this text to write. A log that is broken in `l` stays as it is, and so

@@ -3,7 +3,8 @@ use Rattle.std.proofs.Common.{◌≡◌, ◌≢◌, ◌∙◌, ◌+◌, ℕ, Boo
 use Rattle.std.specs.Io.KnownBytes.{Appends, Consumes, IsAtEnd}
 use Rattle.std.proofs.lemmas.List.{map-append}
 use Rattle.chess_base.specs.declared.man.Colour.{Colour}
-use Rattle.byte_devices.specs.{Devices.saturating_increment, Transfers.FromInput, Transfers.ToOutput, Transfers.all_for}
+use Rattle.byte_devices.specs.{Devices.saturating_increment, Transfers.FromInput, Transfers.ToOutput}
+use Rattle.byte_devices.proofs.shared.Transfers.{all_for}
 use Rattle.text_lines.specs.Lines.{LineSeen, line_of, lines_from}
 use Rattle.text_lines.proofs.shared.LineSteps.{byte_step, none_from, ten_step}
 use Rattle.chess_match.specs.{Acts.Act, Effects.Match, Lines.SentLine, Lines.bytes_of, Played.Passed, Played.WasSent, Played.World, Rules.Rules, Run.engine_lines, Run.text_read, declared.run.TheConstants.ENGINE_LINE_LEN}
