@@ -1,6 +1,6 @@
 -- The items of a `feature` line (CECP, version 2: section 9), and what an engine says by them.
 use Rattle.std.specs.Prelude.{ℕ, zero, suc, ◌+◌, ◌==◌, ◌&&◌, ◌||◌, nat_lt, Bool, true, false, not, if◌then◌else◌, List, [], ◌∷◌, length, take, drop, codes, Option, None, Some}
-use Rattle.std.specs.List.{fold, list_all, list_any, position_or_len, prefix_len, slice_split, take_while}
+use Rattle.std.specs.List.{fold, list_all, list_any, slice_split, take_while}
 use Rattle.std.specs.Option.{option_map_or}
 use Rattle.std.specs.Str.{bytes_eq}
 use Rattle.byte_devices.specs.Bytes.{byte, is_digit, is_blank, is_name_byte}
@@ -20,22 +20,25 @@ pub record Item : Type 0 where
   pub name : List ℕ
   pub value : Value
 
--- the value that a text begins with, and the text after it: a text in double quotes, which may be empty, or a run of
--- digits; `None` if there is neither
+-- the value in double quotes whose first quote is before this text: what comes before the next quote, maybe nothing,
+-- and the text after that quote; `None` if no quote follows
+abbrev pub quoted_value : List ℕ → Option (Value × List ℕ)
+quoted_value text = let inside = take_while (λ b. not (b == byte "\"")) text in
+    if nat_lt (length inside) (length text)
+    then Some (record { quoted = true; text = inside }, drop (length inside + 1) text) else None
+
+-- the value that a text begins with, and the text after it: a text in double quotes, or a run of digits; `None` if
+-- there is neither
 abbrev pub value_of : List ℕ → Option (Value × List ℕ)
 value_of [] = None
-value_of (c ∷ cs) = let closing = position_or_len (λ b. b == byte "\"") cs in let n = prefix_len is_digit (c ∷ cs) in
-    if c == byte "\"" && nat_lt closing (length cs)
-    then Some (record { quoted = true; text = take closing cs }, drop (closing + 1) cs)
-    else if is_digit c then Some (record { quoted = false; text = take n (c ∷ cs) }, drop n (c ∷ cs)) else None
+value_of (c ∷ cs) = let digits = take_while is_digit (c ∷ cs) in if c == byte "\"" then quoted_value cs
+    else if is_digit c then Some (record { quoted = false; text = digits }, drop (length digits) (c ∷ cs)) else None
 
 -- the item that a text begins with, such as `ping=1` or `myname="Sjeng"`, and the text after it, without spaces and
 -- tabs at its front: a name of letters, digits and `_`, then `=`, a value, and a space, a tab or the end. `None`
 -- without one
 unfoldable pub item_of : List ℕ → Option (Item × List ℕ)
-item_of text =
-    let name = take_while is_name_byte text in
-    let rest = drop (length name) text in
+item_of text = let name = take_while is_name_byte text in let rest = drop (length name) text in
     if length name == 0 || not (bytes_eq (take 1 rest) (codes "=")) then None else do
       (value, after) ← value_of (drop 1 rest)
       if list_all is_blank (take 1 after) then Some (record { name = name; value = value }, without_front_blanks after)

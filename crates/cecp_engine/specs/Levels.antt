@@ -27,21 +27,19 @@ thousandths_of decimals = option_map (λ n. n * 10 ^ (3 - length decimals)) (sho
 -- the milliseconds that a text of seconds denotes: 1 to `most` digits (`2` is 2000), perhaps with a point and 1 to 3
 -- decimals (`0.25` is 250); `None` for any other text
 unfoldable pub milliseconds_of : ℕ → List ℕ → Option ℕ
-milliseconds_of most text =
-    let point = position_or_len (λ c. c == byte ".") text in do
-      seconds ← short_number most (take point text)
-      thousandths ← if point == length text then Some 0 else thousandths_of (drop (point + 1) text)
-      Some (1000 * seconds + thousandths)
+milliseconds_of most text = let point = position_or_len (λ c. c == byte ".") text in do
+  seconds ← short_number most (take point text)
+  thousandths ← if point == length text then Some 0 else thousandths_of (drop (point + 1) text)
+  Some (1000 * seconds + thousandths)
 
 -- the base time that a text denotes, in milliseconds: minutes of 1 to 3 digits (`5` is 300,000), perhaps with a colon
 -- and seconds below 60 of 1 or 2 digits, perhaps with decimals (`1:5` is 65,000, `0:08.5` is 8,500); `None` for any
 -- other text
 unfoldable pub base_of : List ℕ → Option ℕ
-base_of text =
-    let colon = position_or_len (λ c. c == byte ":") text in do
-      minutes ← short_number 3 (take colon text)
-      milliseconds ← if colon == length text then Some 0 else milliseconds_of 2 (drop (colon + 1) text)
-      if nat_lt milliseconds 60000 then Some (60000 * minutes + milliseconds) else None
+base_of text = let colon = position_or_len (λ c. c == byte ":") text in do
+  minutes ← short_number 3 (take colon text)
+  milliseconds ← if colon == length text then Some 0 else milliseconds_of 2 (drop (colon + 1) text)
+  if nat_lt milliseconds 60000 then Some (60000 * minutes + milliseconds) else None
 
 -- the time control with these parts; if any is `None`, the first that is, as the fault
 abbrev pub level_with : Option ℕ → Option ℕ → Option ℕ → Result LevelSeen LevelFault

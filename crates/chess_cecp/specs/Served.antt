@@ -38,8 +38,7 @@ BreaksOffAt respond s s' before line o = let due = responses respond s before in
 -- states before and after
 abbrev pub Served : {S : Type 0} → Server S → S → S → Result End Fault → FromInput → ToOutput → Type 0
 -- no read failed, and the server answered all lines up to one with which it ends, which the last read completed
-Served respond s s' (Ok Quit) i o =
-    (i.failed ≡ false) × AnswersAll respond s s' true i o
+Served respond s s' (Ok Quit) i o = (i.failed ≡ false) × AnswersAll respond s s' true i o
     × ((responses respond s (lines_before_last_read i)).ends ≡ false)
 -- the input's end was reported, and no read failed; the server answered all lines, and ends with none of them
 Served respond s s' (Ok InputEnded) i o = IsWhole i × AnswersAll respond s s' false i o
