@@ -14,13 +14,14 @@ use Rattle.match_runner.specs.declared.log.Log.{Log}
 
 -- ---- one line
 
+-- how a log names the engine of the side `side`: that of `--white`, which has the side `first_side`, is the first
+abbrev pub engine_name : Colour → Colour → List ℕ
+engine_name first_side side = if same_colour side first_side then codes "first : " else codes "second: "
+
 -- a line of a log, such as `312 <first : move e2e4`: a moment in milliseconds; a mark, `<` if the engine sent the text,
--- `>` if it was sent it (even if that failed), `!` if the text says what happened; the engine of the side `side`,
--- `first` if it is that of `--white`, which has the side given as `first`; and the text
-abbrev pub log_line : Colour → ℕ → ℕ → Colour → List ℕ → List ℕ
-log_line first moment mark side text =
-    decimal moment ++ (byte " " ∷ mark ∷ []) ++ (if same_colour side first then codes "first : " else codes "second: ")
-    ++ map shown_byte text ++ new_line ∷ []
+-- `>` if it was sent it (even if that failed), `!` if the text says what happened; the engine's name, and the text
+abbrev pub log_line : ℕ → ℕ → List ℕ → List ℕ → List ℕ
+log_line now mark engine text = decimal now ++ (byte " " ∷ mark ∷ []) ++ engine ++ map shown_byte text ++ new_line ∷ []
 
 -- ---- the lines of notes
 
@@ -30,16 +31,17 @@ lines_in [] = []
 lines_in (b ∷ bs) = if b == new_line then [] ∷ lines_in bs else onto_first b (lines_in bs)
 
 -- what the log has for a note: one line, but for `Gives` one for each line that the engine is sent, and so for `Opened`
--- none. `moment` is the clock's reading at the last `Line`, `Silent` or `Opened` before this note, or 0 before any
-abbrev pub note_text : Colour → ℕ → Note → List ℕ
-note_text first moment (Happened (Line c (Some text) now)) = log_line first now (byte "<") c text
-note_text first moment (Happened (Line c None now)) = log_line first now (byte "!") c (codes "line too long")
-note_text first moment (Happened (Opened c now)) = []
-note_text first moment (Happened (Silent c now)) = log_line first now (byte "!") c (codes "no line")
-note_text first moment (Happened (OutputEnds c)) = log_line first moment (byte "!") c (codes "output ended")
-note_text first moment (Happened (FailsToRead c)) = log_line first moment (byte "!") c (codes "read failed")
-note_text first moment (Happened (FailsToWrite c)) = log_line first moment (byte "!") c (codes "write failed")
-note_text first moment (Gives c bytes) = flat_map (log_line first moment (byte ">") c) (lines_in bytes)
+-- none. `engine` gives the name of each side's engine. `moment` is the clock's reading at the last `Line`, `Silent` or
+-- `Opened` before this note, or 0 before any
+abbrev pub note_text : (Colour → List ℕ) → ℕ → Note → List ℕ
+note_text engine moment (Happened (Line c (Some text) now)) = log_line now (byte "<") (engine c) text
+note_text engine moment (Happened (Line c None now)) = log_line now (byte "!") (engine c) (codes "line too long")
+note_text engine moment (Happened (Opened c now)) = []
+note_text engine moment (Happened (Silent c now)) = log_line now (byte "!") (engine c) (codes "no line")
+note_text engine moment (Happened (OutputEnds c)) = log_line moment (byte "!") (engine c) (codes "output ended")
+note_text engine moment (Happened (FailsToRead c)) = log_line moment (byte "!") (engine c) (codes "read failed")
+note_text engine moment (Happened (FailsToWrite c)) = log_line moment (byte "!") (engine c) (codes "write failed")
+note_text engine moment (Gives c bytes) = flat_map (log_line moment (byte ">") (engine c)) (lines_in bytes)
 
 -- the clock's reading at the last `Line`, `Silent` or `Opened` up to this note; `moment` is that before it
 abbrev pub moment_after : ℕ → Note → ℕ
@@ -48,11 +50,12 @@ moment_after moment (Happened (Opened c now)) = now
 moment_after moment (Happened (Silent c now)) = now
 moment_after moment _ = moment
 
--- what the log has for these notes, one after another; `moment` is as for the first of them. With 0 and all notes of a
--- game it is the whole log of the game
+-- what the log has for these notes, one after another, in a game in which the first engine has the side `first_side`.
+-- `moment` is as for the first of the notes. With 0 and all notes of a game it is the whole log of the game
 abbrev pub log_from : Colour → ℕ → List Note → List ℕ
-log_from first moment [] = []
-log_from first moment (n ∷ notes) = note_text first moment n ++ log_from first (moment_after moment n) notes
+log_from first_side moment [] = []
+log_from first_side moment (n ∷ notes) =
+    note_text (engine_name first_side) moment n ++ log_from first_side (moment_after moment n) notes
 
 -- ---- the output
 
@@ -83,5 +86,5 @@ Logged l l' text = (l.broken ≡ true → l' ≡ l) × (text ≡ [] → l' ≡ l
 abbrev pub LogsNote : {E : Type 0} → (E → OutputState) → Log E → Log E → Note → Type 0
 LogsNote seen l l' note =
     Logged (log_seen (seen l.output) l.broken) (log_seen (seen l'.output) l'.broken)
-    (note_text l.first l.moment note)
+    (note_text (engine_name l.first) l.moment note)
     × (l'.first ≡ l.first) × (l'.moment ≡ moment_after l.moment note)
