@@ -1,10 +1,10 @@
 -- A position that was shown is set.
-use Rattle.std.proofs.Common.{◌≡◌, ◌∙◌, ◌≤◌, ℕ, false, eqb, List, [], ◌∷◌, ◌++◌, length, length-append, drop, take, Option, None, Some, Ok, refl, sym, ap, subst, arith, codes}
+use Rattle.std.proofs.Common.{◌≡◌, ◌∙◌, ◌≤◌, ℕ, Bool, true, false, eqb, List, [], ◌∷◌, ◌++◌, length, length-append, drop, take, Option, None, Some, Ok, refl, sym, ap, subst, arith, codes}
 use Rattle.std.proofs.{Math.Seq.take-append_seam, lemmas.Bool.Decides.nat_tests}
 use Rattle.chess_base.specs.{Letters.letter, Letters.letter_by, Sound.IsSound, declared.man.Colour.Colour, declared.man.Colour.TheVariants.White, declared.man.Colour.TheVariants.Black, declared.man.Kind.Kind, declared.man.Man.Man, declared.setup.Setup.Setup}
 use Rattle.chess_base.specs.declared.man.Kind.TheVariants.{King, Queen, Rook, Bishop, Knight, Pawn}
 use Rattle.chess_fen.specs.{Reading.fen_reading_as, laws.Laws.WrittenIsReadBack}
-use Rattle.chess_fen.specs.Writing.{fen, fen_rank, placement_text, raised}
+use Rattle.chess_fen.specs.Writing.{fen, fen_rank, placement_text, squares_text}
 use Rattle.chess_game.specs.Game.{current}
 use Rattle.chess_game.proofs.shared.Lines.{IsSound-position_after, variant-position_after}
 use Rattle.text_lines.specs.{Lines.LineSeen, Lines.without_front_blanks, Words.argument_of}
@@ -35,16 +35,16 @@ by_letter Black Pawn = omega arith
 letter_high : (man : Man) → 33 ≤ letter man
 letter_high man = by_letter man.colour man.kind
 
-raised_begins : (text : List ℕ) → Begins text → Begins (raised text)
-raised_begins [] h = tt
-raised_begins (c ∷ cs) h = omega (arith, h)
+squares_begin : (in_run : Bool) (row : List (Option Man)) → Begins (squares_text in_run row)
+squares_begin true [] = tt
+squares_begin false [] = tt
+squares_begin true (Some man ∷ row) = letter_high man
+squares_begin false (Some man ∷ row) = letter_high man
+squares_begin true (None ∷ row) = squares_begin true row
+squares_begin false (None ∷ row) = omega arith
 
 rank_begins : (row : List (Option Man)) → Begins (fen_rank row)
-rank_begins [] = tt
-rank_begins (Some man ∷ row) = letter_high man
-rank_begins (None ∷ None ∷ row) = raised_begins (fen_rank (None ∷ row)) (rank_begins (None ∷ row))
-rank_begins (None ∷ Some man ∷ row) = omega arith
-rank_begins (None ∷ []) = omega arith
+rank_begins row = squares_begin false row
 
 -- it has a first byte, which comes after the space
 abbrev Starts : List ℕ → Type 0
