@@ -1,6 +1,6 @@
 -- What a plan has to do with the arguments.
-use Rattle.std.specs.Prelude.{◌≡◌, ◌≤◌, ◌*◌, ◌&&◌, ℕ, Bool, List, [], codes, length, map, nat_le, if◌then◌else◌, Option, Some, Result, Ok, Err, unwrap_or, option_map, ⊤}
-use Rattle.std.specs.List.{list_all}
+use Rattle.std.specs.Prelude.{◌≡◌, ◌≤◌, ◌*◌, ◌==◌, ◌&&◌, ◌||◌, ℕ, Bool, not, true, false, List, [], codes, length, map, nat_le, if◌then◌else◌, Option, Some, Result, Ok, Err, unwrap_or, option_map, ⊤}
+use Rattle.std.specs.List.{list_all, list_any, slice_split}
 use Rattle.std.specs.Option.{option_map_or}
 use Rattle.std.specs.Result.{result_map_both}
 use Rattle.std.specs.Str.{bytes_eq}
@@ -16,7 +16,7 @@ use Rattle.chess_match.specs.declared.draws.Draws.TheVariants as draws
 use Rattle.chess_match.specs.declared.patience.Patience.{Patience}
 use Rattle.arbiter_cli.specs.declared.plan.VerifyPlan.{VerifyPlan}
 use Rattle.arbiter_cli.specs.declared.fault.WordsFault.{WordsFault}
-use Rattle.arbiter_cli.specs.declared.fault.WordsFault.TheVariants.{Words, NoMemory, BadLevel, BadFen, BadDate}
+use Rattle.arbiter_cli.specs.declared.fault.WordsFault.TheVariants.{Words, NoMemory, BadLevel, BadFen, BadDate, BadKind}
 use Rattle.chess_base.specs.Initial.{initial_setup_of}
 use Rattle.chess_fen.specs.Reading.{◌>>=◌, fen_reading_as}
 use Rattle.chess_base.specs.declared.fen_fault.FenFault.{FenFault}
@@ -58,12 +58,26 @@ is_set name value = bytes_eq (unwrap_or (value name) (codes "false")) (codes "tr
 abbrev pub number_of : Text → ℕ
 number_of text = digits_value 10 (without_leading_plus text)
 
--- what the flags of `verify` ask for
+-- whether the text names a kind of fault that `verify` may ignore
+abbrev pub is_kind : Text → Bool
+is_kind name = bytes_eq name (codes "variant") || (bytes_eq name (codes "result") || bytes_eq name (codes "board"))
+
+-- the names in the value of `--ignore`, which its commas (byte 44) part; none without the option
+abbrev pub ignored_in : Values → List Text
+ignored_in value = option_map_or (slice_split (λ b. b == 44)) (value (codes "ignore")) []
+
+-- whether faults of this kind are looked for: with `--strict`, unless `--ignore` names the kind
+abbrev pub is_looked_for : Text → Values → Bool
+is_looked_for kind value = is_set (codes "strict") value && not (list_any (bytes_eq kind) (ignored_in value))
+
+-- what the options of `verify` ask for
 abbrev pub verify_plan_of : Values → VerifyPlan
 verify_plan_of value = record {
   keep_going = is_set (codes "keep-going") value;
   quiet = is_set (codes "quiet") value;
-  strict = is_set (codes "strict") value;
+  variant = is_looked_for (codes "variant") value;
+  result = is_looked_for (codes "result") value;
+  board = is_looked_for (codes "board") value;
   explain = is_set (codes "explain") value;
   spans = is_set (codes "spans") value;
   names = is_set (codes "names") value;
@@ -128,6 +142,7 @@ pub record IsMatchPlan (value : Values) (plan : GamesPlan) : Type 0 where
 abbrev pub IsPlanOf : Said → Plan → Type 0
 IsPlanOf said Session = said.command ≡ codes "session"
 IsPlanOf said (Verify v) = (said.command ≡ codes "verify") × (v ≡ verify_plan_of said.value)
+    × (list_all is_kind (ignored_in said.value) ≡ true)
 IsPlanOf said (Stub arguments) = (said.command ≡ codes "stub") × (map (λ w. w.now) arguments.items ≡ said.replies)
 IsPlanOf said (Match plan) = (said.command ≡ codes "match") × IsMatchPlan said.value plan
 
@@ -140,6 +155,9 @@ IsReadAs kinds said (Ok plan) = (kinds ≡ []) × IsPlanOf said plan
 IsReadAs kinds said (Err (Words e)) = IsAmong (kind_of e) kinds
 -- out of memory may be reported for any arguments
 IsReadAs kinds said (Err NoMemory) = ⊤
+-- `clap` accepts them, but `--ignore` names something that is no kind
+IsReadAs kinds said (Err BadKind) = (kinds ≡ []) × (said.command ≡ codes "verify")
+    × (list_all is_kind (ignored_in said.value) ≡ false)
 -- `clap` accepts them, but a level, the FEN or the date of a match is invalid
 IsReadAs kinds said (Err f) = (kinds ≡ []) × (said.command ≡ codes "match") × (levels_start_and_date said.value ≡ Err f)
 

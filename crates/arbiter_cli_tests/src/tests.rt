@@ -275,13 +275,97 @@ fn verify_by_its_options(rt: HostRuntime) -> Result<(), Fail> {
             &VerifyPlan {
                 keep_going: *keep_going,
                 quiet: *quiet,
-                strict: *strict,
+                variant: *strict,
+                result: *strict,
+                board: *strict,
                 explain: *explain,
                 spans: *spans,
                 names: *names,
                 variations: *variations,
             },
         );
+    }
+    Ok(())
+}
+
+// Arguments of `verify` with `--ignore`, and what is looked for: an unknown variant, another result than the tag's, and
+// than the board's.
+const IGNORED: [(&[&str], bool, bool, bool); 9] = [
+    (&["verify", "--ignore", "board"], false, false, false),
+    (
+        &["verify", "--strict", "--ignore", "board"],
+        true,
+        true,
+        false,
+    ),
+    (
+        &["verify", "--ignore", "result", "--strict"],
+        true,
+        false,
+        true,
+    ),
+    (&["verify", "--strict", "--ignore=variant"], false, true, true),
+    (
+        &["verify", "--strict", "--ignore", "board,variant"],
+        false,
+        true,
+        false,
+    ),
+    (
+        &["verify", "--strict", "--ignore", "variant,board"],
+        false,
+        true,
+        false,
+    ),
+    (
+        &["verify", "--strict", "--ignore", "result,result"],
+        true,
+        false,
+        true,
+    ),
+    (
+        &["verify", "--strict", "--ignore", "variant,result,board"],
+        false,
+        false,
+        false,
+    ),
+    (&["verify", "--strict", "--quiet"], true, true, true),
+];
+
+// Kinds that are ignored are not looked for; without `--strict` none is.
+#[test]
+fn kinds_are_ignored(rt: HostRuntime) -> Result<(), Fail> {
+    for (arguments, variant, result, board) in &IGNORED {
+        let Plan::Verify(plan) = read_words(rt.alloc(), arguments)? else {
+            return Err(Fail::new("another plan"));
+        };
+        is_equal(&rt, &plan.variant, variant);
+        is_equal(&rt, &plan.result, result);
+        is_equal(&rt, &plan.board, board);
+    }
+    Ok(())
+}
+
+// Values of `--ignore` that are not names of kinds with commas between.
+const NO_KINDS: [&str; 9] = [
+    "",
+    "Board",
+    "board,",
+    ",board",
+    "board,,result",
+    "board, result",
+    "board;result",
+    "after-end",
+    "boards",
+];
+
+#[test]
+fn other_kinds_are_refused(rt: HostRuntime) -> Result<(), Fail> {
+    for kinds in &NO_KINDS {
+        match read_words(rt.alloc(), ["verify", "--ignore", *kinds].as_slice()) {
+            Err(WordsFault::BadKind) => {}
+            _ => return Err(Fail::new("no bad kind")),
+        }
     }
     Ok(())
 }
@@ -783,7 +867,7 @@ fn faults_are_reported(rt: HostRuntime) -> Result<(), Fail> {
     Ok(())
 }
 
-const OTHERS: [(&[&str], i32); 42] = [
+const OTHERS: [(&[&str], i32); 46] = [
     (&["match", "--white", "x"], 2),
     (
         &["match", "--white", "x", "--white", "y", "--black", "z"],
@@ -842,6 +926,10 @@ const OTHERS: [(&[&str], i32); 42] = [
     (&["verify", "--strict", "--strict"], 2),
     (&["verify", "--strict", "16"], 2),
     (&["verify", "--any-size"], 2),
+    (&["verify", "--ignore"], 2),
+    (&["verify", "--ignore", "board", "result"], 2),
+    (&["verify", "--ignore", "board", "--ignore", "result"], 2),
+    (&["session", "--ignore", "board"], 2),
     (&["session", "--strict"], 2),
     (&["session", "--quiet"], 2),
     (&["--log"], 2),

@@ -520,7 +520,10 @@ subs_need names =
                       (refl, (λ t e. refl), refl, refl),
                       (
                         (refl, (λ t e. refl), refl, refl),
-                        ((refl, (λ t e. refl), refl, refl), tt),
+                        (
+                          (refl, (λ t e. refl), refl, refl),
+                          ((refl, (λ t e. refl), refl, refl), tt),
+                        ),
                       ),
                     ),
                   ),

@@ -69,6 +69,9 @@ its result, or at the next tags. If neither is found, it has the rest of its pie
 With --variations the moves in variations are read, too: `game 1: illegal move in a variation at byte 61`. A variation
 replaces the move just before it.
 
+With --strict --ignore board the result is not compared with the final position, as for studies that end with `*` after
+mate. Further kinds are `result` (the Result tag) and `variant`; commas go between several: `--ignore board,variant`.
+
 With --names the line of a fault ends with ` | White - Black, Event Date`, each as the last tag of this name has it, but
 at most 40 bytes, with `?` for each byte that is not printable ASCII, and for a tag that is missing.
 
@@ -302,7 +305,7 @@ fn bare_verify_command<'a>(alloc: Global) -> Command<'a>
 }
 
 // The subcommand `verify` with its flags `--keep-going`, `--quiet`, `--strict`, `--explain`, `--spans`, `--names` and
-// `--variations`.
+// `--variations`, and its option `--ignore`.
 fn verify_command<'a>(alloc: Global) -> Result<Command<'a>, AllocError>
     ensures app { IfOk result (λ c. app_of c ≡ verify_app) }
     ensures local { IfOk result (λ c. (fields_of c).has_globals ≡ false) }
@@ -338,6 +341,12 @@ fn verify_command<'a>(alloc: Global) -> Result<Command<'a>, AllocError>
             alloc,
             "variations",
             "Also read the moves in variations, each from the position before the move that it replaces",
+        ))?
+        .arg(option(
+            alloc,
+            "ignore",
+            "KINDS",
+            "Leave out faults of these kinds, which --strict looks for: variant, result, board, with commas between",
         ))
 }
 

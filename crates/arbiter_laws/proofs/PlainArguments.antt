@@ -1,8 +1,9 @@
 -- What no arguments, `session` and `verify` do.
-use Rattle.std.proofs.Common.{◌≡◌, ◌∙◌, ◌<◌, ℕ, List, [], length, lit<, codes, Result, Ok, Err, refl, sym, ap, subst, inr, false, arith}
+use Rattle.std.proofs.Common.{◌≡◌, ◌∙◌, ◌<◌, ℕ, List, [], length, lit<, codes, Result, Ok, Err, refl, sym, ap, subst, inr, false, arith, true≢false}
+use Rattle.std.specs.List.{list_all}
 use Rattle.clap.specs.Words.{IsAmong, Text, kind_of}
 use Rattle.arbiter_grammar.specs.Grammar.{asked}
-use Rattle.arbiter_cli.specs.{Plans.IsReading, Plans.said_by, declared.fault.WordsFault.WordsFault, declared.plan.Plan.Plan, declared.plan.VerifyPlan.VerifyPlan}
+use Rattle.arbiter_cli.specs.{Plans.IsReading, Plans.is_kind, Plans.said_by, declared.fault.WordsFault.WordsFault, declared.plan.Plan.Plan, declared.plan.VerifyPlan.VerifyPlan}
 use Rattle.arbiter_laws.specs.Arguments.{AskFor, PlansAreNamed, VerifyAsBare, VerifyIsAsAsked, bare_plan, command_name}
 use Rattle.arbiter_laws.specs.{PlainArguments.PlainArgumentsAreRead, Programs.PlainArgumentsAreFollowed, Programs.ServesSession, Programs.VerifiesGames}
 use Rattle.arbiter_cli.specs.declared.fault.WordsFault.TheVariants as faults
@@ -44,6 +45,9 @@ refused_argument ws name (faults.BadFen f) a other (names, are, (none, named, h)
     absurd (other (sym (a.named names) ∙ named))
 refused_argument ws name faults.BadDate a other (names, are, (none, named, h)) =
     absurd (other (sym (a.named names) ∙ named))
+-- no kind is ignored, so none is wrong
+refused_argument ws name faults.BadKind a other (names, are, (none, named, h)) =
+    absurd (true≢false (sym (ap (list_all is_kind) (a.ignores names)) ∙ h))
 
 no_match_by_session : codes "session" ≡ codes "match" → ⊥
 no_match_by_session e = shorter (codes "match") (codes "session") (lit< tt) (sym e)
@@ -87,6 +91,7 @@ session_or_want (faults.Words e) s s' steps status want ran = absurd want
 session_or_want (faults.BadLevel f) s s' steps status want ran = absurd want
 session_or_want (faults.BadFen f) s s' steps status want ran = absurd want
 session_or_want faults.BadDate s s' steps status want ran = absurd want
+session_or_want faults.BadKind s s' steps status want ran = absurd want
 
 verify_or_want : (fault : WordsFault) (s s' : Surroundings) (steps : List HostStep) (status : ℕ)
     → IsWant fault → Does (Err fault) s s' steps status → Does (Ok (Verify bare_plan)) s s' steps status
@@ -96,6 +101,7 @@ verify_or_want (faults.Words e) s s' steps status want ran = absurd want
 verify_or_want (faults.BadLevel f) s s' steps status want ran = absurd want
 verify_or_want (faults.BadFen f) s s' steps status want ran = absurd want
 verify_or_want faults.BadDate s s' steps status want ran = absurd want
+verify_or_want faults.BadKind s s' steps status want ran = absurd want
 
 serves : PlansAreNamed → (arguments : List Text) → AskFor arguments (codes "session") → (read : Result Plan WordsFault)
     → IsReading arguments read

@@ -30,9 +30,20 @@ match_shape names = built_shape (codes "match") (match_app names).top.rules
 
 -- ---- verify
 
+ignore : (text : Text) → has_hyphen text ≡ false → TakesValue verify_shape (codes "ignore") text
+unfolding walked
+ignore text plain = record {
+  first = λ rows p. refl;
+  first_fault = λ rows p. refl;
+  plain = plain;
+  taken = λ rows. refl;
+  uses = λ rows. refl;
+  passes = λ rows. refl;
+}
+
 pub of_verify : (g : Given) → IsOfVerify g → Known verify_shape g
 unfolding walked
-of_verify (valued name text) none = absurd none
+of_verify (valued name text) (plain, e) = subst (λ n. TakesValue verify_shape n text) (sym e) (ignore text plain)
 of_verify (flag name) (inl e) = subst (IsFlag verify_shape) (sym e)
     (record { first = λ rows p. refl; first_fault = λ rows p. refl })
 of_verify (flag name) (inr (inl e)) = subst (IsFlag verify_shape) (sym e)

@@ -32,6 +32,7 @@ refusal ws k faults.NoMemory one is = tt
 refusal ws k (faults.BadLevel f) one (names, are, (none, named, h)) = absurd (no_fault k _ none (one names))
 refusal ws k (faults.BadFen f) one (names, are, (none, named, h)) = absurd (no_fault k _ none (one names))
 refusal ws k faults.BadDate one (names, are, (none, named, h)) = absurd (no_fault k _ none (one names))
+refusal ws k faults.BadKind one (names, are, (none, named, h)) = absurd (no_fault k _ none (one names))
 
 no_plan : (ws : List Text) (k : ErrorKind) (plan : Plan) → AreRefused ws (k ∷ []) → IsReading ws (Ok plan) → ⊥
 no_plan ws k plan one (names, are, (none, is)) = no_fault k _ none (one names)
@@ -54,6 +55,7 @@ shown k faults.NoMemory w w' status help is (same, ends) = inr (ends, inl same)
 shown k (faults.BadLevel f) w w' status help is reported = absurd is
 shown k (faults.BadFen f) w w' status help is reported = absurd is
 shown k faults.BadDate w w' status help is reported = absurd is
+shown k faults.BadKind w w' status help is reported = absurd is
 
 pub shows_help : (ws : List Text) (k : ErrorKind) → (k ≡ DisplayHelp) ⊎ (k ≡ DisplayVersion) → AreRefused ws (k ∷ [])
     → ShowsHelp ws
@@ -80,6 +82,7 @@ refused k faults.NoMemory w w' status help version is (same, ends) = (same, inr 
 refused k (faults.BadLevel f) w w' status help version is reported = absurd is
 refused k (faults.BadFen f) w w' status help version is reported = absurd is
 refused k faults.BadDate w w' status help version is reported = absurd is
+refused k faults.BadKind w w' status help version is reported = absurd is
 
 pub refuses_arguments : (ws : List Text) (k : ErrorKind) → k ≢ DisplayHelp → k ≢ DisplayVersion → AreRefused ws (k ∷ [])
     → RefusesArguments ws

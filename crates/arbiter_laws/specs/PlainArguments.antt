@@ -75,9 +75,9 @@ IsVariant text = (text ≡ codes "normal") ⊎ (text ≡ codes "fischerandom")
 abbrev pub IsDraws : Text → Type 0
 IsDraws text = (text ≡ codes "claimed") ⊎ (text ≡ codes "automatic")
 
--- `verify` has this option: one of its seven flags
+-- `verify` has this option: one of its seven flags, or `--ignore`
 abbrev pub IsOfVerify : Given → Type 0
-IsOfVerify (valued name value) = ⊥
+IsOfVerify (valued name value) = (has_hyphen value ≡ false) × (name ≡ codes "ignore")
 IsOfVerify (flag name) = (name ≡ codes "keep-going") ⊎ (name ≡ codes "quiet") ⊎ (name ≡ codes "strict")
     ⊎ (name ≡ codes "explain") ⊎ (name ≡ codes "spans") ⊎ (name ≡ codes "names")
     ⊎ (name ≡ codes "variations")

@@ -95,15 +95,15 @@ fn verified_status(verified: Verified) -> u8
     }
 }
 
-// The faults that the flags of `verify` ask for in a game that is read to its end.
+// The faults that the options of `verify` ask for in a game that is read to its end.
 fn strictness_of(plan: VerifyPlan) -> Strictness
     ensures { result ≡ strictness_of plan }
 {
     Strictness {
         variations: plan.variations,
-        variant: plan.strict,
-        result: plan.strict,
-        board: plan.strict,
+        variant: plan.variant,
+        result: plan.result,
+        board: plan.board,
     }
 }
 
@@ -190,11 +190,15 @@ const VERIFY_READS_INPUT: &str =
     "verify reads standard input: arbiter verify < games.pgn (files by name: verify_all)";
 
 // Whether these arguments name a file to `verify`, as `verify games.pgn` does: it has only options, which begin with a
-// hyphen.
+// hyphen, and the value of `--ignore`.
 fn name_a_file(arguments: &[&str]) -> bool {
     match arguments {
         [command, others @ ..] => {
-            *command == "verify" && others.iter().any(|word| !word.starts_with("-"))
+            *command == "verify"
+                && arguments
+                    .iter()
+                    .zip(others)
+                    .any(|(before, word)| *before != "--ignore" && !word.starts_with("-"))
         }
         [] => false,
     }
@@ -230,9 +234,10 @@ fn report_arguments<W: Output, E: Output>(
             help(alloc, error, output, errors)
         }
         WordsFault::NoMemory => reported(errors, fault, 1),
-        WordsFault::BadLevel(_) | WordsFault::BadFen(_) | WordsFault::BadDate => {
-            reported(errors, fault, 2)
-        }
+        WordsFault::BadLevel(_)
+        | WordsFault::BadFen(_)
+        | WordsFault::BadDate
+        | WordsFault::BadKind => reported(errors, fault, 2),
     }
 }
 
@@ -268,9 +273,9 @@ fn matched<H: Host, W: Output, E: Output>(
 ///   length, cut into pieces: one begins at the first byte, at a tag line after a line of moves, and at a second Event
 ///   tag line. After a fault reading continues where its game ends, and totals follow at the end. `--quiet` leaves out
 ///   games without a fault; with `--strict` a result that contradicts the tag Result or the final position is a fault
-///   too, and a variant that is not known; with `--variations` so is one in a variation; with `--spans` each line says
-///   where its game is; with `--names` the line of a fault ends with the game's players, event and date; with
-///   `--explain` a second line explains each fault.
+///   too, and a variant that is not known, unless `--ignore` names the kind; with `--variations` so is one in a
+///   variation; with `--spans` each line says where its game is; with `--names` the line of a fault ends with the
+///   game's players, event and date; with `--explain` a second line explains each fault.
 /// - `match` with `--white`, `--black` and perhaps `--games`, `--level`, `--fen`, `--variant`, `--draws`, `--date`,
 ///   `--log`, `--flag` and `--reply-timeout`: games between two engines that the host starts, the text of each game, and
 ///   then the score. The input is left untouched.

@@ -1,7 +1,6 @@
 -- What explains a fault: where it is, the text there, the position and the reason.
 use Rattle.std.specs.Prelude.{◌≡◌, ℕ, ◌-◌, ◌==◌, Bool, true, false, not, if◌then◌else◌, List, [], ◌∷◌, ◌++◌, length, take, take_while, map, codes, decimal, Option, Some, None}
 use Rattle.std.specs.Option.{option_map, option_map_or}
-use Rattle.chess_base.specs.Faults.{fen_fault_name}
 use Rattle.byte_devices.specs.Bytes.{byte, new_line, shown_byte}
 use Rattle.chess_fen.specs.Writing.{fen}
 use Rattle.chess_game.specs.Ends.{verdict_result, result_text}
@@ -13,7 +12,7 @@ use Rattle.chess_pgn.specs.declared.read.PgnFaultKind.TheVariants.{BadTag, BadFe
 use Rattle.pgn_pieces.specs.Places.{line_of, column_of}
 use Rattle.pgn_verifier.specs.declared.game_fault.FaultKind.{FaultKind}
 use Rattle.pgn_verifier.specs.declared.game_fault.FaultKind.TheVariants.{Pgn, InVariation, UnknownVariant, ResultDiffers, BoardSaysOtherwise}
-use Rattle.pgn_verifier.specs.WrongParts.{from_field, field_at, field_number, IsTagReason, move_reason, token_reason}
+use Rattle.pgn_verifier.specs.WrongParts.{from_field, field_at, field_number, fen_reason, IsTagReason, move_reason, token_reason}
 
 -- ---- the text at a fault
 
@@ -53,7 +52,7 @@ wrong_part _ text = (0, shown text)
 abbrev pub IsReason : FaultKind → List ℕ → Option Verdict → Option (List ℕ) → Type 0
 -- what a bad tag lacks, and what is wrong with a bad FEN or token
 IsReason (Pgn BadTag) text verdict reason = IsTagReason text reason
-IsReason (Pgn (BadFen fault)) text verdict reason = reason ≡ Some (fen_fault_name fault)
+IsReason (Pgn (BadFen fault)) text verdict reason = reason ≡ Some (fen_reason fault)
 IsReason (Pgn BadToken) text verdict reason = reason ≡ Some (token_reason text)
 -- an illegal move that may have been meant as a result
 IsReason (Pgn IllegalMove) text verdict reason = reason ≡ move_reason text

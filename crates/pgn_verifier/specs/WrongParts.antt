@@ -4,6 +4,7 @@ use Rattle.std.specs.Prelude.{◌≡◌, ℕ, zero, suc, ◌==◌, Bool, true, f
 use Rattle.std.specs.List.{prefix_len, list_any}
 use Rattle.std.specs.Str.{bytes_eq}
 use Rattle.byte_devices.specs.Bytes.{byte, space, is_name_byte}
+use Rattle.chess_base.specs.Faults.{fen_fault_name}
 use Rattle.chess_base.specs.declared.fen_fault.FenFault.{FenFault}
 use Rattle.chess_base.specs.declared.fen_fault.FenFault.TheVariants.{Side, Castling, EnPassant, Counters}
 use Rattle.text_lines.specs.Words.{short_number}
@@ -35,6 +36,12 @@ field_number Castling fen = 2
 field_number EnPassant fen = 3
 field_number Counters fen = if is_some (short_number 6 (field_at 4 fen)) then 5 else 4
 field_number _ fen = 0
+
+-- the reason for a bad FEN: the name of its fault; of a bad castling field also how it was read, as a tag Variant may
+-- give Chess960 a name that is not known
+abbrev pub fen_reason : FenFault → List ℕ
+fen_reason Castling = codes "castling, as in normal chess unless the tag Variant names Chess960"
+fen_reason fault = fen_fault_name fault
 
 -- ---- tags
 

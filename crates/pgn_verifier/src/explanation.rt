@@ -17,7 +17,7 @@ ghost use Rattle.pgn_verifier.specs.ties.Counting.{IsHere};
 ghost use Rattle.pgn_verifier.specs.ties.OnTheWay.{StandsIf, moved, fault_line, span_written, unread_written};
 ghost use Rattle.pgn_verifier.specs.declared.explanation.TheConstants.{FAULT_LINES_LEN};
 
-use crate::fen_field::{fen_text, field_offset, wrong_field};
+use crate::fen_field::{fen_reason, fen_text, field_offset, wrong_field};
 use crate::game_fault::{FaultKind, GameFault, pgn_fault_name};
 use crate::label::{FaultLabel, Span, append_span};
 use crate::place::Place;
@@ -192,7 +192,7 @@ fn append_pgn_reason(
 {
     match kind {
         PgnFaultKind::BadTag => append_part(lines, bad_tag_reason(text)),
-        PgnFaultKind::BadFen(fault) => append_part(lines, fault.name().as_bytes()),
+        PgnFaultKind::BadFen(fault) => append_part(lines, fen_reason(fault)),
         PgnFaultKind::BadToken => append_part(lines, token_reason(text)),
         PgnFaultKind::IllegalMove => append_move_reason(lines, text),
         PgnFaultKind::AfterEnd => append_verdict(lines, verdict),

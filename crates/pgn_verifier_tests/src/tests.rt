@@ -434,7 +434,7 @@ fn faults_in_pieces_are_explained(rt: HostRuntime) {
 }
 
 // A FEN of each fault: the text, and what is written of it.
-const FENS: [(&[u8], &[u8]); 23] = [
+const FENS: [(&[u8], &[u8]); 24] = [
     (
         b"[FEN \"4k3/8/8/8/8/8/8/4K3 w - - 0\"] *",
         b"game 1: bad FEN at byte 6\n# line 1 column 7 4k3/8/8/8/8/8/8/4K3 | fields\n",
@@ -465,19 +465,24 @@ const FENS: [(&[u8], &[u8]); 23] = [
     ),
     (
         b"[FEN \"4k3/8/8/8/8/8/8/4K3 w KX - 0 1\"] *",
-        b"game 1: bad FEN at byte 6\n# line 1 column 29 KX | castling\n",
+        b"game 1: bad FEN at byte 6\n# line 1 column 29 KX | castling, as in normal chess unless the tag Variant names Chess960\n",
     ),
     (
         b"[FEN \"4k3/8/8/8/8/8/8/4K2R w KQ - 0 1\"] *",
-        b"game 1: bad FEN at byte 6\n# line 1 column 30 KQ | castling\n",
+        b"game 1: bad FEN at byte 6\n# line 1 column 30 KQ | castling, as in normal chess unless the tag Variant names Chess960\n",
     ),
     (
         b"[FEN \"1rr3k1/p3ppbp/3pbnp1/7P/qP1BP1P1/5P2/1PPQ4/1NKR1B1R b Kq - 0 1\"] *",
-        b"game 1: bad FEN at byte 6\n# line 1 column 61 Kq | castling\n",
+        b"game 1: bad FEN at byte 6\n# line 1 column 61 Kq | castling, as in normal chess unless the tag Variant names Chess960\n",
     ),
     (
         b"[FEN \"  4k3/8/8/8/8/8/8/4K3   b  Q - 0 1\"] *",
-        b"game 1: bad FEN at byte 6\n# line 1 column 34 Q | castling\n",
+        b"game 1: bad FEN at byte 6\n# line 1 column 34 Q | castling, as in normal chess unless the tag Variant names Chess960\n",
+    ),
+    // Read as normal chess, since Variant names no variant that is known.
+    (
+        b"[Variant \"Chess 960\"] [FEN \"rk6/8/8/8/8/8/8/RK6 w Aa - 0 1\"] *",
+        b"game 1: bad FEN at byte 28\n# line 1 column 51 Aa | castling, as in normal chess unless the tag Variant names Chess960\n",
     ),
     (
         b"[FEN \"4k3/8/8/8/8/8/8/4K3 w - e4 0 1\"] *",
