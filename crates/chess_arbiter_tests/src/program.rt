@@ -149,7 +149,7 @@ const RUNS: [ProgramRun; 26] = [
         input: b"*",
         fails: (0, 0),
         output: b"",
-        errors: b"error: unexpected argument '--quite' found\n\nUsage: arbiter verify [OPTIONS] < FILE\n\nFor more information, try '--help'.\n",
+        errors: b"error: unexpected argument '--quite' found\n\n  tip: a similar argument exists: '--quiet'\n\nUsage: arbiter verify [OPTIONS] < FILE\n\nFor more information, try '--help'.\n",
         status: 2,
     },
     // The line of the counts, and the flush after it.
