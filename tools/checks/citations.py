@@ -3,7 +3,7 @@ specs/ties. And which shared lemmas cite specs/ties: they are to be about defini
 
 import re
 
-from sources import TOP
+from sources import TOP, by_module
 
 CITED = re.compile(r"\bRattle\.(\w+)\.((?:proofs|specs)(?:\.\w+)+)")
 
@@ -28,7 +28,7 @@ def private_in(path, crate, own, top):
     relative = path.relative_to(top)
     is_lemma = relative.parts[2:4] == ("proofs", "shared")
     for number, line in enumerate(path.read_text(encoding="utf-8").split("\n"), 1):
-        for cited, module in CITED.findall(line):
+        for cited, module in CITED.findall(by_module(line)):
             is_other = cited in own and cited != crate
             if is_other and not is_shared(module) or is_lemma and cited == crate and module.startswith("specs.ties"):
                 yield f"{relative}:{number}", f"{cited}.{module}"

@@ -9,7 +9,7 @@ is found is unused."""
 import re
 from dataclasses import dataclass, field
 
-from sources import TOP, Sources, imported_names
+from sources import TOP, Sources, imported_items
 
 # A name as antt has it: `length-append`, `◌++◌`, `then-loop-to-test+else`.
 NAME = r"[^\s(){}\[\],;.λ:]+"
@@ -102,10 +102,10 @@ class File:
     def import_line(self, m):
         path = m.group("path").removeprefix("Rattle.")
         if m.group("names") is not None:
-            for there, here in imported_names(m.group("names")):
-                self.names[here] = (path, there)
+            for module, there, here in imported_items(path, m.group("names")):
+                self.names[here] = (module, there)
                 if "pub " in m.group("word"):
-                    self.passed[here] = (path, there)
+                    self.passed[here] = (module, there)
         elif m.group("here"):
             self.aliases[m.group("here")] = path
 
@@ -192,8 +192,9 @@ class Lemmas:
             yield self.find(".".join(parts[:-1]), parts[-1])
         for line in text.split("\n"):
             m = USE.match(line.strip())
-            for there, _ in imported_names(m.group("names")) if m and m.group("names") else ():
-                yield self.find(m.group("path").removeprefix("Rattle."), there)
+            path = m.group("path").removeprefix("Rattle.") if m else ""
+            for module, there, _ in imported_items(path, m.group("names")) if m and m.group("names") else ():
+                yield self.find(module, there)
 
     def used(self):
         """All that the roots name, directly or not."""

@@ -137,6 +137,26 @@ def imported_names(text):
 
 
 IMPORT = re.compile(r"(?:pub |unfoldable |ghost )*use ([^\s{]+?)(?:\.\{(.*)\}| as (\S+))?$")
+GROUP = re.compile(r"^(\s*(?:pub |unfoldable |ghost )*use [^\s{}]+)\.\{([^{}]*)\}(;?)$", re.M)
+
+
+def imported_items(path, text):
+    """The names in braces after a path of antt, each with its module: `N.d` is of the module N below that path."""
+    for there, here in imported_names(text):
+        below, dot, name = there.rpartition(".")
+        yield f"{path}.{below}" if dot else path, name, name if here == there else here
+
+
+def by_module(text):
+    """The text with a line for each module from which `use M.{N.d, ..}` brings names."""
+
+    def lines(found):
+        names = {}
+        for path, there, here in imported_items(found[1], found[2]):
+            names.setdefault(path, []).append(there if here == there else f"{there} as {here}")
+        return "\n".join(f"{path}.{{{', '.join(items)}}}{found[3]}" for path, items in names.items())
+
+    return GROUP.sub(lambda found: lines(found) if "." in found[2] else found[0], text)
 
 
 def place_of(path):
@@ -157,8 +177,8 @@ def imports_of(lines, prefix):
         line = line.strip().rstrip(";")
         m = IMPORT.match(line) if line.startswith(prefix) else None
         if m and m.group(2) is not None:
-            for there, here in imported_names(m.group(2)):
-                names[here] = (*place_of(m.group(1)), there)
+            for path, there, here in imported_items(m.group(1), m.group(2)):
+                names[here] = (*place_of(path), there)
         elif m and m.group(3):
             aliases[m.group(3)] = place_of(m.group(1))
     return names, aliases

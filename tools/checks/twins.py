@@ -8,6 +8,8 @@ their own crate can name. Types and constants of the code stay where they are. F
 import re
 from pathlib import Path
 
+from sources import by_module
+
 MODULE = re.compile(r"\bRattle(?:\.\w+)+")
 KINDS = ("specs", "proofs")
 
@@ -53,10 +55,10 @@ class Twins:
         own = f"Rattle.{self.laws}."
         uses, todo = {}, set()
         for path in self.own():
-            todo |= self.named_in(path.read_text(encoding="utf-8"))
+            todo |= self.named_in(by_module(path.read_text(encoding="utf-8")))
         while todo:
             name = todo.pop()
-            uses[name] = self.named_in(self.paths[name].read_text(encoding="utf-8")) - {name}
+            uses[name] = self.named_in(by_module(self.paths[name].read_text(encoding="utf-8"))) - {name}
             todo |= uses[name] - set(uses)
         found = {name for name in uses if name in edited and not name.startswith(own)}
         grown = True
@@ -91,7 +93,7 @@ class Twins:
             name = self.longest(found[0])
             return self.twin(name) + found[0][len(name) :] if name in self.copied else found[0]
 
-        return MODULE.sub(twin, text)
+        return MODULE.sub(twin, by_module(text))
 
     def copy(self):
         """Writes the copies, and lets the crate of laws name them."""

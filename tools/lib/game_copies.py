@@ -1,9 +1,10 @@
 """Copies the games of PGN texts to two files: the good ones, and those with a fault.
 
-The file of the good games has all of a text but the spans of games with a fault; what lies between games stays. The
-other file has these spans: each from its game's first byte to the end of its piece. Bytes are copied as they are. A
-line end is added where two copied parts would share a line, and a line with an empty comment where the second part
-would else not begin a piece: so the good games have the pieces that they had, and no fault."""
+The file of the good games has all of a text but the spans of games with a fault, and the white space after each; what
+else lies between games stays. The other file has these spans: each from its game's first byte to where reading goes on,
+or to the end of its piece. Bytes are copied as they are. A line end is added where two copied parts would share a line,
+and a line with an empty comment where the second part would else not begin a piece: so the good games have the pieces
+that they had, and no fault."""
 
 from pgn_files import EMPTY_LINE, MARK, TAG_LINE, front, line_start
 
@@ -46,6 +47,13 @@ class Copy:
         return self.is_after_moves
 
 
+def after_white(text, at):
+    """Returns the offset after the white space that a text has at an offset."""
+    while at < len(text) and text[at] in WHITE:
+        at += 1
+    return at
+
+
 class Copies:
     """The files of the good games and of those with a fault; either may be None, and is then not written."""
 
@@ -62,9 +70,9 @@ class Copies:
         at = 0
         for begin, end in spans:
             self.add_good(bytes(text[at:begin]).removesuffix(MARK))
+            at, self.follows = after_white(text, end), False
             if self.bad:
-                self.bad.add(bytes(text[begin:end]), False)
-            at, self.follows = end, False
+                self.bad.add(bytes(text[begin:at]), False)
         self.add_good(bytes(text[at:]))
 
     def add_good(self, part):

@@ -25,6 +25,10 @@ EMPTY_LINE = re.compile(rb"[%;]|[ \t\r\n]*\Z")
 LINE_END = re.compile(rb"[\r\n]")
 BRACKET = re.compile(rb"\n(?:" + MARK + rb")?\[")
 
+# What some programs put after the last game: NULs, as where a file fills a block, and the ^Z of DOS.
+NUL, CONTROL_Z = b"\0", b"\x1a"
+PADDING = NUL + CONTROL_Z + b" \t\r\n"
+
 # The compressed forms: the program that unpacks each, and how such a file begins.
 FORMS = {
     ".gz": ("gzip", b"\x1f\x8b"),
@@ -91,6 +95,16 @@ def last_cut(text):
     return last
 
 
+def text_end(text):
+    """Returns the offset of a text's first NUL or ^Z after which there are only such bytes and white space, or else its
+    length."""
+    end = len(text)
+    while end and not (kept := len(text[max(end - MEBIBYTE, 0) : end].rstrip(PADDING))):
+        end = max(end - MEBIBYTE, 0)
+    last = max(end - MEBIBYTE, 0) + kept if end else 0
+    return min((it for it in (text.find(NUL, last), text.find(CONTROL_Z, last)) if it >= 0), default=len(text))
+
+
 @dataclass
 class Part:
     """A part of a text: its offset, how many lines end before it (if lines are counted), and its bytes."""
@@ -100,14 +114,14 @@ class Part:
     text: bytearray | memoryview
 
 
-def mapped_parts(text, least, counts_lines):
-    """Yields the parts of a mapped file, of `least` bytes or more."""
+def mapped_parts(text, end, least, counts_lines):
+    """Yields the parts of a mapped file up to an offset, of `least` bytes or more."""
     start = lines = 0
-    while start < len(text):
-        end = next_cut(text, start + least, len(text)) or len(text)
-        yield Part(start, lines, memoryview(text)[start:end])
-        lines += count_lines(text, start, end) if counts_lines else 0
-        start = end
+    while start < end:
+        cut = next_cut(text, start + least, end) or end
+        yield Part(start, lines, memoryview(text)[start:cut])
+        lines += count_lines(text, start, cut) if counts_lines else 0
+        start = cut
 
 
 def count_lines(text, start, end):
@@ -122,6 +136,7 @@ class Cutter:
         self.least, self.counts_lines = least, counts_lines
         self.start, self.lines, self.text = 0, 0, bytearray()  # what is not cut yet
         self.tried = least  # it has no cut before this offset
+        self.padding = 0  # how many bytes at its end are left out
 
     def add(self, block):
         """Adds a block, and yields the parts that end in it."""
@@ -131,7 +146,10 @@ class Cutter:
             raise Unreadable(f"no game ends in {UNCUT} bytes; try arbiter verify --keep-going")
 
     def finish(self):
-        """Yields the last parts of the text: one at least if it is empty."""
+        """Yields the last parts of the text, without NULs and ^Z at its end: one at least if it is empty."""
+        end = text_end(self.text)
+        self.padding = len(self.text) - end
+        del self.text[end:]
         yield from self.parts(0)
         if self.text or self.start == 0:
             yield self.cut_at(len(self.text))
@@ -202,8 +220,10 @@ def first_message(program, errors):
     return first if not first or first.startswith(program) else f"{program}: {first}"
 
 
-def refuse_no_text(beginning):
-    """Raises Unreadable, with advice, if a file with this beginning is no text that can be verified."""
+def refuse_no_text(front):
+    """Raises Unreadable, with advice, if a file that begins so is no text that can be verified; NULs and ^Z at the end
+    don't count."""
+    beginning = front.rstrip(PADDING) or front
     for ending, (program, magic) in FORMS.items():
         if beginning.startswith(magic):
             raise Unreadable(f"this is no text but compressed: name it *{ending}, or pipe it through {program} -dc")
@@ -246,6 +266,7 @@ class File:
         self.name = name
         self.form = FORMS.get(os.path.splitext(name)[1].lower())
         self.size, self.position = size_of(name), 0  # in bytes, of the file as it is
+        self.padding = 0  # so many bytes at its text's end, NULs or ^Z and white space, are left out
 
     def is_plain(self):
         """Returns whether it is a file with a text that is not compressed."""
@@ -273,7 +294,9 @@ class File:
         """Yields the parts of a plain file."""
         text = mmap.mmap(source, 0, prot=mmap.PROT_READ)
         refuse_no_text(text[:FRONT])
-        for part in mapped_parts(text, least, counts_lines):
+        end = text_end(text)
+        self.padding = len(text) - end
+        for part in mapped_parts(text, end, least, counts_lines):
             self.position = part.start + len(part.text)
             yield part
 
@@ -284,6 +307,7 @@ class File:
                 self.position = os.lseek(source, 0, os.SEEK_CUR) if self.size else 0
                 yield from cutter.add(block)
             yield from cutter.finish()
+            self.padding = cutter.padding
         except Unreadable as fault:
             yield from cutter.break_off()
             if cutter.start or cutter.text:

@@ -1,19 +1,15 @@
 -- What was parsed, taken as written and planned is a reading of the arguments.
-use Rattle.std.proofs.Common.{◌≡◌, ◌∙◌, ◌≤◌, ℕ, true, false, refl, ap, ap₂, sym, subst, inl, inr, option_map, unwrap_or, [], codes, IfOk, IfErr, IfSome, List, Option, Some, None, Result, Ok, Err, Bor}
-use Rattle.std.specs.Prelude.{◌*◌}
+use Rattle.std.proofs.Common.{◌≡◌, ◌∙◌, ◌≤◌, ℕ, Bool, true, false, refl, ap, ap₂, sym, subst, inl, inr, option_map, unwrap_or, [], codes, IfOk, IfErr, IfSome, List, Option, Some, None, Result, Ok, Err, Bor, ◌*◌}
+use Rattle.std.specs.List.{list_all}
 use Rattle.clap.specs.Words.{HasKind, IsAmong, Kinds, Row, Text, found_of, kind_of, rows_of, subcommand_of, subcommand_rows_of}
-use Rattle.clap.specs.declared.error.Error.{Error}
-use Rattle.clap.specs.declared.parser.matches.ArgMatches.{ArgMatches}
+use Rattle.clap.specs.{declared.error.Error.Error, declared.parser.matches.ArgMatches.ArgMatches}
 use Rattle.arbiter_grammar.specs.Grammar.{AreOptionNames, IsComplete, IsParsed, OptionNames, arbiter_app, asked, faults_in}
-use Rattle.arbiter_cli.specs.Plans.{IsMatchPlan, IsPlanOf, IsReadAs, IsReading, Said, Values, is_date, is_set, levels_asked, levels_by, levels_start_and_date, number_of, said_by, start_asked}
-use Rattle.arbiter_cli.specs.ties.Requests.{IsJudged, IsJudgedFault, IsMatchOf, IsPlanFault, IsPlanned, IsRequestOf, Refuses, levels_in, patience_by, start_of}
+use Rattle.arbiter_cli.specs.Plans.{IsMatchPlan, IsPlanOf, IsReadAs, IsReading, Said, Values, is_date, is_kind, is_set, levels_asked, levels_by, levels_start_and_date, number_of, said_by, start_asked}
+use Rattle.arbiter_cli.specs.ties.Requests.{IsJudged, IsJudgedFault, IsMatchOf, IsPlanFault, IsPlanned, IsRequestOf, Refuses, levels_in, names_in, patience_by, start_of}
 use Rattle.match_runner.specs.declared.plan.GamesPlan.{GamesPlan}
 use Rattle.chess_match.specs.declared.patience.Patience.{Patience}
-use Rattle.arbiter_cli.specs.declared.fault.WordsFault.{WordsFault}
-use Rattle.arbiter_cli.specs.declared.fault.WordsFault.TheVariants.{Words, NoMemory, BadLevel, BadFen, BadDate}
-use Rattle.arbiter_cli.specs.declared.plan.Plan.{Plan}
-use Rattle.arbiter_cli.specs.declared.request.MatchRequest.{MatchRequest}
-use Rattle.arbiter_cli.specs.declared.request.Request.{Request}
+use Rattle.arbiter_cli.specs.{declared.fault.WordsFault.WordsFault, declared.plan.Plan.Plan, declared.request.MatchRequest.MatchRequest, declared.request.Request.Request}
+use Rattle.arbiter_cli.specs.declared.fault.WordsFault.TheVariants.{Words, NoMemory, BadLevel, BadFen, BadDate, BadKind}
 use Rattle.arbiter_cli.specs.declared.request.Request.TheVariants as request
 use Rattle.arbiter_cli.proofs.shared.Turns.{read_as}
 
@@ -31,6 +27,7 @@ refusal_by kinds e NoMemory h fits = tt
 refusal_by kinds e (BadLevel x) h fits = absurd fits
 refusal_by kinds e (BadFen x) h fits = absurd fits
 refusal_by kinds e BadDate h fits = absurd fits
+refusal_by kinds e BadKind h fits = absurd fits
 
 refused_by : (kinds : Kinds) (said : Said) (f : WordsFault) → IsRefusalBy kinds f → IsReadAs kinds said (Err f)
 refused_by kinds said (Words x) h = h
@@ -38,6 +35,7 @@ refused_by kinds said NoMemory h = h
 refused_by kinds said (BadLevel x) h = absurd h
 refused_by kinds said (BadFen x) h = absurd h
 refused_by kinds said BadDate h = absurd h
+refused_by kinds said BadKind h = absurd h
 
 pub refused_reading : (texts : List Text) (e : Error) (f : WordsFault) → IsParsed texts (Err e) → Refuses e f
     → IsReading texts (Err f)
@@ -81,6 +79,7 @@ module _ (value : Values) (m : MatchRequest) (is : IsMatchOf value m) where
   judged_fault : (f : WordsFault) → IsJudgedFault m f → levels_start_and_date value ≡ Err f
   judged_fault (Words x) h = absurd h
   judged_fault NoMemory h = absurd h
+  judged_fault BadKind h = absurd h
   judged_fault (BadLevel x) h =
       read_as value (Err x) (start_asked value) m.date.now (is_date m.date.now) (level_is ∙ h) refl (sym is.date) refl
   judged_fault (BadFen x) (l, level, start) =
@@ -93,13 +92,19 @@ match_fault : (kinds : Kinds) (said : Said) (f : WordsFault) → kinds ≡ [] �
     → (m : MatchRequest) → IsMatchOf said.value m → IsJudgedFault m f → IsReadAs kinds said (Err f)
 match_fault kinds said (Words x) none name m is h = absurd h
 match_fault kinds said NoMemory none name m is h = absurd h
+match_fault kinds said BadKind none name m is h = absurd h
 match_fault kinds said (BadLevel x) none name m is h = (none, name, judged_fault _ m is (BadLevel x) h)
 match_fault kinds said (BadFen x) none name m is h = (none, name, judged_fault _ m is (BadFen x) h)
 match_fault kinds said BadDate none name m is h = (none, name, judged_fault _ m is BadDate h)
 
+-- whether all names in the list are those of kinds
+abbrev are_kinds : Option Text → Bool
+are_kinds list = list_all is_kind (names_in list)
+
 planned_plan : (said : Said) (s : Request) (plan : Plan) → IsRequestOf said s → IsPlanned s plan → IsPlanOf said plan
 planned_plan said request.Session plan is e = subst (IsPlanOf said) (sym e) is
-planned_plan said (request.Verify v) plan is e = subst (IsPlanOf said) (sym e) is
+planned_plan said (request.Verify v ignored) plan is e =
+    subst (IsPlanOf said) (sym e.0) (is.0, is.1, sym (ap are_kinds is.2) ∙ e.1)
 planned_plan said (request.Stub arguments) plan is e = subst (IsPlanOf said) (sym e) is
 planned_plan said (request.Match m) plan is e =
     subst (IsPlanOf said) (sym e.1) (is.0, match_judged said.value m is.1 e.0 e.2)
@@ -107,7 +112,8 @@ planned_plan said (request.Match m) plan is e =
 plan_fault : (kinds : Kinds) (said : Said) (s : Request) (f : WordsFault) → kinds ≡ [] → IsRequestOf said s
     → IsPlanFault s f → IsReadAs kinds said (Err f)
 plan_fault kinds said request.Session f none is h = absurd h
-plan_fault kinds said (request.Verify v) f none is h = absurd h
+plan_fault kinds said (request.Verify v ignored) f none is h =
+    subst (λ (x : WordsFault). IsReadAs kinds said (Err x)) (sym h.0) (none, is.0, sym (ap are_kinds is.2) ∙ h.1)
 plan_fault kinds said (request.Stub arguments) f none is h = absurd h
 plan_fault kinds said (request.Match m) f none is h = match_fault kinds said f none is.0 m is.1 h
 

@@ -1,6 +1,6 @@
 -- What a plan has to do with the arguments.
-use Rattle.std.specs.Prelude.{◌≡◌, ◌≤◌, ◌*◌, ◌&&◌, ℕ, Bool, List, [], codes, length, map, nat_le, if◌then◌else◌, Option, Some, Result, Ok, Err, unwrap_or, option_map, ⊤}
-use Rattle.std.specs.List.{list_all}
+use Rattle.std.specs.Prelude.{◌≡◌, ◌≤◌, ◌*◌, ◌==◌, ◌&&◌, ◌||◌, ℕ, Bool, not, true, false, List, [], codes, length, map, nat_le, if◌then◌else◌, Option, Some, Result, Ok, Err, unwrap_or, option_map, ⊤}
+use Rattle.std.specs.List.{list_all, list_any, slice_split}
 use Rattle.std.specs.Option.{option_map_or}
 use Rattle.std.specs.Result.{result_map_both}
 use Rattle.std.specs.Str.{bytes_eq}
@@ -16,7 +16,7 @@ use Rattle.chess_match.specs.declared.draws.Draws.TheVariants as draws
 use Rattle.chess_match.specs.declared.patience.Patience.{Patience}
 use Rattle.arbiter_cli.specs.declared.plan.VerifyPlan.{VerifyPlan}
 use Rattle.arbiter_cli.specs.declared.fault.WordsFault.{WordsFault}
-use Rattle.arbiter_cli.specs.declared.fault.WordsFault.TheVariants.{Words, NoMemory, BadLevel, BadFen, BadDate}
+use Rattle.arbiter_cli.specs.declared.fault.WordsFault.TheVariants.{Words, NoMemory, BadLevel, BadFen, BadDate, BadKind}
 use Rattle.chess_base.specs.Initial.{initial_setup_of}
 use Rattle.chess_fen.specs.Reading.{◌>>=◌, fen_reading_as}
 use Rattle.chess_base.specs.declared.fen_fault.FenFault.{FenFault}
@@ -28,13 +28,12 @@ use Rattle.cecp_engine.specs.declared.level_fault.LevelFault.{LevelFault}
 
 -- ---- what arguments say
 
--- the values of options by their names, which are without `--`; `None` for an option that was not given. A flag that
--- was given has the value `true`; one that was not given has `false`, or none
+-- the values of options by their names, without `--`; `None` if not given. A flag that was given has the value `true`;
+-- one that was not has `false`, or none
 abbrev pub Values : Type 0
 Values = Text → Option Text
 
--- what arguments say: the subcommand's name, the values of its options, and as `replies` the arguments after `stub`, an
--- engine that plays these in order; `[]` for any other subcommand
+-- what arguments say: the subcommand's name, the values of its options, and as `replies` the arguments after `stub`
 pub record Said : Type 0 where
   pub command : Text
   pub value : Values
@@ -48,40 +47,53 @@ variant_in value =
 
 -- whether draws must be claimed, by `--draws`: they need no claim for `automatic`, and one for any other name or none
 abbrev pub draws_in : Values → Draws
-draws_in value =
-    if bytes_eq (unwrap_or (value (codes "draws")) (codes "claimed")) (codes "automatic") then Automatic
+draws_in value = if bytes_eq (unwrap_or (value (codes "draws")) (codes "claimed")) (codes "automatic") then Automatic
     else draws.Claimed
 
 -- whether the flag with this name, such as `quiet` for `--quiet`, was given
 abbrev pub is_set : Text → Values → Bool
 is_set name value = bytes_eq (unwrap_or (value name) (codes "false")) (codes "true")
 
--- the number that a value denotes in decimal, perhaps with a `+` in front: the grammar takes no other value of an
--- option that is a number (`match_app`)
+-- the number that a value denotes in decimal, perhaps with a `+` in front: the grammar takes no other as a number
 abbrev pub number_of : Text → ℕ
 number_of text = digits_value 10 (without_leading_plus text)
 
--- what the flags of `verify` ask for
+-- whether the text names a kind of fault that `verify` may ignore
+abbrev pub is_kind : Text → Bool
+is_kind name = bytes_eq name (codes "variant") || (bytes_eq name (codes "result") || bytes_eq name (codes "board"))
+
+-- the names in the value of `--ignore`, which its commas (byte 44) part; none without the option
+abbrev pub ignored_in : Values → List Text
+ignored_in value = option_map_or (slice_split (λ b. b == 44)) (value (codes "ignore")) []
+
+-- whether faults of this kind are looked for: with `--strict`, unless `--ignore` names the kind
+abbrev pub is_looked_for : Text → Values → Bool
+is_looked_for kind value = is_set (codes "strict") value && not (list_any (bytes_eq kind) (ignored_in value))
+
+-- what the options of `verify` ask for
 abbrev pub verify_plan_of : Values → VerifyPlan
 verify_plan_of value = record {
   keep_going = is_set (codes "keep-going") value;
   quiet = is_set (codes "quiet") value;
-  strict = is_set (codes "strict") value;
+  variant = is_looked_for (codes "variant") value;
+  result = is_looked_for (codes "result") value;
+  board = is_looked_for (codes "board") value;
   explain = is_set (codes "explain") value;
   spans = is_set (codes "spans") value;
   names = is_set (codes "names") value;
+  variations = is_set (codes "variations") value;
 }
 
 -- ---- what they mean
 
--- the position in which each game of a match starts: the one that the value of `--fen` denotes as a FEN of the variant
--- that `--variant` asks for, or the FEN's fault; without `--fen` that variant's initial position
+-- the position in which each game of a match starts: the one that the value of `--fen` denotes in the variant that is
+-- asked for, or the FEN's fault; without `--fen` that variant's initial position
 abbrev pub start_asked : Values → Result Setup FenFault
 start_asked value = let v = variant_in value in
     option_map_or (fen_reading_as v) (value (codes "fen")) (Ok (initial_setup_of v))
 
--- the time controls of a match's first engine and of its second one: each has its own, if there is one (`white`,
--- `black`), otherwise the common one (`text`). All three must be valid; otherwise the fault of the first that is not
+-- the time controls of a match's two engines: each has its own, if there is one (`white`, `black`), otherwise the
+-- common one (`text`). The fault is that of the first of all three that is invalid
 abbrev pub levels_by : Text → Option Text → Option Text → Result (LevelSeen × LevelSeen) LevelFault
 levels_by text white black = do
   level ← level_reading text
@@ -89,35 +101,32 @@ levels_by text white black = do
   second ← option_map_or level_reading black (Ok level)
   Ok (first, second)
 
--- the time controls of the engines of `--white` and `--black`, by `--white-level` and `--black-level`; without these by
--- `--level`, and without that `40 5 0`, 40 moves in 5 minutes without an increment
+-- the time controls of the engines of `--white` and `--black`: each its own, or that of `--level`, or `40 5 0`
 abbrev pub levels_asked : Values → Result (LevelSeen × LevelSeen) LevelFault
 levels_asked value = levels_by (unwrap_or (value (codes "level")) (codes "40 5 0")) (value (codes "white-level"))
     (value (codes "black-level"))
 
--- whether a text may be the value of the tag Date: at most 60 bytes of printable ASCII (32 to 126). It need not be a
--- date
+-- whether a text may be the value of the tag Date: at most 60 bytes of printable ASCII (32 to 126)
 abbrev pub is_date : Text → Bool
 is_date text = nat_le (length text) 60 && list_all (λ b. nat_le 32 b && nat_le b 126) text
 
--- the time controls of a match's engines, the position in which its games start, and their date as a text; or if a
--- level, FEN or date is invalid, the fault of the first that is. Without `--date` the date is `????.??.??`
+-- the time controls of a match's engines, the position in which its games start, and their date as a text; or the fault
+-- of the first that is invalid
 abbrev pub levels_start_and_date : Values → Result ((LevelSeen × LevelSeen) × Setup × Text) WordsFault
 levels_start_and_date value = let date = unwrap_or (value (codes "date")) (codes "????.??.??") in do
   levels ← result_map_both (λ levels. levels) BadLevel (levels_asked value)
   start ← result_map_both (λ setup. setup) BadFen (start_asked value)
   if is_date date then Ok (levels, start, date) else Err BadDate
 
--- how long a match waits for its engines: whether `--flag` was given, and as milliseconds the seconds of
--- `--reply-timeout`
+-- how long a match waits for its engines; `--reply-timeout` is in seconds
 abbrev pub patience_of : Values → Patience
 patience_of value = record {
   flag = is_set (codes "flag") value;
   reply = option_map (λ text. number_of text * 1000) (value (codes "reply-timeout"));
 }
 
--- `plan` is the plan of a match with these options, each as given or by default: `--white` and `--black`, which have no
--- default, are the commands of its engines; levels, FEN and date are valid (`read`); and it has 1 to 1,000 games
+-- `plan` is the plan of a match with these options, each as given or by default; `--white` and `--black` have no
+-- default
 pub record IsMatchPlan (value : Values) (plan : GamesPlan) : Type 0 where
   pub white : value (codes "white") ≡ Some plan.white.now
   pub black : value (codes "black") ≡ Some plan.black.now
@@ -129,41 +138,40 @@ pub record IsMatchPlan (value : Values) (plan : GamesPlan) : Type 0 where
   pub patience : plan.patience ≡ patience_of value
   pub draws : plan.draws ≡ draws_in value
 
--- the plan is what the arguments ask for; `said` is their subcommand, its options, and the words after `stub`. The
--- fields of the plan are as the options say; the plan of `stub` has these words, in order
+-- the plan is what the arguments ask for, which say `said`
 abbrev pub IsPlanOf : Said → Plan → Type 0
 IsPlanOf said Session = said.command ≡ codes "session"
 IsPlanOf said (Verify v) = (said.command ≡ codes "verify") × (v ≡ verify_plan_of said.value)
+    × (list_all is_kind (ignored_in said.value) ≡ true)
 IsPlanOf said (Stub arguments) = (said.command ≡ codes "stub") × (map (λ w. w.now) arguments.items ≡ said.replies)
 IsPlanOf said (Match plan) = (said.command ≡ codes "match") × IsMatchPlan said.value plan
 
 -- the result of reading arguments is right. `kinds` are the kinds of fault that `clap`, the parser of arguments, may
--- report for them, empty if it accepts them; `said` is what they say
+-- report for them; `said` is what they say
 abbrev pub IsReadAs : Kinds → Said → Result Plan WordsFault → Type 0
 -- the plan that they ask for; `clap` accepts them
 IsReadAs kinds said (Ok plan) = (kinds ≡ []) × IsPlanOf said plan
--- an error of `clap`, of one of these kinds. A request for help or for the version counts as an error too
+-- an error of `clap`, of one of these kinds
 IsReadAs kinds said (Err (Words e)) = IsAmong (kind_of e) kinds
 -- out of memory may be reported for any arguments
 IsReadAs kinds said (Err NoMemory) = ⊤
--- `BadLevel`, `BadFen` or `BadDate`: `clap` accepts them, but a level, the FEN or the date of a match is invalid, and
--- this is the fault of the first that is
+-- `clap` accepts them, but `--ignore` names something that is no kind
+IsReadAs kinds said (Err BadKind) = (kinds ≡ []) × (said.command ≡ codes "verify")
+    × (list_all is_kind (ignored_in said.value) ≡ false)
+-- `clap` accepts them, but a level, the FEN or the date of a match is invalid
 IsReadAs kinds said (Err f) = (kinds ≡ []) × (said.command ≡ codes "match") × (levels_start_and_date said.value ≡ Err f)
 
 -- ---- by the grammar
 
--- what arguments say; `p` is the subcommand's name and its options as `clap` matched them. The value of an option is
--- the first that was matched for its name; a flag of the subcommand has `true` if it was given, otherwise `false`.
--- `words` is the name by which `clap` knows the arguments after `stub`; without these, as for any other subcommand,
--- `replies` is `[]`
+-- what arguments say; `p` is the subcommand's name and its options as `clap` matched them. The first value of an option
+-- counts. `clap` knows the arguments after `stub` as `words`
 abbrev pub said_by : Text × List Row → Said
 said_by p =
     record { command = p.0; value = λ name. first_of name p.1; replies = unwrap_or (all_of (codes "words") p.1) [] }
 
--- the result of reading these arguments, which come without the program's name, is right (`IsReadAs`) by the grammar of
--- the command line: by the faults that `clap` finds in them (`faults_in`), and by what they say (`asked`, `said_by`).
--- The grammar refers to the lists `normal`, `fischerandom` and `claimed`, `automatic`; `names` are some references to
--- them, anywhere in memory
+-- the result of reading these arguments, which come without the program's name, is right by the grammar of the command
+-- line. `names` are references to the lists that it refers to, anywhere in memory. What plain arguments are read as, a
+-- law says without this (`plain_arguments_are_followed`)
 abbrev pub IsReading : List Text → Result Plan WordsFault → Type 0
 IsReading arguments result = (names : OptionNames) × AreOptionNames names
     × IsReadAs (faults_in names arguments) (said_by (asked names arguments)) result

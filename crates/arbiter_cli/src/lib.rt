@@ -9,6 +9,7 @@
 #![tactic(auto)]
 
 mod fault;
+mod ignored;
 mod plan;
 mod reading;
 mod request;

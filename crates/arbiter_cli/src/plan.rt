@@ -1,13 +1,15 @@
 //! What arguments ask for.
 
-ghost use Rattle.std.specs.Prelude.{◌≡◌, ◌&&◌, IfErr, IfOk, Ok, nat_le, option_map};
+ghost use Rattle.std.specs.Prelude.{◌≡◌, ◌&&◌, IfErr, IfOk, Ok, false, nat_le, option_map, true};
 ghost use Rattle.std.specs.List.{list_all};
 ghost use Rattle.std.specs.Option.{option_map_or};
 ghost use Rattle.cecp_engine.specs.Levels.{level_reading};
-ghost use Rattle.arbiter_cli.specs.Plans.{is_date as date_test, levels_by};
-ghost use Rattle.arbiter_cli.specs.ties.Requests.{IsJudged, IsJudgedFault, IsPlanFault, IsPlanned, patience_by, start_of};
+ghost use Rattle.arbiter_cli.specs.Plans.{is_date as date_test, is_kind, levels_by};
+ghost use Rattle.arbiter_cli.specs.declared.fault.WordsFault.TheVariants.{BadKind};
+ghost use Rattle.arbiter_cli.specs.ties.Requests.{IsJudged, IsJudgedFault, IsPlanFault, IsPlanned, names_in, patience_by, start_of};
 
 use crate::fault::WordsFault;
+use crate::ignored::can_be_ignored;
 use crate::request::{MatchRequest, Request};
 use cecp_engine::{Level, LevelFault};
 use chess_base::{FenFault, Position, Variant};
@@ -18,18 +20,24 @@ use match_runner::GamesPlan;
 /// How the games on the standard input are verified.
 #[derive(Clone, Copy, Debug, PartialEq, Eq)]
 pub struct VerifyPlan {
-    /// Whether verifying continues after a fault, with the next piece, and writes totals at the end.
+    /// Whether verifying continues after a fault, where its game ends, and writes totals at the end.
     pub keep_going: bool,
     /// Whether only games with a fault are reported.
     pub quiet: bool,
-    /// Whether the result is also checked against the tag Result and the final position.
-    pub strict: bool,
+    /// Whether the variant is to be known.
+    pub variant: bool,
+    /// Whether the result is also checked against the tag Result.
+    pub result: bool,
+    /// Whether the result is also checked against the final position.
+    pub board: bool,
     /// Whether each fault is followed by a line that says where it is and why.
     pub explain: bool,
     /// Whether each line says where its game begins and ends.
     pub spans: bool,
     /// Whether the line of a fault ends with the players, event and date of its game.
     pub names: bool,
+    /// Whether the moves in variations are read, too.
+    pub variations: bool,
 }
 
 /// What the arguments ask for.
@@ -135,15 +143,29 @@ fn validate<'a>(request: &MatchRequest<'a>) -> Result<GamesPlan<'a>, WordsFault>
     })
 }
 
+// The plan of `verify`, if all names in the list that `--ignore` was given are those of kinds that can be ignored.
+fn validate_kinds(plan: VerifyPlan, ignored: Option<&str>) -> Result<VerifyPlan, WordsFault>
+    ensures plan { IfOk result (λ p. (p ≡ plan)
+        × (list_all is_kind (names_in (option_map (λ t. t.now) ignored.entry)) ≡ true)) }
+    ensures fault { IfErr result (λ f. (f ≡ BadKind)
+        × (list_all is_kind (names_in (option_map (λ t. t.now) ignored.entry)) ≡ false)) }
+{
+    if can_be_ignored(ignored) {
+        Ok(plan)
+    } else {
+        Err(WordsFault::BadKind)
+    }
+}
+
 // The plan of what the request asks for; of a match only if levels, FEN and date are valid, otherwise the fault of the
-// first of them that is not.
+// first of them that is not; of `verify` only if the kinds to ignore are.
 pub(crate) fn planned<'a>(request: Request<'a>) -> Result<Plan<'a>, WordsFault>
     ensures plan { IfOk result (IsPlanned request.entry) }
     ensures fault { IfErr result (IsPlanFault request.entry) }
 {
     match request {
         Request::Session => Ok(Plan::Session),
-        Request::Verify(plan) => Ok(Plan::Verify(plan)),
+        Request::Verify { plan, ignored } => Ok(Plan::Verify(validate_kinds(plan, ignored)?)),
         Request::Stub(arguments) => Ok(Plan::Stub(arguments)),
         Request::Match(request) => Ok(Plan::Match(validate(&request)?)),
     }

@@ -1,11 +1,14 @@
 //! What the arguments ask for, as written.
 
-ghost use Rattle.std.specs.Prelude.{◌≡◌, ◌≤◌, ℕ, [], IfOk, IfSome, IsSome, true, codes, is_some, map, option_map, unwrap_or};
+ghost use Rattle.std.specs.Prelude.{◌≡◌, ◌≤◌, ◌&&◌, ℕ, [], IfOk, IfSome, IsSome, true, codes, is_some, map, not, option_map, unwrap_or};
+ghost use Rattle.std.specs.List.{list_any};
+ghost use Rattle.std.specs.Str.{bytes_eq};
 ghost use Rattle.clap.specs.Words.{all_of, first_of, found_of, rows_of, subcommand_rows_of};
 ghost use Rattle.arbiter_grammar.specs.Grammar.{HasNumber, HasNumbers, IsCommand, NamesBoth};
 ghost use Rattle.arbiter_cli.specs.Plans.{draws_in, is_set, number_of, said_by, variant_in, verify_plan_of};
-ghost use Rattle.arbiter_cli.specs.ties.Requests.{IsMatchOf, IsRequestOf, games_in, matched};
+ghost use Rattle.arbiter_cli.specs.ties.Requests.{IsMatchOf, IsRequestOf, games_in, matched, names_in};
 
+use crate::ignored::is_ignored;
 use crate::plan::VerifyPlan;
 use chess_base::Variant;
 use chess_match::Draws;
@@ -30,11 +33,15 @@ pub(crate) struct MatchRequest<'a> {
     pub draws: Draws,
 }
 
-/// What the arguments ask for; texts are not yet read as levels or positions.
+/// What the arguments ask for; texts are not yet read as levels or positions, and the kinds that `verify` ignores may
+/// be no kinds.
 #[derive(Drop)]
 pub(crate) enum Request<'a> {
     Session,
-    Verify(VerifyPlan),
+    Verify {
+        plan: VerifyPlan,
+        ignored: Option<&'a str>,
+    },
     Stub(Vec<&'a str>),
     Match(MatchRequest<'a>),
 }
@@ -56,17 +63,37 @@ fn is_set(found: &ArgMatches<'_>, name: &str) -> bool
     text_or(found, name, "false") == "true"
 }
 
-// What the flags of `verify` ask for; `found` are the flags as matched.
-fn verify_plan(found: &ArgMatches<'_>) -> VerifyPlan
+// The value that the option `name` was given, if it was given; `found` are the options as matched.
+fn value_in<'a>(found: &ArgMatches<'a>, name: &str) -> Option<&'a str>
+    ensures { option_map (λ t. t.now) result ≡ first_of name.now (rows_of (found_of found.now)) }
+{
+    found.get_str(name)
+}
+
+// Whether faults of this kind are looked for: with `--strict`, unless the list `ignored` of `--ignore` has it.
+fn is_looked_for(strict: bool, ignored: Option<&str>, kind: &str) -> bool
+    ensures { result ≡ (strict && not
+        (list_any (bytes_eq kind.now) (names_in (option_map (λ t. t.now) ignored.entry)))) }
+{
+    strict && !is_ignored(ignored, kind)
+}
+
+// What the flags of `verify` and the list `ignored` of `--ignore` ask for; `found` are the flags as matched.
+fn verify_plan(found: &ArgMatches<'_>, ignored: Option<&str>) -> VerifyPlan
+    requires { option_map (λ t. t.now) ignored.entry ≡ first_of (codes "ignore") (rows_of (found_of found.now)) }
     ensures { result ≡ verify_plan_of (matched (rows_of (found_of found.now))) }
 {
+    let strict = is_set(found, "strict");
     VerifyPlan {
         keep_going: is_set(found, "keep-going"),
         quiet: is_set(found, "quiet"),
-        strict: is_set(found, "strict"),
+        variant: is_looked_for(strict, ignored, "variant"),
+        result: is_looked_for(strict, ignored, "result"),
+        board: is_looked_for(strict, ignored, "board"),
         explain: is_set(found, "explain"),
         spans: is_set(found, "spans"),
         names: is_set(found, "names"),
+        variations: is_set(found, "variations"),
     }
 }
 
@@ -165,7 +192,9 @@ pub(crate) fn request_in<'a>(
     ensures { IfOk result (IsRequestOf (said_by (name.now, rows_of (found_of found.now)))) }
 {
     if name == "verify" {
-        return Ok(Request::Verify(verify_plan(found)));
+        let ignored = value_in(found, "ignore");
+        let plan = verify_plan(found, ignored);
+        return Ok(Request::Verify { plan, ignored });
     }
     if name == "stub" {
         let arguments = stub_arguments(alloc, found)?;

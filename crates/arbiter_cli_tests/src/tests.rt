@@ -29,12 +29,14 @@ fn plans_without_arguments(rt: HostRuntime) -> Result<(), Fail> {
     Ok(())
 }
 
-// Arguments of `verify`, and the flags that they set: keep-going, quiet, strict, explain, spans, names.
-const VERIFY: [(&[&str], bool, bool, bool, bool, bool, bool); 21] = [
-    (&["verify"], false, false, false, false, false, false),
+// Arguments of `verify`, and the flags that they set: keep-going, quiet, strict, explain, spans, names,
+// variations.
+const VERIFY: [(&[&str], bool, bool, bool, bool, bool, bool, bool); 23] = [
+    (&["verify"], false, false, false, false, false, false, false),
     (
         &["verify", "--keep-going"],
         true,
+        false,
         false,
         false,
         false,
@@ -49,12 +51,14 @@ const VERIFY: [(&[&str], bool, bool, bool, bool, bool, bool); 21] = [
         false,
         false,
         false,
+        false,
     ),
     (
         &["verify", "--strict"],
         false,
         false,
         true,
+        false,
         false,
         false,
         false,
@@ -67,11 +71,13 @@ const VERIFY: [(&[&str], bool, bool, bool, bool, bool, bool); 21] = [
         true,
         false,
         false,
+        false,
     ),
     (
         &["verify", "--keep-going", "--quiet"],
         true,
         true,
+        false,
         false,
         false,
         false,
@@ -85,12 +91,14 @@ const VERIFY: [(&[&str], bool, bool, bool, bool, bool, bool); 21] = [
         false,
         false,
         false,
+        false,
     ),
     (
         &["verify", "--strict", "--quiet"],
         false,
         true,
         true,
+        false,
         false,
         false,
         false,
@@ -103,6 +111,7 @@ const VERIFY: [(&[&str], bool, bool, bool, bool, bool, bool); 21] = [
         false,
         false,
         false,
+        false,
     ),
     (
         &["verify", "--explain", "--keep-going"],
@@ -110,6 +119,7 @@ const VERIFY: [(&[&str], bool, bool, bool, bool, bool, bool); 21] = [
         false,
         false,
         true,
+        false,
         false,
         false,
     ),
@@ -121,12 +131,14 @@ const VERIFY: [(&[&str], bool, bool, bool, bool, bool, bool); 21] = [
         true,
         false,
         false,
+        false,
     ),
     (
         &["verify", "--strict", "--keep-going", "--quiet"],
         true,
         true,
         true,
+        false,
         false,
         false,
         false,
@@ -139,6 +151,7 @@ const VERIFY: [(&[&str], bool, bool, bool, bool, bool, bool); 21] = [
         false,
         false,
         false,
+        false,
     ),
     (
         &["verify", "--explain", "--strict", "--quiet"],
@@ -146,6 +159,7 @@ const VERIFY: [(&[&str], bool, bool, bool, bool, bool, bool); 21] = [
         true,
         true,
         true,
+        false,
         false,
         false,
     ),
@@ -157,6 +171,7 @@ const VERIFY: [(&[&str], bool, bool, bool, bool, bool, bool); 21] = [
         true,
         false,
         false,
+        false,
     ),
     (
         &["verify", "--explain", "--strict", "--quiet", "--keep-going"],
@@ -164,6 +179,7 @@ const VERIFY: [(&[&str], bool, bool, bool, bool, bool, bool); 21] = [
         true,
         true,
         true,
+        false,
         false,
         false,
     ),
@@ -175,6 +191,7 @@ const VERIFY: [(&[&str], bool, bool, bool, bool, bool, bool); 21] = [
         false,
         true,
         false,
+        false,
     ),
     (
         &["verify", "--spans", "--keep-going"],
@@ -183,6 +200,7 @@ const VERIFY: [(&[&str], bool, bool, bool, bool, bool, bool); 21] = [
         false,
         false,
         true,
+        false,
         false,
     ),
     (
@@ -200,6 +218,7 @@ const VERIFY: [(&[&str], bool, bool, bool, bool, bool, bool); 21] = [
         true,
         true,
         false,
+        false,
     ),
     (
         &["verify", "--names"],
@@ -209,9 +228,31 @@ const VERIFY: [(&[&str], bool, bool, bool, bool, bool, bool); 21] = [
         false,
         false,
         true,
+        false,
     ),
     (
         &["verify", "--names", "--spans", "--quiet"],
+        false,
+        true,
+        false,
+        false,
+        true,
+        true,
+        false,
+    ),
+    (
+        &["verify", "--variations"],
+        false,
+        false,
+        false,
+        false,
+        false,
+        false,
+        true,
+    ),
+    (
+        &["verify", "--strict", "--variations", "--names"],
+        false,
         false,
         true,
         false,
@@ -224,7 +265,7 @@ const VERIFY: [(&[&str], bool, bool, bool, bool, bool, bool); 21] = [
 // The arguments of `verify` go together in any order.
 #[test]
 fn verify_by_its_options(rt: HostRuntime) -> Result<(), Fail> {
-    for (arguments, keep_going, quiet, strict, explain, spans, names) in &VERIFY {
+    for (arguments, keep_going, quiet, strict, explain, spans, names, variations) in &VERIFY {
         let Plan::Verify(plan) = read_words(rt.alloc(), arguments)? else {
             return Err(Fail::new("another plan"));
         };
@@ -234,12 +275,97 @@ fn verify_by_its_options(rt: HostRuntime) -> Result<(), Fail> {
             &VerifyPlan {
                 keep_going: *keep_going,
                 quiet: *quiet,
-                strict: *strict,
+                variant: *strict,
+                result: *strict,
+                board: *strict,
                 explain: *explain,
                 spans: *spans,
                 names: *names,
+                variations: *variations,
             },
         );
+    }
+    Ok(())
+}
+
+// Arguments of `verify` with `--ignore`, and what is looked for: an unknown variant, another result than the tag's, and
+// than the board's.
+const IGNORED: [(&[&str], bool, bool, bool); 9] = [
+    (&["verify", "--ignore", "board"], false, false, false),
+    (
+        &["verify", "--strict", "--ignore", "board"],
+        true,
+        true,
+        false,
+    ),
+    (
+        &["verify", "--ignore", "result", "--strict"],
+        true,
+        false,
+        true,
+    ),
+    (&["verify", "--strict", "--ignore=variant"], false, true, true),
+    (
+        &["verify", "--strict", "--ignore", "board,variant"],
+        false,
+        true,
+        false,
+    ),
+    (
+        &["verify", "--strict", "--ignore", "variant,board"],
+        false,
+        true,
+        false,
+    ),
+    (
+        &["verify", "--strict", "--ignore", "result,result"],
+        true,
+        false,
+        true,
+    ),
+    (
+        &["verify", "--strict", "--ignore", "variant,result,board"],
+        false,
+        false,
+        false,
+    ),
+    (&["verify", "--strict", "--quiet"], true, true, true),
+];
+
+// Kinds that are ignored are not looked for; without `--strict` none is.
+#[test]
+fn kinds_are_ignored(rt: HostRuntime) -> Result<(), Fail> {
+    for (arguments, variant, result, board) in &IGNORED {
+        let Plan::Verify(plan) = read_words(rt.alloc(), arguments)? else {
+            return Err(Fail::new("another plan"));
+        };
+        is_equal(&rt, &plan.variant, variant);
+        is_equal(&rt, &plan.result, result);
+        is_equal(&rt, &plan.board, board);
+    }
+    Ok(())
+}
+
+// Values of `--ignore` that are not names of kinds with commas between.
+const NO_KINDS: [&str; 9] = [
+    "",
+    "Board",
+    "board,",
+    ",board",
+    "board,,result",
+    "board, result",
+    "board;result",
+    "after-end",
+    "boards",
+];
+
+#[test]
+fn other_kinds_are_refused(rt: HostRuntime) -> Result<(), Fail> {
+    for kinds in &NO_KINDS {
+        match read_words(rt.alloc(), ["verify", "--ignore", *kinds].as_slice()) {
+            Err(WordsFault::BadKind) => {}
+            _ => return Err(Fail::new("no bad kind")),
+        }
     }
     Ok(())
 }
@@ -741,7 +867,7 @@ fn faults_are_reported(rt: HostRuntime) -> Result<(), Fail> {
     Ok(())
 }
 
-const OTHERS: [(&[&str], i32); 42] = [
+const OTHERS: [(&[&str], i32); 46] = [
     (&["match", "--white", "x"], 2),
     (
         &["match", "--white", "x", "--white", "y", "--black", "z"],
@@ -800,6 +926,10 @@ const OTHERS: [(&[&str], i32); 42] = [
     (&["verify", "--strict", "--strict"], 2),
     (&["verify", "--strict", "16"], 2),
     (&["verify", "--any-size"], 2),
+    (&["verify", "--ignore"], 2),
+    (&["verify", "--ignore", "board", "result"], 2),
+    (&["verify", "--ignore", "board", "--ignore", "result"], 2),
+    (&["session", "--ignore", "board"], 2),
     (&["session", "--strict"], 2),
     (&["session", "--quiet"], 2),
     (&["--log"], 2),

@@ -1,33 +1,15 @@
 -- A parse that passes leaves a value in each row, so a required option has its value, and a number is in its range.
-use Rattle.std.proofs.Common.{◌≡◌, ◌<◌, ◌++◌, ◌&&◌, ◌||◌, ℕ, zero, suc, Bool, true, false, List, [], ◌∷◌, length, Option, Some, None, is_some, refl, sym, subst, ap, arith, true≢false, nat_lt, IfSome, codes, lit<, option_map, inl, inr}
-use Rattle.std.specs.Prelude.{find, fold, slice_get, option_and_then, if◌then◌else◌, cond, ◌==◌, drop, encode_utf8}
-use Rattle.std.specs.List.{list_all}
-use Rattle.std.specs.Option.{option_map_or}
-use Rattle.std.specs.Str.{bytes_eq, chars}
-use Rattle.clap.specs.Lexer.{long_of, short_of}
-use Rattle.clap.specs.Values.{is_request}
-use Rattle.clap.specs.Facts.{explicit_source, unwrap_or_range}
-use Rattle.clap.specs.Walk.{Held, Names, Outcome, Row, Rule, Step, Text, Waiting, Walk, action_of, after_flag, after_step, arg_by_id, arg_by_index, arg_by_long, arg_by_short, at_row, attached_value, bundle, bundle_met, bundle_step, default_rows, done, first_of, flag_met, idle, is_pending, long_met, long_or_other, more_values, next, nothing_held, option, option_met, option_word, plain, plain_word, positional, reacted, reading_by, refused, rows_after, settled, settled_rows, short_met, short_or_plain, stop_after, subcommand, subcommand_met, subcommand_or_other, takes_several, takes_values, to_positional, trailing, used, used_as, used_by_id, value, values_or_missing, waits, walk, walk_from, walked, walked_from, with_default, with_values, without, word_met, has_row}
+use Rattle.std.proofs.Common.{◌≡◌, ◌<◌, ◌++◌, ◌&&◌, ◌||◌, ℕ, zero, suc, Bool, true, false, List, [], ◌∷◌, length, Option, Some, None, is_some, refl, sym, subst, ap, arith, true≢false, nat_lt, IfSome, codes, lit<, option_map, inl, inr, ◌∙◌, ◌⊎◌, unwrap_or, bytes_eq, chars, find, fold, slice_get, option_and_then, if◌then◌else◌, cond, ◌==◌, drop, encode_utf8}
+use Rattle.std.specs.{List.list_all, Option.option_map_or}
+use Rattle.clap.specs.{Lexer.long_of, Lexer.short_of, Values.is_request, Facts.explicit_source, Facts.unwrap_or_range, Kinds.Kinds, Kinds.check_kinds, Kinds.or_else, Takes.is_given, Takes.value_passes, declared.builder.value_parser.Reading.Reading, declared.builder.action.ArgAction.ArgAction, declared.error.kind.ErrorKind.ErrorKind, declared.parser.matches.ValueSource.ValueSource, declared.parser.matches.ValueSource.TheVariants.CommandLine, declared.parser.matches.ValueSource.TheVariants.DefaultValue, ValueTests.is_unsigned_in}
+use Rattle.clap.specs.Walk.{Held, Names, Outcome, Row, Rule, Step, Text, Waiting, Walk, action_of, after_flag, after_step, arg_by_id, arg_by_index, arg_by_long, arg_by_short, at_row, attached_value, bundle, bundle_met, bundle_step, default_rows, done, first_of, flag_met, idle, is_pending, long_met, long_or_other, more_values, next, nothing_held, option, option_met, option_word, plain, plain_word, positional, reacted, reading_by, refused, rows_after, settled, settled_rows, short_met, short_or_plain, stop_after, subcommand, subcommand_met, subcommand_or_other, takes_several, takes_values, to_positional, trailing, used, used_as, used_by_id, value, values_or_missing, waits, walk, walk_from, walked, walked_from, with_default, with_values, without, word_met, has_row, answers_to}
 use Rattle.clap.specs.Simple.{App, Shape, argument_words, built, entered, label_of, names_of, rows_at, subcommand_of}
-use Rattle.clap.specs.Walk.{answers_to}
-use Rattle.clap.specs.Kinds.{Kinds, check_kinds, or_else}
-use Rattle.clap.specs.Takes.{is_given}
-use Rattle.clap.specs.Faults.{action_fault, bundle_fault, bundle_step_fault, check_fault, entered_fault, fault_of, flag_word_fault, flags_fault, level_fault, long_fault, option_fault, other_fault, positional_fault, react_fault, settle_fault, short_fault, step_fault, turn_fault, use_fault, walk_fault, word_fault}
-use Rattle.clap.specs.declared.builder.value_parser.Reading.{Reading}
-use Rattle.clap.specs.declared.builder.action.ArgAction.{ArgAction}
+use Rattle.clap.specs.Faults.{action_fault, bundle_fault, bundle_step_fault, check_fault, entered_fault, fault_of, flag_word_fault, flags_fault, level_fault, long_fault, option_fault, other_fault, positional_fault, react_fault, settle_fault, short_fault, step_fault, turn_fault, use_fault, walk_fault, word_fault, values_fault}
 use Rattle.clap.specs.declared.builder.action.ArgAction.TheVariants.{Set, Append, SetTrue, SetFalse, Count, Help, HelpShort, HelpLong, Version}
-use Rattle.clap.specs.declared.error.kind.ErrorKind.{ErrorKind}
 use Rattle.clap.specs.declared.error.kind.ErrorKind.TheVariants as kind
-use Rattle.clap.specs.declared.parser.matches.ValueSource.{ValueSource}
-use Rattle.clap.specs.declared.parser.matches.ValueSource.TheVariants.{CommandLine, DefaultValue}
 use Rattle.clap.proofs.WalkLemmas.{both}
 use Rattle.arbiter_grammar.specs.Grammar.{IsCommand, IsComplete, OptionNames, arbiter_app}
-use Rattle.clap.specs.ValueTests.{is_unsigned_in}
-use Rattle.clap.specs.Takes.{value_passes}
-use Rattle.clap.specs.Faults.{values_fault}
-use Rattle.std.proofs.lemmas.Slice.Eq.{bytes_eq-Decides}
-use Rattle.std.proofs.Common.{◌∙◌, ◌⊎◌, unwrap_or}
-use Rattle.std.proofs.lemmas.Bool.{and_from, or_parts, not-false}
+use Rattle.std.proofs.{lemmas.Slice.Eq.bytes_eq-Decides, lemmas.Bool.and_from, lemmas.Bool.or_parts, lemmas.Bool.not-false}
 
 -- the text may be a value of the argument with this id: it is in range where that takes a number
 abbrev pub fits : Text → Text → Bool
@@ -536,7 +518,13 @@ subs_need names =
                     (refl, (λ t e. refl), refl, refl),
                     (
                       (refl, (λ t e. refl), refl, refl),
-                      ((refl, (λ t e. refl), refl, refl), tt),
+                      (
+                        (refl, (λ t e. refl), refl, refl),
+                        (
+                          (refl, (λ t e. refl), refl, refl),
+                          ((refl, (λ t e. refl), refl, refl), tt),
+                        ),
+                      ),
                     ),
                   ),
                 ),

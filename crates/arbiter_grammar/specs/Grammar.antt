@@ -1,5 +1,5 @@
 -- The grammar of the command line, as `clap` sees it.
-use Rattle.std.specs.Prelude.{◌≡◌, ◌⊎◌, ℕ, List, codes, fold, [], ◌∷◌, Some, Result, Ok, Err, is_some, map, true, unwrap_or}
+use Rattle.std.specs.Prelude.{◌≡◌, ◌⊎◌, ◌++◌, ℕ, List, codes, fold, [], ◌∷◌, Some, Result, Ok, Err, is_some, map, true, unwrap_or}
 use Rattle.std.specs.Borrow.{Bor}
 use Rattle.clap.specs.Words.{App, HasKind, Kinds, Row, Rule, Text, fault_of, first_of, new_app, new_rule, subcommand_of, subcommand_rows_of, with_rule, with_subcommand}
 use Rattle.clap.specs.ValueTests.{is_unsigned_in}
@@ -16,8 +16,7 @@ option_rule name = record (new_rule name) { long = Some name; value_names = 1 }
 abbrev pub flag_rule : Text → Rule
 flag_rule name = record (new_rule name) { long = Some name; action = Some SetTrue }
 
--- references to the lists of the names that `--variant` and `--draws` take; `AreOptionNames` says which these are. The
--- lists and the names may be anywhere in memory
+-- references to the lists of the names that `--variant` and `--draws` take; lists and names may be anywhere in memory
 pub record OptionNames : Type 0 where
   pub variants : Bor (List (Bor Text))
   pub draws : Bor (List (Bor Text))
@@ -27,56 +26,50 @@ abbrev pub AreOptionNames : OptionNames → Type 0
 AreOptionNames names = (map (λ n. n.now) names.variants.now ≡ codes "normal" ∷ codes "fischerandom" ∷ [])
     × (map (λ n. n.now) names.draws.now ≡ codes "claimed" ∷ codes "automatic" ∷ [])
 
--- the subcommand `match` with its options: `--white` and `--black` are required, `--games` takes a number from 1 to
--- 1,000, `--reply-timeout` one from 1 to 999, and `--variant` and `--draws` one of their `names`
+-- the subcommand `match` with its options, of which `--white` and `--black` are required. `names` are the lists of
+-- names
 abbrev pub match_app : OptionNames → App
 match_app names = fold with_rule (new_app (codes "match")) (
-    record (option_rule (codes "white")) { required = true }
-    ∷ record (option_rule (codes "black")) { required = true }
-    ∷ option_rule (codes "level")
-    ∷ option_rule (codes "white-level")
-    ∷ option_rule (codes "black-level")
+    record (option_rule (codes "white")) { required = true } ∷ record (option_rule (codes "black")) { required = true }
+    ∷ option_rule (codes "level") ∷ option_rule (codes "white-level") ∷ option_rule (codes "black-level")
     ∷ option_rule (codes "fen")
     ∷ record (option_rule (codes "games")) { parser = Some (Unsigned 1 1000) }
     ∷ option_rule (codes "date")
     ∷ record (option_rule (codes "variant")) { parser = Some (Names names.variants) }
     ∷ record (option_rule (codes "draws")) { parser = Some (Names names.draws) }
-    ∷ flag_rule (codes "log")
-    ∷ flag_rule (codes "flag")
+    ∷ flag_rule (codes "log") ∷ flag_rule (codes "flag")
     ∷ record (option_rule (codes "reply-timeout")) { parser = Some (Unsigned 1 999) }
     ∷ [])
 
--- the subcommand `verify` with its flags `--keep-going`, `--quiet`, `--strict`, `--explain`, `--spans` and `--names`
+-- the subcommand `verify` with its flags, and `--ignore`
 abbrev pub verify_app : App
 verify_app = fold with_rule (new_app (codes "verify"))
     (map flag_rule (codes "keep-going" ∷ codes "quiet" ∷ codes "strict" ∷ codes "explain" ∷ codes "spans"
-    ∷ codes "names" ∷ []))
+    ∷ codes "names" ∷ codes "variations" ∷ []) ++ option_rule (codes "ignore") ∷ [])
 
--- the subcommand `stub`, which takes any number of positional arguments; `clap` knows them by the name `words`
+-- the subcommand `stub`, which takes any number of positional arguments; `clap` knows them as `words`
 abbrev pub stub_app : App
 stub_app =
     with_rule (new_app (codes "stub")) (record (new_rule (codes "words")) { action = Some Append; value_names = 1 })
 
--- `arbiter` without its subcommands: it has `--version` but no subcommand `help`, and its arguments don't begin with
--- the program's name
+-- `arbiter` without its subcommands (`top` is `clap`'s name for what an app is apart from them): it has `--version` but
+-- no subcommand `help`, and its arguments don't begin with the program's name
 abbrev pub bare_app : App
 bare_app = let a = new_app (codes "arbiter") in
     record a { top = record a.top { has_version = true; no_binary_name = true; disable_help_subcommand = true } }
 
--- the whole grammar: `arbiter` with the subcommands `session` (which has no options), `verify`, `stub` and `match`.
--- `names` are those that `--variant` and `--draws` take
+-- the whole grammar: `arbiter` with its subcommands, of which `session` has no options
 abbrev pub arbiter_app : OptionNames → App
 arbiter_app names = fold with_subcommand bare_app
     ((new_app (codes "session")).top ∷ verify_app.top ∷ stub_app.top ∷ (match_app names).top ∷ [])
 
--- what the arguments (`words`) ask for if they have no fault (see `faults_in`): the subcommand's name and its options,
--- as `clap` matches them; `session` without options if there is no subcommand. `names` are those that `--variant` and
--- `--draws` take
+-- what the arguments (`words`) ask for if they have no fault: the subcommand's name and its options, as `clap` matches
+-- them; `session` without options if there is no subcommand
 abbrev pub asked : OptionNames → List Text → Text × List Row
 asked names words = unwrap_or (subcommand_of (arbiter_app names) words) (codes "session", [])
 
 -- the kinds of fault, apart from out of memory, that `clap` may report for the arguments `words`; empty if it accepts
--- them. A request for help or for the version counts as a fault. `names` are those that `--variant` and `--draws` take
+-- them. A request for help or for the version is one
 abbrev pub faults_in : OptionNames → List Text → Kinds
 faults_in names words = fault_of (arbiter_app names) words
 

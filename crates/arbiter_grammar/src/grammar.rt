@@ -63,8 +63,14 @@ With --explain a second line shows the line and column of each fault, the text t
 a reason: `# line 2 column 4 Ke3 | rnbqkbnr/pppp1ppp/8/4p3/4P3/8/PPPP1PPP/RNBQKBNR w KQkq e6 0 2`.
 
 With --spans each line ends with the part of the input that the game has: `game 1: 40 half-moves, 1-0, bytes 0 to 412`
-begins at byte 0 and ends before byte 412. A game with a fault goes on to the end of its piece, since it is not read
-further.
+begins at byte 0 and ends before byte 412. With --keep-going a game with a fault ends where reading continues: after
+its result, or at the next tags. If neither is found, it has the rest of its piece, which is not read.
+
+With --variations the moves in variations are read, too: `game 1: illegal move in a variation at byte 61`. A variation
+replaces the move just before it.
+
+With --strict --ignore board the result is not compared with the final position, as for studies that end with `*` after
+mate. Further kinds are `result` (the Result tag) and `variant`; commas go between several: `--ignore board,variant`.
 
 With --names the line of a fault ends with ` | White - Black, Event Date`, each as the last tag of this name has it, but
 at most 40 bytes, with `?` for each byte that is not printable ASCII, and for a tag that is missing.
@@ -298,7 +304,8 @@ fn bare_verify_command<'a>(alloc: Global) -> Command<'a>
     .override_usage("arbiter verify [OPTIONS] < FILE")
 }
 
-// The subcommand `verify` with its flags `--keep-going`, `--quiet`, `--strict`, `--explain`, `--spans` and `--names`.
+// The subcommand `verify` with its flags `--keep-going`, `--quiet`, `--strict`, `--explain`, `--spans`, `--names` and
+// `--variations`, and its option `--ignore`.
 fn verify_command<'a>(alloc: Global) -> Result<Command<'a>, AllocError>
     ensures app { IfOk result (λ c. app_of c ≡ verify_app) }
     ensures local { IfOk result (λ c. (fields_of c).has_globals ≡ false) }
@@ -307,13 +314,13 @@ fn verify_command<'a>(alloc: Global) -> Result<Command<'a>, AllocError>
         .arg(flag(
             alloc,
             "keep-going",
-            "Continue after a fault with the next piece, and print totals at the end; for input of any size",
+            "Continue after a fault where its game ends, and print totals at the end; for input of any size",
         ))?
         .arg(flag(alloc, "quiet", "Leave out games without a fault"))?
         .arg(flag(
             alloc,
             "strict",
-            "Also check the result against the Result tag and the final position",
+            "Also check the variant, and the result against the Result tag and the final position",
         ))?
         .arg(flag(
             alloc,
@@ -329,6 +336,17 @@ fn verify_command<'a>(alloc: Global) -> Result<Command<'a>, AllocError>
             alloc,
             "names",
             "End the line of each fault with the game's players, event and date",
+        ))?
+        .arg(flag(
+            alloc,
+            "variations",
+            "Also read the moves in variations, each from the position before the move that it replaces",
+        ))?
+        .arg(option(
+            alloc,
+            "ignore",
+            "KINDS",
+            "Leave out faults of these kinds, which --strict looks for: variant, result, board, with commas between",
         ))
 }
 

@@ -6,15 +6,18 @@ use Rattle.arbiter_laws.specs.Arguments.{AreRefused, AskFor, VerifyAsBare}
 
 pub none_asked : AskFor [] (codes "session")
 unfolding clap_on_literals
-none_asked = record { taken = λ names. refl; named = λ names. refl; bare = λ names. refl }
+none_asked =
+    record { taken = λ names. refl; named = λ names. refl; bare = λ names. refl; ignores = λ names. refl }
 
 pub session_asked : AskFor (codes "session" ∷ []) (codes "session")
 unfolding clap_on_literals
-session_asked = record { taken = λ names. refl; named = λ names. refl; bare = λ names. refl }
+session_asked =
+    record { taken = λ names. refl; named = λ names. refl; bare = λ names. refl; ignores = λ names. refl }
 
 pub verify_asked : AskFor (codes "verify" ∷ []) (codes "verify")
 unfolding clap_on_literals
-verify_asked = record { taken = λ names. refl; named = λ names. refl; bare = λ names. refl }
+verify_asked =
+    record { taken = λ names. refl; named = λ names. refl; bare = λ names. refl; ignores = λ names. refl }
 
 pub verify_bare : VerifyAsBare (codes "verify" ∷ [])
 unfolding clap_on_literals

@@ -1,24 +1,19 @@
 -- What no arguments, `session` and `verify` do.
-use Rattle.std.proofs.Common.{◌≡◌, ◌∙◌, ◌<◌, ℕ, List, [], length, lit<, codes, Result, Ok, Err, refl, sym, ap, subst, inr, false, arith}
+use Rattle.std.proofs.Common.{◌≡◌, ◌∙◌, ◌<◌, ℕ, List, [], length, lit<, codes, Result, Ok, Err, refl, sym, ap, subst, inr, false, arith, true≢false}
+use Rattle.std.specs.List.{list_all}
 use Rattle.clap.specs.Words.{IsAmong, Text, kind_of}
 use Rattle.arbiter_grammar.specs.Grammar.{asked}
-use Rattle.arbiter_cli.specs.Plans.{IsReading, said_by}
+use Rattle.arbiter_cli.specs.{Plans.IsReading, Plans.is_kind, Plans.said_by, declared.fault.WordsFault.WordsFault, declared.plan.Plan.Plan, declared.plan.VerifyPlan.VerifyPlan}
 use Rattle.arbiter_laws.specs.Arguments.{AskFor, PlansAreNamed, VerifyAsBare, VerifyIsAsAsked, bare_plan, command_name}
-use Rattle.arbiter_laws.specs.PlainArguments.{PlainArgumentsAreRead}
-use Rattle.arbiter_cli.specs.declared.fault.WordsFault.{WordsFault}
+use Rattle.arbiter_laws.specs.{PlainArguments.PlainArgumentsAreRead, Programs.PlainArgumentsAreFollowed, Programs.ServesSession, Programs.VerifiesGames}
 use Rattle.arbiter_cli.specs.declared.fault.WordsFault.TheVariants as faults
-use Rattle.arbiter_cli.specs.declared.plan.Plan.{Plan}
-use Rattle.arbiter_cli.specs.declared.plan.VerifyPlan.{VerifyPlan}
 use Rattle.arbiter_cli.specs.declared.plan.Plan.TheVariants.{Session, Verify, Stub, Match}
 use Rattle.byte_devices.specs.Devices.{InputState}
 use Rattle.byte_devices.specs.Transfers.{Devices, InputGave, Ran, nothing}
-use Rattle.byte_devices.proofs.shared.Transfers.{came, took_nothing}
-use Rattle.byte_devices.proofs.shared.Devices.{consumes_none}
-use Rattle.arbiter_laws.specs.Programs.{PlainArgumentsAreFollowed, ServesSession, VerifiesGames}
+use Rattle.byte_devices.proofs.{shared.Transfers.came, shared.Transfers.took_nothing, shared.Devices.consumes_none}
 use Rattle.chess_arbiter.specs.Program.{Does, Surroundings, options_of}
 use Rattle.match_runner.specs.GamesTable.{HostStep}
-use Rattle.pgn_verifier.specs.Verify.{Verifies}
-use Rattle.pgn_verifier.specs.declared.options.VerifyOptions.{VerifyOptions}
+use Rattle.pgn_verifier.specs.{Verify.Verifies, declared.options.VerifyOptions.VerifyOptions}
 use Rattle.pgn_verifier.specs.declared.fault.VerifyFault.TheVariants as verifying
 
 pub shorter : (xs ys : Text) → length xs < length ys → xs ≡ ys → ⊥
@@ -50,6 +45,9 @@ refused_argument ws name (faults.BadFen f) a other (names, are, (none, named, h)
     absurd (other (sym (a.named names) ∙ named))
 refused_argument ws name faults.BadDate a other (names, are, (none, named, h)) =
     absurd (other (sym (a.named names) ∙ named))
+-- no kind is ignored, so none is wrong
+refused_argument ws name faults.BadKind a other (names, are, (none, named, h)) =
+    absurd (true≢false (sym (ap (list_all is_kind) (a.ignores names)) ∙ h))
 
 no_match_by_session : codes "session" ≡ codes "match" → ⊥
 no_match_by_session e = shorter (codes "match") (codes "session") (lit< tt) (sym e)
@@ -93,6 +91,7 @@ session_or_want (faults.Words e) s s' steps status want ran = absurd want
 session_or_want (faults.BadLevel f) s s' steps status want ran = absurd want
 session_or_want (faults.BadFen f) s s' steps status want ran = absurd want
 session_or_want faults.BadDate s s' steps status want ran = absurd want
+session_or_want faults.BadKind s s' steps status want ran = absurd want
 
 verify_or_want : (fault : WordsFault) (s s' : Surroundings) (steps : List HostStep) (status : ℕ)
     → IsWant fault → Does (Err fault) s s' steps status → Does (Ok (Verify bare_plan)) s s' steps status
@@ -102,6 +101,7 @@ verify_or_want (faults.Words e) s s' steps status want ran = absurd want
 verify_or_want (faults.BadLevel f) s s' steps status want ran = absurd want
 verify_or_want (faults.BadFen f) s s' steps status want ran = absurd want
 verify_or_want faults.BadDate s s' steps status want ran = absurd want
+verify_or_want faults.BadKind s s' steps status want ran = absurd want
 
 serves : PlansAreNamed → (arguments : List Text) → AskFor arguments (codes "session") → (read : Result Plan WordsFault)
     → IsReading arguments read

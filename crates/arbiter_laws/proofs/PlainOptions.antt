@@ -1,17 +1,11 @@
 -- The options of `verify` and `match` as the walk meets them.
-use Rattle.std.proofs.Common.{◌≡◌, ◌∙◌, ◌++◌, ◌<◌, ◌≤◌, ◌^◌, ℕ, Bor, Bool, true, false, List, [], ◌∷◌, codes, refl, sym, subst, ap, inl, inr, arith}
-use Rattle.std.specs.Prelude.{if◌then◌else◌, bytes_eq}
-use Rattle.std.specs.List.{list_any}
-use Rattle.std.specs.Str.Parse.{digits_value, without_leading_plus}
-use Rattle.clap.specs.Faults.{repeat_fault}
-use Rattle.clap.specs.Kinds.{or_else}
+use Rattle.std.proofs.Common.{◌≡◌, ◌∙◌, ◌++◌, ◌<◌, ◌≤◌, ◌^◌, ℕ, Bor, Bool, true, false, List, [], ◌∷◌, codes, refl, sym, subst, ap, inl, inr, arith, if◌then◌else◌, bytes_eq}
+use Rattle.std.specs.{List.list_any, Str.Parse.digits_value, Str.Parse.without_leading_plus}
+use Rattle.clap.specs.{Faults.repeat_fault, Kinds.or_else, ValueTests.accepts, Walk.Rule, Walk.Text, Walk.walked}
 use Rattle.clap.specs.Simple.{Shape, filled_from, help_rule, new_shape}
-use Rattle.clap.specs.ValueTests.{accepts}
-use Rattle.clap.specs.Walk.{Rule, Text, walked}
 use Rattle.clap.specs.declared.builder.value_parser.ValueParser.TheVariants as vp
 use Rattle.clap.specs.declared.error.kind.ErrorKind.TheVariants as kind
-use Rattle.clap.proofs.ValueTestLemmas.{Accepts-accepts}
-use Rattle.clap.proofs.WalkLemmas.{list_any-map}
+use Rattle.clap.proofs.{ValueTestLemmas.Accepts-accepts, WalkLemmas.list_any-map}
 use Rattle.arbiter_grammar.specs.Grammar.{AreOptionNames, OptionNames, match_app, stub_app, verify_app}
 use Rattle.arbiter_laws.specs.PlainArguments.{Given, IsDraws, IsNumberTo, IsOfMatch, IsOfVerify, IsVariant, flag, has_hyphen, valued}
 use Rattle.arbiter_laws.proofs.PlainWalk.{IsFlag, Known, TakesValue}
@@ -36,9 +30,20 @@ match_shape names = built_shape (codes "match") (match_app names).top.rules
 
 -- ---- verify
 
+ignore : (text : Text) → has_hyphen text ≡ false → TakesValue verify_shape (codes "ignore") text
+unfolding walked
+ignore text plain = record {
+  first = λ rows p. refl;
+  first_fault = λ rows p. refl;
+  plain = plain;
+  taken = λ rows. refl;
+  uses = λ rows. refl;
+  passes = λ rows. refl;
+}
+
 pub of_verify : (g : Given) → IsOfVerify g → Known verify_shape g
 unfolding walked
-of_verify (valued name text) none = absurd none
+of_verify (valued name text) (plain, e) = subst (λ n. TakesValue verify_shape n text) (sym e) (ignore text plain)
 of_verify (flag name) (inl e) = subst (IsFlag verify_shape) (sym e)
     (record { first = λ rows p. refl; first_fault = λ rows p. refl })
 of_verify (flag name) (inr (inl e)) = subst (IsFlag verify_shape) (sym e)
@@ -49,7 +54,9 @@ of_verify (flag name) (inr (inr (inr (inl e)))) = subst (IsFlag verify_shape) (s
     (record { first = λ rows p. refl; first_fault = λ rows p. refl })
 of_verify (flag name) (inr (inr (inr (inr (inl e))))) = subst (IsFlag verify_shape) (sym e)
     (record { first = λ rows p. refl; first_fault = λ rows p. refl })
-of_verify (flag name) (inr (inr (inr (inr (inr e))))) = subst (IsFlag verify_shape) (sym e)
+of_verify (flag name) (inr (inr (inr (inr (inr (inl e)))))) = subst (IsFlag verify_shape) (sym e)
+    (record { first = λ rows p. refl; first_fault = λ rows p. refl })
+of_verify (flag name) (inr (inr (inr (inr (inr (inr e)))))) = subst (IsFlag verify_shape) (sym e)
     (record { first = λ rows p. refl; first_fault = λ rows p. refl })
 
 -- ---- match

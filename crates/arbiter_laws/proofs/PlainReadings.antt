@@ -1,41 +1,27 @@
 -- Plain arguments are read as what they say.
-use Rattle.std.proofs.Common.{◌≡◌, ◌∙◌, ◌||◌, Bool, true, false, not, List, [], ◌∷◌, Option, Some, None, Result, Ok, Err, codes, find, fold, flat_map, is_some, option_map, refl, sym, subst, ap, ap₂, lit<}
-use Rattle.std.specs.Prelude.{◌*◌, if◌then◌else◌, unwrap_or}
-use Rattle.std.specs.Option.{option_map_or, option_or}
-use Rattle.std.specs.Str.{bytes_eq}
+use Rattle.std.proofs.Common.{◌≡◌, ◌∙◌, ◌==◌, ◌&&◌, ◌||◌, Bool, true, false, not, List, [], ◌∷◌, Option, Some, None, Result, Ok, Err, codes, find, fold, flat_map, is_some, option_map, refl, sym, subst, ap, ap₂, lit<, bytes_eq, ◌*◌, if◌then◌else◌, unwrap_or}
+use Rattle.std.specs.{List.list_all, List.list_any, List.slice_split, Option.option_map_or, Option.option_or}
 use Rattle.clap.specs.Words.{Kinds, Row, Text, first_of}
 use Rattle.clap.specs.Faults.{check_fault, defaults_fault, entered_fault, level_fault, settle_fault, turn_fault, walk_fault}
 use Rattle.clap.specs.Kinds.{check_kinds, or_else}
 use Rattle.clap.specs.Simple.{App, Shape, built, entered, label_of, names_of, rows_at}
 use Rattle.clap.specs.Walk.{Walk, answers_to, finished, nothing_held, rows_after, settled, walk, walk_from, walked}
-use Rattle.clap.proofs.FaultLemmas.{stopped_fault}
-use Rattle.clap.proofs.WalkLemmas.{walk_stopped}
+use Rattle.clap.proofs.{FaultLemmas.stopped_fault, WalkLemmas.walk_stopped}
 use Rattle.arbiter_grammar.specs.Grammar.{AreOptionNames, OptionNames, arbiter_app, asked, faults_in}
-use Rattle.chess_base.specs.declared.man.Variant.{Variant}
-use Rattle.chess_base.specs.declared.fen_fault.FenFault.{FenFault}
-use Rattle.chess_base.specs.declared.setup.Setup.{Setup}
-use Rattle.chess_base.specs.Initial.{initial_setup_of}
+use Rattle.chess_base.specs.{declared.man.Variant.Variant, declared.fen_fault.FenFault.FenFault, declared.setup.Setup.Setup, Initial.initial_setup_of, declared.man.Variant.TheVariants.Normal, declared.man.Variant.TheVariants.Fischerandom}
 use Rattle.chess_fen.specs.Reading.{fen_reading_as}
-use Rattle.chess_base.specs.declared.man.Variant.TheVariants.{Normal, Fischerandom}
-use Rattle.arbiter_cli.specs.Plans.{IsMatchPlan, IsReadAs, Said, Values, is_date, is_set, levels_asked, levels_by, levels_start_and_date, number_of, said_by, start_asked, variant_in, verify_plan_of}
-use Rattle.arbiter_cli.specs.declared.plan.Plan.{Plan}
+use Rattle.arbiter_cli.specs.Plans.{IsMatchPlan, IsReadAs, Said, Values, ignored_in, is_date, is_kind, is_set, levels_asked, levels_by, levels_start_and_date, number_of, said_by, start_asked, variant_in, verify_plan_of}
+use Rattle.arbiter_cli.specs.{declared.plan.Plan.Plan, declared.plan.VerifyPlan.VerifyPlan, declared.fault.WordsFault.WordsFault}
 use Rattle.arbiter_cli.specs.declared.plan.Plan.TheVariants.{Session, Verify, Stub, Match}
 use Rattle.match_runner.specs.declared.plan.GamesPlan.{GamesPlan}
-use Rattle.chess_match.specs.declared.draws.Draws.{Draws}
-use Rattle.chess_match.specs.declared.draws.Draws.TheVariants.{Automatic}
+use Rattle.chess_match.specs.{declared.draws.Draws.Draws, declared.draws.Draws.TheVariants.Automatic, declared.patience.Patience.Patience}
 use Rattle.chess_match.specs.declared.draws.Draws.TheVariants as draws
-use Rattle.chess_match.specs.declared.patience.Patience.{Patience}
-use Rattle.arbiter_cli.specs.declared.plan.VerifyPlan.{VerifyPlan}
-use Rattle.arbiter_cli.specs.declared.fault.WordsFault.{WordsFault}
-use Rattle.arbiter_cli.specs.declared.fault.WordsFault.TheVariants.{Words, NoMemory, BadLevel, BadFen, BadDate}
+use Rattle.arbiter_cli.specs.declared.fault.WordsFault.TheVariants.{Words, NoMemory, BadLevel, BadFen, BadDate, BadKind}
 use Rattle.arbiter_laws.specs.PlainArguments.{CommandLine, Given, IsOfMatch, IsOfVerify, IsPlain, PlainArgumentsAreRead, arguments_of, empty, match, said_in, session, stub, values_in, verify, written}
 use Rattle.arbiter_laws.proofs.Literals as literals
 use Rattle.arbiter_laws.proofs.PlainOptions.{match_shape, of_match, of_verify, stub_shape, verify_shape}
-use Rattle.arbiter_laws.proofs.PlainRows.{default_in, value_found, value_given}
-use Rattle.arbiter_laws.proofs.PlainStub.{replies_are, replies_pass}
-use Rattle.arbiter_laws.proofs.PlainWalk.{all_known, rows_of_given, takes_options}
+use Rattle.arbiter_laws.proofs.{PlainRows.default_in, PlainRows.value_found, PlainRows.value_given, PlainStub.replies_are, PlainStub.replies_pass, PlainWalk.all_known, PlainWalk.rows_of_given, PlainWalk.takes_options, PlainArguments.shorter}
 use Rattle.arbiter_cli.proofs.shared.Turns.{date_asked, read_as}
-use Rattle.arbiter_laws.proofs.PlainArguments.{shorter}
 
 -- ---- the first argument names the subcommand
 
@@ -143,20 +129,29 @@ same_match v w a plan is = record {
   draws = is.draws ∙ ap draws_with a.draws;
 }
 
+-- verifying is asked for alike
+record VerifiesAlike (v w : Values) : Type 0 where
+  plan : verify_plan_of v ≡ verify_plan_of w
+  ignored : ignored_in v ≡ ignored_in w
+
 record SaysTheSame (a b : Said) : Type 0 where
   command : a.command ≡ b.command
-  on_verify : a.command ≡ codes "verify" → verify_plan_of a.value ≡ verify_plan_of b.value
+  on_verify : a.command ≡ codes "verify" → VerifiesAlike a.value b.value
   on_stub : a.command ≡ codes "stub" → a.replies ≡ b.replies
   on_match : a.command ≡ codes "match" → Agrees a.value b.value
 
 read_alike : (a b : Said) → SaysTheSame a b → (r : Result Plan WordsFault) → IsReadAs [] a r → IsReadAs [] b r
 read_alike a b s (Ok Session) (none, is) = (none, sym s.command ∙ is)
-read_alike a b s (Ok (Verify v)) (none, is) = (none, (sym s.command ∙ is.0, is.1 ∙ s.on_verify is.0))
+read_alike a b s (Ok (Verify v)) (none, is) =
+    let same = s.on_verify is.0 in
+    (none, (sym s.command ∙ is.0, is.1 ∙ same.plan, sym (ap (list_all is_kind) same.ignored) ∙ is.2))
 read_alike a b s (Ok (Stub x)) (none, is) = (none, (sym s.command ∙ is.0, is.1 ∙ s.on_stub is.0))
 read_alike a b s (Ok (Match plan)) (none, is) =
     (none, (sym s.command ∙ is.0, same_match a.value b.value (s.on_match is.0) plan is.1))
 read_alike a b s (Err (Words e)) is = is
 read_alike a b s (Err NoMemory) is = is
+read_alike a b s (Err BadKind) (none, named, h) =
+    (none, sym s.command ∙ named, sym (ap (list_all is_kind) (s.on_verify named).ignored) ∙ h)
 read_alike a b s (Err (BadLevel f)) (none, named, h) =
     (none, sym s.command ∙ named, sym (same_start a.value b.value (s.on_match named)) ∙ h)
 read_alike a b s (Err (BadFen f)) (none, named, h) =
@@ -204,8 +199,26 @@ module _ (s : Shape) (options : List Given) (name : Text) where
   value_alike default = value_found name options s.rules ∙ ap (option_or (values_in options name)) default
       ∙ or_none (values_in options name)
 
-abbrev plan_with : Bool → Bool → Bool → Bool → Bool → Bool → VerifyPlan
-plan_with a b c d e f = record { keep_going = a; quiet = b; strict = c; explain = d; spans = e; names = f }
+abbrev plan_with : Bool → Bool → Bool → Bool → Bool → Bool → Bool → List Text → VerifyPlan
+plan_with a b c d e f g ignored = record {
+  keep_going = a;
+  quiet = b;
+  variant = c && not (list_any (bytes_eq (codes "variant")) ignored);
+  result = c && not (list_any (bytes_eq (codes "result")) ignored);
+  board = c && not (list_any (bytes_eq (codes "board")) ignored);
+  explain = d;
+  spans = e;
+  names = f;
+  variations = g;
+}
+
+-- the names in the value of `--ignore`
+abbrev names_in : Option Text → List Text
+names_in list = option_map_or (slice_split (λ b. b == 44)) list []
+
+ignored_alike : (options : List Given)
+    → ignored_in (matched (rows_of_given verify_shape options)) ≡ ignored_in (values_in options)
+ignored_alike options = ap names_in (value_alike verify_shape options (codes "ignore") refl)
 
 verify_alike : (options : List Given)
     → verify_plan_of (matched (rows_of_given verify_shape options)) ≡ verify_plan_of (values_in options)
@@ -213,12 +226,19 @@ verify_alike options =
     let alike = flag_alike verify_shape options in
     let own : Text → Bool = λ name. is_set name (values_in options) in
     let found : Text → Bool = λ name. is_set name (matched (rows_of_given verify_shape options)) in
+    let list : List Text = ignored_in (matched (rows_of_given verify_shape options)) in
     ap₂ (λ (a b : Bool). plan_with a b (found (codes "strict")) (found (codes "explain")) (found (codes "spans"))
-    (found (codes "names"))) (alike (codes "keep-going") refl) (alike (codes "quiet") refl)
+    (found (codes "names")) (found (codes "variations")) list) (alike (codes "keep-going") refl)
+    (alike (codes "quiet") refl)
     ∙ ap₂ (λ (c d : Bool). plan_with (own (codes "keep-going")) (own (codes "quiet")) c d (found (codes "spans"))
-    (found (codes "names"))) (alike (codes "strict") refl) (alike (codes "explain") refl)
+    (found (codes "names")) (found (codes "variations")) list) (alike (codes "strict") refl)
+    (alike (codes "explain") refl)
     ∙ ap₂ (λ (e f : Bool). plan_with (own (codes "keep-going")) (own (codes "quiet")) (own (codes "strict"))
-    (own (codes "explain")) e f) (alike (codes "spans") refl) (alike (codes "names") refl)
+    (own (codes "explain")) e f (found (codes "variations")) list) (alike (codes "spans") refl)
+    (alike (codes "names") refl)
+    ∙ ap₂ (λ (g : Bool) (ignored : List Text). plan_with (own (codes "keep-going")) (own (codes "quiet"))
+    (own (codes "strict")) (own (codes "explain")) (own (codes "spans")) (own (codes "names")) g ignored)
+    (alike (codes "variations") refl) (ignored_alike options)
 
 match_alike : (names : OptionNames) (options : List Given)
     → Agrees (matched (rows_of_given (match_shape names) options)) (values_in options)
@@ -241,7 +261,7 @@ match_alike names options =
     }
 
 of_verify_only : (a b : Said) → a.command ≡ codes "verify" → b.command ≡ codes "verify"
-    → verify_plan_of a.value ≡ verify_plan_of b.value → SaysTheSame a b
+    → VerifiesAlike a.value b.value → SaysTheSame a b
 of_verify_only a b e f same = record {
   command = e ∙ sym f;
   on_verify = λ is. same;
@@ -286,7 +306,8 @@ says_it names are (verify options) plain =
     record {
       passes = no_fault names (codes "verify") verify_shape rest refl refl refl takes.passes;
       says = subst (λ (p : Text × List Row). SaysTheSame (said_by p) (said_in (verify options))) (sym is)
-          (of_verify_only _ _ refl refl (verify_alike options));
+          (of_verify_only _ _ refl refl
+          (record { plan = verify_alike options; ignored = ignored_alike options }));
     }
 says_it names are (stub replies) plain =
     let is = asked_is names (codes "stub") stub_shape replies refl refl refl in

@@ -1,23 +1,11 @@
 -- The rows of options that were each given once, and the defaults of the others.
-use Rattle.std.proofs.Common.{◌≡◌, ◌∙◌, ◌++◌, ◌||◌, Bool, true, false, true≢false, List, [], ◌∷◌, Option, Some, None, IsSome, cond, find, fold, map, option_map, option_and_then, bytes_eq, refl, sym, subst, ap, ap₂, slice_get}
-use Rattle.std.specs.Prelude.{if◌then◌else◌}
-use Rattle.std.specs.List.{list_all, list_any}
-use Rattle.std.specs.Option.{option_map_or, option_or}
-use Rattle.std.proofs.lemmas.Bool.{or_parts}
-use Rattle.std.proofs.lemmas.List.{append-nil}
-use Rattle.std.proofs.lemmas.List.Folds.{find-append}
-use Rattle.std.proofs.lemmas.Slice.Eq.{bytes_eq-Decides}
-use Rattle.clap.specs.Facts.{explicit_source}
-use Rattle.clap.specs.Faults.{defaults_fault, given_default_fault}
-use Rattle.clap.specs.Kinds.{Kinds, or_else}
-use Rattle.clap.specs.Takes.{is_given}
+use Rattle.std.proofs.Common.{◌≡◌, ◌∙◌, ◌++◌, ◌||◌, Bool, true, false, true≢false, List, [], ◌∷◌, Option, Some, None, IsSome, cond, find, fold, map, option_map, option_and_then, bytes_eq, refl, sym, subst, ap, ap₂, slice_get, if◌then◌else◌, append-nil}
+use Rattle.std.specs.{List.list_all, List.list_any, Option.option_map_or, Option.option_or}
+use Rattle.std.proofs.{lemmas.Bool.or_parts, lemmas.List.Folds.find-append, lemmas.Slice.Eq.bytes_eq-Decides}
+use Rattle.clap.specs.{Facts.explicit_source, Faults.defaults_fault, Faults.given_default_fault, Kinds.Kinds, Kinds.or_else, Takes.is_given, declared.builder.value_parser.Reading.Reading, declared.parser.matches.ValueSource.ValueSource, declared.parser.matches.ValueSource.TheVariants.CommandLine, declared.parser.matches.ValueSource.TheVariants.DefaultValue}
 use Rattle.clap.specs.Walk.{Row, Rule, Text, at_row, default_rows, first_of, has_row, is_empty, more_values, reading_by, with_default, with_values, without}
-use Rattle.clap.specs.declared.builder.value_parser.Reading.{Reading}
 use Rattle.clap.specs.declared.builder.value_parser.Reading.TheVariants as reading
-use Rattle.clap.specs.declared.parser.matches.ValueSource.{ValueSource}
-use Rattle.clap.specs.declared.parser.matches.ValueSource.TheVariants.{CommandLine, DefaultValue}
-use Rattle.clap.proofs.SimpleLemmas.{is_nil}
-use Rattle.clap.proofs.WalkLemmas.{both, find-map}
+use Rattle.clap.proofs.{SimpleLemmas.is_nil, WalkLemmas.both, WalkLemmas.find-map}
 use Rattle.arbiter_laws.specs.PlainArguments.{Given, name_of, value_of, values_in}
 
 -- the row of a value, of which there is none yet

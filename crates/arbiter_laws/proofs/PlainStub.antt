@@ -1,17 +1,12 @@
 -- `clap`'s walk over what a stub plays: each argument is one more value of its rule `words`.
-use Rattle.std.proofs.Common.{◌≡◌, ◌∙◌, ◌++◌, Bool, false, List, [], ◌∷◌, Option, Some, None, fold, codes, refl, subst, ap, ap₂}
-use Rattle.std.specs.Prelude.{if◌then◌else◌, unwrap_or}
-use Rattle.std.specs.List.{AllByRecursion}
-use Rattle.std.specs.Option.{option_map_or}
-use Rattle.std.proofs.lemmas.List.{append_assoc}
+use Rattle.std.proofs.Common.{◌≡◌, ◌∙◌, ◌++◌, Bool, false, List, [], ◌∷◌, Option, Some, None, fold, codes, refl, subst, ap, ap₂, append_assoc, if◌then◌else◌, unwrap_or}
+use Rattle.std.specs.{List.AllByRecursion, Option.option_map_or}
 use Rattle.clap.specs.Faults.{bundle_fault, check_fault, defaults_fault, flag_word_fault, level_fault, settle_fault, step_fault, turn_fault, walk_fault, word_fault}
-use Rattle.clap.specs.Kinds.{Kinds, or_else}
+use Rattle.clap.specs.{Kinds.Kinds, Kinds.or_else, declared.parser.matches.ValueSource.TheVariants.CommandLine}
 use Rattle.clap.specs.Walk.{Held, Row, Step, Text, Waiting, Walk, after_step, all_of, finished, idle, long_or_other, nothing_held, option, positional, rows_after, settled, short_or_plain, trailing, value, walk, walk_from, walked, with_default, with_values, word_met}
 use Rattle.clap.specs.declared.builder.value_parser.Reading.TheVariants as reading
-use Rattle.clap.specs.declared.parser.matches.ValueSource.TheVariants.{CommandLine}
 use Rattle.arbiter_laws.specs.PlainArguments.{has_hyphen}
-use Rattle.arbiter_laws.proofs.PlainOptions.{stub_shape}
-use Rattle.arbiter_laws.proofs.PlainRows.{defaults_fine}
+use Rattle.arbiter_laws.proofs.{PlainOptions.stub_shape, PlainRows.defaults_fine}
 use Rattle.arbiter_laws.proofs.PlainWalk.{held, no_dashes, no_long, no_short}
 
 -- the rows of these words

@@ -1,17 +1,11 @@
 -- `clap`'s walk over options that are each given once: a lemma for one option more (`step`), and then all of them
 -- (`steps`).
-use Rattle.std.proofs.Common.{◌≡◌, ◌≢◌, ◌∙◌, ◌<◌, ◌++◌, ◌&&◌, ◌||◌, suc, Bool, true, false, not, List, [], ◌∷◌, length, Option, Some, None, All, AllPairs, fold, flat_map, map, option_and_then, bytes_eq, codes, refl, sym, subst, ap, ap₂, arith}
-use Rattle.std.specs.Prelude.{if◌then◌else◌, slice_index_or}
-use Rattle.std.specs.List.{AllByRecursion, list_all}
-use Rattle.std.specs.Option.{option_map_or}
-use Rattle.std.proofs.lemmas.Bool.{false_from_ne_true}
-use Rattle.std.proofs.lemmas.List.{append-nil, append_assoc}
-use Rattle.std.proofs.lemmas.List.Folds.{list_any-append}
-use Rattle.std.proofs.lemmas.Slice.Eq.{bytes_eq-Decides}
+use Rattle.std.proofs.Common.{◌≡◌, ◌≢◌, ◌∙◌, ◌<◌, ◌++◌, ◌&&◌, ◌||◌, suc, Bool, true, false, not, List, [], ◌∷◌, length, Option, Some, None, All, AllPairs, fold, flat_map, map, option_and_then, bytes_eq, codes, refl, sym, subst, ap, ap₂, arith, if◌then◌else◌, slice_index_or, append-nil, append_assoc}
+use Rattle.std.specs.{List.AllByRecursion, List.list_all, Option.option_map_or}
+use Rattle.std.proofs.{lemmas.Bool.false_from_ne_true, lemmas.List.Folds.list_any-append, lemmas.Slice.Eq.bytes_eq-Decides}
 use Rattle.clap.specs.Faults.{bundle_fault, check_fault, defaults_fault, flag_word_fault, level_fault, repeat_fault, settle_fault, step_fault, turn_fault, walk_fault, word_fault}
-use Rattle.clap.specs.Kinds.{Kinds, or_else}
+use Rattle.clap.specs.{Kinds.Kinds, Kinds.or_else, Simple.Shape}
 use Rattle.clap.specs.Lexer.{long_of, long_of_rest, short_of, short_of_rest, strip_byte}
-use Rattle.clap.specs.Simple.{Shape}
 use Rattle.clap.specs.Walk.{Held, Row, Step, Text, Walk, after_step, finished, has_row, idle, long_or_other, next, nothing_held, option, plain_word, rows_after, settled, settled_rows, short_or_plain, trailing, walk, walk_from, walked, with_default, word_met}
 use Rattle.clap.specs.declared.error.kind.ErrorKind.TheVariants as kind
 use Rattle.arbiter_laws.specs.PlainArguments.{Given, flag, has_hyphen, name_of, valued, written}

@@ -1,15 +1,11 @@
 -- What arguments do that ask for no plan.
 use Rattle.std.proofs.Common.{◌≡◌, ◌≢◌, ◌∙◌, ◌⊎◌, ℕ, List, [], ◌∷◌, Ok, Err, sym, subst, inl, inr}
 use Rattle.clap.specs.Words.{IsAmong, Kinds, Text, kind_of}
-use Rattle.clap.specs.declared.error.kind.ErrorKind.{ErrorKind}
-use Rattle.clap.specs.declared.error.kind.ErrorKind.TheVariants.{DisplayHelp, DisplayVersion}
-use Rattle.arbiter_cli.specs.Plans.{IsReading}
-use Rattle.arbiter_laws.specs.Arguments.{AreRefused}
-use Rattle.arbiter_cli.specs.declared.fault.WordsFault.{WordsFault}
+use Rattle.clap.specs.{declared.error.kind.ErrorKind.ErrorKind, declared.error.kind.ErrorKind.TheVariants.DisplayHelp, declared.error.kind.ErrorKind.TheVariants.DisplayVersion}
+use Rattle.arbiter_cli.specs.{Plans.IsReading, declared.fault.WordsFault.WordsFault, declared.plan.Plan.Plan}
+use Rattle.arbiter_laws.specs.{Arguments.AreRefused, Programs.RefusesArguments, Programs.ShowsHelp}
 use Rattle.arbiter_cli.specs.declared.fault.WordsFault.TheVariants as faults
-use Rattle.arbiter_cli.specs.declared.plan.Plan.{Plan}
 use Rattle.byte_devices.specs.Devices.{OutputState}
-use Rattle.arbiter_laws.specs.Programs.{RefusesArguments, ShowsHelp}
 use Rattle.chess_arbiter.specs.Program.{WritesHelp, ReportsArguments}
 use Rattle.arbiter_laws.proofs.PlainArguments.{both_same}
 
@@ -36,6 +32,7 @@ refusal ws k faults.NoMemory one is = tt
 refusal ws k (faults.BadLevel f) one (names, are, (none, named, h)) = absurd (no_fault k _ none (one names))
 refusal ws k (faults.BadFen f) one (names, are, (none, named, h)) = absurd (no_fault k _ none (one names))
 refusal ws k faults.BadDate one (names, are, (none, named, h)) = absurd (no_fault k _ none (one names))
+refusal ws k faults.BadKind one (names, are, (none, named, h)) = absurd (no_fault k _ none (one names))
 
 no_plan : (ws : List Text) (k : ErrorKind) (plan : Plan) → AreRefused ws (k ∷ []) → IsReading ws (Ok plan) → ⊥
 no_plan ws k plan one (names, are, (none, is)) = no_fault k _ none (one names)
@@ -58,6 +55,7 @@ shown k faults.NoMemory w w' status help is (same, ends) = inr (ends, inl same)
 shown k (faults.BadLevel f) w w' status help is reported = absurd is
 shown k (faults.BadFen f) w w' status help is reported = absurd is
 shown k faults.BadDate w w' status help is reported = absurd is
+shown k faults.BadKind w w' status help is reported = absurd is
 
 pub shows_help : (ws : List Text) (k : ErrorKind) → (k ≡ DisplayHelp) ⊎ (k ≡ DisplayVersion) → AreRefused ws (k ∷ [])
     → ShowsHelp ws
@@ -84,6 +82,7 @@ refused k faults.NoMemory w w' status help version is (same, ends) = (same, inr 
 refused k (faults.BadLevel f) w w' status help version is reported = absurd is
 refused k (faults.BadFen f) w w' status help version is reported = absurd is
 refused k faults.BadDate w w' status help version is reported = absurd is
+refused k faults.BadKind w w' status help version is reported = absurd is
 
 pub refuses_arguments : (ws : List Text) (k : ErrorKind) → k ≢ DisplayHelp → k ≢ DisplayVersion → AreRefused ws (k ∷ [])
     → RefusesArguments ws

@@ -75,11 +75,12 @@ IsVariant text = (text ≡ codes "normal") ⊎ (text ≡ codes "fischerandom")
 abbrev pub IsDraws : Text → Type 0
 IsDraws text = (text ≡ codes "claimed") ⊎ (text ≡ codes "automatic")
 
--- `verify` has this option: one of its six flags
+-- `verify` has this option: one of its seven flags, or `--ignore`
 abbrev pub IsOfVerify : Given → Type 0
-IsOfVerify (valued name value) = ⊥
+IsOfVerify (valued name value) = (has_hyphen value ≡ false) × (name ≡ codes "ignore")
 IsOfVerify (flag name) = (name ≡ codes "keep-going") ⊎ (name ≡ codes "quiet") ⊎ (name ≡ codes "strict")
     ⊎ (name ≡ codes "explain") ⊎ (name ≡ codes "spans") ⊎ (name ≡ codes "names")
+    ⊎ (name ≡ codes "variations")
 
 -- `match` has this option, which may have this value
 abbrev pub IsOfMatch : Given → Type 0

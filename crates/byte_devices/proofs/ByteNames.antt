@@ -1,7 +1,6 @@
 -- The table of the bytes of names.
 use Rattle.std.proofs.Common.{◌≡◌, ℕ, ◌<◌, nat_eq, get_or, refl}
-use Rattle.byte_devices.specs.declared.bytes.TheConstants.{NAMES}
-use Rattle.byte_devices.specs.Bytes.{is_name_byte}
+use Rattle.byte_devices.specs.{declared.bytes.TheConstants.NAMES, Bytes.is_name_byte}
 use Rattle.byte_devices.proofs.shared.ByteTables.{agree_below, class_by_test}
 
 pub name_class : (b : ℕ) → b < 256 → nat_eq (get_or NAMES b 0) 110 ≡ is_name_byte b

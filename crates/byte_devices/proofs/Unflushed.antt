@@ -1,13 +1,8 @@
 -- Bytes that were written, counted.
-use Rattle.std.proofs.Common.{◌≡◌, ℕ, ◌<◌, ◌≤◌, ◌==◌, ◌&&◌, nat_lt, Bool, true, false, if◌then◌else◌, List, [], length, take, Option, None, Some, Result, Ok, Err, refl, sym, ap, subst, ◌∙◌, arith, append-nil}
-use Rattle.std.proofs.lemmas.Bool.{and_parts}
-use Rattle.std.proofs.lemmas.Bool.Decides.{nat_tests}
-use Rattle.std.proofs.lemmas.List.{length-take-le}
-use Rattle.std.specs.Io.{WritesAtMost}
-use Rattle.std.specs.Io.KnownBytes.{Keeps, Appends, WriteAppends}
-use Rattle.byte_devices.specs.declared.counted.Counts.{Counts}
-use Rattle.byte_devices.specs.Devices.{OutputState, WriteStep, saturating_add}
-use Rattle.byte_devices.specs.ties.Counting.{one_failure_more, write_passed_on, counts_after_write}
+use Rattle.std.proofs.Common.{◌≡◌, ℕ, ◌<◌, ◌≤◌, ◌==◌, ◌&&◌, nat_lt, Bool, true, false, if◌then◌else◌, List, [], length, take, Option, None, Some, Result, Ok, Err, refl, sym, ap, subst, ◌∙◌, arith, append-nil, length-take-le}
+use Rattle.std.proofs.{lemmas.Bool.and_parts, lemmas.Bool.Decides.nat_tests}
+use Rattle.std.specs.{Io.WritesAtMost, Io.KnownBytes.Keeps, Io.KnownBytes.Appends, Io.KnownBytes.WriteAppends}
+use Rattle.byte_devices.specs.{declared.counted.Counts.Counts, Devices.OutputState, Devices.WriteStep, Devices.saturating_add, ties.Counting.one_failure_more, ties.Counting.write_passed_on, ties.Counting.counts_after_write}
 
 abbrev pub state_of : Option (List ℕ) → Counts → OutputState
 state_of known c = record { known_bytes = known; failure_count = c.failures; unflushed = c.unflushed }

@@ -3,7 +3,7 @@ use Prim.Native.String.{String as Text}
 use Rattle.std.specs.Prelude.{ℕ, ◌==◌, Bool, ◌&&◌, ◌||◌, if◌then◌else◌, List, [], ◌∷◌, take, nat_le, nat_lt, codes, slice_index_or}
 use Rattle.std.specs.Str.{bytes_eq}
 
--- the code of a text's first character, 0 for the empty text; it is used for one ASCII character: `byte "A"` is 65
+-- the code of a text's first character, 0 for the empty text: `byte "A"` is 65
 abbrev pub byte : Text → ℕ
 byte text = slice_index_or (codes text) 0 0
 
@@ -37,18 +37,16 @@ is_digit c = nat_le (byte "0") c && nat_le c (byte "9")
 abbrev pub is_blank : ℕ → Bool
 is_blank c = (c == space) || (c == tab)
 
--- whether a byte may be in a name, as of a PGN tag or of a CECP feature: a letter (A to Z, a to z), a digit or `_`
+-- whether a byte may be in a name, as of a PGN tag or a CECP feature: a letter, a digit or `_`
 abbrev pub is_name_byte : ℕ → Bool
 is_name_byte c = is_letter c || (is_digit c || c == byte "_")
 
 -- ---- texts
 
--- a byte as tags, comments on results, logs and explanations show it: `?` (63) in place of what is not printable ASCII
--- (32 to 126)
+-- a byte as it is shown: `?` in place of what is not printable ASCII (32 to 126)
 abbrev pub shown_byte : ℕ → ℕ
 shown_byte c = if nat_lt c 32 || nat_lt 126 c then byte "?" else c
 
--- where reading begins: at 3 if `at` is 0 and the text begins with a UTF-8 byte order mark (EF BB BF), otherwise at
--- `at`
+-- where reading from `at` on begins: at 3 if `at` is 0 and the text begins with a byte order mark (EF BB BF)
 abbrev pub after_byte_order_mark : List ℕ → ℕ → ℕ
 after_byte_order_mark text at = if (at == 0) && bytes_eq (take 3 text) (239 ∷ 187 ∷ 191 ∷ []) then 3 else at

@@ -1,7 +1,6 @@
--- What a run (a call of a function that reads and writes, such as `run_session`) reads from an input and writes to an
--- output, no matter by how many reads and writes. Contracts describe it by two values, a `FromInput` and a `ToOutput`;
--- the relations here say how the devices' states before and after the run agree with them.
-use Rattle.std.specs.Prelude.{◌≡◌, ℕ, ◌-◌, nat_lt, Bool, true, false, if◌then◌else◌, List, [], ◌++◌, length, take}
+-- What a run (a call of a function such as `run_session`) reads from an input and writes to an output, by however many
+-- reads and writes, and how the devices' states before and after it agree with that.
+use Rattle.std.specs.Prelude.{◌≡◌, ℕ, ◌-◌, Bool, true, false, if◌then◌else◌, List, [], ◌++◌, length, take}
 use Rattle.std.specs.Io.KnownBytes.{Appends, Consumes, IsAtEnd}
 use Rattle.byte_devices.specs.Devices.{InputState, OutputState, saturating_increment, saturating_add, Begins}
 
@@ -36,33 +35,32 @@ pub record Devices : Type 0 where
 
 -- from its state `r` to `r'` the input gave just what `i` says
 pub record InputGave (r r' : InputState) (i : FromInput) : Type 0 where
-  -- if the bytes to come are known in `r`: they are `i.text` and then those to come in `r'`, which are known, too
+  -- if the bytes to come are known: they are `i.text`, and then those to come in `r'`
   pub bytes : Consumes r.known_bytes r'.known_bytes i.text
-  -- `i.early` is `i.text` without its last `r'.last_len` bytes, which the last successful read gave
+  -- `i.early` lacks the bytes that the last successful read gave
   pub early : i.early ≡ take (length i.text - r'.last_len) i.text
-  -- if the end was reported, no known byte is left
+  -- after a reported end no known byte is left
   pub at_end : i.ended ≡ true → IsAtEnd r'.known_bytes
-  -- if the end was reported, one more report of it was counted; otherwise the count stayed
+  -- a reported end is counted
   pub ends : r'.end_count ≡ (if i.ended then saturating_increment r.end_count else r.end_count)
-  -- if a read failed, one more failure was counted; otherwise the count stayed
+  -- a failure is counted
   pub failures : r'.failure_count ≡ (if i.failed then saturating_increment r.failure_count else r.failure_count)
-  -- as many silences more were counted as there were
+  -- all silences are counted
   pub silences : r'.silence_count ≡ saturating_add r.silence_count i.silences
 
 -- from its state `w` to `w'` the output took just what `o` says
 pub record OutputTook (w w' : OutputState) (o : ToOutput) : Type 0 where
-  -- if the bytes taken so far are known in `w`: in `w'` they are these, then `o.flushed`, then `o.left`
+  -- if the bytes taken are known: in `w'` they are those of `w`, then `o.flushed`, then `o.left`
   pub bytes : Appends w.known_bytes w'.known_bytes (o.flushed ++ o.left)
   -- if no flush succeeded, no bytes were flushed
   pub flushed : o.any_flush ≡ false → o.flushed ≡ []
   -- as many bytes are unflushed in `w'` as `o.left` has, besides those of `w`, unless a flush succeeded
   pub unflushed : w'.unflushed ≡ saturating_add (if o.any_flush then 0 else w.unflushed) (length o.left)
-  -- if a write or a flush failed, one more failure was counted; otherwise the count stayed
+  -- a failure is counted
   pub failures : w'.failure_count ≡ (if o.failed then saturating_increment w.failure_count else w.failure_count)
 
--- there are an `i` and an `o` for which `P i o` holds, and from the devices' states `d` to `d'` the input gave just
--- what `i` says and the output took just what `o` says. Contracts of runs have this form: `P` is what they say of a run.
--- This is the form of runs that may wait for the input, as a match does
+-- from the devices' states `d` to `d'` there was a run, of which `P i o` holds for some `i` that the input gave and
+-- some `o` that the output took. It may have waited for the input, as a match does
 abbrev pub RanWithWaits : (FromInput → ToOutput → Type 0) → Devices → Devices → Type 0
 RanWithWaits P d d' =
     (i : FromInput) × (o : ToOutput) × InputGave d.input d'.input i × OutputTook d.output d'.output o × P i o
@@ -79,25 +77,24 @@ IsWhole i = (i.ended ≡ true) × (i.failed ≡ false)
 
 -- ---- what went to an output
 
--- what went to an output: nothing. No byte was written, no flush succeeded, and nothing failed
+-- nothing went to an output: no byte was written, no flush succeeded, and nothing failed
 abbrev pub nothing : ToOutput
 nothing = record { flushed = []; left = []; any_flush = false; failed = false }
 
--- what went to an output: all of this text was written and flushed, even if it is empty, and nothing failed
+-- all of this text was written and flushed, even if it is empty, and nothing failed
 abbrev pub all_of : List ℕ → ToOutput
 all_of text = record { flushed = text; left = []; any_flush = true; failed = false }
 
--- what went to an output, if a flush follows what is written for each of these items, such as lines that are answered:
--- all of this text was written and flushed, and nothing failed. Without any item, no flush succeeded
-abbrev pub all_for : {A : Type 0} → List A → List ℕ → ToOutput
-all_for items text = record { flushed = text; left = []; any_flush = nat_lt 0 (length items); failed = false }
+-- all of this text was written and flushed, and nothing failed; `flushes` is whether a flush succeeded
+abbrev pub all_flushed : Bool → List ℕ → ToOutput
+all_flushed flushes text = record { flushed = text; left = []; any_flush = flushes; failed = false }
 
--- what went to an output: all of this text was written, no flush succeeded, and nothing failed
+-- all of this text was written, no flush succeeded, and nothing failed
 abbrev pub all_unflushed : List ℕ → ToOutput
 all_unflushed text = record { flushed = []; left = text; any_flush = false; failed = false }
 
--- `o` is what went to an output: first what `before` says; then a beginning of `text`, maybe nothing or all of it, was
--- written and not flushed; and then a write or a flush failed
+-- first went to the output what `before` says, and then a beginning of `text`, maybe nothing or all of it, which was
+-- not flushed; then a write or a flush failed
 abbrev pub BreaksOffIn : ToOutput → List ℕ → ToOutput → Type 0
 BreaksOffIn before text o =
     (start : List ℕ) × Begins start text × (o ≡ record before { left = before.left ++ start; failed = true })

@@ -1,8 +1,6 @@
 -- The time that a level gives grows with the moves.
 use Rattle.std.proofs.Common.{ℕ, ◌+◌, ◌-◌, ◌≤◌, ◌<◌, arith}
-use Rattle.cecp_engine.specs.Levels.{LevelSeen, allotted}
-use Rattle.cecp_engine.specs.Clocks.{SideSeen, side_charged}
-use Rattle.cecp_engine.specs.ties.Bounds.{IsWithin}
+use Rattle.cecp_engine.specs.{Levels.LevelSeen, Levels.allotted, Clocks.SideSeen, Clocks.side_charged, ties.Bounds.IsWithin}
 use Rattle.chess_base.specs.declared.setup.TheConstants.{MOST_MOVES}
 use Rattle.cecp_engine.proofs.shared.Levels.{allotted_grows}
 

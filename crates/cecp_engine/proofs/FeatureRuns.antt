@@ -1,10 +1,7 @@
 -- What an engine accepts, item by item.
-use Rattle.std.proofs.Common.{◌≡◌, ℕ, true, List, [], ◌∷◌, ◌++◌, refl}
-use Rattle.std.specs.Prelude.{codes}
+use Rattle.std.proofs.Common.{◌≡◌, ℕ, true, List, [], ◌∷◌, ◌++◌, refl, codes}
 use Rattle.cecp_engine.specs.Items.{Item, takes, is_one, has_word, plays_fischerandom}
-use Rattle.cecp_engine.specs.ties.Taken.{said_again, fischerandom_again}
-use Rattle.cecp_engine.specs.Seen.{features_of}
-use Rattle.cecp_engine.specs.declared.features.Features.{Features}
+use Rattle.cecp_engine.specs.{ties.Taken.said_again, ties.Taken.fischerandom_again, Seen.features_of, declared.features.Features.Features}
 use Rattle.cecp_engine.proofs.shared.Items.{last_said-snoc}
 
 pub takes-snoc : (name : List ℕ) (items : List Item) (i : Item)

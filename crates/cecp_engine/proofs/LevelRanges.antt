@@ -1,17 +1,11 @@
 -- The numbers of a level that a text denotes are within its ranges.
-use Rattle.std.proofs.Common.{◌≡◌, ℕ, zero, suc, ◌+◌, ◌-◌, ◌*◌, ◌^◌, ◌<◌, ◌≤◌, Bool, true, false, List, length, take, drop, Option, None, Some, Err, refl, ap, subst, arith}
-use Rattle.std.specs.Prelude.{◌==◌, ◌&&◌, ◌||◌, nat_lt, nat_le, if◌then◌else◌, option_and_then, option_map}
-use Rattle.std.specs.List.{list_all, position_or_len}
-use Rattle.std.specs.Result.{result_ok}
-use Rattle.std.specs.Str.Parse.{digits_value}
-use Rattle.std.proofs.lemmas.Bool.Decides.{nat_tests}
-use Rattle.std.proofs.lemmas.Str.Parse.{digits_value_short}
+use Rattle.std.proofs.Common.{◌≡◌, ℕ, zero, suc, ◌+◌, ◌-◌, ◌*◌, ◌^◌, ◌<◌, ◌≤◌, Bool, true, false, List, length, take, drop, Option, None, Some, Err, refl, ap, subst, arith, ◌==◌, ◌&&◌, ◌||◌, nat_lt, nat_le, if◌then◌else◌, option_and_then, option_map}
+use Rattle.std.specs.{List.list_all, List.position_or_len, Result.result_ok, Str.Parse.digits_value}
+use Rattle.std.proofs.{lemmas.Bool.Decides.nat_tests, lemmas.Str.Parse.digits_value_short}
 use Rattle.byte_devices.specs.Bytes.{byte, is_digit}
-use Rattle.text_lines.specs.Lines.{without_front_blanks}
-use Rattle.text_lines.specs.Words.{short_number, word_of, argument_of}
+use Rattle.text_lines.specs.{Lines.without_front_blanks, Words.short_number, Words.word_of, Words.argument_of}
 use Rattle.cecp_engine.specs.Levels.{LevelSeen, base_of, level_of, level_reading, level_text, level_with, milliseconds_of, thousandths_of}
-use Rattle.cecp_engine.specs.declared.level_fault.LevelFault.TheVariants.{Words}
-use Rattle.cecp_engine.specs.ties.Bounds.{IsLevel}
+use Rattle.cecp_engine.specs.{declared.level_fault.LevelFault.TheVariants.Words, ties.Bounds.IsLevel}
 use Rattle.cecp_engine.proofs.LevelTexts.{numeral, level_back}
 
 same_value : {a b : ℕ} → Some a ≡ Some b → a ≡ b

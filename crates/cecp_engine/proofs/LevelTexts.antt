@@ -1,21 +1,11 @@
 -- What is written of a level is parsed as that level: its three words have neither spaces nor tabs, and each is parsed as
 -- the number that it was written for.
-use Rattle.std.proofs.Common.{◌≡◌, ℕ, zero, suc, ◌+◌, ◌*◌, ◌/◌, ◌%◌, ◌<◌, ◌≤◌, Bool, true, false, eqb, ltb, leb, List, [], ◌∷◌, ◌++◌, length, take, drop, Some, refl, sym, ap, ◌∙◌, arith, rules}
-use Rattle.std.specs.Prelude.{decimal, ◌==◌}
-use Rattle.std.specs.List.{list_all, position_or_len}
-use Rattle.std.specs.Str.{IsAscii}
-use Rattle.std.proofs.lemmas.Bool.{and_parts}
-use Rattle.std.proofs.lemmas.Bool.Decides.{nat_tests}
-use Rattle.std.proofs.lemmas.List.{append-nil, length-append, take_all}
+use Rattle.std.proofs.Common.{◌≡◌, ℕ, zero, suc, ◌+◌, ◌*◌, ◌/◌, ◌%◌, ◌<◌, ◌≤◌, Bool, true, false, eqb, ltb, leb, List, [], ◌∷◌, ◌++◌, length, take, drop, Some, refl, sym, ap, ◌∙◌, arith, rules, IsAscii, decimal, ◌==◌, append-nil, length-append, take_all}
+use Rattle.std.specs.{List.list_all, List.position_or_len, Char.digit_value, Str.Parse.digits_value}
+use Rattle.std.proofs.{lemmas.Bool.and_parts, lemmas.Bool.Decides.nat_tests, lemmas.Str.Parse.IsNumeralModel, lemmas.Str.Parse.numerals_by_value, lemmas.Str.digit_value_digit, lemmas.Str.IsAscii-append, lemmas.Str.Ascii.IsAscii-nil, lemmas.Str.Ascii.IsAscii-cons}
 use Rattle.std.proofs.lemmas.Fmt.{digits_decimal, digits_value-decimal, length-decimal-le, decimal_nonempty}
-use Rattle.std.proofs.lemmas.Str.Parse.{IsNumeralModel, numerals_by_value}
-use Rattle.std.specs.Char.{digit_value}
-use Rattle.std.specs.Str.Parse.{digits_value}
-use Rattle.std.proofs.lemmas.Str.{digit_value_digit, IsAscii-append}
-use Rattle.std.proofs.lemmas.Str.Ascii.{IsAscii-nil, IsAscii-cons}
 use Rattle.byte_devices.specs.Bytes.{byte, is_digit, is_blank}
-use Rattle.text_lines.specs.Lines.{without_front_blanks}
-use Rattle.text_lines.specs.Words.{short_number, word_of, argument_of}
+use Rattle.text_lines.specs.{Lines.without_front_blanks, Words.short_number, Words.word_of, Words.argument_of}
 use Rattle.cecp_engine.specs.ties.Bounds.{IsLevel}
 use Rattle.cecp_engine.specs.Levels.{LevelSeen, level_of, level_reading, level_text, base_of, base_text, two_digits, decimals_text, increment_text, milliseconds_of, thousandths_of}
 

@@ -1,6 +1,6 @@
 -- The items of a `feature` line (CECP, version 2: section 9), and what an engine says by them.
 use Rattle.std.specs.Prelude.{ℕ, zero, suc, ◌+◌, ◌==◌, ◌&&◌, ◌||◌, nat_lt, Bool, true, false, not, if◌then◌else◌, List, [], ◌∷◌, length, take, drop, codes, Option, None, Some}
-use Rattle.std.specs.List.{fold, list_all, list_any, position_or_len, prefix_len, slice_split, take_while}
+use Rattle.std.specs.List.{fold, list_all, list_any, slice_split, take_while}
 use Rattle.std.specs.Option.{option_map_or}
 use Rattle.std.specs.Str.{bytes_eq}
 use Rattle.byte_devices.specs.Bytes.{byte, is_digit, is_blank, is_name_byte}
@@ -20,24 +20,25 @@ pub record Item : Type 0 where
   pub name : List ℕ
   pub value : Value
 
--- the value that a text begins with, and the text after it. The value is in double quotes, and may be empty, or it is a
--- run of digits; `None` if there is neither, or an opening quote without a closing one
+-- the value in double quotes whose first quote is before this text: what comes before the next quote, maybe nothing,
+-- and the text after that quote; `None` if no quote follows
+abbrev pub quoted_value : List ℕ → Option (Value × List ℕ)
+quoted_value text = let inside = take_while (λ b. not (b == byte "\"")) text in
+    if nat_lt (length inside) (length text)
+    then Some (record { quoted = true; text = inside }, drop (length inside + 1) text) else None
+
+-- the value that a text begins with, and the text after it: a text in double quotes, or a run of digits; `None` if
+-- there is neither
 abbrev pub value_of : List ℕ → Option (Value × List ℕ)
 value_of [] = None
-value_of (c ∷ cs) =
-    let closing = position_or_len (λ b. b == byte "\"") cs in
-    let n = prefix_len is_digit (c ∷ cs) in
-    if c == byte "\"" && nat_lt closing (length cs)
-    then Some (record { quoted = true; text = take closing cs }, drop (closing + 1) cs)
-    else if is_digit c then Some (record { quoted = false; text = take n (c ∷ cs) }, drop n (c ∷ cs)) else None
+value_of (c ∷ cs) = let digits = take_while is_digit (c ∷ cs) in if c == byte "\"" then quoted_value cs
+    else if is_digit c then Some (record { quoted = false; text = digits }, drop (length digits) (c ∷ cs)) else None
 
 -- the item that a text begins with, such as `ping=1` or `myname="Sjeng"`, and the text after it, without spaces and
--- tabs at its front. An item is a name of one or more letters, digits or `_`, then `=`, then a value (`value_of`), and
--- right after the value comes a space, a tab or the end. `None` if the text begins with no item
+-- tabs at its front: a name of letters, digits and `_`, then `=`, a value, and a space, a tab or the end. `None`
+-- without one
 unfoldable pub item_of : List ℕ → Option (Item × List ℕ)
-item_of text =
-    let name = take_while is_name_byte text in
-    let rest = drop (length name) text in
+item_of text = let name = take_while is_name_byte text in let rest = drop (length name) text in
     if length name == 0 || not (bytes_eq (take 1 rest) (codes "=")) then None else do
       (value, after) ← value_of (drop 1 rest)
       if list_all is_blank (take 1 after) then Some (record { name = name; value = value }, without_front_blanks after)
@@ -53,15 +54,14 @@ is_one v = not v.quoted && bytes_eq v.text (codes "1")
 abbrev pub ends_handshake : Item → Bool
 ends_handshake i = bytes_eq i.name (codes "done") && is_one i.value
 
--- the items that a text begins with, at most n (the first argument). A malformed item and all after it are left out,
--- and so are all after `done=1`
+-- the items that a text begins with, at most n (the first argument), up to `done=1` or what is no item
 abbrev pub first_items : ℕ → List ℕ → List Item
 first_items zero text = []
 first_items (suc n) text =
     option_map_or (λ p. if ends_handshake p.0 then p.0 ∷ [] else p.0 ∷ first_items n p.1) (item_of text) []
 
 -- the items of a `feature` line, from the text after `feature`. A malformed item and all after it are left out, and so
--- are all after `done=1`. The text's length is a bound on their number, since each takes at least three bytes
+-- are all after `done=1`. There are no more than bytes
 unfoldable pub items_of : List ℕ → List Item
 items_of text = first_items (length text) text
 
@@ -71,18 +71,17 @@ items_of text = first_items (length text) text
 abbrev pub last_said : {A : Type 0} → (Value → A) → A → List ℕ → List Item → A
 last_said f default name items = fold (λ before i. if bytes_eq i.name name then f i.value else before) default items
 
--- whether an engine that sent these items has the feature `name` on: the last item of that name has the value 1,
--- without quotes. If there is no such item, `time` and `draw` are on and others off, which are CECP's defaults for
--- `ping`, `setboard`, `san`, `usermove`, `time` and `draw`
+-- whether an engine that sent these items has the feature `name` on: the last item of that name has the value 1.
+-- Without one, `time` and `draw` are on and others off, as in CECP
 unfoldable pub takes : List ℕ → List Item → Bool
 takes name items = last_said is_one (bytes_eq name (codes "time") || bytes_eq name (codes "draw")) name items
 
--- whether `text`, a list with commas, spaces or tabs between, such as `normal,fischerandom`, has this word
+-- whether `text`, such as `normal,fischerandom`, has this word; commas, spaces and tabs separate words
 unfoldable pub has_word : List ℕ → List ℕ → Bool
 has_word word text = list_any (λ piece. bytes_eq piece word) (slice_split (λ c. is_blank c || (c == byte ",")) text)
 
--- whether an engine that sent these items plays Chess960: its last item `variants` names `fischerandom`, or there is no
--- item `variants` (CECP then assumes that it plays all variants)
+-- whether an engine that sent these items plays Chess960: its last item `variants` names `fischerandom`, or it sent
+-- none (CECP then assumes that it plays all variants)
 unfoldable pub plays_fischerandom : List Item → Bool
 plays_fischerandom items = last_said (λ v. has_word (codes "fischerandom") v.text) true (codes "variants") items
 

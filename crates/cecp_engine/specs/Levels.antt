@@ -24,24 +24,22 @@ pub record LevelSeen : Type 0 where
 unfoldable pub thousandths_of : List ℕ → Option ℕ
 thousandths_of decimals = option_map (λ n. n * 10 ^ (3 - length decimals)) (short_number 3 decimals)
 
--- the milliseconds that a text of seconds denotes: 1 to `most` digits (`2` is 2000), or these with a point and 1 to 3
+-- the milliseconds that a text of seconds denotes: 1 to `most` digits (`2` is 2000), perhaps with a point and 1 to 3
 -- decimals (`0.25` is 250); `None` for any other text
 unfoldable pub milliseconds_of : ℕ → List ℕ → Option ℕ
-milliseconds_of most text =
-    let point = position_or_len (λ c. c == byte ".") text in do
-      seconds ← short_number most (take point text)
-      thousandths ← if point == length text then Some 0 else thousandths_of (drop (point + 1) text)
-      Some (1000 * seconds + thousandths)
+milliseconds_of most text = let point = position_or_len (λ c. c == byte ".") text in do
+  seconds ← short_number most (take point text)
+  thousandths ← if point == length text then Some 0 else thousandths_of (drop (point + 1) text)
+  Some (1000 * seconds + thousandths)
 
--- the base time that a text denotes, in milliseconds: minutes of 1 to 3 digits (`5` is 300,000), or these with a colon
--- and seconds of 1 or 2 digits, below 60, perhaps with decimals (`0:30` is 30,000, `1:5` is 65,000, `0:08.5` is 8,500);
--- `None` for any other text
+-- the base time that a text denotes, in milliseconds: minutes of 1 to 3 digits (`5` is 300,000), perhaps with a colon
+-- and seconds below 60 of 1 or 2 digits, perhaps with decimals (`1:5` is 65,000, `0:08.5` is 8,500); `None` for any
+-- other text
 unfoldable pub base_of : List ℕ → Option ℕ
-base_of text =
-    let colon = position_or_len (λ c. c == byte ":") text in do
-      minutes ← short_number 3 (take colon text)
-      milliseconds ← if colon == length text then Some 0 else milliseconds_of 2 (drop (colon + 1) text)
-      if nat_lt milliseconds 60000 then Some (60000 * minutes + milliseconds) else None
+base_of text = let colon = position_or_len (λ c. c == byte ":") text in do
+  minutes ← short_number 3 (take colon text)
+  milliseconds ← if colon == length text then Some 0 else milliseconds_of 2 (drop (colon + 1) text)
+  if nat_lt milliseconds 60000 then Some (60000 * minutes + milliseconds) else None
 
 -- the time control with these parts; if any is `None`, the first that is, as the fault
 abbrev pub level_with : Option ℕ → Option ℕ → Option ℕ → Result LevelSeen LevelFault
@@ -52,13 +50,10 @@ level_with (Some moves) (Some base) (Some increment) =
     Ok (record { moves = moves; base = base; increment = increment })
 
 -- the time control that a text of three words denotes, such as `40 5 0` or `0 0:10 0.1`: moves per session (1 to 3
--- digits), base time, and increment in seconds (1 to 3 digits, perhaps with decimals). Spaces and tabs before and after
--- each word are ignored. For any other text its first fault: that it has not three words, or the first word that
--- denotes nothing
+-- digits), base time, and increment in seconds (1 to 3 digits, perhaps with decimals). For any other text its first
+-- fault: that it has not three words, or the first word that denotes nothing
 unfoldable pub level_reading : List ℕ → Result LevelSeen LevelFault
-level_reading text =
-    let first = without_front_blanks text in
-    let second = argument_of first in
+level_reading text = let first = without_front_blanks text in let second = argument_of first in
     let third = argument_of second in
     if length third == 0 || nat_lt 0 (length (argument_of third)) then Err Words
     else level_with (short_number 3 (word_of first)) (base_of (word_of second)) (milliseconds_of 3 (word_of third))
@@ -80,22 +75,19 @@ level_fault_name Increment = codes "increment"
 abbrev pub two_digits : ℕ → List ℕ
 two_digits n = (byte "0" + n / 10) ∷ (byte "0" + n % 10) ∷ []
 
--- a part of a second, given in milliseconds, as it is written after whole seconds: nothing, or a point and decimals
--- without zeros at their end, such as `.5`, `.08` or `.125`
+-- a part of a second, given in milliseconds, as it is written after whole seconds: nothing, `.5`, `.08` or `.125`
 unfoldable pub decimals_text : ℕ → List ℕ
-decimals_text n =
-    if n == 0 then []
+decimals_text n = if n == 0 then []
     else if n % 100 == 0 then byte "." ∷ (byte "0" + n / 100) ∷ []
     else if n % 10 == 0 then byte "." ∷ two_digits (n / 10)
     else byte "." ∷ (byte "0" + n / 100) ∷ two_digits (n % 100)
 
--- a base time, given in milliseconds, as it is written: minutes, and seconds if there are any, such as `5`, `0:30` or
--- `0:08.5`
+-- a base time, given in milliseconds, as it is written: `5`, `0:30` or `0:08.5`
 unfoldable pub base_text : ℕ → List ℕ
 base_text base = decimal (base / 60000) ++ (if base % 60000 == 0 then [] else byte ":" ∷
     (two_digits (base % 60000 / 1000) ++ decimals_text (base % 1000)))
 
--- an increment, given in milliseconds, as it is written: in seconds, such as `2` or `0.1`
+-- an increment, given in milliseconds, as it is written in seconds: `2` or `0.1`
 unfoldable pub increment_text : ℕ → List ℕ
 increment_text increment = decimal (increment / 1000) ++ decimals_text (increment % 1000)
 
@@ -107,7 +99,6 @@ level_text level =
 -- ---- time
 
 -- the milliseconds that a side was given in all, after `k` moves: the base time for each session begun, and the
--- increment for each move. With 40 moves per session the number of sessions begun is 1 for k from 0 to 39, 2 from 40 to
--- 79; it is always 1 if one session lasts for the whole game
+-- increment for each move. With 40 moves per session the second begins after 40; without sessions there is one
 unfoldable pub allotted : LevelSeen → ℕ → ℕ
 allotted level k = level.base * (if level.moves == 0 then 1 else 1 + k / level.moves) + level.increment * k

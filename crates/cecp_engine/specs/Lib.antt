@@ -3,4 +3,5 @@ pub mod EngineLines
 pub mod Levels
 pub mod Clocks
 pub mod Seen
+pub mod shared
 pub mod ties

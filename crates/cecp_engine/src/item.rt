@@ -2,7 +2,8 @@
 
 ghost use Rattle.std.specs.Prelude.{◌≡◌, ◌==◌, ◌||◌, drop, take};
 ghost use Rattle.byte_devices.specs.Bytes.{byte, is_blank, is_digit, is_name_byte};
-ghost use Rattle.cecp_engine.specs.Items.{value_of, item_of, is_one, ends_handshake, items_of, is_known, has_word};
+ghost use Rattle.cecp_engine.specs.Items.{item_of, is_one, ends_handshake, items_of, is_known, has_word};
+ghost use Rattle.cecp_engine.specs.shared.Values.{value_cut};
 ghost use Rattle.cecp_engine.specs.ties.Taken.{said_again, fischerandom_again, value_read};
 ghost use Rattle.cecp_engine.specs.Seen.{value_seen, item_seen, item_read};
 ghost use Rattle.std.specs.List.{list_all, prefix_len, take_while};
@@ -45,7 +46,7 @@ fn split_digits(text: &[u8]) -> (&[u8], &[u8])
 // Reads the value of an item at a text's front, digits or a text in double quotes, and returns it with the text after
 // it; `None` if there is neither.
 fn read_value(text: &[u8]) -> Option<(Value<'_>, &[u8])>
-    ensures { value_read result ≡ value_of text.now }
+    ensures { value_read result ≡ value_cut text.now }
 {
     match text {
         [] => None,

@@ -1,10 +1,7 @@
 -- A server that began in a state ran from that state; and the exit status of what failed is 1.
 use Rattle.std.proofs.Common.{◌≡◌, ℕ, Result, Ok, Err, IsErr, refl, subst}
 use Rattle.byte_devices.specs.Transfers.{Devices, Ran}
-use Rattle.chess_cecp.specs.declared.run.End.{End}
-use Rattle.chess_cecp.specs.declared.run.Fault.{Fault}
-use Rattle.chess_cecp.specs.Served.{Served}
-use Rattle.chess_cecp.specs.Serving.{Server}
+use Rattle.chess_cecp.specs.{declared.run.End.End, declared.run.Fault.Fault, Served.Served, Serving.Server}
 use Rattle.chess_arbiter.specs.Program.{Serves, status_of}
 
 pub failed_status : {A E : Type 0} (result : Result A E) → IsErr result → status_of result ≡ 1

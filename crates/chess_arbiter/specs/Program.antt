@@ -19,6 +19,7 @@ use Rattle.chess_cecp.specs.Served.{Served}
 use Rattle.chess_arbiter.specs.declared.fault.ProgramFault.{ProgramFault}
 use Rattle.arbiter_cli.specs.declared.plan.VerifyPlan.{VerifyPlan}
 use Rattle.pgn_verifier.specs.declared.fault.VerifyFault.{VerifyFault}
+use Rattle.pgn_verifier.specs.declared.options.Strictness.{Strictness}
 use Rattle.pgn_verifier.specs.declared.options.VerifyOptions.{VerifyOptions}
 use Rattle.pgn_verifier.specs.declared.tally.Verified.{Verified}
 use Rattle.pgn_verifier.specs.declared.tally.Verified.TheVariants.{EachGame}
@@ -27,7 +28,7 @@ use Rattle.pgn_verifier.specs.Verify.{Verifies}
 use Rattle.match_runner.specs.GamesTable.{HostStep, PlaysGamesWith}
 use Rattle.match_runner.specs.declared.fault.GamesFault.{GamesFault}
 use Rattle.match_runner.specs.Games.{report_of}
-use Rattle.match_runner.specs.Log.{LogSeen, Logged, log_seen}
+use Rattle.match_runner.specs.Log.{LogSeen, Logged}
 use Rattle.stub_engine.specs.Stub.{stub_response, waiting}
 use Rattle.chess_arbiter.specs.declared.fault.ProgramFault.TheVariants.{InvalidArguments}
 use Rattle.chess_game.specs.declared.game.TheConstants.{MOST_MOVES}
@@ -42,51 +43,49 @@ fault_status InvalidArguments = 2
 fault_status _ = 1
 
 -- from the devices' states `d` to `d'` the server `respond`, which began in the state `s`, answered the lines of the
--- input on the output (`Served`). The exit status `status` is 0 if it stopped at the input's end or after a line that
--- ends the server, such as `quit`; it is 1 if a read, a write or a flush failed
+-- input on the output (`Served`). The exit status is 1 if a read, a write or a flush failed, otherwise 0
 abbrev pub Serves : {S : Type 0} → Server S → S → Devices → Devices → ℕ → Type 0
 Serves {S} respond s d d' status =
     (result : Result End Fault) × (s' : S) × Ran (Served respond s s' result) d d' × (status ≡ status_of result)
 
--- the options of verifying that the flags `--quiet`, `--strict`, `--explain`, `--spans` and `--names` ask for
-abbrev pub options_of : VerifyPlan → VerifyOptions
-options_of plan =
-    record { quiet = plan.quiet; strict = plan.strict; spans = plan.spans; names = plan.names; explain = plan.explain }
+-- the faults that are looked for in a game that is read to its end, by `--variations`, `--strict` and `--ignore`
+abbrev pub strictness_of : VerifyPlan → Strictness
+strictness_of plan =
+    record { variations = plan.variations; variant = plan.variant; result = plan.result; board = plan.board }
 
--- the exit status of `verify`, by its result: 0 if all was verified and no fault was found; 1 if one was found, or if
--- verifying was not completed, as when a read failed
+-- the options of verifying that these flags ask for
+abbrev pub options_of : VerifyPlan → VerifyOptions
+options_of p =
+    record { quiet = p.quiet; strict = strictness_of p; spans = p.spans; names = p.names; explain = p.explain }
+
+-- the exit status of `verify`, by its result: 0 if all was verified and no fault was found, otherwise 1
 abbrev pub verify_status : Result Verified VerifyFault → ℕ
 verify_status (Ok EachGame) = 0
 verify_status _ = 1
 
--- from the output's state `w` to `w'` some text was written, such as the help (which text, is not said here). With the
--- exit status 0 all of it was written and flushed. With status 1 the output stays as it is, as when memory ran out; or
--- a beginning of the text, maybe nothing or all, was written, and then a write or a flush failed
+-- from the output's state `w` to `w'` some text was written, such as the help (which text, is not said here): all of
+-- it, with the status 0. Or the output stays as it is, as when memory ran out, or a beginning of a text was written
+-- before a call failed; then the status is 1
 abbrev pub WritesHelp : OutputState → OutputState → ℕ → Type 0
-WritesHelp w w' status =
-    ((status ≡ 0) × (text : List ℕ) × OutputTook w w' (all_of text))
+WritesHelp w w' status = ((status ≡ 0) × (text : List ℕ) × OutputTook w w' (all_of text))
     ⊎ ((status ≡ 1) × ((w' ≡ w) ⊎ ((text : List ℕ) × (o : ToOutput) × OutputTook w w' o × BreaksOffIn nothing text o)))
 
--- what is done with arguments for which there is no plan, by the fault that says why. `w` and `w'` are the output
--- before and after; `status` is the exit status. What is written to the error output is not said here
+-- what is done with arguments for which there is no plan, by the fault that says why. What is written to the error
+-- output is not said here
 abbrev pub ReportsArguments : WordsFault → OutputState → OutputState → ℕ → Type 0
--- an error of `clap`, the parser of arguments. If they ask for help or for the version, which `clap` counts among the
--- errors, some text is written, or writing it fails (`WritesHelp`, which gives the status); otherwise the output stays
--- as it is, and the status is 2
+-- an error of `clap`, the parser of arguments, which counts requests for help and for the version among the errors
 ReportsArguments (faults.Words e) w w' status =
     (((kind_of e ≡ DisplayHelp) ⊎ (kind_of e ≡ DisplayVersion)) × WritesHelp w w' status)
     ⊎ ((kind_of e ≢ DisplayHelp) × (kind_of e ≢ DisplayVersion) × (w' ≡ w) × (status ≡ 2))
--- memory ran out: the output stays as it is, and the status is 1
+-- memory ran out
 ReportsArguments faults.NoMemory w w' status = (w' ≡ w) × (status ≡ 1)
--- an invalid level, FEN or date of a match: the output stays as it is, and the status is 2
+-- an invalid level, FEN or date of a match, or an invalid kind of fault
 ReportsArguments _ w w' status = (w' ≡ w) × (status ≡ 2)
 
--- from the state `l` of a log to `l'` this text was written where the log goes, even if the log was broken: all of it
--- was written and flushed; or a beginning of it, and then a write or a flush failed (`Logged`). If there is no text,
--- nothing was done
+-- from the state `l` of a log to `l'` this text was written where the log goes, even if the log was broken (`Logged`)
 abbrev pub Reports : List ℕ → LogSeen → LogSeen → Type 0
 Reports text l l' = (l'.broken ≡ l.broken)
-    × ((failed : Bool) × Logged (log_seen l.output false) (log_seen l'.output failed) text)
+    × ((failed : Bool) × Logged (record l { broken = false }) (record l' { broken = failed }) text)
 
 -- what contracts see of what the program works with, but for its host
 pub record Surroundings : Type 0 where
@@ -95,41 +94,35 @@ pub record Surroundings : Type 0 where
   -- its error output, as the log of a match
   pub errors : LogSeen
 
--- the program did what its plan says; or there is no plan (`Err`): the arguments ask for help or for the version, are
--- invalid, or memory ran out. `s` and `s'` are what it works with before and after, `steps` are the steps that passed
--- at its host, and `status` is its exit status. Only the host starts engines and has a clock. There are steps only in a
--- match, so nothing else is started. What happens to the error output is said only for a match
+-- the program did what its plan says, or there is no plan (`Err`). `s` and `s'` are what it works with before and
+-- after, `steps` are the steps that passed at its host, and `status` is its exit status. Only the host starts engines
+-- and has a clock, and only a match has steps there. What happens to the error output is said only for a match
 abbrev pub Does : Result Plan WordsFault → Surroundings → Surroundings → List HostStep → ℕ → Type 0
--- a session ran on input and output. It begins at the initial position of normal chess, with the tags of a game of
--- which nothing is known, and takes at most 20,000 half-moves (`MOST_MOVES`). Or nothing was read or written, as when
--- memory ran out, and the status is 1
+-- a session ran on input and output, from the initial position of normal chess, with the tags of a game of which
+-- nothing is known and at most 20,000 half-moves. Or nothing was read or written, as when memory ran out
 Does (Ok Session) s s' steps status = (steps ≡ []) × (Serves session_response (opened_session default_tags MOST_MOVES)
     s.devices s'.devices status ⊎ ((s'.devices ≡ s.devices) × (status ≡ 1)))
--- the input's games were verified, with some result, which gives the status: with the flag `--keep-going` piece by
--- piece, where a fault ends only its piece (`VerifiesCollection`); without it as one text, up to its first fault
--- (`Verifies`)
+-- the input's games were verified, with `--keep-going` piece by piece, otherwise as one text, up to its first fault
 Does (Ok (Verify plan)) s s' steps status = (steps ≡ [])
     × ((result : Result Verified VerifyFault) × (status ≡ verify_status result)
     × Ran ((cond plan.keep_going VerifiesCollection Verifies) (options_of plan) result) s.devices s'.devices)
--- a stub engine, which plays the moves in its arguments, ran on input and output
+-- a stub engine ran on input and output
 Does (Ok (Stub arguments)) s s' steps status =
     (steps ≡ []) × Serves stub_response (waiting arguments.items) s.devices s'.devices status
--- nothing of the input was read, and the games of the match were played with the host, written and logged as
--- `PlaysGamesWith` says; just its steps passed. The status is 0 if all were played without a fault and were written,
--- and the score too; otherwise 1. `logged` is the error output, to which the log goes, after the games. After that a
--- fault is reported on it (`report_of`), even if writing the log failed
+-- nothing of the input was read, and the games of the match were played, written and logged (`PlaysGamesWith`). The
+-- status is 0 if all were played without a fault and were written, and the score too. `logged` is the error output, to
+-- which the log goes, after the games; then a fault is reported on it
 Does (Ok (Match plan)) s s' steps status = (s'.devices.input ≡ s.devices.input)
     × ((result : Result (Unit {0}) GamesFault) × (logged : LogSeen)
     × PlaysGamesWith plan result steps
     (record { output = s.devices.output; log = s.errors }) (record { output = s'.devices.output; log = logged })
     × (status ≡ status_of result) × Reports (report_of result) logged s'.errors)
--- no plan: nothing of the input is read; what is written is as `ReportsArguments` says
+-- no plan: nothing of the input is read
 Does (Err fault) s s' steps status = (steps ≡ [])
     × (s'.devices.input ≡ s.devices.input) × ReportsArguments fault s.devices.output s'.devices.output status
 
 -- the program ran with these arguments: there is a right reading of them (`IsReading`), a plan or a fault, for which
--- the program did what `Does` says. `s` and `s'` are what it works with before and after; `steps` are the steps that
--- passed at its host; `status` is its exit status
+-- the program did what `Does` says
 abbrev pub RanProgram : List Text → Surroundings → Surroundings → List HostStep → ℕ → Type 0
 RanProgram arguments s s' steps status =
     (read : Result Plan WordsFault) × IsReading arguments read × Does read s s' steps status

@@ -11,7 +11,7 @@ ghost use Rattle.match_runner.specs.declared.fault.GamesFault.{GamesFault};
 ghost use Rattle.pgn_verifier.specs.Collection.{VerifiesCollection};
 ghost use Rattle.pgn_verifier.specs.Verify.{Verifies};
 ghost use Rattle.byte_devices.specs.Transfers.{Devices, Ran};
-ghost use Rattle.chess_arbiter.specs.Program.{RanProgram, Reports, ReportsArguments, Serves, WritesHelp, options_of, status_of, verify_status};
+ghost use Rattle.chess_arbiter.specs.Program.{RanProgram, Reports, ReportsArguments, Serves, WritesHelp, options_of, status_of, strictness_of, verify_status};
 ghost use Rattle.stub_engine.specs.Stub.{stub_response, waiting};
 ghost use Rattle.chess_game.specs.declared.game.TheConstants.{MOST_MOVES};
 
@@ -23,7 +23,7 @@ use chess_cecp::{Session, run_session, serve_lines};
 use chess_game::MOST_MOVES;
 use clap::Error;
 use match_runner::{GamesPlan, Host, Log, play_games_with};
-use pgn_verifier::{Verified, VerifyFault, VerifyOptions, verify, verify_collection};
+use pgn_verifier::{Strictness, Verified, VerifyFault, VerifyOptions, verify, verify_collection};
 use pgn_writer::Tags;
 use std::alloc::{AllocError, Global};
 use std::fmt::Display;
@@ -95,21 +95,33 @@ fn verified_status(verified: Verified) -> u8
     }
 }
 
+// The faults that the options of `verify` ask for in a game that is read to its end.
+fn strictness_of(plan: VerifyPlan) -> Strictness
+    ensures { result ≡ strictness_of plan }
+{
+    Strictness {
+        variations: plan.variations,
+        variant: plan.variant,
+        result: plan.result,
+        board: plan.board,
+    }
+}
+
 // The options that the flags of `verify` ask for.
 fn options_of(plan: VerifyPlan) -> VerifyOptions
     ensures { result ≡ options_of plan }
 {
     VerifyOptions {
         quiet: plan.quiet,
-        strict: plan.strict,
+        strict: strictness_of(plan),
         spans: plan.spans,
         names: plan.names,
         explain: plan.explain,
     }
 }
 
-// Verifies the input's games: with `--keep-going` piece by piece, so that a fault ends only its piece; otherwise as one
-// text up to its first fault.
+// Verifies the input's games: with `--keep-going` piece by piece, also after faults; otherwise as one text up to its
+// first fault.
 fn verify_as<R: Input, W: Output>(
     alloc: Global,
     plan: VerifyPlan,
@@ -178,11 +190,15 @@ const VERIFY_READS_INPUT: &str =
     "verify reads standard input: arbiter verify < games.pgn (files by name: verify_all)";
 
 // Whether these arguments name a file to `verify`, as `verify games.pgn` does: it has only options, which begin with a
-// hyphen.
+// hyphen, and the value of `--ignore`.
 fn name_a_file(arguments: &[&str]) -> bool {
     match arguments {
         [command, others @ ..] => {
-            *command == "verify" && others.iter().any(|word| !word.starts_with("-"))
+            *command == "verify"
+                && arguments
+                    .iter()
+                    .zip(others)
+                    .any(|(before, word)| *before != "--ignore" && !word.starts_with("-"))
         }
         [] => false,
     }
@@ -218,9 +234,10 @@ fn report_arguments<W: Output, E: Output>(
             help(alloc, error, output, errors)
         }
         WordsFault::NoMemory => reported(errors, fault, 1),
-        WordsFault::BadLevel(_) | WordsFault::BadFen(_) | WordsFault::BadDate => {
-            reported(errors, fault, 2)
-        }
+        WordsFault::BadLevel(_)
+        | WordsFault::BadFen(_)
+        | WordsFault::BadDate
+        | WordsFault::BadKind => reported(errors, fault, 2),
     }
 }
 
@@ -254,10 +271,11 @@ fn matched<H: Host, W: Output, E: Output>(
 /// - No arguments, or `session`: a session of at most 20,000 half-moves.
 /// - `verify`: the games of the input, one line for each up to the first fault. With `--keep-going` an input of any
 ///   length, cut into pieces: one begins at the first byte, at a tag line after a line of moves, and at a second Event
-///   tag line. A fault ends only its piece, and totals follow at the end. `--quiet` leaves out games without a fault;
-///   with `--strict` a result that contradicts the tag Result or the final position is a fault too; with `--spans` each
-///   line says where its game is; with `--names` the line of a fault ends with the game's players, event and date;
-///   with `--explain` a second line explains each fault.
+///   tag line. After a fault reading continues where its game ends, and totals follow at the end. `--quiet` leaves out
+///   games without a fault; with `--strict` a result that contradicts the tag Result or the final position is a fault
+///   too, and a variant that is not known, unless `--ignore` names the kind; with `--variations` so is one in a
+///   variation; with `--spans` each line says where its game is; with `--names` the line of a fault ends with the
+///   game's players, event and date; with `--explain` a second line explains each fault.
 /// - `match` with `--white`, `--black` and perhaps `--games`, `--level`, `--fen`, `--variant`, `--draws`, `--date`,
 ///   `--log`, `--flag` and `--reply-timeout`: games between two engines that the host starts, the text of each game, and
 ///   then the score. The input is left untouched.

@@ -82,10 +82,10 @@ const PIECES: [(&[u8], &[u8], u8); 16] = [
         b"game 1: illegal move at byte 6\ngame 2: 1 half-moves, *\ngames 1 half-moves 1 faults 1\n",
         1,
     ),
-    // A fault ends its piece, whatever games it has left.
+    // After a fault reading goes on where its game ends.
     (
         b"[Event \"a\"]\n1. e4 * e5 * *\n[Event \"b\"]\n* 1. d4 *",
-        b"game 1: 1 half-moves, *\ngame 2: illegal move at byte 20\ngame 3: 0 half-moves, *\ngame 4: 1 half-moves, *\ngames 3 half-moves 2 faults 1\n",
+        b"game 1: 1 half-moves, *\ngame 2: illegal move at byte 20\ngame 3: 0 half-moves, *\ngame 4: 0 half-moves, *\ngame 5: 1 half-moves, *\ngames 4 half-moves 2 faults 1\n",
         1,
     ),
     // A byte order mark at the front, and in the middle.
@@ -156,7 +156,7 @@ const ALL_LINES: &[u8] =
     b"game 1: 2 half-moves, *\ngame 2: illegal move at byte 44\ngame 3: 1 half-moves, 1-0\ngames 2 half-moves 3 faults 1\n";
 
 const ALL_SPANS: &[u8] =
-    b"game 1: 2 half-moves, *, bytes 0 to 23\ngame 2: illegal move at byte 44, bytes 25 to 50\ngame 3: 1 half-moves, 1-0, bytes 50 to 72\ngames 2 half-moves 3 faults 1\n";
+    b"game 1: 2 half-moves, *, bytes 0 to 23\ngame 2: illegal move at byte 44, bytes 25 to 48\ngame 3: 1 half-moves, 1-0, bytes 50 to 72\ngames 2 half-moves 3 faults 1\n";
 
 // Five pieces, two of which end in the middle of a comment or a variation.
 const MIXED: &[u8] =

@@ -11,7 +11,25 @@ const EXPLAIN: &[&str] = &["verify", "--explain"];
 const KEEP_GOING: &[&str] = &["verify", "--keep-going", "--explain"];
 
 // A fault of each kind but one, and each reason: arguments, the text, what is written of it, and the status.
-const KINDS: [(&[&str], &[u8], &[u8], u8); 20] = [
+const KINDS: [(&[&str], &[u8], &[u8], u8); 23] = [
+    (
+        &["verify", "--explain"],
+        b"1. e4 -- *",
+        b"game 1: bad token at byte 6\n# line 1 column 7 -- | rnbqkbnr/pppppppp/8/8/4P3/8/PPPP1PPP/RNBQKBNR b KQkq e3 0 1 | a null move, which chess does not have\n",
+        1,
+    ),
+    (
+        &["verify", "--explain"],
+        b"1. e4 Z0 *",
+        b"game 1: bad token at byte 6\n# line 1 column 7 Z0 | rnbqkbnr/pppppppp/8/8/4P3/8/PPPP1PPP/RNBQKBNR b KQkq e3 0 1 | a null move, which chess does not have\n",
+        1,
+    ),
+    (
+        &["verify", "--explain", "--strict"],
+        b"[Variant \"Atomic\"] 1. e4 *",
+        b"game 1: unknown variant at byte 10\n# line 1 column 11 Atomic\"] | neither normal chess nor Chess960, by a name that is known\n",
+        1,
+    ),
     (
         &["verify", "--explain"],
         b"1. e4 e5\n2. Ke3 *",
@@ -93,13 +111,13 @@ const KINDS: [(&[&str], &[u8], &[u8], u8); 20] = [
     (
         &["verify", "--explain"],
         b"1. e4",
-        b"game 1: no result at byte 5\n# line 1 column 6 (end) | rnbqkbnr/pppppppp/8/8/4P3/8/PPPP1PPP/RNBQKBNR b KQkq e3 0 1\n",
+        b"game 1: no result at byte 5\n# line 1 column 1 1. | rnbqkbnr/pppppppp/8/8/4P3/8/PPPP1PPP/RNBQKBNR b KQkq e3 0 1\n",
         1,
     ),
     (
         &["verify", "--explain"],
         b"1. e4 [Result \"0-1\"] 1-0",
-        b"game 1: no result at byte 6\n# line 1 column 7 [Result | rnbqkbnr/pppppppp/8/8/4P3/8/PPPP1PPP/RNBQKBNR b KQkq e3 0 1\n",
+        b"game 1: no result at byte 6\n# line 1 column 1 1. | rnbqkbnr/pppppppp/8/8/4P3/8/PPPP1PPP/RNBQKBNR b KQkq e3 0 1\n",
         1,
     ),
     (
@@ -170,17 +188,17 @@ const PLACES: [(&[&str], &[u8], &[u8], u8); 23] = [
         b"game 1: illegal move at byte 9\n# line 1 column 10 e4 | rnbqkbnr/pppppppp/8/8/4P3/8/PPPP1PPP/RNBQKBNR b KQkq e3 0 1\ngames 0 half-moves 0 faults 1\n",
         1,
     ),
-    // Without a result a game ends at its piece's end, where there is no text.
+    // A game without a result is explained where it begins.
     (
         &["verify", "--keep-going", "--explain"],
         b"1. e4 e5\n\n[Event \"b\"]\n*\n[Event \"c\"]\n",
-        b"game 1: no result at byte 10\n# line 3 column 1 (end) | rnbqkbnr/pppp1ppp/8/4p3/4P3/8/PPPP1PPP/RNBQKBNR w KQkq e6 0 2\ngame 2: 0 half-moves, *\ngame 3: no result at byte 36\n# line 6 column 1 (end) | rnbqkbnr/pppppppp/8/8/8/8/PPPPPPPP/RNBQKBNR w KQkq - 0 1\ngames 1 half-moves 0 faults 2\n",
+        b"game 1: no result at byte 10\n# line 1 column 1 1. | rnbqkbnr/pppp1ppp/8/4p3/4P3/8/PPPP1PPP/RNBQKBNR w KQkq e6 0 2\ngame 2: 0 half-moves, *\ngame 3: no result at byte 36\n# line 5 column 1 [Event | rnbqkbnr/pppppppp/8/8/8/8/PPPPPPPP/RNBQKBNR w KQkq - 0 1\ngames 1 half-moves 0 faults 2\n",
         1,
     ),
     (
         &["verify", "--keep-going", "--explain"],
         b"1. e4 {x\n[Event \"b\"]\n1. d4 (d5\n[Site \"c\"]\n\n",
-        b"game 1: unclosed comment at byte 6\n# line 1 column 7 {x | rnbqkbnr/pppppppp/8/8/4P3/8/PPPP1PPP/RNBQKBNR b KQkq e3 0 1\ngame 2: unclosed variation at byte 27\n# line 3 column 7 (d5 | rnbqkbnr/pppppppp/8/8/3P4/8/PPP1PPPP/RNBQKBNR b KQkq d3 0 1\ngame 3: no result at byte 43\n# line 6 column 1 (end) | rnbqkbnr/pppppppp/8/8/8/8/PPPPPPPP/RNBQKBNR w KQkq - 0 1\ngames 0 half-moves 0 faults 3\n",
+        b"game 1: unclosed comment at byte 6\n# line 1 column 7 {x | rnbqkbnr/pppppppp/8/8/4P3/8/PPPP1PPP/RNBQKBNR b KQkq e3 0 1 | bytes 6 to 9 not read\ngame 2: unclosed variation at byte 27\n# line 3 column 7 (d5 | rnbqkbnr/pppppppp/8/8/3P4/8/PPP1PPPP/RNBQKBNR b KQkq d3 0 1 | bytes 27 to 31 not read\ngame 3: no result at byte 43\n# line 4 column 1 [Site | rnbqkbnr/pppppppp/8/8/8/8/PPPPPPPP/RNBQKBNR w KQkq - 0 1\ngames 0 half-moves 0 faults 3\n",
         1,
     ),
     // Words of 40 and 41 bytes, and such at the input's end.
@@ -199,7 +217,7 @@ const PLACES: [(&[&str], &[u8], &[u8], u8); 23] = [
     (
         &["verify", "--keep-going", "--explain"],
         b"1. e4 &xxxxxxxxxxxxxxxxxxxxxxxxxxxxxxxxxxxxxxx\n[Event \"b\"]\n&xxxxxxxxxxxxxxxxxxxxxxxxxxxxxxxxxxxxxxy",
-        b"game 1: bad token at byte 6\n# line 1 column 7 &xxxxxxxxxxxxxxxxxxxxxxxxxxxxxxxxxxxxxxx | rnbqkbnr/pppppppp/8/8/4P3/8/PPPP1PPP/RNBQKBNR b KQkq e3 0 1 | begins no token\ngame 2: bad token at byte 59\n# line 3 column 1 &xxxxxxxxxxxxxxxxxxxxxxxxxxxxxxxxxxxxxxy | rnbqkbnr/pppppppp/8/8/8/8/PPPPPPPP/RNBQKBNR w KQkq - 0 1 | begins no token\ngames 0 half-moves 0 faults 2\n",
+        b"game 1: bad token at byte 6\n# line 1 column 7 &xxxxxxxxxxxxxxxxxxxxxxxxxxxxxxxxxxxxxxx | rnbqkbnr/pppppppp/8/8/4P3/8/PPPP1PPP/RNBQKBNR b KQkq e3 0 1 | begins no token | bytes 6 to 47 not read\ngame 2: bad token at byte 59\n# line 3 column 1 &xxxxxxxxxxxxxxxxxxxxxxxxxxxxxxxxxxxxxxy | rnbqkbnr/pppppppp/8/8/8/8/PPPPPPPP/RNBQKBNR w KQkq - 0 1 | begins no token | bytes 59 to 99 not read\ngames 0 half-moves 0 faults 2\n",
         1,
     ),
     (
@@ -308,14 +326,14 @@ const LONG: [(&[u8], usize, &[u8], &[u8]); 2] = [
         b"{first word\nx\n",
         16_777_216,
         b"\n} *\n[Event \"b\"]\n1. e4\n e4 *",
-        b"game 1: too long at byte 0\n# line 1 column 1 {first\ngame 2: illegal move at byte 16777254\n# line 7 column 2 e4 | rnbqkbnr/pppppppp/8/8/4P3/8/PPPP1PPP/RNBQKBNR b KQkq e3 0 1\ngames 0 half-moves 0 faults 2\n",
+        b"game 1: too long at byte 0\n# line 1 column 1 {first | bytes 0 to 16777235 not read\ngame 2: illegal move at byte 16777254\n# line 7 column 2 e4 | rnbqkbnr/pppppppp/8/8/4P3/8/PPPP1PPP/RNBQKBNR b KQkq e3 0 1\ngames 0 half-moves 0 faults 2\n",
     ),
     // The second piece.
     (
         b"1. e4 *\n\n[Site \"x\"]\n{",
         16_777_216,
         b"\n[Event \"c\"]\r\n* & *",
-        b"game 1: 1 half-moves, *\ngame 2: too long at byte 9\n# line 3 column 1 [Site\ngame 3: 0 half-moves, *\ngame 4: bad token at byte 16777253\n# line 6 column 3 & | rnbqkbnr/pppppppp/8/8/8/8/PPPPPPPP/RNBQKBNR w KQkq - 0 1 | begins no token\ngames 2 half-moves 1 faults 2\n",
+        b"game 1: 1 half-moves, *\ngame 2: too long at byte 9\n# line 3 column 1 [Site | bytes 9 to 16777238 not read\ngame 3: 0 half-moves, *\ngame 4: bad token at byte 16777253\n# line 6 column 3 & | rnbqkbnr/pppppppp/8/8/8/8/PPPPPPPP/RNBQKBNR w KQkq - 0 1 | begins no token | bytes 16777253 to 16777256 not read\ngames 2 half-moves 1 faults 2\n",
     ),
 ];
 
@@ -343,14 +361,14 @@ const LONG_WORDS: [(&[u8], usize, &[u8], &[u8]); 2] = [
         b"\n",
         16_777_216,
         b"\n[Site \"",
-        b"game 1: too long at byte 0\n# line 1 column 1 (end)\ngame 2: bad tag at byte 16777218\n# line 3 column 1 [Site | string not closed\ngames 0 half-moves 0 faults 2\n",
+        b"game 1: too long at byte 0\n# line 1 column 1 (end) | bytes 0 to 16777218 not read\ngame 2: bad tag at byte 16777218\n# line 3 column 1 [Site | string not closed | bytes 16777218 to 16777225 not read\ngames 0 half-moves 0 faults 2\n",
     ),
     // Bytes that are no visible characters.
     (
         b"\xef\xff",
         16_777_216,
         b"\n[Site \"x\"]\n*",
-        b"game 1: too long at byte 0\n# line 1 column 1 ??aaaaaaaaaaaaaaaaaaaaaaaaaaaaaaaaaaaaaa\ngame 2: 0 half-moves, *\ngames 1 half-moves 0 faults 1\n",
+        b"game 1: too long at byte 0\n# line 1 column 1 ??aaaaaaaaaaaaaaaaaaaaaaaaaaaaaaaaaaaaaa | bytes 0 to 16777219 not read\ngame 2: 0 half-moves, *\ngames 1 half-moves 0 faults 1\n",
     ),
 ];
 
@@ -372,13 +390,13 @@ const COLLECTION: &[u8] =
     b"[Event \"a\"]\n1. e4\n e4\n\n[Site \"b\"]\n[Event \"b\"]\n1. d4 d5 *\n[Event \"c\"]\n\n1. e4 {x";
 
 const FIRST_LINES: &[u8] =
-    b"game 1: illegal move at byte 19\n# line 3 column 2 e4 | rnbqkbnr/pppppppp/8/8/4P3/8/PPPP1PPP/RNBQKBNR b KQkq e3 0 1\n";
+    b"game 1: illegal move at byte 19\n# line 3 column 2 e4 | rnbqkbnr/pppppppp/8/8/4P3/8/PPPP1PPP/RNBQKBNR b KQkq e3 0 1 | bytes 19 to 23 not read\n";
 
 const MORE_LINES: &[u8] =
-    b"game 1: illegal move at byte 19\n# line 3 column 2 e4 | rnbqkbnr/pppppppp/8/8/4P3/8/PPPP1PPP/RNBQKBNR b KQkq e3 0 1\ngame 2: 2 half-moves, *\n";
+    b"game 1: illegal move at byte 19\n# line 3 column 2 e4 | rnbqkbnr/pppppppp/8/8/4P3/8/PPPP1PPP/RNBQKBNR b KQkq e3 0 1 | bytes 19 to 23 not read\ngame 2: 2 half-moves, *\n";
 
 const ALL_LINES: &[u8] =
-    b"game 1: illegal move at byte 19\n# line 3 column 2 e4 | rnbqkbnr/pppppppp/8/8/4P3/8/PPPP1PPP/RNBQKBNR b KQkq e3 0 1\ngame 2: 2 half-moves, *\ngame 3: unclosed comment at byte 76\n# line 10 column 7 {x | rnbqkbnr/pppppppp/8/8/4P3/8/PPPP1PPP/RNBQKBNR b KQkq e3 0 1\ngames 1 half-moves 2 faults 2\n";
+    b"game 1: illegal move at byte 19\n# line 3 column 2 e4 | rnbqkbnr/pppppppp/8/8/4P3/8/PPPP1PPP/RNBQKBNR b KQkq e3 0 1 | bytes 19 to 23 not read\ngame 2: 2 half-moves, *\ngame 3: unclosed comment at byte 76\n# line 10 column 7 {x | rnbqkbnr/pppppppp/8/8/4P3/8/PPPP1PPP/RNBQKBNR b KQkq e3 0 1 | bytes 76 to 78 not read\ngames 1 half-moves 2 faults 2\n";
 
 #[test]
 fn explanations_cut_at_each_byte(rt: HostRuntime) -> Result<(), Fail> {

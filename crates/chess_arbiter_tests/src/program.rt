@@ -6,7 +6,7 @@ use chess_arbiter::{Log, ProcessHost, ProgramFault, run_program};
 use std::process::{Abort, ExitCode};
 use std::test::Fail;
 
-const RUNS: [ProgramRun; 24] = [
+const RUNS: [ProgramRun; 26] = [
     ProgramRun {
         arguments: &[],
         input: b"new\ne2e4\nping 7\nundo\nshowfen\nquit\nshowfen\n",
@@ -126,6 +126,22 @@ const RUNS: [ProgramRun; 24] = [
         fails: (0, 0),
         output: b"",
         errors: b"arbiter: verify reads standard input: arbiter verify < games.pgn (files by name: verify_all)\n",
+        status: 2,
+    },
+    ProgramRun {
+        arguments: &["verify", "--strict", "--ignore", "board", "games.pgn"],
+        input: b"*",
+        fails: (0, 0),
+        output: b"",
+        errors: b"arbiter: verify reads standard input: arbiter verify < games.pgn (files by name: verify_all)\n",
+        status: 2,
+    },
+    ProgramRun {
+        arguments: &["verify", "--strict", "--ignore", "board,after"],
+        input: b"*",
+        fails: (0, 0),
+        output: b"",
+        errors: b"arbiter: bad kind (variant, result or board, with commas between)\n",
         status: 2,
     },
     ProgramRun {

@@ -72,7 +72,7 @@ const SECTIONS: [(&[u8], &[u8], u8); 20] = [
     ),
     (
         b"[Event \"a\"] 1. e5 *\n[Site \"c\"] *\n[Event \"b\"] 1. e4 *\n",
-        b"game 1: illegal move at byte 15\ngame 2: 1 half-moves, *\ngames 1 half-moves 1 faults 1\n",
+        b"game 1: illegal move at byte 15\ngame 2: 0 half-moves, *\ngame 3: 1 half-moves, *\ngames 2 half-moves 1 faults 1\n",
         1,
     ),
     // Lines with `%` and `;` are empty, whatever they have.

@@ -178,11 +178,11 @@ const COLLECTION: &[u8] =
 const BY_ARGUMENTS: [(&[&str], &[u8]); 4] = [
     (
         &["verify", "--strict", "--keep-going"],
-        b"game 1: result differs at byte 21\ngame 2: board says otherwise at byte 76\ngame 3: 1 half-moves, *\ngames 1 half-moves 1 faults 2\n",
+        b"game 1: result differs at byte 21\ngame 2: 1 half-moves, *\ngame 3: board says otherwise at byte 76\ngame 4: 1 half-moves, *\ngame 5: 1 half-moves, *\ngames 3 half-moves 3 faults 2\n",
     ),
     (
         &["verify", "--keep-going", "--quiet", "--strict"],
-        b"game 1: result differs at byte 21\ngame 2: board says otherwise at byte 76\ngames 1 half-moves 1 faults 2\n",
+        b"game 1: result differs at byte 21\ngame 3: board says otherwise at byte 76\ngames 3 half-moves 3 faults 2\n",
     ),
     (
         &["verify", "--quiet", "--strict"],
@@ -198,5 +198,46 @@ const BY_ARGUMENTS: [(&[&str], &[u8]); 4] = [
 fn contradictions_end_their_piece(rt: HostRuntime) {
     for (arguments, lines) in &BY_ARGUMENTS {
         check_output(&rt, &rt, arguments, COLLECTION, SOUND, lines, 1);
+    }
+}
+
+// A game with each of the three faults: of its variant, of its result by the tag, and of its result by the board.
+const EACH_KIND: &[u8] = b"[Variant \"Atomic\"] [Result \"1-0\"] 1. f3 e5 2. g4 Qh4 *";
+
+// Values of `--ignore`, and what is written of this game and the status: the first fault that is not ignored.
+const IGNORED: [(&str, &[u8], u8); 6] = [
+    ("board", b"game 1: unknown variant at byte 10\n", 1),
+    ("variant", b"game 1: result differs at byte 28\n", 1),
+    ("result", b"game 1: unknown variant at byte 10\n", 1),
+    (
+        "variant,result",
+        b"game 1: board says otherwise at byte 53\n",
+        1,
+    ),
+    (
+        "board,variant",
+        b"game 1: result differs at byte 28\n",
+        1,
+    ),
+    (
+        "board,variant,result",
+        b"game 1: 4 half-moves, *\n",
+        0,
+    ),
+];
+
+#[test]
+fn ignored_kinds_are_left_out(rt: HostRuntime) {
+    for (kinds, lines, status) in &IGNORED {
+        let arguments = ["verify", "--strict", "--ignore", *kinds];
+        check_output(
+            &rt,
+            &rt,
+            arguments.as_slice(),
+            EACH_KIND,
+            SOUND,
+            lines,
+            *status,
+        );
     }
 }

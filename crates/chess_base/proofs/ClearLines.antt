@@ -2,15 +2,9 @@
 use Rattle.std.proofs.Common.{◌≡◌, ℕ, ◌+◌, ◌<◌, ◌≤◌, inl, inr, Bool, true, false, ◌||◌, not, is_none, refl, sym, ◌∙◌, arith}
 use Rattle.std.proofs.lemmas.Bool.{and_parts, and_from, cases_order, eqb-true, eq-eqb}
 use Rattle.std.proofs.lemmas.Bool.Decides.{nat_tests}
-use Rattle.chess_base.specs.declared.line.Line.{Line}
+use Rattle.chess_base.specs.{declared.line.Line.Line, Squares.is_strictly_between, Squares.is_between, Men.Men, Men.man_at, Attacks.is_clear, shared.Lines.same_line, ties.Lines.step_of}
 use Rattle.chess_base.specs.declared.line.Line.TheVariants.{Rank, File, Diagonal, Antidiagonal}
-use Rattle.chess_base.specs.Squares.{is_strictly_between, is_between}
-use Rattle.chess_base.specs.Men.{Men, man_at}
-use Rattle.chess_base.specs.Attacks.{is_clear}
-use Rattle.chess_base.specs.shared.Lines.{same_line}
-use Rattle.chess_base.specs.ties.Lines.{step_of}
-use Rattle.chess_base.proofs.shared.Squares.{each_square-all, each_square-fails}
-use Rattle.chess_base.proofs.shared.Geometry.{between_on_line}
+use Rattle.chess_base.proofs.{shared.Squares.each_square-all, shared.Squares.each_square-fails, shared.Geometry.between_on_line}
 
 -- ---- from square to square
 

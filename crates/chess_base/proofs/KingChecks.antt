@@ -1,14 +1,8 @@
 -- Where a colour has one king, the attacks on his square decide whether it is in check.
 use Rattle.std.proofs.Common.{◌≡◌, ℕ, ◌<◌, ◌-◌, length, true, false, ◌&&◌, sym, ap, ◌∙◌, arith}
-use Rattle.chess_base.specs.declared.man.Colour.{Colour}
-use Rattle.chess_base.specs.declared.man.Colour.TheVariants.{White, Black}
-use Rattle.chess_base.specs.declared.man.Kind.TheVariants.{King}
+use Rattle.chess_base.specs.{declared.man.Colour.Colour, declared.man.Colour.TheVariants.White, declared.man.Colour.TheVariants.Black, declared.man.Kind.TheVariants.King, Attacks.is_attacked, Attacks.is_in_check, Sound.has_one_king, ties.Lines.square_from_side}
 use Rattle.chess_base.specs.Men.{Men, man_at, is_man, other}
-use Rattle.chess_base.specs.Attacks.{is_attacked, is_in_check}
-use Rattle.chess_base.specs.Sound.{has_one_king}
-use Rattle.chess_base.specs.ties.Lines.{square_from_side}
-use Rattle.chess_base.proofs.shared.Squares.{some_square-none, one_decides}
-use Rattle.chess_base.proofs.shared.Kings.{one_king}
+use Rattle.chess_base.proofs.{shared.Squares.some_square-none, shared.Squares.one_decides, shared.Kings.one_king}
 
 pub check_at_king : (men : Men) (c : Colour) (s : ℕ) → s < 64 → length men ≡ 64 → has_one_king men c ≡ true
     → is_man c King (man_at men s) ≡ true → is_attacked men s (other c) ≡ is_in_check men c

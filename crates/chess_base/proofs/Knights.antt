@@ -3,12 +3,7 @@ use Rattle.std.proofs.Common.{◌≡◌, ℕ, ◌+◌, ◌-◌, ◌*◌, ◌<◌
 use Rattle.std.proofs.lemmas.Bool.{and_parts, and_from, cases_Bool, leb-true, ltb-true, or_cases, or_parts}
 use Rattle.std.proofs.lemmas.Bool.Decides.{nat_tests}
 use Rattle.std.specs.Int.{abs_diff}
-use Rattle.chess_base.specs.declared.man.Colour.{Colour}
-use Rattle.chess_base.specs.declared.man.Kind.TheVariants.{Knight}
-use Rattle.chess_base.specs.Squares.{file, rank}
-use Rattle.chess_base.specs.Men.{Men, man_at, is_man}
-use Rattle.chess_base.specs.Attacks.{could_capture}
-use Rattle.chess_base.specs.ties.Lines.{attacked_by_knight, attacked_by_knight_from_below, attacked_by_knight_from_above}
+use Rattle.chess_base.specs.{declared.man.Colour.Colour, declared.man.Kind.TheVariants.Knight, Squares.file, Squares.rank, Men.Men, Men.man_at, Men.is_man, Attacks.could_capture, ties.Lines.attacked_by_knight, ties.Lines.attacked_by_knight_from_below, ties.Lines.attacked_by_knight_from_above}
 use Rattle.chess_base.proofs.shared.Squares.{some_square-at, some_square-none}
 
 -- a knight of colour c is on the square of this file and rank, both counted from 2: so a knight's way from a square

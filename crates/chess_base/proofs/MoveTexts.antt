@@ -1,18 +1,10 @@
 -- A text is parsed as the square or the move that is written so, and as no other.
-use Rattle.std.proofs.Common.{◌≡◌, ◌≢◌, ℕ, zero, suc, ◌+◌, ◌-◌, ◌*◌, ◌/◌, ◌%◌, ◌<◌, ◌≤◌, Bool, true, false, cond, eqb, leb, ◌&&◌, List, [], ◌∷◌, ◌++◌, Option, Some, None, refl, sym, ap, subst, ◌∙◌, arith}
-use Rattle.std.specs.Prelude.{find, IfSome, option_and_then, slice_index_or, ◌==◌}
-use Rattle.std.specs.List.{Contains}
-use Rattle.std.specs.Option.{option_map, ok_or}
+use Rattle.std.proofs.Common.{◌≡◌, ◌≢◌, ℕ, zero, suc, ◌+◌, ◌-◌, ◌*◌, ◌/◌, ◌%◌, ◌<◌, ◌≤◌, Bool, true, false, cond, eqb, leb, ◌&&◌, List, [], ◌∷◌, ◌++◌, Option, Some, None, refl, sym, ap, subst, ◌∙◌, arith, Contains, option_map, ok_or, find, IfSome, option_and_then, slice_index_or, ◌==◌}
 use Rattle.std.proofs.lemmas.Bool.Decides.{nat_tests}
-use Rattle.chess_base.specs.declared.man.Colour.TheVariants.{Black}
-use Rattle.chess_base.specs.declared.man.Kind.{Kind}
+use Rattle.chess_base.specs.{declared.man.Colour.TheVariants.Black, declared.man.Kind.Kind, declared.man.Move.Move, shared.Parts.optional, MoveList.promotions, MoveList.move_of, ties.MoveTexts.promotion_with_letter, ties.MoveTexts.promotion_of_text, ties.MoveTexts.move_of_text}
 use Rattle.chess_base.specs.declared.man.Kind.TheVariants.{Pawn, Knight, Bishop, Rook, Queen, King}
-use Rattle.chess_base.specs.declared.man.Move.{Move}
 use Rattle.chess_base.specs.Coordinates.{small_letter_text, coordinate, ParsesSquare, ParsesMove}
-use Rattle.chess_base.specs.shared.Parts.{optional}
 use Rattle.chess_base.specs.Letters.{letter_by, is_file_letter, is_rank_digit, square_text, square_with_letters}
-use Rattle.chess_base.specs.MoveList.{promotions, move_of}
-use Rattle.chess_base.specs.ties.MoveTexts.{promotion_with_letter, promotion_of_text, move_of_text}
 use Rattle.chess_base.proofs.shared.Choices.{chosen, mapped}
 
 -- ---- squares

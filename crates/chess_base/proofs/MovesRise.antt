@@ -1,16 +1,8 @@
 -- The list of legal moves rises by start square, end square and promotion.
-use Rattle.std.proofs.Common.{◌≡◌, ℕ, zero, suc, ◌+◌, ◌<◌, ◌++◌, List, [], ◌∷◌, map, Option, arith, refl}
-use Rattle.std.specs.Prelude.{slice_index_or, flat_map}
-use Rattle.std.specs.List.{All, AllPairs}
-use Rattle.std.proofs.lemmas.List.Concat.{flat_map-cons}
-use Rattle.std.proofs.lemmas.List.Elements.{All-append, All-map}
-use Rattle.std.proofs.lemmas.List.Kept.{AllPairs-cons, AllPairs-filter}
-use Rattle.chess_base.specs.declared.man.Kind.{Kind}
-use Rattle.chess_base.specs.declared.setup.Setup.{Setup}
-use Rattle.chess_base.specs.Moves.{is_legal}
+use Rattle.std.proofs.Common.{◌≡◌, ℕ, zero, suc, ◌+◌, ◌<◌, ◌++◌, List, [], ◌∷◌, map, Option, arith, refl, slice_index_or, flat_map, All, AllPairs}
+use Rattle.std.proofs.{lemmas.List.Concat.flat_map-cons, lemmas.List.Elements.All-append, lemmas.List.Elements.All-map, lemmas.List.Kept.AllPairs-cons, lemmas.List.Kept.AllPairs-filter}
+use Rattle.chess_base.specs.{declared.man.Kind.Kind, declared.setup.Setup.Setup, Moves.is_legal, Squares.squares, shared.Below.from_below}
 use Rattle.chess_base.specs.MoveList.{promotions, move_of, all_moves, moves}
-use Rattle.chess_base.specs.Squares.{squares}
-use Rattle.chess_base.specs.shared.Below.{from_below}
 use Rattle.chess_base.specs.laws.Laws.{promotion_index, ComesBefore, ByStart, ByEnd, ByPromotion}
 
 -- ---- lists

@@ -1,19 +1,9 @@
 -- On positions of normal chess the rules of both variants are those of normal chess.
 use Rattle.std.proofs.Common.{◌≡◌, ℕ, Bool, true, false, ◌&&◌, cond, ◌==◌, nat_lt, Option, Some, None, is_some, map, refl, ap, ◌∙◌, arith}
-use Rattle.chess_base.specs.declared.man.Colour.{Colour}
-use Rattle.chess_base.specs.declared.man.CastlingSide.{CastlingSide}
-use Rattle.chess_base.specs.declared.man.CastlingSide.TheVariants.{KingSide, QueenSide}
-use Rattle.chess_base.specs.declared.man.Kind.TheVariants.{King, Pawn}
-use Rattle.chess_base.specs.declared.man.Man.{Man}
-use Rattle.chess_base.specs.declared.man.Move.{Move}
-use Rattle.chess_base.specs.declared.man.Variant.TheVariants.{Normal}
-use Rattle.chess_base.specs.declared.setup.Setup.{Setup}
+use Rattle.chess_base.specs.{declared.man.Colour.Colour, declared.man.CastlingSide.CastlingSide, declared.man.CastlingSide.TheVariants.KingSide, declared.man.CastlingSide.TheVariants.QueenSide, declared.man.Kind.TheVariants.King, declared.man.Kind.TheVariants.Pawn, declared.man.Man.Man, declared.man.Move.Move, declared.man.Variant.TheVariants.Normal, declared.setup.Setup.Setup, shared.Splits.castles_or_moves, shared.Splits.names_castling, shared.Splits.right_is_sound_at, Before.castle_by, Squares.squares}
 use Rattle.chess_base.specs.Men.{Men, man_at, is_man, same_colour, same_kind, other}
 use Rattle.chess_base.specs.Moves.{moves_as, is_pseudo_legal, pawn_moves, after_castling, after_moving, men_after, rights_after, target_after, halfmove_after, fullmove_after, is_legal, after}
-use Rattle.chess_base.specs.shared.Splits.{castles_or_moves, names_castling, right_is_sound_at}
 use Rattle.chess_base.specs.Castling.{is_castling_to, castling, castle_of, castled_king_file, right_of, right_is_sound, home_square, king_home_file}
-use Rattle.chess_base.specs.Before.{castle_by}
-use Rattle.chess_base.specs.Squares.{squares}
 use Rattle.std.specs.Option.{option_map_or}
 use Rattle.chess_base.specs.laws.Normal.{normal_right_is_sound_at, normal_says_castling, normal_castling, normal_castle_of, normal_moves_as, normal_has_pattern, normal_men_after, normal_after, normal_is_legal, NormalIsKept}
 

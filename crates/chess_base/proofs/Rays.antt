@@ -1,26 +1,18 @@
 -- The attacks along a line come from the first piece on it.
 use Rattle.std.proofs.Common.{◌≡◌, ℕ, ◌+◌, ◌-◌, ◌<◌, ◌≤◌, ◌⊎◌, inl, inr, Bool, true, false, ◌&&◌, ◌||◌, not, ◌==◌, nat_le, nat_lt, is_none, Option, Some, None, refl, sym, ap, ◌∙◌, arith}
 use Rattle.std.proofs.lemmas.Bool.{and_parts, and_from, and_right, cases_order, eqb-true, eq-eqb, ltb-true, or_cases}
-use Rattle.std.proofs.Math.Bool.{and-false}
-use Rattle.std.proofs.lemmas.Bool.Decides.{nat_tests}
+use Rattle.std.proofs.{Math.Bool.and-false, lemmas.Bool.Decides.nat_tests}
 use Rattle.std.specs.Int.{abs_diff}
-use Rattle.chess_base.specs.declared.line.Line.{Line}
+use Rattle.chess_base.specs.{declared.line.Line.Line, declared.man.Colour.Colour, declared.man.Colour.TheVariants.White, declared.man.Colour.TheVariants.Black, declared.man.Kind.Kind, declared.man.Man.Man, shared.Parts.is_rank_ahead}
 use Rattle.chess_base.specs.declared.line.Line.TheVariants.{Rank, File, Diagonal, Antidiagonal}
-use Rattle.chess_base.specs.declared.man.Colour.{Colour}
-use Rattle.chess_base.specs.declared.man.Colour.TheVariants.{White, Black}
-use Rattle.chess_base.specs.declared.man.Kind.{Kind}
 use Rattle.chess_base.specs.declared.man.Kind.TheVariants.{King, Queen, Rook, Bishop, Knight, Pawn}
-use Rattle.chess_base.specs.declared.man.Man.{Man}
 use Rattle.chess_base.specs.Squares.{file, rank, is_strictly_between, share_rank_or_file, share_diagonal, is_between, some_square}
 use Rattle.chess_base.specs.Men.{Men, man_at, is_of, is_man, same_kind}
 use Rattle.chess_base.specs.Attacks.{is_clear, could_capture, attacks, is_attacked}
-use Rattle.chess_base.specs.shared.Parts.{is_rank_ahead}
 use Rattle.chess_base.specs.shared.Lines.{same_line, is_between_on_file, is_between_on_rank, is_between_on_diagonal}
 use Rattle.chess_base.specs.ties.Lines.{step_of, is_above, is_below, attacked_from, attacked_along_from_above, attacked_along_from_below, attacked_along, attacked_by_knight, attacked_by_knight_from_below, attacked_by_knight_from_above, attacked_from_below, attacked_from_above}
-use Rattle.chess_base.proofs.shared.Parts.{is_between_is}
+use Rattle.chess_base.proofs.{shared.Parts.is_between_is, shared.Geometry.between_on_line, shared.Geometry.is_clear_back, Knights.attacked_by_knight_is}
 use Rattle.chess_base.proofs.shared.Squares.{each_square-fails, some_square_same, none_passes, one_decides, some_square-or}
-use Rattle.chess_base.proofs.shared.Geometry.{between_on_line, is_clear_back}
-use Rattle.chess_base.proofs.Knights.{attacked_by_knight_is}
 use Rattle.chess_base.proofs.ClearLines.{clear_by, step_fits, step_stays, none_between, rises, line_back, line_on}
 
 -- ---- what stands between hides the square

@@ -1,18 +1,12 @@
 -- What a piece reaches along a line on which nothing stands between.
-use Rattle.std.proofs.Common.{◌≡◌, ◌≢◌, ℕ, ◌+◌, ◌*◌, ◌<◌, Bool, true, false, ◌&&◌, ◌||◌, not, ◌==◌, nat_le, Option, Some, None, refl, sym, ap, ◌∙◌, arith}
-use Rattle.std.proofs.lemmas.Bool.{eqb-true, ne_eqb}
+use Rattle.std.proofs.Common.{◌≡◌, ◌≢◌, ℕ, ◌+◌, ◌*◌, ◌<◌, Bool, true, false, ◌&&◌, ◌||◌, not, ◌==◌, nat_le, Option, Some, None, refl, sym, ap, ◌∙◌, arith, eqb-true, ne_eqb}
 use Rattle.std.proofs.lemmas.Bool.Decides.{nat_tests}
 use Rattle.std.specs.Int.{abs_diff}
-use Rattle.chess_base.specs.declared.line.Line.{Line}
+use Rattle.chess_base.specs.{declared.line.Line.Line, declared.man.Colour.Colour, declared.man.Kind.Kind, declared.man.Man.Man, Attacks.is_clear, Attacks.could_capture, Attacks.attacks, shared.Lines.same_line}
 use Rattle.chess_base.specs.declared.line.Line.TheVariants.{Rank, File, Diagonal, Antidiagonal}
-use Rattle.chess_base.specs.declared.man.Colour.{Colour}
-use Rattle.chess_base.specs.declared.man.Kind.{Kind}
 use Rattle.chess_base.specs.declared.man.Kind.TheVariants.{King, Queen, Rook, Bishop, Knight, Pawn}
-use Rattle.chess_base.specs.declared.man.Man.{Man}
 use Rattle.chess_base.specs.Squares.{file, rank, share_rank_or_file, share_diagonal}
 use Rattle.chess_base.specs.Men.{Men, man_at, is_of, same_colour}
-use Rattle.chess_base.specs.Attacks.{is_clear, could_capture, attacks}
-use Rattle.chess_base.specs.shared.Lines.{same_line}
 use Rattle.chess_base.specs.ties.Lines.{step_of, is_straight, reaches, attacked_from}
 use Rattle.chess_base.proofs.shared.Geometry.{by_parts}
 

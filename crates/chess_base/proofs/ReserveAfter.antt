@@ -1,32 +1,15 @@
 -- The reserve after a legal move: it never grows, and a capture or a pawn move lowers it.
-use Rattle.std.proofs.Common.{◌≡◌, ◌≢◌, ℕ, ◌+◌, ◌<◌, ◌≤◌, ◌⊎◌, inl, inr, length, set, Bool, false, true, ◌||◌, cond, min, Option, None, Some, is_none, arith, refl, sym, ◌∙◌, length-set, get_or-set_other, get_or-set_same, ◌==◌}
-use Rattle.std.specs.Prelude.{sum}
+use Rattle.std.proofs.Common.{◌≡◌, ◌≢◌, ℕ, ◌+◌, ◌<◌, ◌≤◌, ◌⊎◌, inl, inr, length, set, Bool, false, true, ◌||◌, cond, min, Option, None, Some, is_none, arith, refl, sym, ◌∙◌, length-set, get_or-set_other, get_or-set_same, ◌==◌, sum, ext_get_or}
 use Rattle.std.proofs.lemmas.Bool.{and_parts, or_cases, or_parts, or_left, or_right, both_ways, cases_eq, cond_both, eq-eqb, not-true}
-use Rattle.std.proofs.lemmas.List.{ext_get_or}
 use Rattle.std.proofs.lemmas.List.Sums.{sum_by-set}
-use Rattle.chess_base.specs.declared.man.Colour.{Colour}
-use Rattle.chess_base.specs.declared.man.Colour.TheVariants.{White, Black}
-use Rattle.chess_base.specs.declared.man.Kind.{Kind}
-use Rattle.chess_base.specs.declared.man.Kind.TheVariants.{Pawn}
-use Rattle.chess_base.specs.declared.man.Man.{Man}
-use Rattle.chess_base.specs.declared.man.Move.{Move}
-use Rattle.chess_base.specs.declared.castling.Castle.{Castle}
-use Rattle.chess_base.specs.declared.setup.Setup.{Setup}
-use Rattle.chess_base.specs.Squares.{rank}
-use Rattle.chess_base.specs.shared.Below.{from_below}
+use Rattle.chess_base.specs.{declared.man.Colour.Colour, declared.man.Colour.TheVariants.White, declared.man.Colour.TheVariants.Black, declared.man.Kind.Kind, declared.man.Kind.TheVariants.Pawn, declared.man.Man.Man, declared.man.Move.Move, declared.castling.Castle.Castle, declared.setup.Setup.Setup, Squares.rank, shared.Below.from_below, Sound.IsSound, Sound.no_pawn_on_end_ranks, shared.Parts.is_rank_ahead, shared.Parts.pawn_is_allowed, Castling.castle_from, Castling.mover_end, Castling.castles, laws.Reserve.ranks_to_go, laws.Reserve.weight, laws.Reserve.reserve}
 use Rattle.chess_base.specs.Men.{Men, man_at, other, is_of, is_man, same_colour, same_kind, forward, pawn_rank}
-use Rattle.chess_base.specs.Sound.{IsSound, no_pawn_on_end_ranks}
-use Rattle.chess_base.specs.shared.Parts.{is_rank_ahead, pawn_is_allowed}
-use Rattle.chess_base.specs.Castling.{castle_from, mover_end, castles}
 use Rattle.chess_base.specs.Moves.{arriving_man, man_moves, is_legal, men_after, halfmove_after, resets_clock, after}
-use Rattle.chess_base.specs.laws.Reserve.{ranks_to_go, weight, reserve}
 use Rattle.chess_base.proofs.shared.Squares.{each_square-at, length-from_below, get_or-from_below, map_squares}
 use Rattle.chess_base.proofs.shared.Men.{same_colour-true, is_of-from_is_man, is_man-kind, is_none-None}
 use Rattle.chess_base.proofs.shared.MoveKinds.{is_of-mover, Moves, MoveKind, ManMoves, Castles, PawnMoves, PawnKind, Advances, Captures, TakesEnPassant}
 use Rattle.chess_base.proofs.shared.Changes.{Change, pawn_attack, pawn_no_castling, rank_ahead_White, rank_ahead_Black, advance_goes}
-use Rattle.chess_base.proofs.shared.Captures.{resets_clock_is}
-use Rattle.chess_base.proofs.shared.Castling.{says_from_castling, castling_says, lands_on_to}
-use Rattle.chess_base.proofs.CastlingChange.{change_of}
+use Rattle.chess_base.proofs.{shared.Captures.resets_clock_is, shared.Castling.says_from_castling, shared.Castling.castling_says, shared.Castling.lands_on_to, CastlingChange.change_of}
 use Rattle.chess_base.proofs.CountsAfter.{CountsAs, CountAlone, CountCapture, CountCastled, IsSum, counts_by}
 
 -- a write to one square

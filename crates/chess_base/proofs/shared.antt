@@ -1,4 +1,5 @@
 -- Lemmas for crates above: all are about definitions, none about functions. They can cite no other module of proofs/.
+pub mod After
 pub mod Captures
 pub mod Castling
 pub mod CastlingNamed

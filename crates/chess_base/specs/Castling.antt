@@ -48,8 +48,7 @@ castled_rook_file = by_side 5 3
 
 -- ---- rights (3.8.2.1)
 
--- in the rights r, colour c's castling right on the given side: the square of the rook with which c may castle there;
--- none if c has no right on that side
+-- colour c's castling right on the given side: the square of the rook with which c may castle there, or none
 abbrev pub right_of : Rights → Colour → CastlingSide → Option ℕ
 right_of r c KingSide = (by_colour r.white r.black c).king_side
 right_of r c QueenSide = (by_colour r.white r.black c).queen_side
@@ -61,18 +60,16 @@ rights_by f = record {
   black = record { king_side = f Black KingSide; queen_side = f Black QueenSide };
 }
 
--- the square of colour c's king: the first in the order a1, b1 to h8 if c has several, none if c has no king
+-- the square of colour c's king: the first from a1 to h8 if c has several, none if c has none
 unfoldable pub king_square : Men → Colour → Option ℕ
 king_square men c = position (λ o. is_man c King o) men
 
--- of two squares of one rank, s lies on the given side of `king`, the king's square: towards file h (king side) or
--- towards file a (queen side). For squares of different ranks the result means nothing
+-- of two squares of one rank, s lies on the given side of the king's: towards file h (king side) or a (queen side)
 abbrev pub is_to_side : CastlingSide → ℕ → ℕ → Bool
 is_to_side w king s = by_side (nat_lt king s) (nat_lt s king) w
 
--- colour c's king, and a rook of c on square s, are where castling on side w begins. Normal chess: both on their
--- initial squares, as e1 and h1. Chess960: both on c's first rank, the rook on side w of the king, at any distance;
--- false if there is no king
+-- colour c's king, and a rook of c on square s, are where castling on side w begins: in normal chess on their initial
+-- squares, as e1 and h1; in Chess960 on c's first rank, with the rook on side w of the king
 abbrev pub are_placed_for_castling : Variant → Men → Colour → CastlingSide → ℕ → Bool
 are_placed_for_castling Normal men c w s =
     (s == home_square c (rook_file w)) && is_man c King (man_at men (home_square c king_home_file))
@@ -81,30 +78,27 @@ are_placed_for_castling Fischerandom men c w s =
     option_map_or (λ king. (rank king == first_rank c) && (rank s == first_rank c) && is_to_side w king s)
     (king_square men c) false && is_man c Rook (man_at men s)
 
--- colour c has no castling right on side w; or c's king, and a rook of c on the square of that right, are where
--- castling on side w begins
+-- if colour c has a castling right on side w, its king and the rook of that right are where castling on side w begins
 unfoldable pub right_is_sound : Setup → Colour → CastlingSide → Bool
 right_is_sound p c w = option_map_or (are_placed_for_castling p.variant p.men c w) (right_of p.rights c w) true
 
 -- ---- which moves are castling
 
--- move m has the squares that name colour c's castling on side w with the rook on square `rook`. Normal chess: from the
--- king's initial square to its square after castling (e1g1); `rook` plays no part. Chess960: from any square of the
--- rook's rank to the rook's square (e1h1); c and w play no part. That c's king is on m's start square is not asked here
+-- the squares of move m name colour c's castling on side w with the rook on square `rook`: in normal chess from the
+-- king's initial square to its square after castling (e1g1), in Chess960 along the rook's rank to the rook (e1h1)
 abbrev pub names_castling_with : Variant → Colour → Move → CastlingSide → ℕ → Bool
 names_castling_with Normal c m w rook = (m.from == home_square c king_home_file)
     && (m.to == home_square c (castled_king_file w))
 names_castling_with Fischerandom c m w rook = (rank m.from == rank rook) && (m.to == rook)
 
--- move m is written as castling to side w: a king of the colour on move is on m's start square, that colour has the
--- right to castle to w, and m's squares are those that name this castling in the variant (`names_castling_with`): e1g1,
--- or in Chess960 e1h1. Neither m's promotion nor whether m is legal is asked here
+-- move m is written as castling to side w, legal or not: the king of the side on move starts it, that side has this
+-- right, and the squares of m name this castling
 unfoldable pub is_castling_to : Setup → Move → CastlingSide → Bool
 is_castling_to p m w = is_man p.side King (man_at p.men m.from)
     && option_map_or (names_castling_with p.variant p.side m w) (right_of p.rights p.side w) false
 
--- the side to which move m is written as castling, legal or not; none if m is not castling. If both rights have
--- the same rook (in Chess960, and in no sound position), it is king side
+-- the side to which move m is written as castling, legal or not; none if m is not castling. If both sides fit (in
+-- Chess960, and in no sound position), it is king side
 unfoldable pub castling : Setup → Move → Option CastlingSide
 castling p m = find (is_castling_to p m) (KingSide ∷ QueenSide ∷ [])
 
@@ -119,8 +113,7 @@ castle_from c w king rook = record {
   rook_to = home_square c (castled_rook_file w);
 }
 
--- the four squares of castling, if move m is written as castling, legal or not: the king starts on m's start square,
--- the rook on the square of the right that is used; none if m is not castling
+-- the four squares of the castling that move m is written as, legal or not; none if m is not castling
 unfoldable pub castle_of : Setup → Move → Option Castle
 castle_of p m =
     option_and_then (λ w. option_map (castle_from p.side w m.from) (right_of p.rights p.side w)) (castling p m)
@@ -131,22 +124,22 @@ castle_of p m =
 abbrev pub is_on_way : ℕ → ℕ → ℕ → Bool
 is_on_way a b x = (x == a) || (x == b) || is_between a b x
 
--- for castling k, each square that king or rook crosses or ends on, other than the two where they start, is empty
--- (3.8.2.2.2)
-unfoldable pub castling_way_is_empty : Men → Castle → Bool
-castling_way_is_empty men k = each_square
-    (λ x. not (is_on_way k.king_from k.king_to x || is_on_way k.rook_from k.rook_to x) || (x == k.king_from)
-    || (x == k.rook_from) || is_none (man_at men x))
+-- castling k needs square x empty: king or rook crosses it or ends on it, and neither of the two starts on it
+unfoldable pub castling_needs_empty : Castle → ℕ → Bool
+castling_needs_empty k x = (is_on_way k.king_from k.king_to x || is_on_way k.rook_from k.rook_to x)
+    && not (x == k.king_from) && not (x == k.rook_from)
 
--- for castling k of colour c, no square that the king starts on, crosses or ends on is attacked by the other colour;
--- `men` are the pieces before castling (3.8.2.2.1)
+-- each square that castling k needs empty is empty (3.8.2.2.2)
+unfoldable pub castling_way_is_empty : Men → Castle → Bool
+castling_way_is_empty men k = each_square (λ x. not (castling_needs_empty k x) || is_none (man_at men x))
+
+-- before castling k of colour c, no square that the king starts on, crosses or ends on is attacked (3.8.2.2.1)
 unfoldable pub castling_way_is_safe : Men → Colour → Castle → Bool
 castling_way_is_safe men c k = each_square
     (λ x. not (is_on_way k.king_from k.king_to x) || not (is_attacked men x (other c)))
 
--- castling k, which move m is, is pseudo-legal: m names no promotion, no piece but this king and rook is on the squares
--- that they cross or end on, and no square that the king starts on, crosses or ends on is attacked. Whether the king is
--- in check after castling is not asked: in Chess960 its rook may uncover an attack
+-- castling k, which move m is, is pseudo-legal. Whether the king is in check after it is not asked: in Chess960 its
+-- rook may uncover an attack
 unfoldable pub castles : Setup → Move → Castle → Bool
 castles p m k = is_none m.promotion && castling_way_is_empty p.men k && castling_way_is_safe p.men p.side k
 

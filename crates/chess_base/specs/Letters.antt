@@ -1,6 +1,6 @@
 -- The letters of kinds of piece and the names of squares.
-use Rattle.std.specs.Prelude.{ℕ, ◌+◌, ◌-◌, ◌*◌, ◌==◌, Bool, ◌&&◌, if◌then◌else◌, List, [], ◌∷◌, ◌++◌, map, find, Option, Some, None, nat_le, codes}
-use Rattle.byte_devices.specs.Bytes.{byte}
+use Prim.Native.String.{String as Text}
+use Rattle.std.specs.Prelude.{ℕ, ◌+◌, ◌-◌, ◌*◌, ◌==◌, Bool, ◌&&◌, if◌then◌else◌, List, [], ◌∷◌, ◌++◌, map, find, Option, Some, None, nat_le, codes, slice_index_or}
 use Rattle.chess_base.specs.declared.man.Colour.{Colour}
 use Rattle.chess_base.specs.declared.man.Colour.TheVariants.{White, Black}
 use Rattle.chess_base.specs.declared.man.Kind.{Kind}
@@ -9,8 +9,13 @@ use Rattle.chess_base.specs.declared.man.Man.{Man}
 use Rattle.chess_base.specs.ByColour.{by_colour}
 use Rattle.chess_base.specs.Squares.{file, rank}
 
--- the byte of the capital letter of a kind of piece, N for a knight. SAN uses it for both colours, but none for a
--- pawn's move; FEN uses it for White's pieces only (PGN standard of 1994, sections 8.2.3.2 and 16.1.3.1)
+-- the code of a text's first character, 0 for the empty text; it is used for one ASCII character: `byte "A"` is 65. (As
+-- in byte_devices, for which this crate doesn't wait.)
+abbrev pub byte : Text → ℕ
+byte text = slice_index_or (codes text) 0 0
+
+-- the capital letter of a kind of piece, N for a knight: White's in FEN (PGN standard of 1994, section 16.1.3.1), both
+-- colours' in SAN (8.2.3.2)
 abbrev pub white_letter : Kind → ℕ
 white_letter Pawn = byte "P"
 white_letter Knight = byte "N"
@@ -19,8 +24,7 @@ white_letter Rook = byte "R"
 white_letter Queen = byte "Q"
 white_letter King = byte "K"
 
--- the letter of a kind of piece in a colour, as in FEN: White's are capital, Black's small (byte + 32): N and n for
--- knights
+-- the letter of a kind of piece in a colour, as in FEN: Black's are small (byte + 32)
 abbrev pub letter_by : Colour → Kind → ℕ
 letter_by c k = by_colour (white_letter k) (white_letter k + 32) c
 

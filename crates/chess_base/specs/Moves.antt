@@ -17,95 +17,79 @@ use Rattle.chess_base.specs.Men.{Men, man_at, is_of, is_man, same_colour, same_k
 use Rattle.chess_base.specs.Attacks.{attacks, is_in_check}
 use Rattle.chess_base.specs.Castling.{right_of, rights_by, castle_of, castling_rook_to, castles, mover_end}
 
--- the promotion that a pawn's move names is allowed: a queen, rook, bishop or knight if the move ends on the pawn's
--- last rank (`last` is true), and none (`None`) if it ends elsewhere (3.7.3.3)
+-- the promotion that a pawn's move names is allowed: a queen, rook, bishop or knight on its last rank (`last`), and
+-- none elsewhere (3.7.3.3)
 abbrev pub promotion_fits : Bool → Option Kind → Bool
 promotion_fits last None = not last
 promotion_fits last (Some k) = not (same_kind k King) && not (same_kind k Pawn) && last
 
--- a pawn of the side on move goes two squares straight ahead from its home rank, as e2e4 (3.7.2); whether the square
--- that it crosses and the end square are empty is not asked here
+-- a pawn of the side on move goes two squares straight ahead from its home rank, as e2e4 (3.7.2), even across a piece
 unfoldable pub is_double_advance : Setup → Move → Bool
-is_double_advance p m =
-    is_man p.side Pawn (man_at p.men m.from)
-    && (rank m.from == pawn_rank p.side)
+is_double_advance p m = is_man p.side Pawn (man_at p.men m.from) && (rank m.from == pawn_rank p.side)
     && (m.to == forward p.side (forward p.side m.from))
 
 -- a pawn of the side on move goes one square diagonally ahead, to the en passant target (3.7.3.1): e5d6 after d7d5
 unfoldable pub is_en_passant : Setup → Move → Bool
 is_en_passant p m = is_man p.side Pawn (man_at p.men m.from) && attacks p.men m.from m.to && is_at p.target m.to
 
--- for a move of a pawn of the side on move: it goes straight ahead to an empty square, either one square, or two from
--- its home rank across an empty square (3.7.1, 3.7.2)
+-- a pawn's move goes straight ahead to an empty square: one, or two from its home rank across an empty one (3.7.1,
+-- 3.7.2)
 unfoldable pub pawn_advances : Setup → Move → Bool
-pawn_advances p m =
-    is_none (man_at p.men m.to)
+pawn_advances p m = is_none (man_at p.men m.to)
     && ((m.to == forward p.side m.from) || (is_double_advance p m && is_none (man_at p.men (forward p.side m.from))))
 
--- for a move of a pawn of the side on move: it goes one square diagonally ahead, to an enemy piece or to the en passant
--- target (3.7.3)
+-- a pawn's move goes one square diagonally ahead, to an enemy piece or to the en passant target (3.7.3)
 unfoldable pub pawn_captures : Setup → Move → Bool
 pawn_captures p m = attacks p.men m.from m.to && (is_of (other p.side) (man_at p.men m.to) || is_at p.target m.to)
 
--- for a move of a pawn of the side on move: it advances or captures, and names a promotion (to queen, rook, bishop or
--- knight) if and only if it ends on the pawn's last rank (3.7)
+-- a pawn's move advances or captures, and names a promotion if and only if it ends on the last rank (3.7)
 unfoldable pub pawn_moves : Setup → Move → Bool
 pawn_moves p m =
     promotion_fits (rank m.to == first_rank (other p.side)) m.promotion && (pawn_advances p m || pawn_captures p m)
 
--- for a move of a piece other than a pawn, and not for castling: it goes to a square that the piece attacks and that
--- holds no piece of the side on move (3.1), and it names no promotion
+-- another piece's move, unless it is castling, goes to a square that the piece attacks and that holds no own piece
+-- (3.1)
 unfoldable pub man_moves : Setup → Move → Bool
 man_moves p m = is_none m.promotion && attacks p.men m.from m.to && not (is_of p.side (man_at p.men m.to))
 
--- the content of m's start square (the last argument) is a piece of the side on move for which m is pseudo-legal: a
--- pawn by `pawn_moves`, another piece by `castles` if m is castling, otherwise by `man_moves`. False for an enemy piece
--- and for an empty square (`None`)
+-- move m is pseudo-legal for the content of its start square (the last argument): a piece of the side on move can make
+-- it
 abbrev pub moves_as : Setup → Move → Option Man → Bool
 moves_as p m None = false
-moves_as p m (Some x) =
-    same_colour p.side x.colour
+moves_as p m (Some x) = same_colour p.side x.colour
     && (if same_kind Pawn x.kind then pawn_moves p m else option_map_or (castles p m) (castle_of p m) (man_moves p m))
 
--- move m is pseudo-legal: its squares are on the board, and a piece of the side on move can make it (3.1 to 3.8),
--- whether or not this leaves the mover's king in check. Castling out of check, or across or onto an attacked square, is
--- not pseudo-legal
+-- move m is pseudo-legal: a piece of the side on move can make it (3.1 to 3.8), even if it leaves the own king in
+-- check. Castling out of check, or across or onto an attacked square, is not pseudo-legal
 unfoldable pub is_pseudo_legal : Setup → Move → Bool
 is_pseudo_legal p m = nat_lt m.from 64 && nat_lt m.to 64 && moves_as p m (man_at p.men m.from)
 
--- the piece that arrives on a move's end square, from the content of its start square and from its promotion: the piece
--- that left, or with a promotion one of the new kind in its colour; none if the start square was empty
+-- the piece that arrives on a move's end square: the one that left its start square, with a promotion as the new kind
 abbrev pub arriving_man : Option Man → Option Kind → Option Man
 arriving_man o k = option_map (λ (x : Man). record x { kind = unwrap_or k x.kind }) o
 
--- the square of the piece that move m captures: m's end square, or en passant the square one step back from it, which
--- is one step ahead for the other colour (e5 if White captures on e6); none if m captures nothing
+-- the square of the piece that move m captures: m's end square, or en passant the one a step back from it (e5 if White
+-- captures on e6); none if m captures nothing
 unfoldable pub captured_square : Setup → Move → Option ℕ
-captured_square p m =
-    if is_en_passant p m then Some (forward (other p.side) m.to)
+captured_square p m = if is_en_passant p m then Some (forward (other p.side) m.to)
     else if is_of (other p.side) (man_at p.men m.to) then Some m.to
     else None
 
--- what is on square s after castling k, which move m is: the king on `king_to`, the rook on `rook_to`, nothing on the
--- squares where they started unless one of them ends there (as may be in Chess960), and elsewhere what was there. A
--- legal castling names no promotion, so what arrives on `king_to` is the king
+-- what is on square s after castling k, which move m is. In Chess960 one of the two may end where one started. A legal
+-- castling names no promotion, so the king arrives on `king_to`
 abbrev pub after_castling : Setup → Move → Castle → ℕ → Option Man
-after_castling p m k s =
-    if s == k.king_to then arriving_man (man_at p.men m.from) m.promotion
+after_castling p m k s = if s == k.king_to then arriving_man (man_at p.men m.from) m.promotion
     else if s == k.rook_to then Some (record { colour = p.side; kind = Rook })
     else if (s == k.king_from) || (s == k.rook_from) then None
     else man_at p.men s
 
--- what is on square s after move m, if m is not castling: on the end square the piece that moved, promoted if m names a
--- promotion; nothing on the start square and on that of a pawn captured en passant; elsewhere what was there
+-- what is on square s after move m, if m is not castling. En passant the captured pawn was on a square of its own
 abbrev pub after_moving : Setup → Move → ℕ → Option Man
-after_moving p m s =
-    if s == m.to then arriving_man (man_at p.men m.from) m.promotion
+after_moving p m s = if s == m.to then arriving_man (man_at p.men m.from) m.promotion
     else if (s == m.from) || is_at (captured_square p m) s then None
     else man_at p.men s
 
--- the pieces on all 64 squares after move m of position p: by `after_castling` if m is castling, otherwise by
--- `after_moving`
+-- the pieces on all 64 squares after move m of position p
 unfoldable pub men_after : Setup → Move → Men
 men_after p m = map (λ s. option_map_or (λ k. after_castling p m k s) (castle_of p m) (after_moving p m s)) squares
 
@@ -116,8 +100,7 @@ rights_after p m = rights_by (λ c w. option_and_then
     (λ rook. if is_man c King (man_at p.men m.from) || (m.from == rook) || (m.to == rook) then None else Some rook)
     (right_of p.rights c w))
 
--- the en passant target after a move: the square that a double advance crosses (e3 after e2e4), even if no enemy pawn
--- can capture there; none after other moves
+-- the en passant target after a move: the square that a double advance crosses (e3 after e2e4); none after other moves
 unfoldable pub target_after : Setup → Move → Option ℕ
 target_after p m = if is_double_advance p m then Some (forward p.side m.from) else None
 
@@ -135,8 +118,7 @@ halfmove_after p m = if resets_clock p m then 0 else min (p.halfmove + 1) COUNTE
 abbrev pub fullmove_after : Colour → ℕ → ℕ
 fullmove_after c n = by_colour n (min (n + 1) COUNTER_LIMIT) c
 
--- the whole position after move m of position p, field by field: the variant stays, and the other side is on move.
--- Whether m is legal is not asked here
+-- the position after move m of position p, whether m is legal or not
 unfoldable pub after : Setup → Move → Setup
 after p m = record {
   variant = p.variant;

@@ -1,8 +1,8 @@
 //! Castling: with which rook, between which squares, and when.
 
 ghost use Rattle.std.specs.Prelude.{◌≡◌, ◌<◌, IfSome, Option};
-ghost use Rattle.chess_base.specs.Castling.{home_square, king_home_file, rook_file, castled_king_file, castled_rook_file, right_of, king_square, is_to_side, are_placed_for_castling, right_is_sound, is_castling_to, castling, castle_from, castle_of, mover_end, castling_rook_to, is_on_way, castling_way_is_empty, castling_way_is_safe, castles};
-ghost use Rattle.chess_base.specs.shared.Parts.{is_on_side_of_king, castling_needs_empty};
+ghost use Rattle.chess_base.specs.Castling.{home_square, king_home_file, rook_file, castled_king_file, castled_rook_file, right_of, king_square, is_to_side, are_placed_for_castling, right_is_sound, is_castling_to, castling, castle_from, castle_of, mover_end, castling_rook_to, is_on_way, castling_needs_empty, castling_way_is_empty, castling_way_is_safe, castles};
+ghost use Rattle.chess_base.specs.shared.Parts.{is_on_side_of_king};
 ghost use Rattle.chess_base.specs.shared.Splits.{names_castling, rook_from, rook_to};
 ghost use Rattle.chess_base.specs.Before.{mover_to, castle_by};
 
@@ -334,7 +334,7 @@ fn is_on_way(a: Square, b: Square, x: Square) -> bool
 
 // Whether by this castling king or rook crosses x or ends there, and neither of the two starts there: x must then be
 // empty. For White's castling on the king's side in normal chess these are f1 and g1.
-#[tactic(auto, unfolding(crate::specs::shared::Parts::castling_needs_empty))]
+#[tactic(auto, unfolding(crate::specs::Castling::castling_needs_empty))]
 fn castling_needs_empty(castle: &Castle, x: Square) -> bool
     ensures { result ≡ castling_needs_empty castle.now x }
 {

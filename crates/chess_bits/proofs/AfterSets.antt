@@ -2,24 +2,12 @@
 use mathlib.Core.Bool.{and-true}
 use Rattle.std.proofs.Common.{◌≡◌, ℕ, ◌<◌, inl, inr, Bool, true, false, not, ◌&&◌, ◌||◌, ◌==◌, cond, refl, Option, Some, None, is_none}
 use Rattle.std.proofs.lemmas.Bool.{and_right, cases_Bool, eqb-true, eq-eqb}
-use Rattle.chess_base.specs.declared.man.Colour.{Colour}
-use Rattle.chess_base.specs.declared.man.Kind.{Kind}
-use Rattle.chess_base.specs.declared.man.Kind.TheVariants.{King, Rook}
-use Rattle.chess_base.specs.declared.man.Man.{Man}
-use Rattle.chess_base.specs.declared.man.Move.{Move}
-use Rattle.chess_base.specs.Squares.{is_at}
+use Rattle.chess_base.specs.{declared.man.Colour.Colour, declared.man.Kind.Kind, declared.man.Kind.TheVariants.King, declared.man.Kind.TheVariants.Rook, declared.man.Man.Man, declared.man.Move.Move, Squares.is_at, Attacks.is_attacked, Attacks.is_in_check, declared.setup.Setup.Setup, Moves.arriving_man, Moves.men_after, Moves.second_square_emptied, Castling.mover_end, Castling.castling_rook_to}
 use Rattle.chess_base.specs.Men.{Men, man_at, other, is_of, is_man}
-use Rattle.chess_base.specs.Attacks.{is_attacked, is_in_check}
-use Rattle.chess_base.specs.declared.setup.Setup.{Setup}
-use Rattle.chess_base.specs.Moves.{arriving_man, men_after, second_square_emptied}
-use Rattle.chess_base.specs.Castling.{mover_end, castling_rook_to}
-use Rattle.chess_base.proofs.shared.MenAfter.{man_after, man_at-men_after}
-use Rattle.chess_base.proofs.shared.Men.{not_is_man}
-use Rattle.chess_base.proofs.shared.Squares.{some_square-at, some_square-none}
+use Rattle.chess_base.proofs.{shared.MenAfter.man_after, shared.MenAfter.man_at-men_after, shared.Men.not_is_man, shared.Squares.some_square-at, shared.Squares.some_square-none}
 use Rattle.chess_moves.specs.Sets.{contains}
 use Rattle.chess_bits.proofs.BoardSets.{theirs_of}
-use Rattle.chess_bits.specs.ties.Changes.{is_changed, is_filled}
-use Rattle.chess_bits.specs.ties.Occupancy.{IsLater}
+use Rattle.chess_bits.specs.{ties.Changes.is_changed, ties.Changes.is_filled, ties.Occupancy.IsLater}
 
 filled_by : (t r l : Bool) (a k : Option Man) (c : Colour) → is_none a ≡ false
     → ((t || r) || (not (is_none k) && not (t || r || l)))

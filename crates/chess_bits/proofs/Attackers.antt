@@ -1,29 +1,18 @@
 -- Who attacks a square, seen from that square.
-use Rattle.std.proofs.Common.{◌≡◌, ℕ, ◌<◌, Bool, true, false, not, ◌&&◌, ◌||◌, ◌==◌, refl, ◌∙◌, arith, Option, Some, None, is_none}
-use Rattle.std.proofs.lemmas.Bool.{eqb-true}
+use Rattle.std.proofs.Common.{◌≡◌, ℕ, ◌<◌, Bool, true, false, not, ◌&&◌, ◌||◌, ◌==◌, refl, ◌∙◌, arith, Option, Some, None, is_none, eqb-true}
 use Rattle.std.proofs.lemmas.Bool.Decides.{nat_tests}
-use Rattle.chess_base.specs.declared.man.Colour.{Colour}
-use Rattle.chess_base.specs.declared.man.Colour.TheVariants.{White, Black}
-use Rattle.chess_base.specs.declared.man.Kind.{Kind}
+use Rattle.chess_base.specs.{declared.man.Colour.Colour, declared.man.Colour.TheVariants.White, declared.man.Colour.TheVariants.Black, declared.man.Kind.Kind, declared.man.Man.Man, shared.Splits.could_capture_as, declared.line.Line.Line, shared.Lines.line_number, shared.Lines.same_line}
 use Rattle.chess_base.specs.declared.man.Kind.TheVariants.{King, Queen, Rook, Bishop, Knight, Pawn}
-use Rattle.chess_base.specs.declared.man.Man.{Man}
 use Rattle.chess_base.specs.Squares.{file, rank, share_rank_or_file, share_diagonal, is_between, some_square}
 use Rattle.chess_base.specs.Men.{Men, man_at, other, same_colour, same_kind, is_of, is_man}
 use Rattle.chess_base.specs.Attacks.{is_clear, could_capture, attacks, is_attacked}
-use Rattle.chess_base.specs.shared.Splits.{could_capture_as}
-use Rattle.chess_base.specs.declared.line.Line.{Line}
 use Rattle.chess_base.specs.declared.line.Line.TheVariants.{Rank, File, Diagonal, Antidiagonal}
-use Rattle.chess_base.specs.shared.Lines.{line_number, same_line}
-use Rattle.chess_base.proofs.shared.Geometry.{abs_diff_back, between_back}
-use Rattle.chess_base.proofs.shared.Squares.{each_square_same, some_square_same}
+use Rattle.chess_base.proofs.{shared.Geometry.abs_diff_back, shared.Geometry.between_back, shared.Squares.each_square_same, shared.Squares.some_square_same, shared.MenAfter.eqb_comm}
 use Rattle.chess_bits.specs.declared.table.Shape.TheVariants as shape
 use mathlib.Core.Bool.{not-not}
 use Rattle.chess_moves.specs.Sets.{contains}
 use Rattle.chess_moves.proofs.shared.Members.{has_zero}
-use Rattle.chess_bits.specs.ties.Rays.{is_on_ray, is_open}
-use Rattle.chess_bits.specs.ties.Shapes.{in_shape}
-use Rattle.chess_bits.specs.ties.Occupancy.{IsOccupied}
-use Rattle.chess_base.proofs.shared.MenAfter.{eqb_comm}
+use Rattle.chess_bits.specs.{ties.Rays.is_on_ray, ties.Rays.is_open, ties.Shapes.in_shape, ties.Occupancy.IsOccupied}
 
 -- the two rays along a line
 pub both_rays : (l : Line) (a b : ℕ) (o : Bool)

@@ -1,17 +1,13 @@
 -- The squares between two squares of one line.
 use Rattle.std.proofs.Common.{◌≡◌, ℕ, ◌+◌, ◌*◌, ◌/◌, ◌%◌, ◌<◌, ◌≤◌, inl, inr, Bool, true, false, not, ◌&&◌, ◌||◌, refl, sym, ap, ◌∙◌, arith, List, length, get_or, set, get_or-set_same, get_or-set_other, [], ◌∷◌}
 use Rattle.std.specs.List.{list_any, list_all}
-use Rattle.std.proofs.lemmas.Bool.Decides.{nat_tests}
-use Rattle.std.proofs.lemmas.Bool.{cases_Bool, cases_eq, or_cases}
+use Rattle.std.proofs.{lemmas.Bool.Decides.nat_tests, lemmas.Bool.cases_Bool, lemmas.Bool.cases_eq, lemmas.Bool.or_cases}
 use Rattle.chess_base.specs.Squares.{squares, is_between, share_rank_or_file, share_diagonal, some_square, each_square}
-use Rattle.chess_base.specs.declared.line.Line.{Line}
+use Rattle.chess_base.specs.{declared.line.Line.Line, shared.Lines.line_number, shared.Lines.same_line}
 use Rattle.chess_base.specs.declared.line.Line.TheVariants.{Rank, File, Diagonal, Antidiagonal}
-use Rattle.chess_base.specs.shared.Lines.{line_number, same_line}
 use Rattle.chess_bits.specs.ties.Rays.{is_on_ray, is_open}
-use Rattle.chess_base.proofs.shared.Geometry.{between_on_line, share_diagonal_is}
-use Rattle.chess_base.proofs.shared.Squares.{each_square_same}
+use Rattle.chess_base.proofs.{shared.Geometry.between_on_line, shared.Geometry.share_diagonal_is, shared.Squares.each_square_same, shared.MenAfter.eqb_comm}
 use Rattle.chess_moves.specs.Sets.{contains}
-use Rattle.chess_base.proofs.shared.MenAfter.{eqb_comm}
 
 -- ---- on one line
 

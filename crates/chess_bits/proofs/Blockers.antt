@@ -3,14 +3,11 @@ use mathlib.Core.Bool.{and-true}
 use Rattle.std.proofs.Common.{◌≡◌, ◌==◌, ℕ, zero, suc, ◌<◌, inl, inr, Bool, true, false, not, ◌&&◌, ◌||◌, nat_lt, refl, sym, ap, ◌∙◌, arith}
 use Rattle.std.proofs.lemmas.Bool.Decides.{nat_tests}
 use Rattle.std.proofs.lemmas.Bool.{and_parts, and_right, both_ways, cases_Bool, eq-eqb, or_right}
-use Rattle.chess_base.specs.Squares.{is_between}
-use Rattle.chess_base.specs.declared.line.Line.{Line}
+use Rattle.chess_base.specs.{Squares.is_between, declared.line.Line.Line, shared.Lines.same_line}
 use Rattle.chess_moves.specs.Sets.{contains, is_beyond}
 use Rattle.chess_moves.proofs.shared.Members.{has_zero}
-use Rattle.chess_base.specs.shared.Lines.{same_line}
 use Rattle.chess_bits.specs.ties.Rays.{is_on_ray, is_open}
-use Rattle.chess_base.proofs.shared.Geometry.{between_on_line}
-use Rattle.chess_base.proofs.shared.Squares.{each_square-all, each_square-fails}
+use Rattle.chess_base.proofs.{shared.Geometry.between_on_line, shared.Squares.each_square-all, shared.Squares.each_square-fails}
 
 -- what lies between a square and one on a ray from it lies on that ray, before that square
 between_on_ray : (l : Line) (up : Bool) (a b x : ℕ) → is_on_ray l up a b ≡ true

@@ -1,16 +1,11 @@
 -- One square changes: the sets of both colours.
 use mathlib.Core.Bool.{and-true, and-false, or-true, or-false}
 use Rattle.std.proofs.Common.{◌≡◌, ℕ, ◌<◌, inl, inr, true, false, not, ◌&&◌, ◌||◌, ◌==◌, refl, sym, ◌∙◌, ap, arith, Option, Some, None, List, [], ◌∷◌, zero, suc, length, get_or, set, get_or-set_same, get_or-set_other}
-use Rattle.std.proofs.lemmas.Bool.{cases_eq, eq-eqb, ne_eqb}
-use Rattle.chess_base.specs.declared.man.Colour.{Colour}
-use Rattle.chess_base.specs.declared.man.Kind.{Kind}
-use Rattle.chess_base.specs.declared.man.Man.{Man}
+use Rattle.std.proofs.{lemmas.Bool.cases_eq, lemmas.Bool.eq-eqb, lemmas.Bool.ne_eqb, lemmas.List.set-get_or}
+use Rattle.chess_base.specs.{declared.man.Colour.Colour, declared.man.Kind.Kind, declared.man.Man.Man, shared.Parts.kind_number}
 use Rattle.chess_base.specs.Men.{Men, man_at, is_of, is_man, other}
-use Rattle.chess_base.specs.shared.Parts.{kind_number}
 use Rattle.chess_moves.specs.Sets.{contains}
-use Rattle.std.proofs.lemmas.List.{set-get_or}
-use Rattle.chess_base.proofs.shared.Changes.{not_same_other}
-use Rattle.chess_base.proofs.shared.Men.{not_is_man, is_of-none, same_colour-self}
+use Rattle.chess_base.proofs.{shared.Changes.not_same_other, shared.Men.not_is_man, shared.Men.is_of-none, shared.Men.same_colour-self}
 use Rattle.chess_bits.specs.ties.KindSets.{IsAll, IsKinds}
 
 -- the sets of a colour none of whose pieces came or went

@@ -1,30 +1,16 @@
 -- Which moves are legal, by the kind of the piece that goes.
 use mathlib.Core.Bool.{and-false, and-true}
-use Rattle.std.proofs.Common.{◌≡◌, ℕ, ◌<◌, inl, inr, Bool, true, false, not, ◌&&◌, ◌||◌, ◌==◌, Option, Some, None, refl, sym, ap, ◌∙◌}
-use Rattle.std.specs.Option.{is_some}
+use Rattle.std.proofs.Common.{◌≡◌, ℕ, ◌<◌, inl, inr, Bool, true, false, not, ◌&&◌, ◌||◌, ◌==◌, Option, Some, None, refl, sym, ap, ◌∙◌, is_some}
 use Rattle.std.proofs.lemmas.Bool.{and_parts, and_from, and_left, and_right, cases_Bool, eqb-true, not-true, or_parts}
-use Rattle.chess_base.specs.declared.castling.Castle.{Castle}
-use Rattle.chess_base.specs.declared.man.Colour.{Colour}
-use Rattle.chess_base.specs.declared.man.Kind.{Kind}
+use Rattle.chess_base.specs.{declared.castling.Castle.Castle, declared.man.Colour.Colour, declared.man.Kind.Kind, declared.man.Man.Man, declared.man.Move.Move, declared.setup.Setup.Setup, Attacks.could_capture, Attacks.is_in_check, Castling.castle_of, MoveList.move_of, shared.Splits.castles_or_moves, Squares.is_at}
 use Rattle.chess_base.specs.declared.man.Kind.TheVariants.{King, Queen, Rook, Bishop, Knight, Pawn}
-use Rattle.chess_base.specs.declared.man.Man.{Man}
-use Rattle.chess_base.specs.declared.man.Move.{Move}
-use Rattle.chess_base.specs.declared.setup.Setup.{Setup}
-use Rattle.chess_base.specs.Attacks.{could_capture, is_in_check}
-use Rattle.chess_base.specs.Castling.{castle_of}
 use Rattle.chess_base.specs.Men.{man_at, is_of, is_man, same_colour, same_kind}
-use Rattle.chess_base.specs.MoveList.{move_of}
 use Rattle.chess_base.specs.Moves.{is_pseudo_legal, is_legal, after, man_moves, pawn_advances, pawn_captures, promotion_fits}
-use Rattle.chess_base.specs.shared.Splits.{castles_or_moves}
-use Rattle.chess_base.specs.Squares.{is_at}
 use Rattle.chess_base.proofs.shared.Men.{is_man-kind, same_kind-self}
-use Rattle.chess_moves.specs.Promoting.{would_promote}
-use Rattle.chess_moves.specs.Sets.{contains}
-use Rattle.chess_bits.specs.ties.Changes.{StepsPlainly}
-use Rattle.chess_bits.specs.ties.Goes.{goes, legal_or, IsOfficer}
-use Rattle.chess_bits.proofs.OriginsOf.{back, officer_attacks}
+use Rattle.chess_moves.specs.{Promoting.would_promote, Sets.contains}
+use Rattle.chess_bits.specs.{ties.Changes.StepsPlainly, ties.Goes.goes, ties.Goes.legal_or, ties.Goes.IsOfficer}
+use Rattle.chess_bits.proofs.{OriginsOf.back, OriginsOf.officer_attacks, TargetsOf.man_told, TargetsOf.steps_of_man, TargetsOf.no_king_castles}
 use Rattle.chess_bits.proofs.Patterns.{fits_low, not_fitting, not_promoting, officer_goes, pattern_by, pawn_goes}
-use Rattle.chess_bits.proofs.TargetsOf.{man_told, steps_of_man, no_king_castles}
 
 -- a piece other than a pawn has the pattern of a move where it moves or castles
 pub man_pattern : (p : Setup) (kind : Kind) (a b : ℕ) → is_man p.side kind (man_at p.men a) ≡ true

@@ -1,31 +1,14 @@
 -- Where a right to castle is available: the king is at home (in normal chess), and the move of the king to the end
 -- square of that castling has its squares.
 use mathlib.Core.Bool.{and-false, and-true}
-use Rattle.std.proofs.Common.{◌≡◌, inl, inr, ℕ, ◌<◌, Bool, true, false, ◌&&◌, ◌==◌, Option, Some, None, refl, sym, ap, ◌∙◌, arith}
-use Rattle.std.specs.Prelude.{option_and_then}
+use Rattle.std.proofs.Common.{◌≡◌, inl, inr, ℕ, ◌<◌, Bool, true, false, ◌&&◌, ◌==◌, Option, Some, None, refl, sym, ap, ◌∙◌, arith, option_and_then}
 use Rattle.std.specs.Option.{option_map, option_map_or}
 use Rattle.std.proofs.lemmas.Bool.Decides.{nat_tests}
 use Rattle.std.proofs.lemmas.Bool.{and_parts, and_right, cases_eq, eqb-true, eq-eqb, ne_eqb}
-use Rattle.chess_base.specs.declared.man.CastlingSide.{CastlingSide}
-use Rattle.chess_base.specs.declared.man.CastlingSide.TheVariants.{KingSide, QueenSide}
-use Rattle.chess_base.specs.declared.man.Colour.{Colour}
-use Rattle.chess_base.specs.declared.man.Colour.TheVariants.{White, Black}
-use Rattle.chess_base.specs.declared.man.Kind.TheVariants.{King, Rook}
-use Rattle.chess_base.specs.declared.man.Move.{Move}
-use Rattle.chess_base.specs.declared.man.Variant.{Variant}
-use Rattle.chess_base.specs.declared.man.Variant.TheVariants.{Normal, Fischerandom}
-use Rattle.chess_base.specs.declared.setup.Setup.{Setup}
+use Rattle.chess_base.specs.{declared.man.CastlingSide.CastlingSide, declared.man.CastlingSide.TheVariants.KingSide, declared.man.CastlingSide.TheVariants.QueenSide, declared.man.Colour.Colour, declared.man.Colour.TheVariants.White, declared.man.Colour.TheVariants.Black, declared.man.Kind.TheVariants.King, declared.man.Kind.TheVariants.Rook, declared.man.Move.Move, declared.man.Variant.Variant, declared.man.Variant.TheVariants.Normal, declared.man.Variant.TheVariants.Fischerandom, declared.setup.Setup.Setup, shared.Splits.right_is_sound_at, shared.Parts.is_on_side_of_king, Men.Men, Men.man_at, Men.is_man, MoveList.move_of, Moves.is_legal, Sound.IsSound}
 use Rattle.chess_base.specs.laws.Castles.{castling_on, is_castling_by, castling_named, named_square}
-use Rattle.chess_base.specs.shared.Splits.{right_is_sound_at}
 use Rattle.chess_base.specs.Castling.{home_square, king_home_file, rook_file, right_of, king_square, are_placed_for_castling, right_is_sound, castle_from, castle_of}
-use Rattle.chess_base.specs.shared.Parts.{is_on_side_of_king}
-use Rattle.chess_base.specs.Men.{Men, man_at, is_man}
-use Rattle.chess_base.specs.MoveList.{move_of}
-use Rattle.chess_base.specs.Moves.{is_legal}
-use Rattle.chess_base.specs.Sound.{IsSound}
-use Rattle.chess_base.proofs.shared.Castling.{right_is_sound_of, placed_for_right}
-use Rattle.chess_base.proofs.shared.CastlingNamed.{same_castle}
-use Rattle.chess_base.proofs.shared.Kings.{one_king_of, king_square-at}
+use Rattle.chess_base.proofs.{shared.Castling.right_is_sound_of, shared.Castling.placed_for_right, shared.CastlingNamed.same_castle, shared.Kings.one_king_of, shared.Kings.king_square-at}
 use Rattle.chess_bits.specs.ties.Goes.{names_end, castles_onto}
 use Rattle.chess_bits.proofs.OneKing.{alone}
 

@@ -1,38 +1,19 @@
 -- Castling by sets: its squares are on one rank, and its ways are sets.
-use Rattle.chess_base.proofs.shared.Squares.{each_square_same}
+use Rattle.chess_base.proofs.{shared.Squares.each_square_same, shared.Changes.no_en_passant, shared.Men.in_board, shared.Men.is_man-kind, shared.Parts.castling_way_is_empty_by}
 use mathlib.Core.Bool.{and-true}
 use Rattle.std.proofs.Common.{◌≡◌, ℕ, ◌<◌, Bool, true, false, not, ◌&&◌, ◌||◌, ◌==◌, Option, Some, None, is_none, refl, sym, ap, subst, ◌∙◌, arith}
 use Rattle.std.proofs.lemmas.Bool.{and_parts, eqb-true}
 use Rattle.std.specs.List.{list_any}
-use Rattle.chess_base.specs.declared.castling.Castle.{Castle}
-use Rattle.chess_base.specs.declared.man.CastlingSide.{CastlingSide}
-use Rattle.chess_base.specs.declared.man.CastlingSide.TheVariants.{KingSide, QueenSide}
-use Rattle.chess_base.specs.declared.man.Colour.{Colour}
-use Rattle.chess_base.specs.declared.man.Colour.TheVariants.{White, Black}
-use Rattle.chess_base.specs.declared.man.Kind.TheVariants.{King, Rook, Pawn}
-use Rattle.chess_base.specs.declared.man.Move.{Move}
-use Rattle.chess_base.specs.declared.man.Variant.{Variant}
-use Rattle.chess_base.specs.declared.man.Variant.TheVariants.{Normal, Fischerandom}
-use Rattle.chess_base.specs.declared.setup.Setup.{Setup}
-use Rattle.chess_base.specs.Attacks.{is_attacked}
+use Rattle.chess_base.specs.{declared.castling.Castle.Castle, declared.man.CastlingSide.CastlingSide, declared.man.CastlingSide.TheVariants.KingSide, declared.man.CastlingSide.TheVariants.QueenSide, declared.man.Colour.Colour, declared.man.Colour.TheVariants.White, declared.man.Colour.TheVariants.Black, declared.man.Kind.TheVariants.King, declared.man.Kind.TheVariants.Rook, declared.man.Kind.TheVariants.Pawn, declared.man.Move.Move, declared.man.Variant.Variant, declared.man.Variant.TheVariants.Normal, declared.man.Variant.TheVariants.Fischerandom, declared.setup.Setup.Setup, Attacks.is_attacked, shared.Parts.is_on_side_of_king, MoveList.move_of, shared.Splits.castles_or_moves, Sound.IsSound}
 use Rattle.chess_base.specs.Castling.{home_square, king_home_file, rook_file, castled_king_file, castled_rook_file, right_of, king_square, is_to_side, are_placed_for_castling, right_is_sound, names_castling_with, castling, castle_from, castle_of, castles, is_on_way, castling_way_is_empty, castling_way_is_safe, castling_rook_to, mover_end}
-use Rattle.chess_base.specs.shared.Parts.{is_on_side_of_king}
 use Rattle.chess_base.specs.Men.{Men, man_at, other, is_man, first_rank}
-use Rattle.chess_base.specs.MoveList.{move_of}
 use Rattle.chess_base.specs.Moves.{is_pseudo_legal, is_legal, promotion_fits, arriving_man, second_square_emptied, steps_of}
-use Rattle.chess_base.specs.shared.Splits.{castles_or_moves}
-use Rattle.chess_base.specs.Sound.{IsSound}
 use Rattle.chess_base.specs.Squares.{rank, each_square, some_square, squares}
-use Rattle.chess_base.proofs.shared.Castling.{right_is_sound_of, placed_for_right, says_from_castling, castling_says, castle_there, no_castle}
-use Rattle.chess_base.proofs.shared.Changes.{no_en_passant}
-use Rattle.chess_base.proofs.shared.Men.{in_board, is_man-kind}
+use Rattle.chess_base.proofs.shared.Castling.{right_is_sound_of, placed_for_right, says_from_castling, castling_says, castle_there, no_castle, castled_king_file-below, castled_rook_file-below}
 use Rattle.chess_moves.proofs.shared.AnyMove.{any-filter}
-use Rattle.chess_moves.specs.Promoting.{would_promote}
-use Rattle.chess_moves.specs.Sets.{contains, members}
+use Rattle.chess_moves.specs.{Promoting.would_promote, Sets.contains, Sets.members}
 use Rattle.chess_bits.specs.ties.Goes.{goes}
-use Rattle.chess_bits.proofs.Patterns.{pattern_by, officer_goes, not_promoting}
-use Rattle.chess_bits.proofs.TargetsOf.{man_told}
-use Rattle.chess_bits.proofs.BetweenSquares.{none_square}
+use Rattle.chess_bits.proofs.{Patterns.pattern_by, Patterns.officer_goes, Patterns.not_promoting, TargetsOf.man_told, BetweenSquares.none_square}
 
 -- ---- the squares of a castling are on one rank
 
@@ -43,14 +24,6 @@ rank_home Black f h = omega (arith, h)
 rook_low : (w : CastlingSide) → rook_file w < 8
 rook_low KingSide = omega arith
 rook_low QueenSide = omega arith
-
-pub king_end_low : (w : CastlingSide) → castled_king_file w < 8
-king_end_low KingSide = omega arith
-king_end_low QueenSide = omega arith
-
-pub rook_end_low : (w : CastlingSide) → castled_rook_file w < 8
-rook_end_low KingSide = omega arith
-rook_end_low QueenSide = omega arith
 
 starts : (v : Variant) (men : Men) (c : Colour) (w : CastlingSide) (m : Move) (r : ℕ)
     → names_castling_with v c m w r ≡ true → are_placed_for_castling v men c w r ≡ true
@@ -97,8 +70,8 @@ on_rank_by p m k sound e (Some w) says =
     let ranks = starts p.variant p.men p.side w m there.0 named stands in
     let same : castle_from p.side w m.from there.0 ≡ k = cc in
     subst OnRank same (record {
-      kings = ranks.0 ∙ sym (rank_home p.side (castled_king_file w) (king_end_low w));
-      rooks = ranks.1 ∙ sym (rank_home p.side (castled_rook_file w) (rook_end_low w));
+      kings = ranks.0 ∙ sym (rank_home p.side (castled_king_file w) (castled_king_file-below w));
+      rooks = ranks.1 ∙ sym (rank_home p.side (castled_rook_file w) (castled_rook_file-below w));
     })
 
 pub on_rank : (p : Setup) (m : Move) (k : Castle) → IsSound p → castle_of p m ≡ Some k → OnRank k
@@ -119,9 +92,10 @@ pub way_is_empty : (men : Men) (k : Castle) (met : ℕ → Bool)
     ((((is_on_way k.king_from k.king_to x || is_on_way k.rook_from k.rook_to x) && not (x == k.king_from))
     && not (x == k.rook_from)) && not (is_none (man_at men x))))
     → not (some_square met) ≡ castling_way_is_empty men k
-unfolding castling_way_is_empty
 way_is_empty men k met h =
-    sym (each_not _ met
+    sym (castling_way_is_empty_by men k
+    ∙ each_not (λ x. not (is_on_way k.king_from k.king_to x || is_on_way k.rook_from k.rook_to x) || (x == k.king_from)
+    || (x == k.rook_from) || is_none (man_at men x)) met
     (λ x low. crossed (is_on_way k.king_from k.king_to x) (is_on_way k.rook_from k.rook_to x) (x == k.king_from)
     (x == k.rook_from) (is_none (man_at men x)) ∙ ap not (sym (h x low))))
 

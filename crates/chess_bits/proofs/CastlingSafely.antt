@@ -2,35 +2,14 @@
 use Rattle.std.proofs.Common.{◌≡◌, ℕ, ◌<◌, inl, inr, Bool, true, false, not, ◌&&◌, ◌||◌, ◌==◌, cond, Option, Some, None, is_none, refl, sym, ap, ◌∙◌, arith}
 use Rattle.std.proofs.lemmas.Bool.Decides.{nat_tests}
 use Rattle.std.proofs.lemmas.Bool.{and_parts, or_left, or_right, both_ways, cases_Bool, eqb-true, eq-eqb, false_from_ne_true}
-use Rattle.chess_base.specs.declared.castling.Castle.{Castle}
-use Rattle.chess_base.specs.declared.man.CastlingSide.{CastlingSide}
-use Rattle.chess_base.specs.declared.man.CastlingSide.TheVariants.{KingSide, QueenSide}
-use Rattle.chess_base.specs.declared.man.Colour.{Colour}
-use Rattle.chess_base.specs.declared.man.Colour.TheVariants.{White, Black}
-use Rattle.chess_base.specs.declared.man.Kind.TheVariants.{King, Rook, Pawn}
-use Rattle.chess_base.specs.declared.man.Man.{Man}
-use Rattle.chess_base.specs.declared.man.Move.{Move}
-use Rattle.chess_base.specs.declared.man.Variant.TheVariants.{Normal}
-use Rattle.chess_base.specs.declared.setup.Setup.{Setup}
-use Rattle.chess_base.specs.Attacks.{is_clear, is_attacked}
+use Rattle.chess_base.specs.{declared.castling.Castle.Castle, declared.man.CastlingSide.CastlingSide, declared.man.CastlingSide.TheVariants.KingSide, declared.man.CastlingSide.TheVariants.QueenSide, declared.man.Colour.Colour, declared.man.Colour.TheVariants.White, declared.man.Colour.TheVariants.Black, declared.man.Kind.TheVariants.King, declared.man.Kind.TheVariants.Rook, declared.man.Kind.TheVariants.Pawn, declared.man.Man.Man, declared.man.Move.Move, declared.man.Variant.TheVariants.Normal, declared.setup.Setup.Setup, Attacks.is_clear, Attacks.is_attacked, Before.mover_to, Sound.IsSound, Squares.is_between, shared.Lines.is_between_on_file, shared.Lines.is_between_on_rank, shared.Lines.is_between_on_diagonal}
 use Rattle.chess_base.specs.Castling.{home_square, king_home_file, rook_file, castled_king_file, castled_rook_file, right_of, castling, castle_from, castle_of, is_on_way, castling_way_is_empty, castling_way_is_safe, mover_end, castling_rook_to}
-use Rattle.chess_base.specs.Before.{mover_to}
 use Rattle.chess_base.specs.Men.{Men, man_at, other, is_of, is_man}
 use Rattle.chess_base.specs.Moves.{is_pseudo_legal, is_legal, arriving_man, men_after, second_square_emptied}
-use Rattle.chess_base.specs.Sound.{IsSound}
-use Rattle.chess_base.specs.Squares.{is_between}
-use Rattle.chess_base.specs.shared.Lines.{is_between_on_file, is_between_on_rank, is_between_on_diagonal}
-use Rattle.chess_base.proofs.shared.Castling.{says_from_castling, castling_says, castle_there, no_castle}
-use Rattle.chess_base.proofs.shared.Changes.{no_en_passant}
-use Rattle.chess_base.proofs.shared.MenAfter.{man_after, man_at-men_after}
-use Rattle.chess_base.proofs.shared.Men.{in_board, is_man-kind}
-use Rattle.chess_bits.proofs.BoardSets.{theirs_of}
-use Rattle.chess_bits.proofs.CastlingAtHome.{at_home, stands}
-use Rattle.chess_base.proofs.shared.Squares.{each_square-all, each_square-at}
-use Rattle.chess_bits.proofs.CastlingBySets.{king_goes, castle_pattern, king_end_low, rook_end_low}
+use Rattle.chess_base.proofs.shared.Castling.{says_from_castling, castling_says, castle_there, no_castle, castled_king_file-below, castled_rook_file-below, home_square-below}
+use Rattle.chess_base.proofs.{shared.Changes.no_en_passant, shared.MenAfter.man_after, shared.MenAfter.man_at-men_after, shared.Men.in_board, shared.Men.is_man-kind, shared.Squares.each_square-all, shared.Squares.each_square-at, shared.Geometry.is_between-end}
+use Rattle.chess_bits.proofs.{BoardSets.theirs_of, CastlingAtHome.at_home, CastlingAtHome.stands, CastlingBySets.king_goes, CastlingBySets.castle_pattern, Quiet.attacked_before, Quiet.could_capture_as_clear, Quiet.lands_same}
 use Rattle.chess_bits.proofs.KingAfter.{mover_own, king_lands, check_after, legal_is}
-use Rattle.chess_bits.proofs.KingSteps.{not_between_end}
-use Rattle.chess_bits.proofs.Quiet.{attacked_before, could_capture_as_clear, lands_same}
 
 -- ---- squares at home
 
@@ -59,10 +38,6 @@ ends_apart White KingSide = refl
 ends_apart White QueenSide = refl
 ends_apart Black KingSide = refl
 ends_apart Black QueenSide = refl
-
-home_low : (c : Colour) (f : ℕ) → f < 8 → home_square c f < 64
-home_low White f h = omega (arith, h)
-home_low Black f h = omega (arith, h)
 
 -- ---- what castling leaves
 
@@ -114,7 +89,7 @@ clear_stood men later t r f a b king rook after some apart low past beyond clear
           ∙ there) in
           let not_t : (t == x) ≡ false =
           false_from_ne_true (t == x)
-          (λ s. both_ways (is_between b t t) (not_between_end b t)
+          (λ s. both_ways (is_between b t t) (is_between-end b t)
           (ap (λ y. is_between b t y) (eqb-true t x s) ∙ inside)) in
           let not_r : (r == x) ≡ false =
           false_from_ne_true (r == x) (λ s. met (ap (λ y. is_between b t y) (eqb-true r x s) ∙ inside)) in
@@ -182,10 +157,10 @@ safe_by p m w r sound normal says right e pattern safe =
     still_safe p.men (men_after p m) (other p.side) t (home_square p.side (castled_rook_file w)) r m.from
     (arriving_man (man_at p.men m.from) m.promotion) (Some (record { colour = p.side; kind = Rook }))
     (λ s l. after_castling p m k s e l) refl (mover_own p m pattern) (theirs_of p.side (record { colour = p.side; kind = Rook }) refl) (ends_apart p.side w)
-    (home_low p.side (castled_rook_file w) (rook_end_low w))
+    (home_square-below p.side (castled_rook_file w) (castled_rook_file-below w))
     (λ b i. past_king p.side w b (ap (λ y. is_between b t y) (sym home.0) ∙ i))
     (λ b. ap (λ y. is_between b t y) home.1 ∙ past_rook p.side w b)
-    (way_end p.men p.side k safe (home_low p.side (castled_king_file w) (king_end_low w)))
+    (way_end p.men p.side k safe (home_square-below p.side (castled_king_file w) (castled_king_file-below w)))
 
 by_side : (p : Setup) (m : Move) (k : Castle) → IsSound p → p.variant ≡ Normal → castle_of p m ≡ Some k
     → is_pseudo_legal p m ≡ true → castling_way_is_safe p.men p.side k ≡ true
@@ -199,7 +174,7 @@ by_side p m k sound normal e pattern safe (Some w) says =
       ap (λ s. is_attacked (men_after p m) s (other p.side)) to
           ∙ safe_by p m w there.0 sound normal says there.1 (e ∙ ap (λ (j : Castle). Some j) (sym same)) pattern
           (ap (λ (j : Castle). castling_way_is_safe p.men p.side j) same ∙ safe),
-      rw to (home_low p.side (castled_king_file w) (king_end_low w)),
+      rw to (home_square-below p.side (castled_king_file w) (castled_king_file-below w)),
     )
 
 pub castles_safely : (p : Setup) (m : Move) (k : Castle) → IsSound p → p.variant ≡ Normal → castle_of p m ≡ Some k

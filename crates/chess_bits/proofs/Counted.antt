@@ -2,15 +2,9 @@
 use Rattle.std.proofs.Common.{◌≡◌, ℕ, suc, ◌+◌, ◌≤◌, inl, inr, Bool, true, ◌||◌, List, [], ◌∷◌, ◌++◌, length, refl, sym, ap, ◌∙◌, length-append, nat_lt, ◌<◌, arith}
 use Rattle.std.proofs.lemmas.Bool.{cases_Bool, lt-ltb, ltb-true}
 use Rattle.std.specs.List.{filter, flat_map, list_any}
-use Rattle.chess_base.specs.declared.setup.Setup.{Setup}
-use Rattle.chess_base.specs.MoveList.{moves}
-use Rattle.chess_base.specs.Squares.{squares}
-use Rattle.chess_base.specs.Sound.{IsSound}
-use Rattle.chess_moves.specs.shared.MovesBySquares.{moves_from}
-use Rattle.chess_moves.specs.Sets.{contains, members}
-use Rattle.chess_moves.proofs.shared.MovesBySquares.{moves-by_start}
-use Rattle.chess_moves.proofs.shared.AnyMove.{any-square}
-use Rattle.chess_moves.proofs.shared.LegalMoves.{moves_fit}
+use Rattle.chess_base.specs.{declared.setup.Setup.Setup, MoveList.moves, Squares.squares, Sound.IsSound}
+use Rattle.chess_moves.specs.{shared.MovesBySquares.moves_from, Sets.contains, Sets.members}
+use Rattle.chess_moves.proofs.{shared.MovesBySquares.moves-by_start, shared.AnyMove.any-square, shared.LegalMoves.moves_fit}
 
 -- before the first
 pub none_counted : {m n : ℕ} → m ≡ n → 0 + m ≡ n

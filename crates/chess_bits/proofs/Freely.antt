@@ -1,41 +1,20 @@
 -- Pieces without which their king is not attacked: where they go, they go legally.
 use Rattle.std.proofs.Common.{◌≡◌, ℕ, ◌+◌, ◌<◌, ◌≤◌, ◌⊎◌, inl, inr, Bool, true, false, not, ◌&&◌, ◌||◌, ◌==◌, Option, Some, None, cond, [], ◌∷◌, map, refl, sym, ap, ◌∙◌, subst, arith}
 use Rattle.std.proofs.lemmas.Bool.{and_parts, and_from, and_right, or_cases, or_left, or_right, or_parts, eqb-false, eqb-true, eq-eqb, ne_eqb, cases_Bool, and_left}
-use Rattle.chess_base.specs.declared.man.Colour.{Colour}
-use Rattle.chess_base.specs.declared.man.Colour.TheVariants.{White, Black}
-use Rattle.chess_base.specs.declared.man.Kind.{Kind}
+use Rattle.chess_base.specs.{declared.man.Colour.Colour, declared.man.Colour.TheVariants.White, declared.man.Colour.TheVariants.Black, declared.man.Kind.Kind, declared.man.Man.Man, declared.man.Move.Move, declared.setup.Setup.Setup, shared.Parts.is_rank_ahead, shared.Splits.could_capture_as, Castling.castle_of, MoveList.move_of, Sound.IsSound, Sound.no_pawn_on_end_ranks}
 use Rattle.chess_base.specs.declared.man.Kind.TheVariants.{King, Queen, Rook, Bishop, Pawn}
-use Rattle.chess_base.specs.declared.man.Man.{Man}
-use Rattle.chess_base.specs.declared.man.Move.{Move}
-use Rattle.chess_base.specs.declared.setup.Setup.{Setup}
 use Rattle.chess_base.specs.Attacks.{attacks, is_in_check, is_attacked, could_capture}
-use Rattle.chess_base.specs.shared.Parts.{is_rank_ahead}
-use Rattle.chess_base.specs.shared.Splits.{could_capture_as}
-use Rattle.chess_base.specs.Castling.{castle_of}
 use Rattle.chess_base.specs.Men.{man_at, same_kind, other, is_of, is_man, forward, first_rank, pawn_rank}
-use Rattle.chess_base.specs.MoveList.{move_of}
 use Rattle.chess_base.specs.Moves.{is_pseudo_legal, is_legal, is_en_passant, men_after, pawn_advances, pawn_captures}
-use Rattle.chess_base.specs.Sound.{IsSound, no_pawn_on_end_ranks}
 use Rattle.chess_base.specs.Squares.{rank, is_at, share_rank_or_file, share_diagonal}
-use Rattle.chess_base.proofs.shared.Changes.{advance_goes, pawn_attack}
-use Rattle.chess_base.proofs.shared.Squares.{each_square-at}
-use Rattle.chess_bits.proofs.Lifted.{lifted_at}
-use Rattle.chess_moves.specs.shared.MovesBySquares.{moves_between, moves_from}
-use Rattle.chess_moves.specs.Promoting.{would_promote}
-use Rattle.chess_moves.specs.Sets.{contains, members}
+use Rattle.chess_base.proofs.{shared.Changes.advance_goes, shared.Changes.pawn_attack, shared.Squares.each_square-at, shared.Men.is_of-none}
+use Rattle.chess_bits.proofs.{Lifted.lifted_at, AfterSets.check_is, KingAfter.king_stays, KingAfter.check_after, KingAfter.legal_is, OriginsOf.off_lowest, Patterns.pawn_goes, Reached.pawn_from, TargetsOf.man_told, TargetsOf.no_king_castles}
+use Rattle.chess_moves.specs.{shared.MovesBySquares.moves_between, shared.MovesBySquares.moves_from, Promoting.would_promote, Sets.contains, Sets.members}
 use Rattle.chess_bits.specs.declared.table.Shape.TheVariants as shape
-use Rattle.chess_bits.specs.ties.Shapes.{in_shape}
+use Rattle.chess_bits.specs.{ties.Shapes.in_shape, ties.Pins.aims_from, ties.Pins.KeepsClosed}
 use Rattle.chess_bits.specs.ties.Goes.{goes, aims_at, IsFree, lifted}
-use Rattle.chess_bits.specs.ties.Pins.{aims_from, KeepsClosed}
-use Rattle.chess_bits.proofs.AfterSets.{check_is}
-use Rattle.chess_bits.proofs.KingAfter.{king_stays, check_after, legal_is}
 use Rattle.chess_bits.proofs.Listed.{all_ones, each_member, from_targets, one_between, unpromoted}
-use Rattle.chess_bits.proofs.OriginsOf.{off_lowest}
-use Rattle.chess_bits.proofs.Patterns.{pawn_goes}
 use Rattle.chess_bits.proofs.Quiet.{attacked_before, capture_before, enemy_before, lands_same, plain_by, stays_safe}
-use Rattle.chess_base.proofs.shared.Men.{is_of-none}
-use Rattle.chess_bits.proofs.Reached.{pawn_from}
-use Rattle.chess_bits.proofs.TargetsOf.{man_told, no_king_castles}
 
 -- ---- the king stays safe
 

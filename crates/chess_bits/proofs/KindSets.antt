@@ -3,17 +3,12 @@ use mathlib.Core.Bool.{and-true, and-false, or-true, or-false}
 use Rattle.std.proofs.Common.{◌≡◌, ℕ, ◌<◌, inl, inr, false, not, ◌&&◌, ◌||◌, ◌==◌, refl, sym, ap, ◌∙◌, arith, Option, Some, None, List, length, length-set, subst, get_or, set, get_or-set_same, get_or-set_other}
 use Rattle.std.proofs.lemmas.Bool.{and_left, and_right, cases_Bool, eq-eqb, ne_eqb, cases_eq}
 use Rattle.std.proofs.lemmas.List.{get_or_default}
-use Rattle.chess_base.specs.declared.man.Colour.{Colour}
-use Rattle.chess_base.specs.declared.man.Kind.{Kind}
+use Rattle.chess_base.specs.{declared.man.Colour.Colour, declared.man.Kind.Kind, declared.man.Man.Man, Attacks.attacks, shared.Parts.kind_number}
 use Rattle.chess_base.specs.declared.man.Kind.TheVariants.{King, Queen, Rook, Bishop, Knight, Pawn}
-use Rattle.chess_base.specs.declared.man.Man.{Man}
-use Rattle.chess_base.specs.Attacks.{attacks}
 use Rattle.chess_base.specs.Men.{Men, man_at, is_man, is_of, same_colour}
-use Rattle.chess_base.specs.shared.Parts.{kind_number}
 use Rattle.chess_base.proofs.shared.Men.{same_colour-self, same_kind-self, same_kind_by_number, is_man-none}
 use Rattle.chess_moves.specs.Sets.{contains}
-use Rattle.chess_bits.specs.ties.Occupancy.{IsLater}
-use Rattle.chess_bits.specs.ties.KindSets.{AreKindsAt, IsKinds}
+use Rattle.chess_bits.specs.{ties.Occupancy.IsLater, ties.KindSets.AreKindsAt, ties.KindSets.IsKinds}
 use Rattle.chess_bits.proofs.BoardSets.{set_twice, still_empty}
 
 kind_below : (x : Kind) → kind_number x < 6

@@ -1,19 +1,11 @@
 -- The moves of free pieces of a kind, counted together.
 use Rattle.std.proofs.Common.{◌≡◌, ℕ, zero, suc, ◌+◌, ◌<◌, ◌≤◌, inl, inr, Bool, true, false, not, ◌&&◌, ◌||◌, ◌==◌, List, length, length-append, None, refl, sym, ap, ◌∙◌, arith}
 use Rattle.std.specs.List.{filter, flat_map, range_with_len}
-use Rattle.std.proofs.lemmas.Bool.{or_parts, cases_Bool}
-use Rattle.chess_base.specs.declared.man.Kind.{Kind}
-use Rattle.chess_base.specs.declared.man.Kind.TheVariants.{King, Pawn}
-use Rattle.chess_base.specs.declared.setup.Setup.{Setup}
-use Rattle.chess_base.specs.Attacks.{could_capture}
+use Rattle.std.proofs.{lemmas.Bool.or_parts, lemmas.Bool.cases_Bool, lemmas.List.length-map}
+use Rattle.chess_base.specs.{declared.man.Kind.Kind, declared.man.Kind.TheVariants.King, declared.man.Kind.TheVariants.Pawn, declared.setup.Setup.Setup, Attacks.could_capture, MoveList.move_of, Squares.squares, Sound.IsSound}
 use Rattle.chess_base.specs.Men.{man_at, is_of, is_man, same_kind}
-use Rattle.chess_base.specs.MoveList.{move_of}
-use Rattle.chess_base.specs.Squares.{squares}
-use Rattle.std.proofs.lemmas.List.{length-map}
-use Rattle.chess_base.specs.Sound.{IsSound}
 use Rattle.chess_base.proofs.shared.Men.{is_of-from_is_man, is_man-kind}
-use Rattle.chess_moves.specs.shared.MovesBySquares.{moves_from}
-use Rattle.chess_moves.specs.Sets.{contains, members}
+use Rattle.chess_moves.specs.{shared.MovesBySquares.moves_from, Sets.contains, Sets.members}
 use Rattle.chess_bits.specs.ties.Goes.{man_goes, IsFree}
 use Rattle.chess_bits.proofs.Freely.{no_pawn_ordinary, free_listed}
 use Rattle.chess_bits.proofs.TargetsOf.{man_told, officer_is, man_set_sound, man_set_complete}

@@ -1,25 +1,12 @@
 -- The square of the king of the side on move after a move, and when it is attacked there.
-use Rattle.chess_base.proofs.shared.Kings.{one_king_of}
+use Rattle.chess_base.proofs.{shared.Kings.one_king_of, shared.LegalMoves.change_of, shared.LegalMoves.one_king_after, shared.MoveKinds.moves_from_pattern, shared.Men.is_man-rook_as_king}
 use Rattle.std.proofs.Common.{◌≡◌, ℕ, ◌<◌, inl, inr, Bool, true, false, not, ◌||◌, ◌==◌, cond, count_by, Option, Some, None, is_none, refl, sym, ap, ◌∙◌, arith}
-use Rattle.std.proofs.lemmas.Bool.{and_left, and_right, cases_Bool, eqb-true}
-use Rattle.chess_base.specs.declared.man.Colour.{Colour}
-use Rattle.chess_base.specs.declared.man.Kind.{Kind}
-use Rattle.chess_base.specs.declared.man.Kind.TheVariants.{King, Rook}
-use Rattle.chess_base.specs.declared.man.Man.{Man}
-use Rattle.chess_base.specs.declared.man.Move.{Move}
-use Rattle.chess_base.specs.declared.setup.Setup.{Setup}
-use Rattle.chess_base.specs.Men.{man_at, other, is_of, is_man, same_colour}
-use Rattle.chess_base.specs.Attacks.{is_attacked, is_in_check}
-use Rattle.chess_base.specs.Squares.{is_at}
-use Rattle.chess_base.specs.Castling.{mover_end, castling_rook_to}
+use Rattle.std.proofs.lemmas.Bool.{and_left, cases_Bool, eqb-true}
+use Rattle.chess_base.specs.{declared.man.Colour.Colour, declared.man.Kind.Kind, declared.man.Kind.TheVariants.King, declared.man.Kind.TheVariants.Rook, declared.man.Man.Man, declared.man.Move.Move, declared.setup.Setup.Setup, Attacks.is_attacked, Attacks.is_in_check, Squares.is_at, Castling.mover_end, Castling.castling_rook_to, Sound.IsSound, Sound.has_one_king}
+use Rattle.chess_base.specs.Men.{man_at, other, is_of, is_man}
 use Rattle.chess_base.specs.Moves.{is_pseudo_legal, is_legal, after, arriving_man, men_after, second_square_emptied}
-use Rattle.chess_base.specs.Sound.{IsSound, has_one_king}
-use Rattle.chess_base.proofs.shared.LegalMoves.{change_of, one_king_after}
 use Rattle.chess_base.proofs.shared.MenAfter.{man_after, man_at-men_after, length-men_after, man_after-to}
-use Rattle.chess_base.proofs.shared.MoveKinds.{moves_from_pattern}
-use Rattle.chess_bits.proofs.AfterSets.{check_is, kept_by}
-use Rattle.chess_bits.proofs.BoardSets.{theirs_of}
-use Rattle.chess_bits.proofs.OneKing.{none_counted, alone}
+use Rattle.chess_bits.proofs.{AfterSets.check_is, AfterSets.kept_by, BoardSets.theirs_of, OneKing.none_counted, OneKing.alone}
 
 -- ---- the mover arrives
 
@@ -43,13 +30,9 @@ mover_own p m e = let moves = moves_from_pattern p m e in
 
 -- ---- the king
 
-rook_is_no_king : (c : Colour) → is_man c King (Some (record { colour = c; kind = Rook })) ≡ false
-unfolding is_man
-rook_is_no_king c = and_right (same_colour c c) false refl
-
 king_only : (t r l : Bool) (a o : Option Man) (c : Colour) → is_man c King a ≡ false → is_man c King o ≡ false
     → is_man c King (cond t a (cond r (Some (record { colour = c; kind = Rook })) (cond l None o))) ≡ false
-king_only t r l a o c h g = sym (kept_by t r l a o c c King h (rook_is_no_king c)) ∙ and_left _ _ g
+king_only t r l a o c h g = sym (kept_by t r l a o c c King h (is_man-rook_as_king c)) ∙ and_left _ _ g
 
 -- no king comes to another square
 elsewhere : (p : Setup) (m : Move) (k : ℕ) → is_man p.side King (arriving_man (man_at p.men m.from) m.promotion)

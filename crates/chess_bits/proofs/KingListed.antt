@@ -1,24 +1,12 @@
 -- The king's legal moves, listed.
 use mathlib.Core.Bool.{or-false}
 use Rattle.std.proofs.Common.{◌≡◌, ℕ, ◌<◌, inl, inr, Bool, true, false, ◌&&◌, ◌||◌, Option, Some, None, cond, [], ◌∷◌, length, map, refl, sym, ap, ◌∙◌, arith}
-use Rattle.std.proofs.lemmas.List.{length-map}
-use Rattle.std.proofs.lemmas.Bool.{cases_Bool}
-use Rattle.chess_base.specs.declared.castling.Castle.{Castle}
-use Rattle.chess_base.specs.declared.man.Kind.TheVariants.{King}
-use Rattle.chess_base.specs.declared.setup.Setup.{Setup}
-use Rattle.chess_base.specs.Castling.{castle_of}
-use Rattle.chess_base.specs.Men.{man_at, is_man}
-use Rattle.chess_base.specs.MoveList.{move_of}
-use Rattle.chess_base.specs.Moves.{is_legal, man_moves}
-use Rattle.chess_moves.specs.shared.MovesBySquares.{moves_between, moves_from}
-use Rattle.chess_moves.specs.Promoting.{would_promote}
-use Rattle.chess_moves.specs.Sets.{contains, members}
+use Rattle.std.proofs.{lemmas.List.length-map, lemmas.Bool.cases_Bool}
+use Rattle.chess_base.specs.{declared.castling.Castle.Castle, declared.man.Kind.TheVariants.King, declared.setup.Setup.Setup, Castling.castle_of, Men.man_at, Men.is_man, MoveList.move_of, Moves.is_legal, Moves.man_moves}
+use Rattle.chess_moves.specs.{shared.MovesBySquares.moves_between, shared.MovesBySquares.moves_from, Promoting.would_promote, Sets.contains, Sets.members}
 use Rattle.chess_moves.proofs.shared.Members.{flat_map_members}
 use Rattle.chess_bits.specs.ties.Goes.{legal_or}
-use Rattle.chess_bits.proofs.ByKind.{king_otherwise}
-use Rattle.chess_bits.proofs.Listed.{all_ones, each_member, one_between}
-use Rattle.chess_bits.proofs.Patterns.{not_promoting}
-use Rattle.chess_bits.proofs.TargetsOf.{man_told}
+use Rattle.chess_bits.proofs.{ByKind.king_otherwise, Listed.all_ones, Listed.each_member, Listed.one_between, Patterns.not_promoting, TargetsOf.man_told}
 
 -- a king's legal move is a legal castling, or a step that is legal
 pub steps_or_castles : (p : Setup) (a b : ℕ) (end step : Bool) → is_man p.side King (man_at p.men a) ≡ true → a < 64 → b < 64

@@ -1,51 +1,24 @@
 -- Where a king steps, and when it is safe there.
 use mathlib.Core.Bool.{or-false}
-use Rattle.std.proofs.Common.{◌≡◌, ℕ, ◌<◌, inl, inr, Bool, true, false, not, ◌&&◌, ◌||◌, ◌==◌, Option, Some, None, refl, sym, ap, ◌∙◌, arith}
+use Rattle.std.proofs.Common.{◌≡◌, ℕ, ◌<◌, inl, inr, Bool, true, false, not, ◌&&◌, ◌||◌, ◌==◌, Option, Some, None, refl, sym, ap, ◌∙◌}
 use Rattle.std.proofs.lemmas.Bool.{and_from, and_parts, and_right, both_ways, cases_Bool, eqb-true, false_from_ne_true}
-use Rattle.std.proofs.lemmas.Bool.Decides.{nat_tests}
-use Rattle.chess_base.specs.declared.man.CastlingSide.{CastlingSide}
-use Rattle.chess_base.specs.declared.man.CastlingSide.TheVariants.{KingSide, QueenSide}
-use Rattle.chess_base.specs.declared.man.Colour.{Colour}
-use Rattle.chess_base.specs.declared.man.Colour.TheVariants.{White, Black}
-use Rattle.chess_base.specs.declared.man.Kind.{Kind}
+use Rattle.chess_base.specs.{declared.man.CastlingSide.CastlingSide, declared.man.CastlingSide.TheVariants.KingSide, declared.man.CastlingSide.TheVariants.QueenSide, declared.man.Colour.Colour, declared.man.Colour.TheVariants.White, declared.man.Colour.TheVariants.Black, declared.man.Kind.Kind, declared.man.Man.Man, declared.man.Variant.Variant, declared.man.Variant.TheVariants.Normal, declared.man.Variant.TheVariants.Fischerandom, declared.setup.Setup.Setup, shared.Splits.could_capture_as, shared.Splits.names_castling, Before.mover_to, MoveList.move_of, Sound.IsSound, Squares.rank}
 use Rattle.chess_base.specs.declared.man.Kind.TheVariants.{King, Queen, Rook, Bishop, Knight, Pawn}
-use Rattle.chess_base.specs.declared.man.Man.{Man}
-use Rattle.chess_base.specs.declared.man.Variant.{Variant}
-use Rattle.chess_base.specs.declared.man.Variant.TheVariants.{Normal, Fischerandom}
-use Rattle.chess_base.specs.declared.setup.Setup.{Setup}
 use Rattle.chess_base.specs.Attacks.{is_clear, could_capture, attacks, is_attacked}
-use Rattle.chess_base.specs.shared.Splits.{could_capture_as, names_castling}
 use Rattle.chess_base.specs.Castling.{home_square, king_home_file, castled_king_file, right_of, is_castling_to, castle_of, mover_end}
-use Rattle.chess_base.specs.Before.{mover_to}
 use Rattle.chess_base.specs.Men.{Men, man_at, other, is_of, is_man, same_colour, same_kind}
-use Rattle.chess_base.specs.MoveList.{move_of}
 use Rattle.chess_base.specs.Moves.{is_pseudo_legal, is_legal, is_en_passant, man_moves, men_after}
-use Rattle.chess_base.specs.Sound.{IsSound}
-use Rattle.chess_base.specs.Squares.{rank, is_between}
-use Rattle.chess_base.specs.shared.Lines.{is_between_on_file, is_between_on_rank, is_between_on_diagonal}
-use Rattle.chess_base.proofs.shared.Castling.{right_is_sound_of, castling_rook_is_there}
-use Rattle.chess_base.proofs.shared.Men.{is_of-from_is_man, is_man-kind}
-use Rattle.chess_base.proofs.shared.Squares.{each_square_same, some_square_same}
+use Rattle.chess_base.proofs.{shared.Castling.right_is_sound_of, shared.Castling.castling_rook_is_there, shared.Men.is_of-from_is_man, shared.Men.is_man-kind, shared.Squares.each_square_same, shared.Squares.some_square_same, shared.Captures.could_capture-itself, shared.MenAfter.eqb_comm, shared.Geometry.is_between-end}
 use Rattle.chess_moves.specs.Promoting.{would_promote}
 use Rattle.chess_bits.specs.ties.Goes.{goes, legal_or, lifted, man_goes}
-use Rattle.chess_bits.proofs.KingAfter.{king_lands, check_after, legal_is}
-use Rattle.chess_bits.proofs.Lifted.{lifted_at}
-use Rattle.chess_bits.proofs.Listed.{unpromoted}
-use Rattle.chess_bits.proofs.Patterns.{man_sound, not_promoting}
+use Rattle.chess_bits.proofs.{KingAfter.king_lands, KingAfter.check_after, KingAfter.legal_is, Lifted.lifted_at, Listed.unpromoted, Patterns.man_sound, Patterns.not_promoting, TargetsOf.man_told, TargetsOf.none_castles, TargetsOf.steps_of_man}
 use Rattle.chess_bits.proofs.Quiet.{lands_same, plain_after, plain_by, not_passing}
-use Rattle.chess_bits.proofs.TargetsOf.{man_told, none_castles, steps_of_man}
-use Rattle.chess_base.proofs.shared.Captures.{could_capture-itself}
-use Rattle.chess_base.proofs.shared.MenAfter.{eqb_comm}
 
 -- ---- a square is attacked from elsewhere: what is on it doesn't count
 
 no_hit_as : (men : Men) (o : Option Man) (b : ℕ) → could_capture_as men o b b ≡ false
 no_hit_as men None b = refl
 no_hit_as men (Some x) b = could_capture-itself men x.colour x.kind b
-
-pub not_between_end : (a b : ℕ) → is_between a b b ≡ false
-unfolding is_between is_between_on_file is_between_on_rank is_between_on_diagonal
-not_between_end a b = grind (arith, nat_tests)
 
 clear_same : (men later : Men) (a b : ℕ) → ((k : ℕ) → k < 64 → (k == b) ≡ false → man_at men k ≡ man_at later k)
     → is_clear men a b ≡ is_clear later a b
@@ -54,7 +27,7 @@ clear_same men later a b h =
     each_square_same _ _
     (λ x l.
     elim (cases_Bool (x == b)) [
-      | inl same ↦ let at : x ≡ b = eqb-true x b same in rw (at, not_between_end a b) refl
+      | inl same ↦ let at : x ≡ b = eqb-true x b same in rw (at, is_between-end a b) refl
       | inr apart ↦ rw (h x l apart) refl
     ])
 

@@ -2,14 +2,10 @@
 use mathlib.Core.Bool.{and-false, and-true}
 use Rattle.std.proofs.Common.{◌≡◌, ℕ, ◌<◌, inl, inr, Bool, true, false, not, ◌&&◌, ◌==◌, cond, List, Option, None, is_none, length, get_or-set_same, get_or-set_other, refl, sym, ap, ◌∙◌, arith}
 use Rattle.std.proofs.lemmas.Bool.{cases_eq, eq-eqb, ne_eqb}
-use Rattle.chess_base.specs.declared.man.Colour.{Colour}
-use Rattle.chess_base.specs.declared.man.Man.{Man}
-use Rattle.chess_base.specs.Men.{Men, man_at, is_of}
+use Rattle.chess_base.specs.{declared.man.Colour.Colour, declared.man.Man.Man, Men.Men, Men.man_at, Men.is_of}
 use Rattle.chess_moves.specs.Sets.{contains}
-use Rattle.chess_bits.specs.ties.Goes.{lifted}
+use Rattle.chess_bits.specs.{ties.Goes.lifted, ties.KindSets.IsKinds, ties.Occupancy.IsOccupied}
 use Rattle.chess_bits.proofs.BoardSets.{kinds_kept, none_of}
-use Rattle.chess_bits.specs.ties.KindSets.{IsKinds}
-use Rattle.chess_bits.specs.ties.Occupancy.{IsOccupied}
 
 pub lifted_at : (men : Men) (a k : ℕ) → length men ≡ 64 → a < 64
     → man_at (lifted men a) k ≡ cond (k == a) None (man_at men k)

@@ -1,23 +1,12 @@
 -- The list of legal moves, over the members of sets.
 use Rattle.std.proofs.Common.{◌≡◌, ℕ, zero, suc, ◌+◌, ◌<◌, ◌≤◌, inl, inr, Bool, true, false, Option, Some, None, List, [], ◌∷◌, ◌++◌, length, map, take, cond, refl, sym, ap, subst, ◌∙◌, arith, length-append}
 use Rattle.std.specs.List.{filter, flat_map, range_with_len}
-use Rattle.std.proofs.lemmas.List.{length-map, length-take-le}
-use Rattle.std.proofs.lemmas.Bool.{cases_Bool, false_from_ne_true, both_ways}
-use Rattle.chess_base.specs.declared.man.Kind.{Kind}
+use Rattle.std.proofs.{lemmas.List.length-map, lemmas.List.length-take-le, lemmas.Bool.cases_Bool, lemmas.Bool.false_from_ne_true, lemmas.Bool.both_ways}
+use Rattle.chess_base.specs.{declared.man.Kind.Kind, declared.man.Move.Move, declared.setup.Setup.Setup, Men.man_at, Men.is_of, MoveList.move_of, MoveList.moves, Squares.squares, Moves.is_pseudo_legal, Moves.is_legal, Moves.promotion_fits, Sound.IsSound}
 use Rattle.chess_base.specs.declared.man.Kind.TheVariants.{Queen, Rook, Bishop, Knight}
-use Rattle.chess_base.specs.declared.man.Move.{Move}
-use Rattle.chess_base.specs.declared.setup.Setup.{Setup}
-use Rattle.chess_base.specs.Men.{man_at, is_of}
-use Rattle.chess_base.specs.MoveList.{move_of, moves}
-use Rattle.chess_base.specs.Squares.{squares}
-use Rattle.chess_base.specs.Moves.{is_pseudo_legal, is_legal, promotion_fits}
-use Rattle.chess_base.specs.Sound.{IsSound}
-use Rattle.chess_moves.specs.shared.MovesBySquares.{moves_between, moves_from}
-use Rattle.chess_moves.specs.Promoting.{would_promote}
-use Rattle.chess_moves.specs.Sets.{contains, members}
-use Rattle.chess_moves.proofs.shared.Members.{flat_map_members}
+use Rattle.chess_moves.specs.{shared.MovesBySquares.moves_between, shared.MovesBySquares.moves_from, Promoting.would_promote, Sets.contains, Sets.members}
+use Rattle.chess_moves.proofs.{shared.Members.flat_map_members, shared.LegalMoves.moves_fit}
 use Rattle.chess_moves.proofs.shared.MovesBySquares.{moves-by_start, none_from, promoting, all_promote, none_promotes}
-use Rattle.chess_moves.proofs.shared.LegalMoves.{moves_fit}
 use Rattle.chess_bits.specs.ties.Goes.{goes}
 use Rattle.chess_bits.proofs.Patterns.{pattern_from}
 

@@ -1,39 +1,17 @@
 -- Moves made by cheaper means than their definitions give.
 use mathlib.Core.Bool.{and-false}
-use Rattle.std.proofs.Common.{◌≡◌, ◌≢◌, ℕ, true, false, not, ◌&&◌, Bool, length, set, refl, sym, ap, arith, ◌∙◌, ◌||◌, ◌==◌, Option, Some, None, is_none, if◌then◌else◌}
+use Rattle.std.proofs.Common.{◌≡◌, ◌≢◌, ℕ, true, false, not, ◌&&◌, Bool, length, set, refl, sym, ap, arith, ◌∙◌, ◌||◌, ◌==◌, Option, Some, None, is_none, if◌then◌else◌, is_some}
 use Rattle.std.proofs.lemmas.Bool.{and_parts, and_left, and_right, both_ways, ne_eqb, not-true, or_parts}
 use Rattle.std.proofs.lemmas.List.{set_comm}
-use Rattle.std.specs.Option.{is_some}
-use Rattle.chess_base.specs.declared.man.CastlingSide.{CastlingSide}
-use Rattle.chess_base.specs.declared.man.CastlingSide.TheVariants.{KingSide, QueenSide}
-use Rattle.chess_base.specs.declared.man.Colour.{Colour}
-use Rattle.chess_base.specs.declared.man.Colour.TheVariants.{White, Black}
-use Rattle.chess_base.specs.declared.man.Kind.{Kind}
+use Rattle.chess_base.specs.{declared.man.CastlingSide.CastlingSide, declared.man.CastlingSide.TheVariants.KingSide, declared.man.CastlingSide.TheVariants.QueenSide, declared.man.Colour.Colour, declared.man.Colour.TheVariants.White, declared.man.Colour.TheVariants.Black, declared.man.Kind.Kind, declared.man.Man.Man, declared.man.Move.Move, declared.man.Rights.Rights, declared.setup.Saved.Saved, declared.setup.Setup.Setup, Squares.is_at, Before.man_on, Before.saved_of, Sound.IsSound, Attacks.is_in_check, shared.Parts.right_after}
 use Rattle.chess_base.specs.declared.man.Kind.TheVariants.{King, Queen, Rook, Bishop, Knight, Pawn}
-use Rattle.chess_base.specs.declared.man.Man.{Man}
-use Rattle.chess_base.specs.declared.man.Move.{Move}
-use Rattle.chess_base.specs.declared.man.Rights.{Rights}
-use Rattle.chess_base.specs.declared.setup.Saved.{Saved}
-use Rattle.chess_base.specs.declared.setup.Setup.{Setup}
-use Rattle.chess_base.specs.Squares.{is_at}
 use Rattle.chess_base.specs.Men.{Men, man_at, other, is_man, is_of, same_colour, same_kind}
-use Rattle.chess_base.specs.Before.{man_on, saved_of}
 use Rattle.chess_base.specs.Castling.{castling_rook_to, mover_end, right_of, is_castling_to}
-use Rattle.chess_base.specs.Sound.{IsSound}
-use Rattle.chess_base.specs.Attacks.{is_in_check}
 use Rattle.chess_base.specs.Moves.{after, captured_square, fullmove_after, halfmove_after, is_pseudo_legal, is_double_advance, is_legal, arriving_man, men_after, rights_after, second_square_emptied, target_after}
-use Rattle.chess_base.specs.shared.Parts.{right_after}
-use Rattle.chess_base.proofs.shared.Castling.{castling_rook_is_there, right_is_sound_of}
-use Rattle.chess_base.proofs.shared.LegalMoves.{change_of}
-use Rattle.chess_base.proofs.shared.Captures.{resets_clock_is}
+use Rattle.chess_base.proofs.{shared.Castling.castling_rook_is_there, shared.Castling.right_is_sound_of, shared.LegalMoves.change_of, shared.Captures.resets_clock_is, shared.Men.is_none-None, shared.MoveKinds.is_of-mover, shared.Writes.men_after-written}
 use Rattle.chess_base.proofs.shared.Changes.{Change, Rest, Alone, WithCapture, WithRook}
-use Rattle.chess_base.proofs.shared.Men.{is_none-None}
-use Rattle.chess_base.proofs.shared.MoveKinds.{is_of-mover}
-use Rattle.chess_base.proofs.shared.Writes.{men_after-written}
 use Rattle.chess_bits.specs.ties.Changes.{clock_left, goes_plainly, has_no_right, is_king_or_rook, shifted, shifts, IsPlainly}
-use Rattle.chess_bits.proofs.BoardSets.{set_twice}
-use Rattle.chess_bits.proofs.Quiet.{not_passing}
-use Rattle.chess_bits.proofs.TargetsOf.{none_castles, no_king_castles, other_man}
+use Rattle.chess_bits.proofs.{BoardSets.set_twice, Quiet.not_passing, TargetsOf.none_castles, TargetsOf.no_king_castles, TargetsOf.other_man}
 
 -- ---- rights
 

@@ -2,10 +2,7 @@
 use Rattle.std.proofs.Common.{◌≡◌, ℕ, zero, suc, ◌<◌, inl, inr, Bool, true, false, ◌==◌, cond, count_by, None, List, [], ◌∷◌, length, get_or, refl, sym, ap, ◌∙◌, arith}
 use Rattle.std.proofs.lemmas.Bool.{cases_Bool, eqb-true, eq-eqb, false_from_ne_true, both_ways}
 use Rattle.std.proofs.lemmas.List.Sums.{sum_by-cons}
-use Rattle.chess_base.specs.declared.man.Colour.{Colour}
-use Rattle.chess_base.specs.declared.man.Kind.TheVariants.{King}
-use Rattle.chess_base.specs.Men.{Men, man_at, is_man}
-use Rattle.chess_base.specs.Sound.{has_one_king}
+use Rattle.chess_base.specs.{declared.man.Colour.Colour, declared.man.Kind.TheVariants.King, Men.Men, Men.man_at, Men.is_man, Sound.has_one_king}
 use Rattle.chess_base.proofs.shared.Kings.{one_king}
 use Rattle.chess_moves.specs.Sets.{contains}
 use Rattle.chess_moves.proofs.shared.Members.{has_zero}

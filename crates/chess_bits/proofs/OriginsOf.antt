@@ -1,29 +1,14 @@
 -- From where pawns go to a square, and officers: from where pieces like them would be attacked from that square.
 use Rattle.std.proofs.Common.{◌≡◌, ℕ, ◌<◌, ◌≤◌, Bool, true, false, not, ◌&&◌, ◌||◌, ◌==◌, None, refl, sym, ap, ◌∙◌, arith}
-use Rattle.std.proofs.lemmas.Bool.{and_parts, and_from, not-true}
-use Rattle.std.proofs.lemmas.Bool.Decides.{nat_tests}
-use Rattle.chess_base.specs.declared.man.Colour.{Colour}
-use Rattle.chess_base.specs.declared.man.Colour.TheVariants.{White, Black}
-use Rattle.chess_base.specs.declared.man.Kind.{Kind}
+use Rattle.std.proofs.{lemmas.Bool.and_parts, lemmas.Bool.and_from, lemmas.Bool.not-true, lemmas.Bool.Decides.nat_tests}
+use Rattle.chess_base.specs.{declared.man.Colour.Colour, declared.man.Colour.TheVariants.White, declared.man.Colour.TheVariants.Black, declared.man.Kind.Kind, declared.man.Move.Move, declared.setup.Setup.Setup, Attacks.could_capture, MoveList.move_of, Moves.is_legal, Moves.pawn_advances, Moves.pawn_captures, shared.Parts.pawn_is_allowed, Squares.file, Squares.rank}
 use Rattle.chess_base.specs.declared.man.Kind.TheVariants.{King, Queen, Rook, Bishop, Knight, Pawn}
-use Rattle.chess_base.specs.declared.man.Move.{Move}
-use Rattle.chess_base.specs.declared.setup.Setup.{Setup}
-use Rattle.chess_base.specs.Attacks.{could_capture}
 use Rattle.chess_base.specs.Men.{Men, man_at, is_of, is_man, same_kind, forward}
-use Rattle.chess_base.specs.MoveList.{move_of}
-use Rattle.chess_base.specs.Moves.{is_legal, pawn_advances, pawn_captures}
-use Rattle.chess_base.specs.shared.Parts.{pawn_is_allowed}
-use Rattle.chess_base.specs.Squares.{file, rank}
-use Rattle.chess_base.proofs.shared.Changes.{pawn_from_same}
-use Rattle.chess_base.proofs.shared.Men.{is_of-from_is_man}
-use Rattle.chess_base.proofs.shared.Geometry.{abs_diff_back, diagonal_back, is_clear_back}
+use Rattle.chess_base.proofs.{shared.Changes.pawn_from_same, shared.Men.is_of-from_is_man, shared.Geometry.abs_diff_back, shared.Geometry.diagonal_back, shared.Geometry.is_clear_back, shared.MenAfter.eqb_comm}
 use Rattle.chess_moves.specs.Sets.{contains, HasOrigins}
 use Rattle.chess_moves.proofs.shared.Origins.{begins_below}
 use Rattle.chess_bits.specs.ties.Goes.{man_goes}
-use Rattle.chess_bits.proofs.Patterns.{man_complete, pawn_goes, legal_goes}
-use Rattle.chess_bits.proofs.Reached.{line_back}
-use Rattle.chess_bits.proofs.TargetsOf.{man_told, officer_is, ends_below}
-use Rattle.chess_base.proofs.shared.MenAfter.{eqb_comm}
+use Rattle.chess_bits.proofs.{Patterns.man_complete, Patterns.pawn_goes, Patterns.legal_goes, Reached.line_back, TargetsOf.man_told, TargetsOf.officer_is, TargetsOf.ends_below}
 
 -- a piece other than a pawn attacks as it is attacked
 pub back : (men : Men) (c : Colour) (kind : Kind) (a b : ℕ) → same_kind Pawn kind ≡ false

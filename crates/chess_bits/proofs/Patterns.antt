@@ -1,26 +1,14 @@
 -- The patterns of moves, by start and end square.
 use mathlib.Core.Bool.{and-true, and-false, and_comm}
-use Rattle.std.proofs.Common.{◌≡◌, ℕ, ◌<◌, Bool, true, false, not, ◌&&◌, ◌||◌, ◌==◌, cond, Option, Some, None, refl, sym, ap, ◌∙◌, nat_lt, arith}
-use Rattle.std.specs.Prelude.{if◌then◌else◌}
+use Rattle.std.proofs.Common.{◌≡◌, ℕ, ◌<◌, Bool, true, false, not, ◌&&◌, ◌||◌, ◌==◌, cond, Option, Some, None, refl, sym, ap, ◌∙◌, nat_lt, arith, if◌then◌else◌}
 use Rattle.std.proofs.lemmas.Bool.{and_parts, and_from, lt-ltb, both_ways, false_from_ne_true}
-use Rattle.chess_base.specs.declared.castling.Castle.{Castle}
-use Rattle.chess_base.specs.declared.man.Kind.{Kind}
+use Rattle.chess_base.specs.{declared.castling.Castle.Castle, declared.man.Kind.Kind, declared.man.Man.Man, declared.man.Move.Move, declared.setup.Setup.Setup, Attacks.is_in_check, Castling.castle_of, Castling.castles, MoveList.move_of, shared.Splits.castles_or_moves, Squares.rank}
 use Rattle.chess_base.specs.declared.man.Kind.TheVariants.{King, Queen, Rook, Bishop, Knight, Pawn}
-use Rattle.chess_base.specs.declared.man.Man.{Man}
-use Rattle.chess_base.specs.declared.man.Move.{Move}
-use Rattle.chess_base.specs.declared.setup.Setup.{Setup}
-use Rattle.chess_base.specs.Attacks.{is_in_check}
-use Rattle.chess_base.specs.Castling.{castle_of, castles}
 use Rattle.chess_base.specs.Men.{man_at, other, same_colour, same_kind, is_man, first_rank}
-use Rattle.chess_base.specs.MoveList.{move_of}
 use Rattle.chess_base.specs.Moves.{is_pseudo_legal, is_legal, after, moves_as, man_moves, pawn_moves, pawn_advances, pawn_captures, is_double_advance, promotion_fits}
-use Rattle.chess_base.specs.shared.Splits.{castles_or_moves}
-use Rattle.chess_base.specs.Squares.{rank}
-use Rattle.chess_base.proofs.shared.Men.{same_colour-self}
-use Rattle.chess_moves.specs.Promoting.{would_promote}
-use Rattle.chess_moves.specs.Sets.{contains}
+use Rattle.chess_base.proofs.{shared.Men.same_colour-self, shared.MoveKinds.unpromoted_below}
+use Rattle.chess_moves.specs.{Promoting.would_promote, Sets.contains}
 use Rattle.chess_bits.specs.ties.Goes.{tried_promotion, goes, legal_or, man_goes}
-use Rattle.chess_base.proofs.shared.MoveKinds.{unpromoted_below}
 
 pub fits_low : (kind : Kind) → promotion_fits false (Some kind) ≡ false
 fits_low King = refl

@@ -2,23 +2,13 @@
 use mathlib.Core.Bool.{and_comm, not-not}
 use Rattle.std.proofs.Common.{◌≡◌, ℕ, ◌<◌, ◌≤◌, inl, inr, Bool, true, false, not, ◌&&◌, ◌||◌, ◌==◌, None, is_none, refl, sym, ap, ◌∙◌, arith}
 use Rattle.std.proofs.lemmas.Bool.{and_from, and_left, and_parts, and_right, cases_Bool, eqb-true}
-use Rattle.chess_base.specs.declared.man.Colour.{Colour}
-use Rattle.chess_base.specs.declared.man.Colour.TheVariants.{White, Black}
-use Rattle.chess_base.specs.declared.man.Kind.TheVariants.{Pawn}
-use Rattle.chess_base.specs.declared.setup.Setup.{Setup}
+use Rattle.chess_base.specs.{declared.man.Colour.Colour, declared.man.Colour.TheVariants.White, declared.man.Colour.TheVariants.Black, declared.man.Kind.TheVariants.Pawn, declared.setup.Setup.Setup, MoveList.move_of, Squares.rank, Squares.is_at}
 use Rattle.chess_base.specs.Men.{man_at, is_man, is_of, other, first_rank, forward, pawn_rank}
-use Rattle.chess_base.specs.MoveList.{move_of}
 use Rattle.chess_base.specs.Moves.{is_pseudo_legal, is_legal, pawn_advances, pawn_captures, is_double_advance, promotion_fits}
-use Rattle.chess_base.specs.Squares.{rank, is_at}
-use Rattle.chess_moves.specs.Promoting.{would_promote}
-use Rattle.chess_moves.specs.Sets.{contains}
-use Rattle.chess_bits.specs.ties.Changes.{StepsPlainly}
+use Rattle.chess_moves.specs.{Promoting.would_promote, Sets.contains}
+use Rattle.chess_bits.specs.{ties.Changes.StepsPlainly, ties.Shapes.in_shape}
 use Rattle.chess_bits.specs.declared.table.Shape.TheVariants as shape
-use Rattle.chess_bits.specs.ties.Shapes.{in_shape}
-use Rattle.chess_bits.proofs.Attackers.{pawn_back}
-use Rattle.chess_bits.proofs.TargetsOf.{captures_is}
-use Rattle.chess_bits.proofs.ByKind.{pawn_pattern, pawn_plain, no_pattern}
-use Rattle.chess_bits.proofs.Patterns.{not_fitting}
+use Rattle.chess_bits.proofs.{Attackers.pawn_back, TargetsOf.captures_is, ByKind.pawn_pattern, ByKind.pawn_plain, ByKind.no_pattern, Patterns.not_fitting}
 use Rattle.chess_base.proofs.shared.MenAfter.{eqb_comm}
 
 -- ---- straight ahead

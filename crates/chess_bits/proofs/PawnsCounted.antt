@@ -4,31 +4,16 @@ use Rattle.std.proofs.Common.{◌≡◌, ℕ, zero, suc, ◌+◌, ◌-◌, ◌/�
 use Rattle.std.specs.List.{filter, flat_map, range_with_len}
 use Rattle.std.proofs.lemmas.Bool.{or_parts, cases_Bool, eqb-false, eqb-true, eq-eqb, ne_eqb, both_ways, false_from_ne_true}
 use Rattle.std.proofs.lemmas.Bool.Decides.{nat_tests}
-use Rattle.chess_base.specs.declared.man.Colour.{Colour}
-use Rattle.chess_base.specs.declared.man.Colour.TheVariants.{White, Black}
-use Rattle.chess_base.specs.declared.man.Kind.TheVariants.{King, Pawn}
-use Rattle.chess_base.specs.declared.setup.Setup.{Setup}
-use Rattle.chess_base.specs.Attacks.{could_capture}
+use Rattle.chess_base.specs.{declared.man.Colour.Colour, declared.man.Colour.TheVariants.White, declared.man.Colour.TheVariants.Black, declared.man.Kind.TheVariants.King, declared.man.Kind.TheVariants.Pawn, declared.setup.Setup.Setup, Attacks.could_capture, MoveList.move_of, Moves.is_legal, Moves.pawn_advances, Moves.pawn_captures, Sound.IsSound, Sound.no_pawn_on_end_ranks, shared.Parts.pawn_is_allowed}
 use Rattle.chess_base.specs.Men.{Men, man_at, is_of, is_man, other, forward, pawn_rank}
-use Rattle.chess_base.specs.MoveList.{move_of}
-use Rattle.chess_base.specs.Moves.{is_legal, pawn_advances, pawn_captures}
-use Rattle.chess_base.specs.Sound.{IsSound, no_pawn_on_end_ranks}
-use Rattle.chess_base.specs.shared.Parts.{pawn_is_allowed}
 use Rattle.chess_base.specs.Squares.{file, rank, is_at, squares}
 use Rattle.chess_base.proofs.shared.Squares.{each_square-at}
-use Rattle.chess_moves.specs.shared.MovesBySquares.{moves_between, moves_from}
-use Rattle.chess_moves.specs.Sets.{contains, members}
+use Rattle.chess_moves.specs.{shared.MovesBySquares.moves_between, shared.MovesBySquares.moves_from, Sets.contains, Sets.members}
 use Rattle.chess_moves.proofs.shared.Members.{filter_none, filter_first, by_range}
 use Rattle.chess_bits.specs.declared.table.Shape.TheVariants as shape
 use Rattle.chess_bits.specs.ties.Goes.{goes, aims_at, goes_specially, IsFree, AreFree}
 use Rattle.chess_bits.specs.ties.Shapes.{in_shape}
-use Rattle.chess_bits.proofs.Attackers.{pawn_back}
-use Rattle.chess_bits.proofs.Freely.{IsOrdinary, pawn_ordinary, free_between}
-use Rattle.chess_bits.proofs.Listed.{none_there}
-use Rattle.chess_bits.proofs.OriginsOf.{off_lowest, on_board}
-use Rattle.chess_bits.proofs.Patterns.{pawn_goes, legal_goes}
-use Rattle.chess_bits.proofs.Reached.{pawn_from}
-use Rattle.chess_bits.proofs.TargetsOf.{man_told, advances_is, captures_is}
+use Rattle.chess_bits.proofs.{Attackers.pawn_back, Freely.IsOrdinary, Freely.pawn_ordinary, Freely.free_between, Listed.none_there, OriginsOf.off_lowest, OriginsOf.on_board, Patterns.pawn_goes, Patterns.legal_goes, Reached.pawn_from, TargetsOf.man_told, TargetsOf.advances_is, TargetsOf.captures_is}
 
 -- ---- sums
 

@@ -1,45 +1,25 @@
 -- Where pieces may go that shield their king, or whose king is in check: on the way between the king and the piece that
 -- would attack it, or to that piece.
-use Rattle.chess_base.proofs.shared.Changes.{at_target}
-use Rattle.chess_bits.proofs.TargetsOf.{no_king_castles}
+use Rattle.chess_base.proofs.{shared.Changes.at_target, shared.Men.is_none-None, shared.Squares.each_square-all, shared.Squares.each_square-at, shared.Squares.some_square-at, shared.Geometry.between_back, shared.MenAfter.eqb_comm}
+use Rattle.chess_bits.proofs.{TargetsOf.no_king_castles, Attackers.de_morgan, BetweenSquares.are_on_line, BoardSets.theirs_of, Freely.from_not, KingAfter.king_stays, KingAfter.check_after, KingAfter.legal_is, Lifted.lifted_at}
 use Rattle.std.specs.Int.{abs_diff}
 use Rattle.std.proofs.Common.{◌≡◌, ℕ, ◌+◌, ◌-◌, ◌<◌, ◌⊎◌, inl, inr, Bool, true, false, not, ◌&&◌, ◌||◌, ◌==◌, cond, Option, Some, None, is_none, length, refl, sym, ap, ◌∙◌, arith}
 use Rattle.std.proofs.lemmas.Bool.Decides.{nat_tests}
 use Rattle.std.proofs.lemmas.Bool.{and_parts, and_from, and_right, or_parts, or_cases, or_left, or_right, both_ways, cases_Bool, eqb-true, eq-eqb, false_from_ne_true, not-true}
-use Rattle.chess_base.specs.declared.man.Colour.{Colour}
-use Rattle.chess_base.specs.declared.man.Colour.TheVariants.{White, Black}
-use Rattle.chess_base.specs.declared.man.Kind.{Kind}
+use Rattle.chess_base.specs.{declared.man.Colour.Colour, declared.man.Colour.TheVariants.White, declared.man.Colour.TheVariants.Black, declared.man.Kind.Kind, declared.man.Man.Man, declared.man.Move.Move, declared.setup.Setup.Setup, Sound.IsSound, shared.Parts.crossed_rank, shared.Splits.could_capture_as, declared.line.Line.Line}
 use Rattle.chess_base.specs.declared.man.Kind.TheVariants.{King, Queen, Rook, Bishop, Knight, Pawn}
-use Rattle.chess_base.specs.declared.man.Man.{Man}
-use Rattle.chess_base.specs.declared.man.Move.{Move}
-use Rattle.chess_base.specs.declared.setup.Setup.{Setup}
 use Rattle.chess_base.specs.Attacks.{is_clear, could_capture, attacks, is_attacked, is_in_check}
 use Rattle.chess_base.specs.Castling.{castle_of, castle_from, mover_end, castling_rook_to}
 use Rattle.chess_base.specs.Men.{Men, man_at, other, is_man, is_of, same_kind, same_colour, first_rank}
 use Rattle.chess_base.specs.Moves.{is_pseudo_legal, is_legal, after, arriving_man, man_moves, men_after, second_square_emptied, promotion_fits}
-use Rattle.chess_base.specs.Sound.{IsSound}
 use Rattle.chess_base.specs.Squares.{file, rank, is_between, is_strictly_between, is_at, share_rank_or_file, share_diagonal}
-use Rattle.chess_base.specs.shared.Parts.{crossed_rank}
-use Rattle.chess_base.specs.shared.Splits.{could_capture_as}
-use Rattle.chess_base.proofs.shared.Men.{is_none-None}
 use Rattle.chess_base.proofs.shared.MoveKinds.{Moves, MoveKind, ManMoves, Castles, PawnMoves, moves_from_pattern, castles_unpromoted}
-use Rattle.chess_base.proofs.shared.Squares.{each_square-all, each_square-at, some_square-at}
 use Rattle.chess_moves.proofs.shared.Origins.{begins_below}
 use Rattle.chess_moves.specs.Sets.{contains}
-use Rattle.chess_bits.specs.ties.Pins.{aims_from, IsShield}
-use Rattle.chess_bits.specs.ties.Goes.{lifted}
-use Rattle.chess_base.specs.declared.line.Line.{Line}
+use Rattle.chess_bits.specs.{ties.Pins.aims_from, ties.Pins.IsShield, ties.Goes.lifted}
 use Rattle.chess_base.specs.declared.line.Line.TheVariants.{Rank, File, Diagonal, Antidiagonal}
 use Rattle.chess_base.specs.shared.Lines.{same_line, is_between_on_file, is_between_on_rank, is_between_on_diagonal}
-use Rattle.chess_bits.proofs.Attackers.{de_morgan}
-use Rattle.chess_bits.proofs.BetweenSquares.{are_on_line}
-use Rattle.chess_bits.proofs.BoardSets.{theirs_of}
-use Rattle.chess_bits.proofs.Freely.{from_not}
-use Rattle.chess_base.proofs.shared.Geometry.{between_back}
-use Rattle.chess_bits.proofs.KingAfter.{king_stays, check_after, legal_is}
-use Rattle.chess_bits.proofs.Lifted.{lifted_at}
 use Rattle.chess_bits.proofs.Quiet.{IsPlain, lands_over, lands_same, not_passing, plain_by, could_capture_as_clear}
-use Rattle.chess_base.proofs.shared.MenAfter.{eqb_comm}
 
 -- ---- no king arrives but one that leaves
 

@@ -1,26 +1,17 @@
 -- A move that changes only its two squares leaves the king as safe as it was with the mover taken off.
-use Rattle.chess_bits.proofs.TargetsOf.{no_king_castles}
+use Rattle.chess_bits.proofs.{TargetsOf.no_king_castles, KingAfter.mover_some, KingAfter.mover_own, Lifted.lifted_at}
 use mathlib.Core.Bool.{or-false}
 use Rattle.std.proofs.Common.{◌≡◌, ℕ, ◌<◌, inl, inr, Bool, true, false, not, ◌&&◌, ◌||◌, ◌==◌, cond, length, refl, sym, ap, ◌∙◌, Option, Some, None, is_none, arith}
 use Rattle.std.proofs.lemmas.Bool.{and_parts, and_from, cases_Bool, both_ways, false_from_ne_true}
-use Rattle.chess_base.specs.declared.man.Colour.{Colour}
-use Rattle.chess_base.specs.declared.man.Kind.{Kind}
+use Rattle.chess_base.specs.{declared.man.Colour.Colour, declared.man.Kind.Kind, declared.man.Man.Man, declared.man.Move.Move, shared.Splits.could_capture_as, declared.setup.Setup.Setup, Castling.castle_of, Castling.mover_end, Castling.castling_rook_to}
 use Rattle.chess_base.specs.declared.man.Kind.TheVariants.{King, Queen, Rook, Bishop, Knight, Pawn}
-use Rattle.chess_base.specs.declared.man.Man.{Man}
-use Rattle.chess_base.specs.declared.man.Move.{Move}
 use Rattle.chess_base.specs.Squares.{is_at, share_rank_or_file, share_diagonal, is_between}
 use Rattle.chess_base.specs.Men.{Men, man_at, other, is_man, is_of, same_kind}
 use Rattle.chess_base.specs.Attacks.{is_clear, could_capture, attacks, is_attacked}
-use Rattle.chess_base.specs.shared.Splits.{could_capture_as}
-use Rattle.chess_base.specs.declared.setup.Setup.{Setup}
 use Rattle.chess_base.specs.Moves.{is_en_passant, is_pseudo_legal, arriving_man, men_after, second_square_emptied}
-use Rattle.chess_base.specs.Castling.{castle_of, mover_end, castling_rook_to}
 use Rattle.chess_base.proofs.shared.MenAfter.{man_after, man_at-men_after, eqb_comm}
 use Rattle.chess_base.proofs.shared.Squares.{some_square-at, some_square-none, each_square-all, each_square-at}
-use Rattle.chess_bits.specs.ties.Changes.{is_changed, is_filled}
-use Rattle.chess_bits.specs.ties.Goes.{lifted}
-use Rattle.chess_bits.proofs.KingAfter.{mover_some, mover_own}
-use Rattle.chess_bits.proofs.Lifted.{lifted_at}
+use Rattle.chess_bits.specs.{ties.Changes.is_changed, ties.Changes.is_filled, ties.Goes.lifted}
 
 -- a piece could capture no less where the lines that it uses are as clear
 last_told : (n s t u : Bool) → ((n && s) ≡ true → t ≡ true → u ≡ true) → (n && s && t) ≡ true → (n && s && u) ≡ true

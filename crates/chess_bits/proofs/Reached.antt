@@ -1,18 +1,12 @@
 -- Where a piece other than a pawn may go, seen from its square.
 use Rattle.std.proofs.Common.{◌≡◌, ℕ, Bool, not, ◌&&◌, ◌||◌, ◌==◌, refl, ap, ◌∙◌, is_none, arith}
-use Rattle.chess_base.specs.declared.man.Colour.{Colour}
+use Rattle.chess_base.specs.{declared.man.Colour.Colour, Men.Men, Men.man_at, Attacks.is_clear, Attacks.could_capture}
 use Rattle.chess_base.specs.declared.man.Kind.TheVariants.{King, Queen, Rook, Bishop, Knight, Pawn}
 use Rattle.chess_base.specs.Squares.{file, rank, is_between, share_rank_or_file, share_diagonal}
-use Rattle.chess_base.specs.Men.{Men, man_at}
-use Rattle.chess_base.specs.Attacks.{is_clear, could_capture}
-use Rattle.chess_base.proofs.shared.Squares.{each_square_same}
-use Rattle.chess_base.proofs.shared.Geometry.{diagonal_back}
+use Rattle.chess_base.proofs.{shared.Squares.each_square_same, shared.Geometry.diagonal_back, shared.MenAfter.eqb_comm}
 use Rattle.chess_bits.specs.declared.table.Shape.TheVariants as shape
-use Rattle.chess_bits.specs.ties.Rays.{is_open}
-use Rattle.chess_bits.specs.ties.Shapes.{in_shape}
-use Rattle.chess_bits.specs.ties.Occupancy.{IsOccupied}
+use Rattle.chess_bits.specs.{ties.Rays.is_open, ties.Shapes.in_shape, ties.Occupancy.IsOccupied}
 use Rattle.chess_bits.proofs.Attackers.{de_morgan, queen_parts}
-use Rattle.chess_base.proofs.shared.MenAfter.{eqb_comm}
 
 pub knight_from : (men : Men) (c : Colour) (a b : ℕ) → in_shape shape.Knight a b ≡ could_capture men c Knight a b
 unfolding in_shape could_capture

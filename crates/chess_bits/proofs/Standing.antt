@@ -1,23 +1,12 @@
 -- Sets of the pieces on the board, and of none.
 use Rattle.chess_base.proofs.shared.Men.{is_man-none, is_of-none}
-use Rattle.std.proofs.Common.{◌≡◌, ◌≢◌, ◌⊎◌, ℕ, ◌<◌, inl, inr, Bool, true, false, not, ◌||◌, refl, sym, ◌∙◌, ap, arith, subst, Option, Some, None, is_none, [], ◌∷◌, length, length-set, set, get_or-set_same, get_or-set_other}
-use Rattle.chess_base.specs.declared.man.Colour.{Colour}
-use Rattle.chess_base.specs.declared.man.Colour.TheVariants.{White, Black}
-use Rattle.chess_base.specs.declared.man.Kind.{Kind}
+use Rattle.std.proofs.Common.{◌≡◌, ◌≢◌, ◌⊎◌, ℕ, ◌<◌, inl, inr, Bool, true, false, not, ◌||◌, refl, sym, ◌∙◌, ap, arith, subst, Option, Some, None, is_none, [], ◌∷◌, length, length-set, set, get_or-set_same, get_or-set_other, slice_index, cond}
+use Rattle.chess_base.specs.{declared.man.Colour.Colour, declared.man.Colour.TheVariants.White, declared.man.Colour.TheVariants.Black, declared.man.Kind.Kind, declared.man.Man.Man, Men.Men, Men.man_at, Men.is_of, shared.Parts.kind_number}
 use Rattle.chess_base.specs.declared.man.Kind.TheVariants.{King, Queen, Rook, Bishop, Knight, Pawn}
-use Rattle.chess_base.specs.declared.man.Man.{Man}
-use Rattle.std.specs.Prelude.{slice_index, cond}
-use Rattle.chess_base.specs.Men.{Men, man_at, is_of}
-use Rattle.chess_base.specs.shared.Parts.{kind_number}
-use Rattle.chess_moves.specs.PositionHash.{xor_of}
-use Rattle.chess_moves.specs.Sets.{contains, members}
+use Rattle.chess_moves.specs.{PositionHash.xor_of, Sets.contains, Sets.members}
 use Rattle.chess_moves.proofs.shared.PositionHash.{no_men_keys}
-use Rattle.chess_bits.specs.ties.Occupancy.{IsOccupied}
-use Rattle.chess_bits.specs.declared.sets.Sets.{Sets}
-use Rattle.chess_bits.specs.ties.KindSets.{IsKinds}
-use Rattle.chess_bits.specs.ties.BoardSets.{IsSets}
-use Rattle.chess_bits.proofs.BoardSets.{set_twice, same_written}
-use Rattle.chess_bits.proofs.Starts.{first_gone, taken_first, none_left}
+use Rattle.chess_bits.specs.{ties.Occupancy.IsOccupied, declared.sets.Sets.Sets, ties.KindSets.IsKinds, ties.BoardSets.IsSets}
+use Rattle.chess_bits.proofs.{BoardSets.set_twice, BoardSets.same_written, Starts.first_gone, Starts.taken_first, Starts.none_left}
 use Rattle.std.proofs.lemmas.Bool.{cases_eq, eq-eqb, ne_eqb}
 
 -- ---- none

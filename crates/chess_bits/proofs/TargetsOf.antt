@@ -1,31 +1,13 @@
 -- Where each kind of piece goes, as its sets say.
-use Rattle.chess_base.proofs.shared.Changes.{no_castling}
+use Rattle.chess_base.proofs.{shared.Changes.no_castling, shared.Squares.some_square-at, shared.Squares.some_square-none, shared.Castling.no_castle, shared.Men.same_colour-self, shared.Men.same_colour-true, shared.Men.same_kind-true}
 use mathlib.Core.Bool.{and-false, and-true, or-false}
 use Rattle.std.proofs.Common.{◌≡◌, ℕ, ◌+◌, ◌-◌, ◌<◌, ◌≤◌, inl, inr, nat_le, Bool, true, false, not, ◌&&◌, ◌||◌, ◌==◌, Option, Some, None, is_none, refl, sym, ap, subst, ◌∙◌, arith}
 use Rattle.std.proofs.lemmas.Bool.Decides.{nat_tests}
 use Rattle.std.proofs.lemmas.Bool.{and_parts, and_right, both_ways, cases_Bool, cases_eq, eqb-true, eq-eqb, ne_eqb}
-use Rattle.chess_base.specs.declared.castling.Castle.{Castle}
-use Rattle.chess_base.specs.declared.man.Colour.{Colour}
-use Rattle.chess_base.specs.declared.man.Colour.TheVariants.{White, Black}
-use Rattle.chess_base.specs.declared.man.CastlingSide.{CastlingSide}
-use Rattle.chess_base.specs.declared.man.CastlingSide.TheVariants.{KingSide, QueenSide}
-use Rattle.chess_base.specs.declared.man.Kind.{Kind}
-use Rattle.chess_base.specs.declared.man.Kind.TheVariants.{King, Pawn}
-use Rattle.chess_base.specs.declared.man.Man.{Man}
-use Rattle.chess_base.specs.declared.man.Move.{Move}
-use Rattle.chess_base.specs.declared.man.Variant.{Variant}
-use Rattle.chess_base.specs.declared.man.Variant.TheVariants.{Normal, Fischerandom}
-use Rattle.chess_base.specs.declared.setup.Setup.{Setup}
-use Rattle.chess_base.specs.Attacks.{attacks, could_capture}
-use Rattle.chess_base.specs.shared.Splits.{could_capture_as, names_castling}
+use Rattle.chess_base.specs.{declared.castling.Castle.Castle, declared.man.Colour.Colour, declared.man.Colour.TheVariants.White, declared.man.Colour.TheVariants.Black, declared.man.CastlingSide.CastlingSide, declared.man.CastlingSide.TheVariants.KingSide, declared.man.CastlingSide.TheVariants.QueenSide, declared.man.Kind.Kind, declared.man.Kind.TheVariants.King, declared.man.Kind.TheVariants.Pawn, declared.man.Man.Man, declared.man.Move.Move, declared.man.Variant.Variant, declared.man.Variant.TheVariants.Normal, declared.man.Variant.TheVariants.Fischerandom, declared.setup.Setup.Setup, Attacks.attacks, Attacks.could_capture, shared.Splits.could_capture_as, shared.Splits.names_castling, MoveList.move_of, Squares.rank, Squares.is_at, Squares.some_square}
 use Rattle.chess_base.specs.Castling.{home_square, king_home_file, castled_king_file, right_of, is_castling_to, castling, castle_of}
 use Rattle.chess_base.specs.Men.{Men, man_at, other, is_of, is_man, same_kind, same_colour, forward, pawn_rank}
-use Rattle.chess_base.specs.MoveList.{move_of}
 use Rattle.chess_base.specs.Moves.{is_legal, is_pseudo_legal, man_moves, pawn_advances, pawn_captures, is_double_advance}
-use Rattle.chess_base.proofs.shared.Squares.{some_square-at, some_square-none}
-use Rattle.chess_base.specs.Squares.{rank, is_at, some_square}
-use Rattle.chess_base.proofs.shared.Castling.{no_castle}
-use Rattle.chess_base.proofs.shared.Men.{same_colour-self, same_colour-true, same_kind-true}
 use Rattle.chess_moves.specs.Sets.{contains}
 use Rattle.chess_moves.proofs.shared.LegalMoves.{own_man_moves}
 use Rattle.chess_bits.specs.ties.Goes.{goes, IsAhead, names_end, castles_onto, legal_or, man_goes}

@@ -53,6 +53,13 @@ impl<'t> Bits<'t> {
         }
     }
 
+    /// Another board, at the initial position, which looks attacks up in the same tables.
+    pub fn another(&self) -> Self
+        ensures { result ≡ initial_setup }
+    {
+        Bits::new(self.tables)
+    }
+
     // The square of this colour's king. The position is sound, so there is exactly one.
     pub(crate) fn king(&self, colour: Colour) -> Square
         ensures alone { (k : ℕ) → k < 64 → is_man colour King (man_at self.now.men k) ≡ (k == result) }

@@ -1,17 +1,11 @@
 -- What is answered where it is known which bytes the input has to give.
-use Rattle.std.proofs.Common.{◌≡◌, ℕ, Bool, true, false, List, [], ◌∷◌, ◌++◌, Option, Some, None, Ok, refl, sym, ap, ◌∙◌, append-nil, subst}
-use Rattle.std.specs.Option.{IfSome}
+use Rattle.std.proofs.Common.{◌≡◌, ℕ, Bool, true, false, List, [], ◌∷◌, ◌++◌, Option, Some, None, Ok, refl, sym, ap, ◌∙◌, append-nil, subst, IfSome}
 use Rattle.std.proofs.KnownBytes.{Consumes-whole}
 use Rattle.std.specs.Io.KnownBytes.{Consumes}
-use Rattle.byte_devices.specs.Transfers.{FromInput, Devices, InputGave, OutputTook, Ran, all_for}
-use Rattle.byte_devices.proofs.shared.Transfers.{some_for}
+use Rattle.byte_devices.specs.Transfers.{FromInput, Devices, InputGave, OutputTook, Ran}
+use Rattle.byte_devices.proofs.shared.Transfers.{all_for, some_for}
 use Rattle.text_lines.specs.Lines.{LineSeen, stream_lines}
-use Rattle.chess_cecp.specs.Serving.{Response, Server, responses}
-use Rattle.chess_cecp.specs.Served.{Served, lines_read}
-use Rattle.chess_cecp.specs.laws.KnownInput.{AreFirstLines, AnswersInput, lines_of}
-use Rattle.chess_cecp.specs.declared.run.End.{End}
-use Rattle.chess_cecp.specs.declared.run.End.TheVariants.{Quit, InputEnded}
-use Rattle.chess_cecp.specs.declared.session.TheConstants.{COMMAND_LEN}
+use Rattle.chess_cecp.specs.{Serving.Response, Serving.Server, Serving.responses, Served.Served, Served.lines_read, laws.KnownInput.AreFirstLines, laws.KnownInput.AnswersInput, laws.KnownInput.lines_of, declared.run.End.End, declared.run.End.TheVariants.Quit, declared.run.End.TheVariants.InputEnded, declared.session.TheConstants.COMMAND_LEN}
 use Rattle.chess_cecp.proofs.LinesOn.{first_lines, stays_ended}
 
 -- what holds of the bytes that were read, however they go on, holds of the known bytes

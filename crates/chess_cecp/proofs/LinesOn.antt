@@ -1,6 +1,5 @@
 -- Lines of bytes that go on, and the responses to lines that go on.
-use Rattle.std.proofs.Common.{◌≡◌, ◌≢◌, ℕ, ◌-◌, ◌≤◌, Bool, true, false, List, [], ◌∷◌, ◌++◌, length, drop, ◌==◌, refl, sym, ap, ◌∙◌, arith, subst}
-use Rattle.std.proofs.lemmas.List.{take-append-drop}
+use Rattle.std.proofs.Common.{◌≡◌, ◌≢◌, ℕ, ◌-◌, ◌≤◌, Bool, true, false, List, [], ◌∷◌, ◌++◌, length, drop, ◌==◌, refl, sym, ap, ◌∙◌, arith, subst, take-append-drop}
 use Rattle.text_lines.specs.Lines.{LineSeen, lines_from, stream_lines, line_of}
 use Rattle.text_lines.specs.Next.{before_piece}
 use Rattle.text_lines.proofs.shared.LineSteps.{none_from, ten_step, byte_step}

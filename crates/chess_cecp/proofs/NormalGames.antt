@@ -1,32 +1,18 @@
 -- In a game of normal chess each position is of normal chess, so what is said of the game and its text is what is said
 -- for normal chess alone.
-use Rattle.std.proofs.Common.{◌≡◌, ℕ, cond, Bool, ◌||◌, List, [], ◌∷◌, ◌++◌, codes, None, refl, ap, ◌∙◌, if◌then◌else◌}
-use Rattle.std.specs.Prelude.{count_by, not}
+use Rattle.std.proofs.Common.{◌≡◌, ℕ, cond, Bool, ◌||◌, List, [], ◌∷◌, ◌++◌, codes, None, refl, ap, ◌∙◌, if◌then◌else◌, count_by, not}
 use Rattle.std.specs.List.{list_any}
 use Rattle.std.proofs.lemmas.List.Sums.{sum_by-cons}
-use Rattle.chess_base.specs.declared.man.Move.{Move}
-use Rattle.chess_base.specs.declared.man.Variant.{Variant}
-use Rattle.chess_base.specs.declared.man.Variant.TheVariants.{Normal}
-use Rattle.chess_base.specs.declared.setup.Setup.{Setup}
-use Rattle.chess_base.specs.Initial.{initial_setup, initial_setup_of}
-use Rattle.chess_base.specs.Moves.{after, is_en_passant}
-use Rattle.chess_base.specs.Options.{list_if}
-use Rattle.chess_base.specs.laws.Normal.{normal_after}
-use Rattle.chess_base.proofs.shared.Normal.{normal_kept as rules_kept}
+use Rattle.chess_base.specs.{declared.man.Move.Move, declared.man.Variant.Variant, declared.man.Variant.TheVariants.Normal, declared.setup.Setup.Setup, Initial.initial_setup, Initial.initial_setup_of, Moves.after, Moves.is_en_passant, Options.list_if, laws.Normal.normal_after}
+use Rattle.chess_base.proofs.{shared.Normal.normal_kept as rules_kept, shared.After.variant-after}
 use Rattle.chess_fen.specs.Writing.{fen, is_initial}
 use Rattle.chess_fen.proofs.shared.Normal.{fen_kept}
 use Rattle.chess_text.specs.San.{is_fischerandom}
 use Rattle.chess_text.proofs.shared.Normal.{normal_kept as texts_kept}
-use Rattle.chess_game.specs.declared.results.Outcome.{Outcome}
-use Rattle.chess_game.specs.Ends.{verdict}
-use Rattle.chess_game.specs.Game.{State, outcome_now}
-use Rattle.chess_game.specs.Line.{positions_of, position_after}
-use Rattle.chess_game.specs.Results.{outcome_text}
-use Rattle.chess_game.specs.Same.{legal_en_passant_square, is_same_position, repetition_count}
-use Rattle.pgn_writer.specs.declared.tags.Tags.{Tags}
+use Rattle.chess_game.specs.{declared.results.Outcome.Outcome, Ends.verdict, Game.State, Game.outcome_now, Line.positions_of, Line.position_after, Results.outcome_text, Same.legal_en_passant_square, Same.is_same_position, Same.repetition_count}
+use Rattle.chess_game.proofs.shared.Lines.{variant-position_after}
+use Rattle.pgn_writer.specs.{declared.tags.Tags.Tags, Terminations.termination_text, Terminations.termination_of, Written.tag_line, Written.ended, Written.lines_of}
 use Rattle.pgn_writer.specs.GameText.{tag_lines, move_tokens, game_tokens, pgn}
-use Rattle.pgn_writer.specs.Terminations.{termination_text, termination_of}
-use Rattle.pgn_writer.specs.Written.{tag_line, ended, lines_of}
 use Rattle.chess_cecp.specs.laws.NormalGame.{normal_initial, normal_line, normal_last, normal_legal_en_passant_square, normal_same, normal_rep, normal_verdict, normal_outcome_now}
 use Rattle.chess_cecp.specs.laws.NormalPgn.{normal_is_initial, normal_tag_lines, normal_move_tokens, normal_game_tokens, normal_pgn}
 
@@ -36,18 +22,9 @@ initial_kept = refl
 
 -- ---- the line
 
--- what a move leaves is of the variant of the position before it
-stays : (p : Setup) (m : Move) → (after p m).variant ≡ p.variant
-unfolding after
-stays p m = refl
-
-pub last_stays : (p : Setup) (ms : List Move) → (position_after p ms).variant ≡ p.variant
-last_stays p [] = refl
-last_stays p (m ∷ ms) = last_stays (after p m) ms ∙ stays p m
-
 pub last_kept : (p : Setup) → p.variant ≡ Normal → (ms : List Move) → position_after p ms ≡ normal_last p ms
 last_kept p e [] = refl
-last_kept p e (m ∷ ms) = last_kept (after p m) (stays p m ∙ e) ms
+last_kept p e (m ∷ ms) = last_kept (after p m) (variant-after p m ∙ e) ms
     ∙ ap (λ q. normal_last q ms) ((rules_kept p e).after m)
 
 -- ---- repetition
@@ -74,20 +51,20 @@ counted q h p e (m ∷ ms) =
     counted_one (λ x. is_same_position x q) (λ x. normal_same x q) p (positions_of (after p m) ms)
     (normal_line (normal_after p m) ms)
     (same_kept p q e h)
-    (counted q h (after p m) (stays p m ∙ e) ms
+    (counted q h (after p m) (variant-after p m ∙ e) ms
     ∙ ap (λ r. count_by (λ x. normal_same x q) (normal_line r ms)) ((rules_kept p e).after m))
 
 pub rep_kept : (p : Setup) → p.variant ≡ Normal → (ms : List Move) → repetition_count p ms ≡ normal_rep p ms
 unfolding repetition_count normal_rep
 rep_kept p e ms =
-    rw (counted (position_after p ms) (last_stays p ms ∙ e) p e ms, last_kept p e ms)
+    rw (counted (position_after p ms) (variant-position_after p ms ∙ e) p e ms, last_kept p e ms)
 
 -- ---- ends
 
 pub verdict_kept : (p : Setup) → p.variant ≡ Normal → (ms : List Move) → verdict p ms ≡ normal_verdict p ms
 unfolding verdict normal_verdict
 verdict_kept p e ms =
-    rw ((texts_kept (position_after p ms) (last_stays p ms ∙ e)).moves, last_kept p e ms, rep_kept p e ms)
+    rw ((texts_kept (position_after p ms) (variant-position_after p ms ∙ e)).moves, last_kept p e ms, rep_kept p e ms)
 
 outcome_kept : (s : State) → s.start.variant ≡ Normal → outcome_now s ≡ normal_outcome_now s
 outcome_kept s e = rw (verdict_kept s.start e s.moves)
@@ -123,7 +100,7 @@ tags_kept t s e =
 moves_kept : (p : Setup) → p.variant ≡ Normal → (ms : List Move) → move_tokens p ms ≡ normal_move_tokens p ms
 moves_kept p e [] = refl
 moves_kept p e (m ∷ ms) =
-    rw ((texts_kept p e).san m, moves_kept (after p m) (stays p m ∙ e) ms, (rules_kept p e).after m)
+    rw ((texts_kept p e).san m, moves_kept (after p m) (variant-after p m ∙ e) ms, (rules_kept p e).after m)
 
 tokens_kept : (s : State) → s.start.variant ≡ Normal → game_tokens s ≡ normal_game_tokens s
 tokens_kept s e = rw (moves_kept s.start e s.moves, verdict_kept s.start e s.moves)

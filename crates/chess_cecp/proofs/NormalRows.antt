@@ -1,33 +1,20 @@
 -- In a game of normal chess the rows are those of normal chess, but for `variant` and `protover`.
-use Rattle.std.proofs.Common.{◌≡◌, ℕ, true, List, [], ◌∷◌, codes, Option, None, Some, Result, Ok, Err, refl, ap, ◌∙◌}
-use Rattle.std.specs.Prelude.{IfOk}
-use Rattle.std.specs.List.{flat_map}
-use Rattle.chess_base.specs.declared.fen_fault.FenFault.{FenFault}
-use Rattle.chess_base.specs.declared.man.Move.{Move}
-use Rattle.chess_base.specs.declared.man.Variant.TheVariants.{Normal}
-use Rattle.chess_base.specs.declared.setup.Setup.{Setup}
-use Rattle.chess_base.specs.Coordinates.{coordinate}
-use Rattle.chess_base.specs.MoveList.{moves}
-use Rattle.chess_fen.specs.Reading.{fen_reading_as}
-use Rattle.chess_fen.specs.Writing.{fen}
-use Rattle.chess_fen.specs.laws.Normal.{normal_fen, normal_fen_reading}
+use Rattle.std.proofs.Common.{◌≡◌, ℕ, true, List, [], ◌∷◌, codes, Option, None, Some, Result, Ok, Err, refl, ap, ◌∙◌, IfOk, flat_map}
+use Rattle.chess_base.specs.{declared.fen_fault.FenFault.FenFault, declared.man.Move.Move, declared.man.Variant.TheVariants.Normal, declared.setup.Setup.Setup, Coordinates.coordinate, MoveList.moves}
+use Rattle.chess_fen.specs.{Reading.fen_reading_as, Writing.fen, laws.Normal.normal_fen, laws.Normal.normal_fen_reading}
 use Rattle.chess_fen.proofs.shared.Normal.{reading_kept, reading_is_normal, fen_kept}
-use Rattle.chess_text.specs.declared.reading.Reading.{Reading}
+use Rattle.chess_text.specs.{declared.reading.Reading.Reading, San.shown_move, laws.Normal.normal_moves, laws.Normal.normal_reading}
 use Rattle.chess_text.specs.declared.reading.Reading.TheVariants as reads
-use Rattle.chess_text.specs.San.{shown_move}
-use Rattle.chess_text.specs.laws.Normal.{normal_moves, normal_reading}
 use Rattle.chess_text.proofs.shared.Normal.{normal_kept as texts_kept}
 use Rattle.chess_game.specs.declared.results.Declared.{Declared}
 use Rattle.chess_game.specs.Game.{State, from_start, played, current}
+use Rattle.chess_game.proofs.shared.Lines.{variant-position_after}
 use Rattle.pgn_writer.specs.declared.tags.Tags.{Tags}
-use Rattle.chess_cecp.specs.declared.command.Command.{Command}
+use Rattle.chess_cecp.specs.{declared.command.Command.Command, Declaring.read_result, Declaring.state_text, Serving.says, Serving.becomes, laws.NormalGame.normal_current}
 use Rattle.chess_cecp.specs.declared.command.Command.TheVariants.{New, SetBoard, UserMove, BareMove, Declare, Claim, Protover, Variant, ShowFen, ShowMoves, ShowState, ShowPgn}
-use Rattle.chess_cecp.specs.Declaring.{read_result, state_text}
 use Rattle.chess_cecp.specs.Session.{row, answers, becomes_judged, setboard_row, reading_row, move_row, result_row, claim_row, moves_text}
-use Rattle.chess_cecp.specs.Serving.{says, becomes}
 use Rattle.chess_cecp.specs.laws.Normal.{normal_becomes_judged, normal_setboard_row, normal_reading_row, normal_move_row, normal_result_row, normal_claim_row, normal_moves_text, normal_state_text, normal_row_of, has_normal_row}
-use Rattle.chess_cecp.specs.laws.NormalGame.{normal_current}
-use Rattle.chess_cecp.proofs.NormalGames.{initial_kept, last_stays, last_kept, rep_kept, verdict_kept, pgn_kept}
+use Rattle.chess_cecp.proofs.NormalGames.{initial_kept, last_kept, rep_kept, verdict_kept, pgn_kept}
 
 judged_kept : (s : State) → s.start.variant ≡ Normal → becomes_judged s ≡ normal_becomes_judged s
 judged_kept s e = rw (verdict_kept s.start e s.moves)
@@ -57,7 +44,7 @@ move_kept : (limit : ℕ) (s : State) → s.start.variant ≡ Normal → (text :
     → move_row limit s text ≡ normal_move_row limit s text
 move_kept limit s e text =
     rw (
-      (texts_kept (current s) (last_stays s.start s.moves ∙ e)).reading text,
+      (texts_kept (current s) (variant-position_after s.start s.moves ∙ e)).reading text,
       last_kept s.start e s.moves,
       verdict_kept s.start e s.moves,
       reading_by s e text (normal_reading (normal_current s) text),
@@ -76,7 +63,8 @@ claim_kept s e = rw (verdict_kept s.start e s.moves, rep_kept s.start e s.moves,
 -- ---- what is shown
 
 fen_shown : (s : State) → s.start.variant ≡ Normal → fen (current s) ≡ normal_fen (normal_current s)
-fen_shown s e = fen_kept (current s) (last_stays s.start s.moves ∙ e) ∙ ap normal_fen (last_kept s.start e s.moves)
+fen_shown s e =
+    fen_kept (current s) (variant-position_after s.start s.moves ∙ e) ∙ ap normal_fen (last_kept s.start e s.moves)
 
 listed : (p : Setup) (ms : List Move) → p.variant ≡ Normal
     → flat_map (λ m. 32 ∷ shown_move p m) ms ≡ flat_map (λ m. 32 ∷ coordinate m) ms
@@ -87,7 +75,7 @@ moves_shown : (s : State) → s.start.variant ≡ Normal
     → moves_text (current s) (moves (current s)) ≡ normal_moves_text (normal_moves (normal_current s))
 unfolding moves_text
 moves_shown s e =
-    let normal = last_stays s.start s.moves ∙ e in
+    let normal = variant-position_after s.start s.moves ∙ e in
     rw (
       listed (current s) (moves (current s)) normal,
       (texts_kept (current s) normal).moves,

@@ -3,19 +3,11 @@ use Rattle.std.proofs.Common.{◌≡◌, List, ℕ, true, false, not, if◌then�
 use Rattle.std.proofs.lemmas.Bool.{and_parts, not-true}
 use Rattle.chess_base.specs.MoveList.{moves}
 use Rattle.pgn_writer.specs.GameText.{pgn}
-use Rattle.chess_cecp.specs.Commands.{command_of}
-use Rattle.text_lines.specs.Words.{argument_of}
-use Rattle.chess_cecp.specs.Held.{SessionSeen}
-use Rattle.text_lines.specs.Lines.{LineSeen}
-use Rattle.chess_cecp.specs.Serving.{Response, says}
-use Rattle.chess_cecp.specs.Session.{row, session_response}
+use Rattle.chess_cecp.specs.{Commands.command_of, Held.SessionSeen, Serving.Response, Serving.says, Session.row, Session.session_response, declared.session.Go.Go as Further, declared.session.Reply.TheVariants.Text, declared.session.Reply.TheVariants.Moves, declared.session.Reply.TheVariants.Pgn, declared.command.Command.Command, declared.command.Command.TheVariants.ShowMoves, declared.command.Command.TheVariants.ShowPgn}
+use Rattle.text_lines.specs.{Words.argument_of, Lines.LineSeen}
 use Rattle.chess_cecp.specs.ties.Replies.{moves_line, after_row, reply_to, shows_moves, shows_pgn, asks_for_moves, asks_for_pgn}
 use Rattle.chess_game.specs.Game.{State, current}
-use Rattle.chess_cecp.specs.declared.session.Go.{Go as Further}
 use Rattle.chess_cecp.specs.declared.session.Go.TheVariants as further
-use Rattle.chess_cecp.specs.declared.session.Reply.TheVariants.{Text, Moves, Pgn}
-use Rattle.chess_cecp.specs.declared.command.Command.{Command}
-use Rattle.chess_cecp.specs.declared.command.Command.TheVariants.{ShowMoves, ShowPgn}
 use Rattle.chess_cecp.proofs.Rows.{line_row, line_ends}
 
 is_show_moves : (c : Command) → shows_moves c ≡ true → c ≡ ShowMoves

@@ -1,35 +1,19 @@
 -- What is true of each row: a session ends with `quit` and with no other line, and a refusal changes nothing.
-use Rattle.std.proofs.Common.{◌≡◌, ℕ, ◌==◌, ◌&&◌, ◌||◌, inl, inr, Bool, true, false, List, [], ◌∷◌, ◌++◌, get_or, codes, refl, sym, ap, ◌∙◌, if◌then◌else◌, length, Option, None, Some}
-use Rattle.std.specs.Prelude.{nat_le, nat_lt, not, Result, Ok, Err}
+use Rattle.std.proofs.Common.{◌≡◌, ℕ, ◌==◌, ◌&&◌, ◌||◌, inl, inr, Bool, true, false, List, [], ◌∷◌, ◌++◌, get_or, codes, refl, sym, ap, ◌∙◌, if◌then◌else◌, length, Option, None, Some, bytes_eq, nat_le, nat_lt, not, Result, Ok, Err}
 use Rattle.std.specs.Option.{option_map_or}
-use Rattle.std.specs.Str.{bytes_eq}
-use Rattle.chess_base.specs.declared.fen_fault.FenFault.{FenFault}
-use Rattle.chess_base.specs.declared.man.Variant.TheVariants.{Fischerandom}
-use Rattle.chess_base.specs.declared.setup.Setup.{Setup}
+use Rattle.chess_base.specs.{declared.fen_fault.FenFault.FenFault, declared.man.Variant.TheVariants.Fischerandom, declared.setup.Setup.Setup, Initial.initial_setup, Initial.initial_setup_of}
 use Rattle.chess_fen.specs.Reading.{fen_reading_as}
-use Rattle.chess_base.specs.Initial.{initial_setup, initial_setup_of}
 use Rattle.byte_devices.specs.Bytes.{new_line}
-use Rattle.text_lines.specs.Lines.{LineSeen}
-use Rattle.chess_cecp.specs.Held.{SessionSeen}
+use Rattle.text_lines.specs.{Lines.LineSeen, Words.argument_of}
+use Rattle.chess_cecp.specs.{Held.SessionSeen, Commands.command_of, Declaring.read_result, declared.command.Command.Command, Serving.Response, Serving.says, Serving.becomes, ties.Replies.is_quit, ties.Replies.is_quit_command}
 use Rattle.pgn_writer.specs.declared.tags.Tags.{Tags}
-use Rattle.chess_text.specs.Moves.{reading}
-use Rattle.chess_text.specs.declared.reading.Reading.{Reading}
+use Rattle.chess_text.specs.{Moves.reading, declared.reading.Reading.Reading}
 use Rattle.chess_text.specs.declared.reading.Reading.TheVariants as reads
-use Rattle.chess_cecp.specs.Commands.{command_of}
-use Rattle.text_lines.specs.Words.{argument_of}
 use Rattle.chess_game.specs.Ends.{verdict_result, result_text, claims, draw_claim, claim_comment}
 use Rattle.chess_game.specs.Game.{State, from_start, played, taken_back, current, verdict_now, is_over, contradicts_verdict}
-use Rattle.chess_game.specs.declared.verdicts.Verdict.{Verdict}
-use Rattle.chess_game.specs.declared.results.Declared.{Declared}
-use Rattle.chess_game.specs.declared.results.Outcome.{Outcome}
-use Rattle.chess_game.specs.declared.results.Outcome.TheVariants.{WhiteWins, Draw}
-use Rattle.chess_game.specs.declared.verdicts.DrawClaim.{DrawClaim}
-use Rattle.chess_cecp.specs.Declaring.{read_result}
-use Rattle.chess_cecp.specs.declared.command.Command.{Command}
+use Rattle.chess_game.specs.{declared.verdicts.Verdict.Verdict, declared.results.Declared.Declared, declared.results.Outcome.Outcome, declared.results.Outcome.TheVariants.WhiteWins, declared.results.Outcome.TheVariants.Draw, declared.verdicts.DrawClaim.DrawClaim}
 use Rattle.chess_cecp.specs.declared.command.Command.TheVariants.{New, SetBoard, UserMove, BareMove, Undo, Remove, Declare, Claim, Protover, Variant}
-use Rattle.chess_cecp.specs.Serving.{Response, says, becomes}
 use Rattle.chess_cecp.specs.Session.{row, answers, becomes_judged, take_back_row, result_row, declares, setboard_row, features_line, reading_row, move_row, IsRefusal, session_response}
-use Rattle.chess_cecp.specs.ties.Replies.{is_quit, is_quit_command}
 
 -- the first bytes of refusals: E, I and t
 abbrev begins_refusal : List ℕ → Bool

@@ -1,24 +1,16 @@
 -- A run of a server of lines, line by line.
-use Rattle.std.proofs.Common.{◌≡◌, ℕ, ◌+◌, ◌-◌, ◌≤◌, inl, inr, Bool, true, false, List, [], ◌∷◌, ◌++◌, length, Some, None, Ok, Err, refl, sym, ap, ◌∙◌, arith, append_assoc, append-nil, length-append, if◌then◌else◌, subst}
-use Rattle.std.proofs.Math.Seq.{take-append-add, take-append_seam}
-use Rattle.std.specs.Prelude.{slice_get}
+use Rattle.std.proofs.Common.{◌≡◌, ℕ, ◌+◌, ◌-◌, ◌≤◌, inl, inr, Bool, true, false, List, [], ◌∷◌, ◌++◌, length, Some, None, Ok, Err, refl, sym, ap, ◌∙◌, arith, append_assoc, append-nil, length-append, if◌then◌else◌, subst, slice_get, MatchBool}
+use Rattle.std.proofs.{Math.Seq.take-append-add, Math.Seq.take-append_seam, lemmas.Grind.common_steps}
 use Rattle.std.specs.Io.KnownBytes.{Consumes, IsAtEnd}
-use Rattle.std.specs.Bool.{MatchBool}
-use Rattle.std.proofs.lemmas.Grind.{common_steps}
 use Rattle.byte_devices.specs.Devices.{InputState, OutputState, Sent, CutShort, saturating_increment}
-use Rattle.byte_devices.specs.Transfers.{InputGave, OutputTook, Ran, all_for}
+use Rattle.byte_devices.specs.Transfers.{InputGave, OutputTook, Ran}
 use Rattle.byte_devices.proofs.shared.Devices.{consumes_more, consumes_none}
-use Rattle.byte_devices.proofs.shared.Transfers.{saturating_increment_if, came, broke, some_for, took_nothing, took_last, took_one_more, took_some_more}
+use Rattle.byte_devices.proofs.shared.Transfers.{saturating_increment_if, came, broke, all_for, some_for, took_nothing, took_last, took_one_more, took_some_more}
 use Rattle.text_lines.specs.Lines.{LineSeen, Held, nothing_held, stream_lines, lines_held}
 use Rattle.text_lines.specs.Next.{before_piece, Waits, GotLine, GotLast, NextLine}
 use Rattle.text_lines.proofs.shared.Lines.{nothing_left}
-use Rattle.chess_cecp.specs.Serving.{Server, responses}
-use Rattle.chess_cecp.specs.Served.{Served}
-use Rattle.chess_cecp.specs.declared.session.Go.{Go}
+use Rattle.chess_cecp.specs.{Serving.Server, Serving.responses, Served.Served, declared.session.Go.Go, declared.run.End.TheVariants.Quit, declared.run.End.TheVariants.InputEnded, declared.run.Fault.TheVariants.Read, declared.run.Fault.TheVariants.Write, declared.session.TheConstants.COMMAND_LEN}
 use Rattle.chess_cecp.specs.declared.session.Go.TheVariants as goes
-use Rattle.chess_cecp.specs.declared.run.End.TheVariants.{Quit, InputEnded}
-use Rattle.chess_cecp.specs.declared.run.Fault.TheVariants.{Read, Write}
-use Rattle.chess_cecp.specs.declared.session.TheConstants.{COMMAND_LEN}
 use Rattle.chess_cecp.proofs.LinesOn.{early_goes_on}
 use Rattle.chess_cecp.proofs.Responses.{with_front, stops, alone, responses_on}
 

@@ -35,16 +35,13 @@ commands argument =
     ∷ (codes "variant", Variant) ∷ (codes "go", Go) ∷ (codes "showfen", ShowFen) ∷ (codes "showmoves", ShowMoves)
     ∷ (codes "showstate", ShowState) ∷ (codes "showpgn", ShowPgn) ∷ (codes "quit", Quit) ∷ []
 
--- the command of a line that has this first word and, after it, this argument. It is `Silent`, which an arbiter
--- ignores, if the word is the name of an ignored command or is empty, as in an empty line. It is `None` if the word is
--- no command's name, as `e2e4`
+-- the command of a line with this first word and, after it, this argument: `Silent` for an ignored command or an empty
+-- line; `None` if the word is no command's name, as `e2e4`
 unfoldable pub named_command : List ℕ → List ℕ → Option Command
-named_command word argument =
-    if bytes_eq word [] || is_ignored word then Some Silent
+named_command word argument = if bytes_eq word [] || is_ignored word then Some Silent
     else option_map (λ c. c.1) (find (λ c. bytes_eq word c.0) (commands argument))
 
--- the command of a line with this text: the one that its first word names; if that word is no command's name, a move
--- (`BareMove`) if the whole text has the shape of one, such as `e2e4`, otherwise `Unknown`
+-- the command of a line with this text, by its first word; if that is no command's name, a move (`BareMove`) if the
+-- whole text has the shape of one, otherwise `Unknown`
 unfoldable pub command_of : List ℕ → Command
-command_of text =
-    unwrap_or (named_command (word_of text) (argument_of text)) (if shape text then BareMove else Unknown)
+command_of text = unwrap_or (named_command (word_of text) (argument_of text)) (if shape text then BareMove else Unknown)

@@ -15,15 +15,13 @@ use Rattle.chess_base.specs.Options.{◌>>=◌}
 -- the comment in `text`, which is what follows the outcome in a line such as `result 1-0 {White resigns}`: all between
 -- a `{` at its start and a `}` at its end, other braces too; empty if `text` is empty; `None` for any other text
 unfoldable pub result_comment : List ℕ → Option (List ℕ)
-result_comment text =
-    if length text == 0 then Some []
+result_comment text = if length text == 0 then Some []
     else if nat_le 2 (length text) && (slice_index_or text 0 0 == byte "{")
     && (slice_index_or text (length text - 1) 0 == byte "}") then Some (take (length text - 2) (drop 1 text))
     else None
 
 -- the result that `argument`, what follows the word `result` in a line, declares: an outcome (`1-0`, `0-1`, `1/2-1/2`
--- or `*`), and after it nothing or a comment in braces; `None` for any other text. The comment is cut to 60 bytes, and
--- each byte of it that a comment may not have (a brace, or a byte that is not printable ASCII) becomes `?`
+-- or `*`), and after it nothing or a comment in braces; `None` for any other text
 unfoldable pub read_result : List ℕ → Option Declared
 read_result argument = do
   outcome ← outcome_of (word_of argument)
@@ -32,16 +30,13 @@ read_result argument = do
 
 -- which draws can be claimed, as `showstate` writes it: `threefold+50`, `threefold`, `50` or `none`
 abbrev pub claims_text : Claims → List ℕ
-claims_text c =
-    if c.threefold then (if c.fifty_moves then codes "threefold+50" else codes "threefold")
+claims_text c = if c.threefold then (if c.fifty_moves then codes "threefold+50" else codes "threefold")
     else (if c.fifty_moves then codes "50" else codes "none")
 
--- what `showstate` writes after `# state ply `: the number of half-moves, how often the current position has occurred
--- (`rep`, 1 at the first time), the halfmove clock, the draws that can be claimed, the verdict and the declared result,
--- as in `0 rep 1 clock 0 claims none verdict none declared none`, with `1-0 {White mates}` for a verdict or a result
+-- what `showstate` writes after `# state ply `, such as `0 rep 1 clock 0 claims none verdict none declared none`; `rep`
+-- is how often the current position has occurred
 unfoldable pub state_text : State → List ℕ
-state_text s =
-    decimal (length s.moves)
+state_text s = decimal (length s.moves)
     ++ (codes " rep " ++ (decimal (repetition_count s.start s.moves)
     ++ (codes " clock " ++ (decimal (current s).halfmove
     ++ (codes " claims " ++ (claims_text (claims s.start s.moves)

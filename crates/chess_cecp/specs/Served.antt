@@ -1,7 +1,7 @@
 -- What a server of lines reads and writes, as a session does, for each of the four ways to end: by a line such as
 -- `quit`, by the input's end, by a read that failed, by a write or a flush that failed.
-use Rattle.std.specs.Prelude.{◌≡◌, ◌≤◌, ℕ, Bool, true, false, List, length, take, slice_get, Some, Result, Ok, Err}
-use Rattle.byte_devices.specs.Transfers.{FromInput, ToOutput, IsWhole, all_for, BreaksOffIn}
+use Rattle.std.specs.Prelude.{◌≡◌, ◌≤◌, ℕ, nat_lt, Bool, true, false, List, length, take, slice_get, Some, Result, Ok, Err}
+use Rattle.byte_devices.specs.Transfers.{FromInput, ToOutput, IsWhole, all_flushed, BreaksOffIn}
 use Rattle.text_lines.specs.Lines.{LineSeen, stream_lines}
 use Rattle.chess_cecp.specs.Serving.{Server, responses}
 use Rattle.chess_cecp.specs.declared.run.End.{End}
@@ -10,41 +10,41 @@ use Rattle.chess_cecp.specs.declared.run.Fault.{Fault}
 use Rattle.chess_cecp.specs.declared.run.Fault.TheVariants.{Read, Write}
 use Rattle.chess_cecp.specs.declared.session.TheConstants.{COMMAND_LEN}
 
--- the lines that were read. The bytes after the last `\n`, if there are any, are a line too if the input's end was
+-- the lines that were read. The bytes after the last `\n`, if there are any, are a line only if the input's end was
 -- reported. A line of more than `COMMAND_LEN` (1,024) bytes is too long
 abbrev pub lines_read : FromInput → List LineSeen
 lines_read i = stream_lines COMMAND_LEN i.ended i.text
 
+-- the lines that were complete before the last successful read. As a server reads on only when it has answered all
+-- lines that it has, it ends or fails with none of these
+abbrev pub lines_before_last_read : FromInput → List LineSeen
+lines_before_last_read i = stream_lines COMMAND_LEN false i.early
+
 -- the server `respond` answered the lines that were read: all of them if it ends with none (`ends` is false), otherwise
--- those up to and including the first with which it ends. The answers, and nothing else, were written and flushed; if a
--- line was read, a flush succeeded, even if all answers are empty; no write or flush failed. `s` and `s'` are the
--- server's states before and after
+-- those up to the first with which it ends. Just their answers were written, and flushed, and no write or flush failed;
+-- if a line was read, a flush succeeded, even if all answers are empty. `s` and `s'` are the states before and after
 abbrev pub AnswersAll : {S : Type 0} → Server S → S → S → Bool → FromInput → ToOutput → Type 0
-AnswersAll respond s s' ends i o =
-    let due = responses respond s (lines_read i) in
-    (o ≡ all_for (lines_read i) due.text) × (s' ≡ due.state) × (due.ends ≡ ends)
+AnswersAll respond s s' ends i o = let due = responses respond s (lines_read i) in
+    (o ≡ all_flushed (nat_lt 0 (length (lines_read i))) due.text) × (s' ≡ due.state) × (due.ends ≡ ends)
+
+-- the server `respond` answered the lines `before`, with none of which it ends, and their answers were flushed. Then a
+-- write or a flush failed in the answer to `line`: a beginning of it was written and not flushed, maybe nothing or all.
+-- `s` is the state before all this, and `s'` the one after `line`
+abbrev pub BreaksOffAt : {S : Type 0} → Server S → S → S → List LineSeen → LineSeen → ToOutput → Type 0
+BreaksOffAt respond s s' before line o = let due = responses respond s before in let last = respond due.state line in
+    (due.ends ≡ false) × BreaksOffIn (all_flushed (nat_lt 0 (length before)) due.text) last.text o × (s' ≡ last.state)
 
 -- what the server `respond` reads (`i`) and writes (`o`), by the result of the run. `s` and `s'` are the server's
 -- states before and after
 abbrev pub Served : {S : Type 0} → Server S → S → S → Result End Fault → FromInput → ToOutput → Type 0
--- no read failed, and the server answered all lines up to one with which it ends. It ends with none of the lines that
--- were complete before the last successful read: once the line that ends it was complete, it read no more
-Served respond s s' (Ok Quit) i o =
-    (i.failed ≡ false) × AnswersAll respond s s' true i o
-    × ((responses respond s (stream_lines COMMAND_LEN false i.early)).ends ≡ false)
+-- no read failed, and the server answered all lines up to one with which it ends, which the last read completed
+Served respond s s' (Ok Quit) i o = (i.failed ≡ false) × AnswersAll respond s s' true i o
+    × ((responses respond s (lines_before_last_read i)).ends ≡ false)
 -- the input's end was reported, and no read failed; the server answered all lines, and ends with none of them
 Served respond s s' (Ok InputEnded) i o = IsWhole i × AnswersAll respond s s' false i o
 -- a read failed, and the input's end was not reported; the server answered all complete lines and ends with none
 Served respond s s' (Err Read) i o = (i.ended ≡ false) × (i.failed ≡ true) × AnswersAll respond s s' false i o
--- no read failed, but a write or a flush did, in the answer to `line`, before which `n` lines were read. With none of
--- these the server ends, and their answers were written and flushed. Of the answer to `line` a beginning was written
--- and not flushed; it may be empty or the whole answer. Lines after `line` were not answered, and `s'` is the
--- state after `line`. The lines that were complete before the last successful read are at most `n`: once `line` was
--- complete, no more was read before its answer
+-- no read failed, but a write or a flush did, in the answer to a line after `n` others, which the last read completed
 Served respond s s' (Err Write) i o =
     (i.failed ≡ false) × ((n : ℕ) × (line : LineSeen) × (slice_get (lines_read i) n ≡ Some line)
-    × (length (stream_lines COMMAND_LEN false i.early) ≤ n)
-    × (let before = take n (lines_read i) in
-    let due = responses respond s before in
-    let last = respond due.state line in
-    (due.ends ≡ false) × BreaksOffIn (all_for before due.text) last.text o × (s' ≡ last.state)))
+    × (length (lines_before_last_read i) ≤ n) × BreaksOffAt respond s s' (take n (lines_read i)) line o)

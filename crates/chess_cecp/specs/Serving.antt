@@ -21,15 +21,12 @@ becomes s = says s []
 abbrev pub Server : Type 0 → Type 0
 Server S = S → LineSeen → Response S
 
--- two responses as one: `first` to a line, and `next` to the line after it. Both texts are written, in this order; the
--- state is the one after `next`, and the server ends if it ends with `next`. But if the server ends with `first`, the
--- later line gets no response, and this is `first` alone
+-- two responses as one: `first` to a line, and `next` to the line after it, unless the server ends with `first`
 abbrev pub and_then : {S : Type 0} → Response S → Response S → Response S
 and_then first next = if first.ends then first else record next { text = first.text ++ next.text }
 
--- the responses of the server `respond` to these lines, one after another from the state `s` on, as one: all their
--- texts, the last state, and whether the server ends with one of the lines. Lines after the one that ends it get no
--- response. For no lines the text is empty and the state is `s`
+-- the responses of the server `respond` to these lines, one after another from the state `s` on, as one; lines after
+-- the one that ends it get none
 abbrev pub responses : {S : Type 0} → Server S → S → List LineSeen → Response S
 responses respond s [] = becomes s
 responses respond s (line ∷ rest) = and_then (respond s line) (responses respond (respond s line).state rest)

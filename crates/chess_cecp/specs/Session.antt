@@ -34,85 +34,72 @@ use Rattle.chess_game.specs.declared.results.Outcome.TheVariants.{Draw}
 use Rattle.chess_cecp.specs.declared.command.Command.{Command}
 use Rattle.chess_cecp.specs.declared.command.Command.TheVariants.{New, SetBoard, UserMove, BareMove, Undo, Remove, Declare, Claim, Ping, Protover, Variant, Go, ShowFen, ShowMoves, ShowState, ShowPgn, Quit, Silent, BadNumber, Unknown}
 
--- the answer is the line made of `front` and `text`, such as `Illegal move: e5` or `pong 7`, with `\n` at its end, and
--- the game `s` does not change
+-- the answer is the line made of `front` and `text`, such as `Illegal move: e5`, and the game `s` does not change
 abbrev pub answers : State → List ℕ → List ℕ → Response State
 answers s front text = says s (front ++ (text ++ new_line ∷ []))
 
--- the game becomes `s`, and the answer is the line of the board's verdict on it, such as `1-0 {White mates}`; there is
--- no answer if there is no verdict
+-- the game becomes `s`, and the answer is the line of the board's verdict on it, if there is one
 abbrev pub becomes_judged : State → Response State
 becomes_judged s = says s (option_map_or (λ v. result_text (verdict_result v) ++ new_line ∷ []) (verdict_now s) [])
 
--- what `showmoves` writes after `# moves `: how many moves there are, and these moves of the position `p`, in this
--- order, as in `20 b1a3 b1c3 ..`. Castling is written by the king's squares, such as `e1g1`, in normal chess, and as
--- `O-O` or `O-O-O` in Chess960
+-- what `showmoves` writes after `# moves `: how many moves there are, and these moves of the position `p`, as in
+-- `20 b1a3 b1c3 ..`
 unfoldable pub moves_text : Setup → List Move → List ℕ
 moves_text p ms = decimal (length ms) ++ flat_map (λ m. space ∷ shown_move p m) ms
 
 -- the answer to `setboard` in the game `s`, by how its FEN was read
 abbrev pub setboard_row : State → Result Setup FenFault → Response State
--- the game starts anew from the position `start`, and the board's verdict on it is answered, if there is one
+-- the game starts anew from the position `start`
 setboard_row s (Ok start) = becomes_judged (from_start start)
--- the FEN is refused with the name of its fault, as `tellusererror Illegal position (kings)`, and the game does not
--- change
+-- the FEN is refused with the name of its fault, as `tellusererror Illegal position (kings)`
 setboard_row s (Err fault) = answers s (codes "tellusererror Illegal position (") (fen_fault_name fault ++ codes ")")
 
--- the line that answers `protover 2` and each later version, with `\n` at its end: the CECP features with the arbiter's
--- values
+-- the line that answers `protover 2` and each later version
 unfoldable pub features_line : List ℕ
 features_line =
     codes "feature ping=1 setboard=1 playother=0 san=0 usermove=1 time=1 draw=1 sigint=0 sigterm=0 reuse=1 analyze=0 colors=0 debug=1 myname=\"CECP arbiter\" variants=\"normal,fischerandom\" done=1\n"
 
--- the answer to a move's text in the game `s`, by what the text denotes in the current position. The one legal move
--- that it denotes is played, and the board's verdict after that is answered, if there is one. A text that denotes
--- several legal moves, or none (with the shape of a move or without), is refused
+-- the answer to a move's text in the game `s`, by what the text denotes in the current position: the one legal move is
+-- played, and any other text is refused
 abbrev pub reading_row : State → List ℕ → Reading → Response State
 reading_row s text (reads.Move m) = becomes_judged (played s m)
 reading_row s text reads.Ambiguous = answers s (codes "Error (ambiguous move): ") text
 reading_row s text _ = answers s (codes "Illegal move: ") text
 
--- the answer to a move's text in the game `s`, such as `e4` in `usermove e4`: refused if the game is over, by a verdict
--- or by a declared result, or has `limit` half-moves or more; otherwise by what the text denotes (`reading_row`)
+-- the answer to a move's text in the game `s`, such as `e4` in `usermove e4`: refused if the game is over or full;
+-- otherwise by what the text denotes
 abbrev pub move_row : ℕ → State → List ℕ → Response State
-move_row limit s text =
-    if is_over s then answers s (codes "Illegal move (game over): ") text
+move_row limit s text = if is_over s then answers s (codes "Illegal move (game over): ") text
     else if nat_le limit (length s.moves) then answers s (codes "Error (game too long): ") text
     else reading_row s text (reading (current s) text)
 
--- the answer to `undo` (`n` is 1) or `remove` (`n` is 2) in the game `s`: the last `n` half-moves are taken back, a
--- declared result is cleared, and nothing is answered. If the game has fewer half-moves, the command is refused, and
--- `name` is its name in the answer
+-- the answer to `undo` (`n` is 1) or `remove` (`n` is 2) in the game `s`: the last `n` half-moves are taken back, if
+-- there are so many, and a declared result is cleared
 abbrev pub take_back_row : ℕ → List ℕ → State → Response State
-take_back_row n name s =
-    if nat_le n (length s.moves) then becomes (taken_back s n)
+take_back_row n name s = if nat_le n (length s.moves) then becomes (taken_back s n)
     else answers s (codes "Error (command not legal now): ") name
 
 -- the answer to `result` in the game `s`, by the result that its argument declares; `text` is the whole line
 abbrev pub result_row : State → List ℕ → Option Declared → Response State
--- the argument declares no result: the line is refused
 result_row s text None = answers s (codes "Error (bad result): ") text
--- `d` is declared, in place of any earlier result, and nothing is answered; but the line is refused if the board has a
--- verdict with another outcome
+-- `d` is declared, in place of any earlier result, unless the board has a verdict with another outcome
 result_row s text (Some d) =
     if contradicts_verdict (verdict_now s) d.outcome then answers s (codes "Error (the board says otherwise): ") text
     else becomes (record s { declared = Some d })
 
--- the result `d` is declared in the game `s`, and the answer is its line, such as `1/2-1/2 {50-move rule}`
+-- the result `d` is declared in the game `s`, and the answer is its line
 abbrev pub declares : State → Declared → Response State
 declares s d = says (record s { declared = Some d }) (result_text d ++ new_line ∷ [])
 
--- the answer to `claim` in the game `s`: if the game is not over and a draw can be claimed by threefold repetition or
--- 50 moves (Laws, articles 9.2 and 9.3), the draw is declared; otherwise the claim is refused
+-- the answer to `claim` in the game `s`: if the game is not over and a draw can be claimed (Laws, articles 9.2 and
+-- 9.3), it is declared
 abbrev pub claim_row : State → Response State
-claim_row s =
-    if is_over s then answers s (codes "Error (command not legal now): ") (codes "claim")
+claim_row s = if is_over s then answers s (codes "Error (command not legal now): ") (codes "claim")
     else option_map_or (λ claim. declares s (record { outcome = Draw; comment = claim_comment claim }))
     (draw_claim (claims s.start s.moves)) (answers s (codes "Error (no claim): ") (codes "claim"))
 
 -- the answer to `variant` in the game `s`, by its argument (`text` is the whole line): `fischerandom` starts a new game
--- of Chess960 at the initial position of normal chess; `normal` starts one of normal chess if `s` is of Chess960, and
--- otherwise does nothing. Neither has an answer. Any other argument is refused
+-- of Chess960 at the initial position of normal chess; `normal` starts one of normal chess if `s` is of Chess960
 abbrev pub variant_row : State → List ℕ → List ℕ → Response State
 variant_row s text argument =
     if bytes_eq argument (codes "fischerandom") then becomes (from_start (initial_setup_of Fischerandom))
@@ -121,8 +108,7 @@ variant_row s text argument =
     else answers s (codes "Error (unsupported variant): ") text
 
 -- the table of commands: what a session does in the game `s` with a line that has this command. `text` is the whole
--- line, `argument` what follows its first word; `limit` is the most half-moves of a game, and `tags` are those that
--- `showpgn` writes
+-- line, `argument` what follows its first word; `limit` and `tags` are the session's
 abbrev pub row : Tags → ℕ → State → List ℕ → List ℕ → Command → Response State
 row tags limit s text argument New = becomes (from_start initial_setup)
 row tags limit s text argument SetBoard = setboard_row s (fen_reading_as s.start.variant argument)
@@ -146,8 +132,8 @@ row tags limit s text argument Silent = becomes s
 row tags limit s text argument BadNumber = answers s (codes "Error (bad number): ") text
 row tags limit s text argument Unknown = answers s (codes "Error (unknown command): ") text
 
--- how a session (`seen`) responds to a line: a line that is too long is refused, and the answer shows its first bytes;
--- for any other line it is as the table of commands says. Only the session's game changes, not its tags and its limit
+-- how a session (`seen`) responds to a line: it refuses one that is too long, and shows its first bytes; for any other
+-- the table of commands says what it does
 unfoldable pub session_response : SessionSeen → LineSeen → Response SessionSeen
 session_response seen line =
     let r = if line.too_long then answers seen.state (codes "Error (line too long): ") line.text

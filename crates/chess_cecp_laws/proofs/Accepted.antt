@@ -1,6 +1,5 @@
 -- The moves of a game that was read are accepted: what reading asks of a move, a session asks too.
-use Rattle.std.proofs.Common.{◌≡◌, ℕ, true, false, List, [], ◌∷◌, length, None, refl, arith}
-use Rattle.std.specs.Prelude.{nat_lt, nat_le}
+use Rattle.std.proofs.Common.{◌≡◌, ℕ, true, false, List, [], ◌∷◌, length, None, refl, arith, nat_lt, nat_le}
 use Rattle.std.proofs.lemmas.Bool.Decides.{nat_tests}
 use Rattle.chess_base.specs.declared.man.Move.{Move}
 use Rattle.chess_game.specs.Game.{State, from_start, played, current, verdict_now}
@@ -9,9 +8,8 @@ use Rattle.chess_text.specs.Moves.{reading}
 use Rattle.pgn_writer.specs.declared.tags.Tags.{Tags}
 use Rattle.chess_pgn.specs.GameRead.{pgn_read}
 use Rattle.chess_cecp_laws.proofs.PlayedWords.{AreRead, game_words}
-use Rattle.chess_cecp.specs.declared.command.Command.TheVariants.{UserMove}
+use Rattle.chess_cecp.specs.{declared.command.Command.TheVariants.UserMove, Session.becomes_judged, Session.row}
 use Rattle.chess_cecp_laws.specs.Accepted.{AreAccepted, ReadGamesAreAccepted}
-use Rattle.chess_cecp.specs.Session.{becomes_judged, row}
 
 move_accepted : (tags : Tags) (limit : ℕ) (s : State) (m : Move) → verdict_now s ≡ None → s.declared ≡ None
     → nat_lt (length s.moves) limit ≡ true → (line word : List ℕ) → reading (current s) word ≡ reads.Move m

@@ -1,50 +1,27 @@
 -- What a session answers to some lines by its game.
 use Prim.Native.String.{String as Text}
-use Rattle.std.proofs.Common.{◌≡◌, ◌∙◌, ◌-◌, ◌<◌, ◌≤◌, ℕ, Bool, true, false, List, [], ◌∷◌, ◌++◌, length, Option, None, Some, refl, ap, arith}
-use Rattle.std.specs.Prelude.{codes, if◌then◌else◌, nat_le, take, Err}
+use Rattle.std.proofs.Common.{◌≡◌, ◌∙◌, ◌-◌, ◌<◌, ◌≤◌, ℕ, Bool, true, false, List, [], ◌∷◌, ◌++◌, length, Option, None, Some, refl, ap, arith, codes, if◌then◌else◌, nat_le, take, Err}
 use Rattle.std.specs.Option.{option_map_or}
-use Rattle.std.proofs.lemmas.Bool.{lt-leb}
-use Rattle.std.proofs.lemmas.Bool.Decides.{nat_tests}
+use Rattle.std.proofs.{lemmas.Bool.lt-leb, lemmas.Bool.Decides.nat_tests}
 use Rattle.byte_devices.specs.Bytes.{new_line}
 use Rattle.chess_base.specs.Attacks.{is_clear, could_capture, attacks, is_attacked, is_in_check}
-use Rattle.chess_base.specs.Castling.{king_square, right_is_sound}
-use Rattle.chess_base.specs.Faults.{rights_are_sound}
-use Rattle.chess_base.specs.Men.{is_of, is_man}
-use Rattle.chess_base.specs.Initial.{initial_setup}
+use Rattle.chess_base.specs.{Castling.king_square, Castling.right_is_sound, Faults.rights_are_sound, Men.is_of, Men.is_man, Initial.initial_setup, declared.man.Move.Move, declared.fen_fault.FenFault.FenFault, declared.man.Variant.Variant, declared.man.Variant.TheVariants.Normal, declared.man.Variant.TheVariants.Fischerandom}
 use Rattle.chess_base.specs.MoveList as list
 use Rattle.chess_base.specs.Sound.{has_one_king, no_pawn_on_end_ranks, has_at_most_16, target_is_sound}
 use Rattle.chess_base.specs.Squares.{squares, some_square, each_square, is_between}
-use Rattle.chess_base.specs.declared.man.Move.{Move}
-use Rattle.chess_base.specs.declared.fen_fault.FenFault.{FenFault}
 use Rattle.chess_base.specs.declared.fen_fault.FenFault.TheVariants as faults
-use Rattle.chess_base.specs.declared.man.Variant.{Variant}
-use Rattle.chess_base.specs.declared.man.Variant.TheVariants.{Normal, Fischerandom}
-use Rattle.chess_fen.specs.Reading.{fen_reading_as}
-use Rattle.chess_fen.specs.Texts.{may_name_right}
-use Rattle.chess_fen.specs.Writing.{fen}
+use Rattle.chess_fen.specs.{Reading.fen_reading_as, Texts.may_name_right, Writing.fen}
 use Rattle.chess_game.specs.Ends.{claim_comment, claims, draw_claim, result_text, verdict_result}
 use Rattle.chess_game.specs.Game.{State, contradicts_verdict, current, from_start, is_over, played, taken_back, verdict_now}
-use Rattle.chess_game.specs.declared.results.Declared.{Declared}
-use Rattle.chess_game.specs.declared.results.Outcome.TheVariants.{WhiteWins, Draw}
-use Rattle.chess_game.specs.declared.verdicts.DrawClaim.{DrawClaim}
-use Rattle.chess_game.specs.declared.verdicts.DrawClaim.TheVariants.{Threefold, FiftyMoves}
-use Rattle.chess_game.specs.declared.verdicts.Verdict.{Verdict}
-use Rattle.chess_game.specs.declared.verdicts.Verdict.TheVariants.{WhiteMates, BlackMates}
-use Rattle.chess_text.specs.Moves.{reading}
-use Rattle.chess_text.specs.San.{is_fischerandom}
-use Rattle.chess_text.specs.declared.reading.Reading.{Reading}
+use Rattle.chess_game.specs.{declared.results.Declared.Declared, declared.results.Outcome.TheVariants.WhiteWins, declared.results.Outcome.TheVariants.Draw, declared.verdicts.DrawClaim.DrawClaim, declared.verdicts.DrawClaim.TheVariants.Threefold, declared.verdicts.DrawClaim.TheVariants.FiftyMoves, declared.verdicts.Verdict.Verdict, declared.verdicts.Verdict.TheVariants.WhiteMates, declared.verdicts.Verdict.TheVariants.BlackMates}
+use Rattle.chess_text.specs.{Moves.reading, San.is_fischerandom, declared.reading.Reading.Reading}
 use Rattle.chess_text.specs.declared.reading.Reading.TheVariants as reads
 use Rattle.text_lines.specs.Words.{argument_of}
-use Rattle.chess_cecp.specs.Commands.{command_of, is_ignored, named_command}
-use Rattle.chess_cecp.specs.Declaring.{read_result, result_comment, state_text}
-use Rattle.chess_cecp.specs.Held.{SessionSeen}
-use Rattle.chess_cecp.specs.Serving.{Response, becomes, says}
+use Rattle.chess_cecp.specs.{Commands.command_of, Commands.is_ignored, Commands.named_command, Declaring.read_result, Declaring.result_comment, Declaring.state_text, Held.SessionSeen, Serving.Response, Serving.becomes, Serving.says, declared.command.Command.Command}
 use Rattle.chess_cecp.specs.Session.{answers, becomes_judged, claim_row, declares, move_row, moves_text, reading_row, result_row, row, setboard_row, take_back_row}
-use Rattle.chess_cecp.specs.declared.command.Command.{Command}
 use Rattle.chess_cecp.specs.declared.command.Command.TheVariants.{Claim, Declare, Remove, SetBoard, ShowFen, ShowMoves, ShowState, Undo, UserMove}
 use Rattle.chess_cecp.specs.declared.command.Command.TheVariants as commands
-use Rattle.chess_cecp_laws.specs.GameLines.{Declares, GameLinesAreAnswered, Plays}
-use Rattle.chess_cecp_laws.specs.SessionLines.{Becomes, IsAnswered, IsIgnored}
+use Rattle.chess_cecp_laws.specs.{GameLines.Declares, GameLines.GameLinesAreAnswered, GameLines.Plays, SessionLines.Becomes, SessionLines.IsAnswered, SessionLines.IsIgnored}
 use Rattle.chess_cecp_laws.proofs.SessionLines.{answered, if_false, if_true, responds, with_game}
 use Rattle.chess_cecp_laws.proofs.ShownLines.{fen_shown, moves_shown, state_shown}
 

@@ -1,29 +1,16 @@
 -- The words of a game that was read: each denotes a move where a move may be played, and these are the game's moves.
-use Rattle.std.proofs.Common.{◌≡◌, ℕ, Bool, true, false, cond, List, [], ◌∷◌, ◌++◌, length, drop, Option, Some, None, is_some, Result, Ok, Err, refl, sym, subst, ◌∙◌, inl, inr, ◌⊎◌, append_assoc, append-nil}
-use Rattle.std.specs.Prelude.{◌||◌, nat_lt, slice_get}
-use Rattle.std.specs.List.{list_all, filter_map}
-use Rattle.std.specs.Option.{option_map_or}
-use Rattle.std.specs.Result.{result_err}
-use Rattle.chess_base.specs.declared.man.Move.{Move}
-use Rattle.chess_base.specs.declared.man.Variant.{Variant}
-use Rattle.chess_base.specs.declared.setup.Setup.{Setup}
-use Rattle.chess_base.specs.Initial.{initial_setup_of}
+use Rattle.std.proofs.Common.{◌≡◌, ℕ, Bool, true, false, cond, List, [], ◌∷◌, ◌++◌, length, drop, Option, Some, None, is_some, Result, Ok, Err, refl, sym, subst, ◌∙◌, inl, inr, ◌⊎◌, append_assoc, append-nil, ◌||◌, ◌+◌, ◌-◌, nat_lt, slice_get}
+use Rattle.std.specs.{List.list_all, List.filter_map, Option.option_map_or, Result.result_err}
+use Rattle.chess_base.specs.{declared.man.Move.Move, declared.man.Variant.Variant, declared.setup.Setup.Setup, Initial.initial_setup_of}
 use Rattle.byte_devices.specs.Bytes.{is_digit, after_byte_order_mark}
 use Rattle.chess_game.specs.Game.{State, from_start, played, current, verdict_now}
-use Rattle.chess_game.specs.declared.results.Outcome.{Outcome}
-use Rattle.chess_game.specs.declared.verdicts.Verdict.{Verdict}
-use Rattle.chess_text.specs.declared.reading.Reading.{Reading}
+use Rattle.chess_game.specs.{declared.results.Outcome.Outcome, declared.verdicts.Verdict.Verdict}
+use Rattle.chess_text.specs.{declared.reading.Reading.Reading, Moves.reading}
 use Rattle.chess_text.specs.declared.reading.Reading.TheVariants as reads
-use Rattle.chess_text.specs.Moves.{reading}
-use Rattle.chess_pgn.specs.declared.read.PgnEnd.{PgnEnd}
-use Rattle.chess_pgn.specs.declared.read.PgnFault.{PgnFault}
-use Rattle.chess_pgn.specs.declared.read.PgnFaultKind.TheVariants.{AfterEnd, TooLong}
-use Rattle.pgn_writer.specs.declared.termination.Termination.{Termination}
+use Rattle.chess_pgn.specs.{declared.read.PgnEnd.PgnEnd, declared.read.PgnFault.PgnFault, declared.read.PgnFaultKind.TheVariants.AfterEnd, declared.read.PgnFaultKind.TheVariants.TooLong, LastTags.says_nothing, LastTags.tag_section, Words.is_marks}
+use Rattle.pgn_writer.specs.{declared.termination.Termination.Termination, Outcomes.outcome_of}
 use Rattle.chess_pgn.specs.GameRead.{GameRead, Row, Goes_on, Ends, Fails, failed, move_row, row, after_row, moves_read, last_start, tagged_variant, read_after_tags, pgn_read}
-use Rattle.chess_pgn.specs.LastTags.{says_nothing, tag_section}
 use Rattle.chess_pgn.specs.Tokens.{Token, Skip, Tag, Word, Bad_tag, Unclosed_comment, Unclosed_variation, Bad, tokens_from}
-use Rattle.pgn_writer.specs.Outcomes.{outcome_of}
-use Rattle.chess_pgn.specs.Words.{is_marks}
 use Rattle.chess_pgn.proofs.shared.Games.{fens, termination_in}
 
 -- from the game `s` on each word denotes the move at its index, where the game has no verdict and fewer than `limit`
@@ -86,24 +73,25 @@ word_plays limit s left word next reads.NoSuch is e =
 same_game : (s next : State) → Goes_on s ≡ Goes_on next → next ≡ s
 same_game s next e = cc
 
-token_goes_on : (limit : ℕ) (s : State) (t : ℕ × Token) (next : State) → row limit s t ≡ Goes_on next
+token_goes_on : (limit total : ℕ) (s : State) (t : ℕ × Token) (next : State) → row limit total s t ≡ Goes_on next
     → After limit s next
-token_goes_on limit s (left, Skip) next e = inl (same_game s next e)
-token_goes_on limit s (left, Tag name string at_string) next e = absurd (cc)
-token_goes_on limit s (left, Word word) next e = by_kind (outcome_of word) (list_all is_digit word) (is_marks word) e
+token_goes_on limit total s (left, Skip) next e = inl (same_game s next e)
+token_goes_on limit total s (left, Tag name string at_string) next e = absurd (cc)
+token_goes_on limit total s (left, Word word) next e =
+    by_kind (outcome_of word) (list_all is_digit word) (is_marks word) e
   where
     by_kind : (o : Option Outcome) (is_number is_mark : Bool)
-        → option_map_or (λ k. Ends k (length word)) o
-        (cond (is_number || is_mark) (Goes_on s) (move_row limit s left (reading (current s) word))) ≡ Goes_on next
-        → After limit s next
+        → option_map_or (λ k. Ends k (total - left + length word)) o
+        (cond (is_number || is_mark) (Goes_on s) (move_row limit s (total - left) (reading (current s) word)))
+        ≡ Goes_on next → After limit s next
     by_kind (Some o) is_number is_mark e = absurd (cc)
     by_kind None true is_mark e = inl (same_game s next e)
     by_kind None false true e = inl (same_game s next e)
-    by_kind None false false e = word_plays limit s left word next (reading (current s) word) refl e
-token_goes_on limit s (left, Bad_tag) next e = absurd (cc)
-token_goes_on limit s (left, Unclosed_comment brace) next e = absurd (cc)
-token_goes_on limit s (left, Unclosed_variation) next e = absurd (cc)
-token_goes_on limit s (left, Bad) next e = absurd (cc)
+    by_kind None false false e = word_plays limit s (total - left) word next (reading (current s) word) refl e
+token_goes_on limit total s (left, Bad_tag) next e = absurd (cc)
+token_goes_on limit total s (left, Unclosed_comment brace) next e = absurd (cc)
+token_goes_on limit total s (left, Unclosed_variation) next e = absurd (cc)
+token_goes_on limit total s (left, Bad) next e = absurd (cc)
 
 -- ---- the moves
 
@@ -112,14 +100,14 @@ moves_words : (limit total : ℕ) (termination : Option Termination) (s : State)
     → Words limit s (moves_read limit total termination s ts).state
 moves_words limit total termination s [] h = absurd h
 moves_words limit total termination s (t ∷ ts) h =
-    by_row (row limit s t) refl (λ n k. moves_words limit total termination n ts k) h
+    by_row (row limit total s t) refl (λ n k. moves_words limit total termination n ts k) h
   where
-    by_row : (x : Row) → row limit s t ≡ x
+    by_row : (x : Row) → row limit total s t ≡ x
         → ((n : State) → IsEnd (moves_read limit total termination n ts).answer
         → Words limit n (moves_read limit total termination n ts).state)
-        → IsEnd (after_row total termination s t.0 x (λ n. moves_read limit total termination n ts)).answer
-        → Words limit s (after_row total termination s t.0 x (λ n. moves_read limit total termination n ts)).state
-    by_row (Goes_on next) e later k = by_next (token_goes_on limit s t next e) (later next k)
+        → IsEnd (after_row termination s x (λ n. moves_read limit total termination n ts)).answer
+        → Words limit s (after_row termination s x (λ n. moves_read limit total termination n ts)).state
+    by_row (Goes_on next) e later k = by_next (token_goes_on limit total s t next e) (later next k)
       where
         by_next : After limit s next → Words limit next (moves_read limit total termination next ts).state
             → Words limit s (moves_read limit total termination next ts).state

@@ -1,26 +1,15 @@
 -- What every session answers to some lines: by computation, and by the words that no command has.
 use Prim.Native.String.{String as Text}
-use Rattle.std.proofs.Common.{◌≡◌, ◌∙◌, ℕ, Bool, true, false, ◌||◌, List, [], ◌∷◌, ◌++◌, length, map, Option, None, Some, refl, sym, ap}
-use Rattle.std.specs.Prelude.{codes, if◌then◌else◌, nat_le, unwrap_or}
-use Rattle.std.specs.Fmt.{digits}
-use Rattle.std.specs.List.{AllByRecursion, find, list_any}
-use Rattle.std.specs.Option.{option_map}
-use Rattle.std.specs.Str.{bytes_eq}
-use Rattle.std.proofs.lemmas.Bool.{or_parts}
-use Rattle.std.proofs.lemmas.List.Folds.{list_any-append}
-use Rattle.chess_base.specs.declared.man.Variant.TheVariants.{Fischerandom}
-use Rattle.chess_base.specs.declared.man.Move.{Move}
-use Rattle.chess_base.specs.Initial.{initial_setup, initial_setup_of}
+use Rattle.std.proofs.Common.{◌≡◌, ◌∙◌, ℕ, Bool, true, false, ◌||◌, List, [], ◌∷◌, ◌++◌, length, map, Option, None, Some, refl, sym, ap, option_map, bytes_eq, codes, if◌then◌else◌, nat_le, unwrap_or}
+use Rattle.std.specs.{Fmt.digits, List.AllByRecursion, List.find, List.list_any}
+use Rattle.std.proofs.{lemmas.Bool.or_parts, lemmas.List.Folds.list_any-append}
+use Rattle.chess_base.specs.{declared.man.Variant.TheVariants.Fischerandom, declared.man.Move.Move, Initial.initial_setup, Initial.initial_setup_of}
 use Rattle.chess_game.specs.Game.{State, from_start, taken_back}
 use Rattle.chess_text.specs.Moves.{shape}
-use Rattle.text_lines.specs.Lines.{LineSeen}
-use Rattle.text_lines.specs.Words.{argument_of, command_number, word_of}
+use Rattle.text_lines.specs.{Lines.LineSeen, Words.argument_of, Words.command_number, Words.word_of}
 use Rattle.chess_cecp.specs.Commands.{command_of, commands, ignored_commands, is_ignored, named_command}
-use Rattle.chess_cecp.specs.Declaring.{read_result, result_comment}
-use Rattle.chess_cecp.specs.Held.{SessionSeen}
-use Rattle.chess_cecp.specs.Serving.{Response, becomes}
+use Rattle.chess_cecp.specs.{Declaring.read_result, Declaring.result_comment, Held.SessionSeen, Serving.Response, Serving.becomes, declared.command.Command.Command}
 use Rattle.chess_cecp.specs.Session.{answers, features_line, row, session_response, take_back_row}
-use Rattle.chess_cecp.specs.declared.command.Command.{Command}
 use Rattle.chess_cecp.specs.declared.command.Command.TheVariants.{BadNumber, BareMove, Declare, Go, New, Ping, Protover, Quit, Remove, Silent, Undo, Unknown, Variant}
 use Rattle.chess_cecp_laws.specs.SessionLines.{Becomes, IsAnswered, IsIgnored, IsUnknown, OtherWordsAreUnknown, SessionLinesAreAnswered, known_words, lines_for_engines, response_to}
 

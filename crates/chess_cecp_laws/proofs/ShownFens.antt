@@ -1,47 +1,15 @@
 -- A position that was shown is set.
-use Rattle.std.proofs.Common.{◌≡◌, ◌∙◌, ◌≤◌, ℕ, false, eqb, List, [], ◌∷◌, ◌++◌, length, length-append, drop, take, Option, None, Some, Ok, refl, sym, ap, subst, arith}
-use Rattle.std.specs.Prelude.{codes}
-use Rattle.std.proofs.Math.Seq.{take-append_seam}
-use Rattle.std.proofs.lemmas.Bool.Decides.{nat_tests}
-use Rattle.chess_base.specs.Letters.{letter, letter_by}
-use Rattle.chess_base.specs.Moves.{after}
-use Rattle.chess_base.specs.Sound.{IsSound}
-use Rattle.chess_base.specs.declared.man.Colour.{Colour}
-use Rattle.chess_base.specs.declared.man.Colour.TheVariants.{White, Black}
-use Rattle.chess_base.specs.declared.man.Kind.{Kind}
+use Rattle.std.proofs.Common.{◌≡◌, ◌∙◌, ◌≤◌, ℕ, Bool, true, false, eqb, List, [], ◌∷◌, ◌++◌, length, length-append, drop, take, Option, None, Some, Ok, refl, sym, ap, subst, arith, codes}
+use Rattle.std.proofs.{Math.Seq.take-append_seam, lemmas.Bool.Decides.nat_tests}
+use Rattle.chess_base.specs.{Letters.letter, Letters.letter_by, Sound.IsSound, declared.man.Colour.Colour, declared.man.Colour.TheVariants.White, declared.man.Colour.TheVariants.Black, declared.man.Kind.Kind, declared.man.Man.Man, declared.setup.Setup.Setup}
 use Rattle.chess_base.specs.declared.man.Kind.TheVariants.{King, Queen, Rook, Bishop, Knight, Pawn}
-use Rattle.chess_base.specs.declared.man.Man.{Man}
-use Rattle.chess_base.specs.declared.man.Move.{Move}
-use Rattle.chess_base.specs.declared.setup.Setup.{Setup}
-use Rattle.chess_base.proofs.shared.LegalMoves.{IsSound-after}
-use Rattle.chess_fen.specs.Reading.{fen_reading_as}
-use Rattle.chess_fen.specs.Writing.{fen, fen_rank, placement_text, raised}
-use Rattle.chess_fen.specs.laws.Laws.{WrittenIsReadBack}
+use Rattle.chess_fen.specs.{Reading.fen_reading_as, laws.Laws.WrittenIsReadBack}
+use Rattle.chess_fen.specs.Writing.{fen, fen_rank, placement_text, squares_text}
 use Rattle.chess_game.specs.Game.{current}
-use Rattle.chess_game.specs.Line.{IsLine, position_after}
-use Rattle.text_lines.specs.Lines.{LineSeen, without_front_blanks}
-use Rattle.text_lines.specs.Words.{argument_of}
-use Rattle.chess_cecp.specs.Commands.{command_of, is_ignored, named_command}
-use Rattle.chess_cecp.specs.Held.{SessionSeen}
-use Rattle.chess_cecp.specs.Serving.{Response}
-use Rattle.chess_cecp.specs.Session.{row, session_response, setboard_row}
-use Rattle.chess_cecp.specs.declared.command.Command.{Command}
-use Rattle.chess_cecp.specs.declared.command.Command.TheVariants.{SetBoard, ShowFen}
+use Rattle.chess_game.proofs.shared.Lines.{IsSound-position_after, variant-position_after}
+use Rattle.text_lines.specs.{Lines.LineSeen, Lines.without_front_blanks, Words.argument_of}
+use Rattle.chess_cecp.specs.{Commands.command_of, Commands.is_ignored, Commands.named_command, Held.SessionSeen, Serving.Response, Session.row, Session.session_response, Session.setboard_row, declared.command.Command.Command, declared.command.Command.TheVariants.SetBoard, declared.command.Command.TheVariants.ShowFen}
 use Rattle.chess_cecp_laws.specs.SetBoard.{SetboardTakesShownFens}
-
--- ---- the position that is shown
-
-last_sound : (p : Setup) (ms : List Move) → IsSound p → IsLine p ms → IsSound (position_after p ms)
-last_sound p [] sound line = sound
-last_sound p (m ∷ ms) sound line = last_sound (after p m) ms (IsSound-after p m sound line.0) line.1
-
-same_variant : (p : Setup) (m : Move) → (after p m).variant ≡ p.variant
-unfolding after
-same_variant p m = refl
-
-last_variant : (p : Setup) (ms : List Move) → (position_after p ms).variant ≡ p.variant
-last_variant p [] = refl
-last_variant p (m ∷ ms) = last_variant (after p m) ms ∙ same_variant p m
 
 -- ---- a FEN begins with no space or tab
 
@@ -67,16 +35,16 @@ by_letter Black Pawn = omega arith
 letter_high : (man : Man) → 33 ≤ letter man
 letter_high man = by_letter man.colour man.kind
 
-raised_begins : (text : List ℕ) → Begins text → Begins (raised text)
-raised_begins [] h = tt
-raised_begins (c ∷ cs) h = omega (arith, h)
+squares_begin : (in_run : Bool) (row : List (Option Man)) → Begins (squares_text in_run row)
+squares_begin true [] = tt
+squares_begin false [] = tt
+squares_begin true (Some man ∷ row) = letter_high man
+squares_begin false (Some man ∷ row) = letter_high man
+squares_begin true (None ∷ row) = squares_begin true row
+squares_begin false (None ∷ row) = omega arith
 
 rank_begins : (row : List (Option Man)) → Begins (fen_rank row)
-rank_begins [] = tt
-rank_begins (Some man ∷ row) = letter_high man
-rank_begins (None ∷ None ∷ row) = raised_begins (fen_rank (None ∷ row)) (rank_begins (None ∷ row))
-rank_begins (None ∷ Some man ∷ row) = omega arith
-rank_begins (None ∷ []) = omega arith
+rank_begins row = squares_begin false row
 
 -- it has a first byte, which comes after the space
 abbrev Starts : List ℕ → Type 0
@@ -149,9 +117,9 @@ shown_fens_are_set law shown set asking setting text playable same asks_it wrote
     let p : Setup = current shown.state in
     let first = responds_by shown asking (codes "showfen") ShowFen asks_it.fits asks_it.is asks in
     let is : fen p ≡ text = fen_shown p text (sym (ap (λ (r : Response SessionSeen). r.text) first) ∙ wrote) in
-    let sound : IsSound p = last_sound shown.state.start shown.state.moves playable.start playable.line in
+    let sound : IsSound p = IsSound-position_after shown.state.start shown.state.moves playable.start playable.line in
     let variant : p.variant ≡ set.state.start.variant =
-    last_variant shown.state.start shown.state.moves ∙ sym same in
+    variant-position_after shown.state.start shown.state.moves ∙ sym same in
     let read : fen_reading_as set.state.start.variant text ≡ Ok p =
     sym (ap (λ v. fen_reading_as v text) variant) ∙ sym (ap (fen_reading_as p.variant) is) ∙ law p sound in
     let argument : argument_of (codes "setboard " ++ text) ≡ text = takes text (subst Starts is (fen_starts p)) in

@@ -1,12 +1,9 @@
 -- What a session shows of a game that has just begun, by computation.
-use Rattle.std.proofs.Common.{◌≡◌, refl}
-use Rattle.std.specs.Prelude.{codes}
+use Rattle.std.proofs.Common.{◌≡◌, refl, codes}
 use Rattle.std.specs.Fmt.{digits}
 use Rattle.chess_base.specs.Attacks.{is_clear, could_capture, attacks, is_attacked, is_in_check}
 use Rattle.chess_base.specs.Castling.{is_castling_to, castling, castle_of, castling_way_is_empty, castling_way_is_safe, castles}
-use Rattle.chess_base.specs.Initial.{initial_setup, initial_setup_of}
-use Rattle.chess_base.specs.Men.{is_of, is_man}
-use Rattle.chess_base.specs.MoveList.{all_moves, moves}
+use Rattle.chess_base.specs.{Initial.initial_setup, Initial.initial_setup_of, Men.is_of, Men.is_man, MoveList.all_moves, MoveList.moves}
 use Rattle.chess_base.specs.Moves.{is_double_advance, is_en_passant, pawn_advances, pawn_captures, pawn_moves, man_moves, is_pseudo_legal, captured_square, men_after, rights_after, target_after, resets_clock, halfmove_after, after, is_legal}
 use Rattle.chess_base.specs.Squares.{squares, some_square, each_square, is_between}
 use Rattle.chess_fen.specs.Writing.{fen, placement_text}
@@ -14,8 +11,7 @@ use Rattle.chess_game.specs.Ends.{has_bishop_on, has_insufficient_material, resu
 use Rattle.chess_game.specs.Game.{current, from_start}
 use Rattle.chess_game.specs.Same.{is_same_position, legal_en_passant_square, repetition_count, same_men, same_rights}
 use Rattle.chess_text.specs.San.{shown_move}
-use Rattle.chess_cecp.specs.Declaring.{state_text}
-use Rattle.chess_cecp.specs.Session.{moves_text}
+use Rattle.chess_cecp.specs.{Declaring.state_text, Session.moves_text}
 
 pub fen_shown : fen (current (from_start initial_setup))
     ≡ codes "rnbqkbnr/pppppppp/8/8/8/8/PPPPPPPP/RNBQKBNR w KQkq - 0 1"

@@ -1,21 +1,14 @@
 -- A move that was accepted is taken back.
-use Rattle.std.proofs.Common.{◌≡◌, ◌∙◌, ◌-◌, ◌⊎◌, ℕ, suc, Bool, true, false, List, [], ◌∷◌, ◌++◌, length, take, nat_le, Option, None, Some, refl, sym, ap, subst, inl, inr, arith, length-append}
-use Rattle.std.specs.Prelude.{codes, if◌then◌else◌, is_some}
+use Rattle.std.proofs.Common.{◌≡◌, ◌∙◌, ◌-◌, ◌⊎◌, ℕ, suc, Bool, true, false, List, [], ◌∷◌, ◌++◌, length, take, nat_le, Option, None, Some, refl, sym, ap, subst, inl, inr, arith, length-append, codes, if◌then◌else◌, is_some}
 use Rattle.std.proofs.lemmas.Bool.{or_parts}
 use Rattle.byte_devices.specs.Bytes.{new_line}
 use Rattle.chess_base.specs.declared.man.Move.{Move}
-use Rattle.chess_text.specs.Moves.{reading}
-use Rattle.chess_text.specs.declared.reading.Reading.{Reading}
+use Rattle.chess_text.specs.{Moves.reading, declared.reading.Reading.Reading}
 use Rattle.chess_text.specs.declared.reading.Reading.TheVariants as reads
 use Rattle.chess_game.specs.Game.{State, current, is_over, played, taken_back, verdict_now}
-use Rattle.text_lines.specs.Lines.{LineSeen}
-use Rattle.text_lines.specs.Words.{argument_of}
-use Rattle.chess_cecp.specs.Commands.{command_of}
-use Rattle.chess_cecp.specs.Held.{SessionSeen}
-use Rattle.chess_cecp.specs.Serving.{Response}
+use Rattle.text_lines.specs.{Lines.LineSeen, Words.argument_of}
+use Rattle.chess_cecp.specs.{Commands.command_of, Held.SessionSeen, Serving.Response, declared.command.Command.Command, declared.command.Command.TheVariants.BareMove, declared.command.Command.TheVariants.Undo, declared.command.Command.TheVariants.UserMove}
 use Rattle.chess_cecp.specs.Session.{IsRefusal, answers, move_row, reading_row, row, session_response, take_back_row}
-use Rattle.chess_cecp.specs.declared.command.Command.{Command}
-use Rattle.chess_cecp.specs.declared.command.Command.TheVariants.{BareMove, Undo, UserMove}
 use Rattle.chess_cecp_laws.specs.Undo.{UndoTakesAMoveBack}
 
 -- the response to `undo` leaves the state `s`, without an answer

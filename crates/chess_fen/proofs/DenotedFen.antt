@@ -1,15 +1,8 @@
 -- A text is read exactly where it denotes a position, and what its first fault says.
-use Rattle.std.proofs.Common.{◌≡◌, ◌≢◌, ℕ, ◌⊎◌, inl, inr, Bool, true, false, List, [], ◌∷◌, ◌++◌, length, take, drop, Option, Some, None, Result, Ok, Err, refl, sym, ap, subst, ◌∙◌, arith}
-use Rattle.std.specs.Prelude.{codes, max, IfOk}
-use Rattle.chess_base.specs.declared.man.Colour.{Colour}
-use Rattle.chess_base.specs.declared.man.Rights.{Rights}
-use Rattle.chess_base.specs.declared.man.Variant.{Variant}
-use Rattle.chess_base.specs.declared.setup.Setup.{Setup}
-use Rattle.chess_base.specs.Men.{Men}
-use Rattle.chess_base.specs.Sound.{IsSound}
-use Rattle.chess_base.specs.Faults.{conditions, first_failing, setup_fault}
-use Rattle.chess_base.proofs.shared.Sound.{no_fault_from_IsSound}
-use Rattle.chess_base.specs.declared.fen_fault.FenFault.{FenFault}
+use Rattle.std.proofs.Common.{◌≡◌, ◌≢◌, ℕ, ◌⊎◌, inl, inr, Bool, true, false, List, [], ◌∷◌, ◌++◌, length, take, drop, Option, Some, None, Result, Ok, Err, refl, sym, ap, subst, ◌∙◌, arith, codes, max, IfOk}
+use Rattle.chess_base.specs.{declared.man.Colour.Colour, declared.man.Rights.Rights, declared.man.Variant.Variant, declared.setup.Setup.Setup, Men.Men, Sound.IsSound, declared.fen_fault.FenFault.FenFault}
+use Rattle.chess_base.specs.Faults.{conditions, conditions_if, first_failing, setup_fault}
+use Rattle.chess_base.proofs.shared.Sound.{first_failing-conditions_if, no_fault_from_IsSound}
 use Rattle.chess_base.specs.declared.fen_fault.FenFault.TheVariants as faults
 use Rattle.text_lines.specs.Words.{short_number}
 use Rattle.chess_fen.specs.RightNames.{names_rights_well}
@@ -183,7 +176,7 @@ named-fault : (letters : List ℕ) (p : Setup) → names_rights_well p.variant p
     → first_failing (conditions_of letters p) ≡ setup_fault p
 unfolding setup_fault
 named-fault letters p e =
-    ap (λ b. first_failing (take 4 (conditions p) ++ ((faults.Castling, b) ∷ drop 4 (conditions p)))) e
+    ap (λ b. first_failing (conditions_if b p)) e
 
 -- where no condition fails, a condition among them holds
 holds : (xs : List (FenFault × Bool)) (f : FenFault) (b : Bool) (ys : List (FenFault × Bool))
@@ -220,7 +213,8 @@ reading_outcome v text =
     by_conditions p s None e = (
       castling,
       s,
-      holds (take 4 (conditions p)) faults.Castling (names_rights_well p.variant p.men castling) (drop 4 (conditions p)) e,
+      holds (take 4 (conditions p)) faults.Castling (names_rights_well p.variant p.men castling) (drop 4 (conditions p))
+          (sym (first_failing-conditions_if (names_rights_well p.variant p.men castling) p) ∙ e),
     )
     by_conditions p s (Some f) e = inr (inr (p, castling, s, e))
 

@@ -1,17 +1,11 @@
 -- A field is read exactly where it is well written.
-use Rattle.std.proofs.Common.{◌≡◌, ℕ, ◌+◌, ◌-◌, ◌*◌, ◌/◌, ◌%◌, ◌≤◌, ◌⊎◌, true, eqb, leb, ◌&&◌, ◌||◌, List, [], ◌∷◌, length, map, Option, Some, None, refl, sym, ap, subst, ◌∙◌, arith}
-use Rattle.std.specs.Prelude.{IfSome}
+use Rattle.std.proofs.Common.{◌≡◌, ℕ, ◌+◌, ◌-◌, ◌*◌, ◌/◌, ◌%◌, ◌≤◌, ◌⊎◌, true, eqb, leb, ◌&&◌, ◌||◌, List, [], ◌∷◌, length, map, Option, Some, None, refl, sym, ap, subst, ◌∙◌, arith, IfSome, option_map}
 use Rattle.std.specs.List.{slice_split}
-use Rattle.std.specs.Option.{option_map}
 use Rattle.std.proofs.lemmas.Bool.Decides.{nat_tests}
 use Rattle.chess_base.proofs.shared.Choices.{chosen}
-use Rattle.chess_base.specs.declared.man.Man.{Man}
-use Rattle.chess_base.specs.declared.man.Colour.{Colour}
-use Rattle.chess_base.specs.declared.man.Colour.TheVariants.{White, Black}
+use Rattle.chess_base.specs.{declared.man.Man.Man, declared.man.Colour.Colour, declared.man.Colour.TheVariants.White, declared.man.Colour.TheVariants.Black}
 use Rattle.chess_fen.specs.Texts.{all_there, rank_of, from_top, placement_of, target_of}
-use Rattle.chess_fen.specs.Writing.{side_text, target_text}
-use Rattle.chess_fen.specs.Reading.{side_of}
-use Rattle.chess_fen.specs.Denotation.{DenotesRank, DenotesPlacement, DenotesTarget}
+use Rattle.chess_fen.specs.{Writing.side_text, Writing.target_text, Reading.side_of, Denotation.DenotesRank, Denotation.DenotesPlacement, Denotation.DenotesTarget}
 use Rattle.chess_fen.proofs.DenotedRanks.{there-zip, zip-there, zip-length, denoted-rank, rank-of_denoted}
 
 -- ---- placement

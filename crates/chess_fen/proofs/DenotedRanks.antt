@@ -1,18 +1,12 @@
 -- A rank is read exactly where it is well written.
-use Rattle.std.proofs.Common.{◌≡◌, ℕ, suc, ◌-◌, ◌≤◌, inl, inr, Bool, true, false, cond, eqb, leb, ◌&&◌, List, [], ◌∷◌, length, map, Option, Some, None, refl, sym, ap, subst, ◌∙◌, arith}
-use Rattle.std.specs.Prelude.{replicate, option_and_then, find}
+use Rattle.std.proofs.Common.{◌≡◌, ℕ, suc, ◌-◌, ◌≤◌, inl, inr, Bool, true, false, cond, eqb, leb, ◌&&◌, List, [], ◌∷◌, length, map, Option, Some, None, refl, sym, ap, subst, ◌∙◌, arith, option_map, replicate, option_and_then, find}
 use Rattle.std.specs.List.{AllZip, flat_map}
-use Rattle.std.specs.Option.{option_map}
 use Rattle.std.proofs.lemmas.Bool.Decides.{nat_tests}
 use Rattle.chess_base.proofs.shared.Choices.{chosen}
-use Rattle.chess_base.specs.declared.man.Man.{Man}
-use Rattle.chess_base.specs.declared.man.Kind.{Kind}
+use Rattle.chess_base.specs.{declared.man.Man.Man, declared.man.Kind.Kind, declared.man.Colour.Colour, declared.man.Colour.TheVariants.White, declared.man.Colour.TheVariants.Black}
 use Rattle.chess_base.specs.declared.man.Kind.TheVariants.{Pawn, Knight, Bishop, Rook, Queen, King}
-use Rattle.chess_base.specs.declared.man.Colour.{Colour}
-use Rattle.chess_base.specs.declared.man.Colour.TheVariants.{White, Black}
 use Rattle.chess_base.specs.Letters.{letter, letter_by, man_with_letter, all_men}
-use Rattle.chess_fen.specs.Texts.{squares_of, all_there, rank_of}
-use Rattle.chess_fen.specs.Denotation.{StandsFor, DenotesRank}
+use Rattle.chess_fen.specs.{Texts.squares_of, Texts.all_there, Texts.rank_of, Denotation.StandsFor, Denotation.DenotesRank}
 use Rattle.chess_fen.proofs.RankBytes.{squares-digit}
 
 -- a piece's letter is read as the piece

@@ -1,14 +1,8 @@
 -- Equal texts of one variant are the FENs of one position, since each is read back as its position.
 use Rattle.std.proofs.Common.{◌≡◌, true, refl, sym, ap, ◌∙◌}
-use Rattle.chess_base.specs.declared.man.Variant.{Variant}
-use Rattle.chess_base.specs.declared.man.Variant.TheVariants.{Normal, Fischerandom}
-use Rattle.chess_base.specs.declared.setup.Setup.{Setup}
-use Rattle.chess_base.specs.Sound.{IsSound}
-use Rattle.chess_base.specs.contracts.man.VariantPartialEq.TheImpl.{eq-value}
-use Rattle.chess_fen.specs.Reading.{fen_reading_as}
-use Rattle.chess_fen.specs.Writing.{fen}
-use Rattle.chess_fen.proofs.DenotedFen.{reading-denoted}
-use Rattle.chess_fen.proofs.WrittenFen.{fen-denoted}
+use Rattle.chess_base.specs.{declared.man.Variant.Variant, declared.man.Variant.TheVariants.Normal, declared.man.Variant.TheVariants.Fischerandom, declared.setup.Setup.Setup, Sound.IsSound, contracts.man.VariantPartialEq.TheImpl.eq-value}
+use Rattle.chess_fen.specs.{Reading.fen_reading_as, Writing.fen}
+use Rattle.chess_fen.proofs.{DenotedFen.reading-denoted, WrittenFen.fen-denoted}
 
 pub variants_equal : (v w : Variant) → eq-value.it v w ≡ true → v ≡ w
 variants_equal Normal Normal e = refl

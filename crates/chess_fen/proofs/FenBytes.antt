@@ -1,36 +1,14 @@
 -- The bytes of a FEN that is written: no field has a space, and no rank a slash; all of them are ASCII.
-use Rattle.std.proofs.Common.{sym, ◌≡◌, ℕ, zero, suc, ◌+◌, ◌*◌, ◌/◌, ◌%◌, ◌<◌, ◌≤◌, ◌⊎◌, true, List, [], ◌∷◌, ◌++◌, length, take, drop, map, Option, Some, None, subst, arith, rules, ◌∙◌}
-use Rattle.std.specs.Prelude.{decimal, IfSome}
-use Rattle.std.specs.List.{AllByRecursion}
-use Rattle.std.specs.Str.{IsAscii, IsUtf8}
-use Rattle.std.proofs.lemmas.Bool.Decides.{nat_tests}
-use Rattle.std.proofs.lemmas.List.{append-nil, length-take}
-use Rattle.std.proofs.lemmas.Fmt.{digits_decimal}
-use Rattle.std.proofs.lemmas.Str.{IsUtf8-from_ascii}
-use Rattle.std.specs.Str.Parse.{digits_value}
-use Rattle.std.proofs.lemmas.Str.Parse.{IsNumeralModel, IsDigitsTest, numerals_by_value}
-use Rattle.chess_base.specs.declared.man.Man.{Man}
-use Rattle.chess_base.specs.declared.man.Kind.{Kind}
-use Rattle.chess_base.specs.declared.man.Colour.{Colour}
-use Rattle.chess_base.specs.declared.man.Colour.TheVariants.{White, Black}
-use Rattle.chess_base.specs.declared.man.CastlingSide.{CastlingSide}
-use Rattle.chess_base.specs.declared.man.CastlingSide.TheVariants.{KingSide, QueenSide}
-use Rattle.chess_base.specs.declared.man.Rights.{Rights}
-use Rattle.chess_base.specs.declared.man.Variant.{Variant}
-use Rattle.chess_base.specs.declared.man.Variant.TheVariants.{Normal, Fischerandom}
-use Rattle.chess_base.specs.declared.setup.Setup.{Setup}
-use Rattle.chess_base.specs.Letters.{white_letter, letter, letter_by}
-use Rattle.chess_base.specs.Men.{Men}
-use Rattle.chess_base.specs.Sound.{IsSound}
-use Rattle.chess_base.specs.shared.Parts.{target_is_sound_at}
-use Rattle.chess_fen.specs.ties.Loops.{or_dash, right_text}
-use Rattle.chess_fen.proofs.RightLetters.{rights_are}
+use Rattle.std.proofs.Common.{sym, ◌≡◌, ℕ, zero, suc, ◌+◌, ◌*◌, ◌/◌, ◌%◌, ◌<◌, ◌≤◌, ◌⊎◌, true, List, [], ◌∷◌, ◌++◌, length, take, drop, map, Option, Some, None, subst, arith, rules, ◌∙◌, decimal, IfSome, IsAscii, IsUtf8, append-nil, length-take}
+use Rattle.std.specs.{List.AllByRecursion, Str.Parse.digits_value}
+use Rattle.std.proofs.{lemmas.Bool.Decides.nat_tests, lemmas.Fmt.digits_decimal, lemmas.Str.IsUtf8-from_ascii, lemmas.Str.Parse.IsNumeralModel, lemmas.Str.Parse.IsDigitsTest, lemmas.Str.Parse.numerals_by_value}
+use Rattle.chess_base.specs.{declared.man.Man.Man, declared.man.Kind.Kind, declared.man.Colour.Colour, declared.man.Colour.TheVariants.White, declared.man.Colour.TheVariants.Black, declared.man.CastlingSide.CastlingSide, declared.man.CastlingSide.TheVariants.KingSide, declared.man.CastlingSide.TheVariants.QueenSide, declared.man.Rights.Rights, declared.man.Variant.Variant, declared.man.Variant.TheVariants.Normal, declared.man.Variant.TheVariants.Fischerandom, declared.setup.Setup.Setup, Letters.white_letter, Letters.letter, Letters.letter_by, Men.Men, Sound.IsSound, shared.Parts.target_is_sound_at}
+use Rattle.chess_fen.specs.ties.Loops.{or_dash, right_text, ranks_down, run_text, row_text}
+use Rattle.chess_fen.proofs.{RightLetters.rights_are, WrittenRanks.row_is}
 use Rattle.chess_base.proofs.shared.Parts.{target_is_sound_is}
 use Rattle.chess_fen.specs.RightNames.{right_letter}
 use Rattle.chess_fen.specs.Writing.{fen_rank, placement_text, side_text, rights_text, target_text, fen}
-use Rattle.chess_fen.specs.ties.Loops.{ranks_down, run_text, row_text}
 use Rattle.chess_fen.proofs.Joined.{IsPlain, Plain, all_append, each_weaker, Plain-join}
-use Rattle.chess_fen.proofs.WrittenRanks.{row_is}
 
 -- bytes below the backslash, and above it
 low : (k b : ℕ) → k ≤ b → 34 < b → b < 92 → IsPlain k b

@@ -1,14 +1,10 @@
 -- A FEN's first field, which is read as the text is cut.
 use Rattle.std.proofs.Common.{◌≡◌, ℕ, ◌<◌, not, eqb, List, [], ◌∷◌, length, drop, Option, Some, None, Err, refl, sym, ap, ◌∙◌, arith, inl, inr}
 use Rattle.std.specs.List.{position_or_len, before_first}
-use Rattle.std.proofs.lemmas.Bool.{cases_lt}
-use Rattle.std.proofs.lemmas.List.{nil_from_length}
+use Rattle.std.proofs.{lemmas.Bool.cases_lt, lemmas.List.nil_from_length}
 use Rattle.chess_base.specs.declared.fen_fault.FenFault.TheVariants as faults
-use Rattle.chess_base.specs.declared.man.Man.{Man}
-use Rattle.chess_base.specs.declared.man.Variant.{Variant}
-use Rattle.chess_fen.specs.ties.Reader.{setup_with, setup_by}
-use Rattle.chess_fen.specs.Texts.{placement_of, fields_of}
-use Rattle.chess_fen.specs.ties.Runs.{PlacementIsRead, from_space}
+use Rattle.chess_base.specs.{declared.man.Man.Man, declared.man.Variant.Variant}
+use Rattle.chess_fen.specs.{ties.Reader.setup_with, ties.Reader.setup_by, Texts.placement_of, Texts.fields_of, ties.Runs.PlacementIsRead, ties.Runs.from_space}
 use Rattle.chess_fen.proofs.CutFields.{no_fields, next_fields}
 
 -- a text without its first spaces

@@ -1,27 +1,15 @@
 -- In Chess960 the letters of a field of rights name rooks: that of each right is named by just one.
-use Rattle.std.proofs.Common.{◌≡◌, ◌≢◌, ℕ, zero, suc, ◌+◌, ◌-◌, ◌%◌, ◌<◌, ◌≤◌, inl, inr, Bool, true, false, cond, eqb, ◌&&◌, ◌||◌, List, [], ◌∷◌, ◌++◌, map, Option, Some, None, refl, sym, ap, subst, ◌∙◌, arith}
-use Rattle.std.specs.Prelude.{find, unwrap_or}
+use Rattle.std.proofs.Common.{◌≡◌, ◌≢◌, ℕ, zero, suc, ◌+◌, ◌-◌, ◌%◌, ◌<◌, ◌≤◌, inl, inr, Bool, true, false, cond, eqb, ◌&&◌, ◌||◌, List, [], ◌∷◌, ◌++◌, map, Option, Some, None, refl, sym, ap, subst, ◌∙◌, arith, find, unwrap_or}
 use Rattle.std.specs.List.{AllByRecursion, filter}
-use Rattle.std.proofs.lemmas.Bool.Decides.{nat_tests}
+use Rattle.std.proofs.{lemmas.Bool.Decides.nat_tests, lemmas.List.Elements.filter-append}
 use Rattle.std.proofs.lemmas.Bool.{and_parts, eqb-true, eq-eqb, cases_lt}
-use Rattle.std.proofs.lemmas.List.Elements.{filter-append}
-use Rattle.chess_base.specs.declared.man.Colour.{Colour}
-use Rattle.chess_base.specs.declared.man.Colour.TheVariants.{White, Black}
-use Rattle.chess_base.specs.declared.man.CastlingSide.{CastlingSide}
-use Rattle.chess_base.specs.declared.man.CastlingSide.TheVariants.{KingSide, QueenSide}
-use Rattle.chess_base.specs.declared.man.Kind.TheVariants.{Rook}
-use Rattle.chess_base.specs.declared.man.Variant.TheVariants.{Fischerandom}
-use Rattle.chess_base.specs.Squares.{file, rank}
+use Rattle.chess_base.specs.{declared.man.Colour.Colour, declared.man.Colour.TheVariants.White, declared.man.Colour.TheVariants.Black, declared.man.CastlingSide.CastlingSide, declared.man.CastlingSide.TheVariants.KingSide, declared.man.CastlingSide.TheVariants.QueenSide, declared.man.Kind.TheVariants.Rook, declared.man.Variant.TheVariants.Fischerandom, Squares.file, Squares.rank, shared.Splits.right_is_sound_at}
 use Rattle.chess_base.specs.Men.{Men, man_at, is_man, first_rank}
 use Rattle.chess_base.specs.Castling.{home_square, king_square, is_to_side, right_is_sound, right_of}
-use Rattle.chess_base.specs.shared.Splits.{right_is_sound_at}
-use Rattle.chess_fen.specs.Texts.{first_letter, names_file}
-use Rattle.chess_fen.specs.RightNames.{side_letter, from_edge, is_towards, right_by, right_in}
-use Rattle.chess_fen.proofs.RooksNamed.{names_right, rook_by, in_chess960}
-use Rattle.chess_fen.specs.ties.Reader.{nowhere, outer_rook}
-use Rattle.chess_fen.specs.ties.Loops.{edge_file, rook_among}
+use Rattle.chess_fen.specs.{Texts.first_letter, Texts.names_file, ties.Reader.nowhere, ties.Reader.outer_rook, ties.Loops.edge_file, ties.Loops.rook_among, laws.Laws.RightsAreNamed}
+use Rattle.chess_fen.specs.RightNames.{side_letter, from_edge, is_towards, names_right, rook_by}
+use Rattle.chess_fen.proofs.RooksNamed.{option_by, option_in, in_chess960, as_named, of_named}
 use Rattle.chess_fen.specs.laws.NamedRooks.{IsOutermost, NamesRook, NamesNone, RightIsNamed}
-use Rattle.chess_fen.specs.laws.Laws.{RightsAreNamed}
 use Rattle.chess_fen.proofs.RookAmong.{outer_among}
 use Rattle.chess_fen.proofs.RightsBack.{Beside, beside, no_side_letter, own_file, file_back, file_in, names_own, rook_own}
 
@@ -232,13 +220,13 @@ one_of men c w l (x ∷ xs) e = by_test (names_right men c w x) refl e (one_of m
 -- ---- the rooks that letters name
 
 no_letters : (men : Men) (c : Colour) (w : CastlingSide) (ls : List ℕ)
-    → right_by (map (rook_by men c w) ls) ≡ Some None → ls ≡ []
+    → option_by (map (rook_by men c w) ls) ≡ Some None → ls ≡ []
 no_letters men c w [] e = refl
 no_letters men c w (x ∷ []) e = grind (arith, e)
 no_letters men c w (x ∷ y ∷ ls) e = grind (arith, e)
 
 one_letter : (men : Men) (c : Colour) (w : CastlingSide) (s : ℕ) (ls : List ℕ)
-    → right_by (map (rook_by men c w) ls) ≡ Some (Some s)
+    → option_by (map (rook_by men c w) ls) ≡ Some (Some s)
     → (l : ℕ) × (ls ≡ l ∷ []) × (rook_by men c w l ≡ Some s)
 one_letter men c w s [] e = absurd cc
 one_letter men c w s (x ∷ []) e = (x, refl, grind (arith, e))
@@ -251,7 +239,7 @@ somewhere White s h e = absurd (omega (arith, h, e))
 somewhere Black s h e = absurd (omega (arith, h, e))
 
 named_by : (men : Men) (c : Colour) (w : CastlingSide) (text : List ℕ) (o : Option ℕ)
-    → right_is_sound_at Fischerandom men c w o ≡ true → right_in Fischerandom men text c w ≡ Some o
+    → right_is_sound_at Fischerandom men c w o ≡ true → option_in Fischerandom men text c w ≡ Some o
     → RightIsNamed text men c w o
 named_by men c w text None sound e =
     all_none men c w text (no_letters men c w (filter (names_right men c w) text) (sym (in_chess960 men c w text) ∙ e))
@@ -263,23 +251,25 @@ named_by men c w text (Some s) sound e =
 
 said_by : (men : Men) (c : Colour) (w : CastlingSide) (text : List ℕ) (o : Option ℕ)
     → right_is_sound_at Fischerandom men c w o ≡ true → RightIsNamed text men c w o
-    → right_in Fischerandom men text c w ≡ Some o
+    → option_in Fischerandom men text c w ≡ Some o
 said_by men c w text None sound h =
-    in_chess960 men c w text ∙ ap (λ letters. right_by (map (rook_by men c w) letters)) (none_left men c w text h)
+    in_chess960 men c w text ∙ ap (λ letters. option_by (map (rook_by men c w) letters)) (none_left men c w text h)
 said_by men c w text (Some s) sound h =
     let b = beside men c w s sound in
     let it = names_it men c w h.1 s b (somewhere c s b.rook_rank) h.4 in
-    in_chess960 men c w text ∙ ap (λ letters. right_by (map (rook_by men c w) letters)) (ap (filter (names_right men c w)) h.3
+    in_chess960 men c w text ∙ ap (λ letters. option_by (map (rook_by men c w) letters)) (ap (filter (names_right men c w)) h.3
     ∙ filter-append (names_right men c w) h.0 (h.1 ∷ h.2)
     ∙ ap (λ xs. xs ++ filter (names_right men c w) (h.1 ∷ h.2)) (none_left men c w h.0 h.5)
     ∙ ap (λ b. cond b (h.1 ∷ filter (names_right men c w) h.2) (filter (names_right men c w) h.2)) it.0
     ∙ ap (λ xs. h.1 ∷ xs) (none_left men c w h.2 h.6))
-    ∙ ap (λ rook. right_by (rook ∷ [])) it.1
+    ∙ ap (λ rook. option_by (rook ∷ [])) it.1
 
 pub rights_named : RightsAreNamed
 unfolding right_is_sound
 rights_named text p c w is sound =
     let stands = subst (λ v. right_is_sound_at v p.men c w (right_of p.rights c w) ≡ true) is sound in (
-      named_by p.men c w text (right_of p.rights c w) stands,
-      said_by p.men c w text (right_of p.rights c w) stands,
+      (λ e. named_by p.men c w text (right_of p.rights c w) stands
+          (as_named Fischerandom p.men text c w (right_of p.rights c w) e)),
+      (λ h. of_named Fischerandom p.men text c w (right_of p.rights c w)
+          (said_by p.men c w text (right_of p.rights c w) stands h)),
     )

@@ -1,22 +1,14 @@
 -- A FEN is read as normal chess as it is defined for normal chess alone.
-use Rattle.std.proofs.Common.{◌≡◌, ℕ, Bool, true, false, List, [], ◌∷◌, ◌++◌, take, drop, Option, Some, None, Result, Ok, refl, ap, subst, if◌then◌else◌, ◌∙◌}
-use Rattle.std.specs.Prelude.{codes, max, IfOk}
-use Rattle.std.specs.Option.{ok_or}
-use Rattle.chess_base.specs.declared.fen_fault.FenFault.{FenFault}
+use Rattle.std.proofs.Common.{◌≡◌, ℕ, Bool, true, false, List, [], ◌∷◌, ◌++◌, take, drop, Option, Some, None, Result, Ok, refl, ap, subst, if◌then◌else◌, ◌∙◌, ok_or, codes, max, IfOk}
+use Rattle.chess_base.specs.{declared.fen_fault.FenFault.FenFault, declared.man.Colour.Colour, declared.man.Colour.TheVariants.White, declared.man.Colour.TheVariants.Black, declared.man.CastlingSide.TheVariants.KingSide, declared.man.CastlingSide.TheVariants.QueenSide, declared.man.Rights.Rights, declared.man.Variant.TheVariants.Normal, declared.setup.Setup.Setup, Men.Men}
 use Rattle.chess_base.specs.declared.fen_fault.FenFault.TheVariants as faults
-use Rattle.chess_base.specs.declared.man.Colour.{Colour}
-use Rattle.chess_base.specs.declared.man.Colour.TheVariants.{White, Black}
-use Rattle.chess_base.specs.declared.man.CastlingSide.TheVariants.{KingSide, QueenSide}
-use Rattle.chess_base.specs.declared.man.Variant.TheVariants.{Normal}
-use Rattle.chess_base.specs.declared.setup.Setup.{Setup}
-use Rattle.chess_base.specs.Faults.{conditions, rights_are_sound, first_failing, setup_fault}
-use Rattle.chess_base.specs.Men.{Men}
+use Rattle.chess_base.specs.Faults.{conditions, conditions_if, rights_are_sound, first_failing, setup_fault}
 use Rattle.chess_base.proofs.shared.Normal.{normal_kept}
-use Rattle.chess_fen.specs.Reading.{◌>>=◌, side_of, fen_reading_as}
+use Rattle.chess_fen.specs.{Reading.◌>>=◌, Reading.side_of, Reading.fen_reading_as, RightNames.names_rights_well}
 use Rattle.text_lines.specs.Words.{short_number}
 use Rattle.chess_fen.specs.Texts.{may_name_right, placement_of, target_of, fields_of, is_castling_field}
 use Rattle.chess_fen.specs.laws.Normal.{normal_rights_named, normal_setup_by, normal_setup_in, normal_rights_are_sound, normal_fault, normal_sound, normal_fen_reading}
-use Rattle.chess_fen.proofs.DenotedFen.{reading_in_variant}
+use Rattle.chess_fen.proofs.{DenotedFen.reading_in_variant, RooksNamed.rights_as_options, RooksNamed.wells_as_options}
 use Rattle.chess_fen.proofs.Steps.{steps_to, steps, denoted_by, unless_fault, if_fit, denoted_in, third, reading-steps}
 
 stand_kept : (p : Setup) → p.variant ≡ Normal → rights_are_sound p ≡ normal_rights_are_sound p
@@ -47,6 +39,18 @@ normal_steps castling men side fits target halfmove fullmove =
     (λ pieces. ok_or (if fits then Some (normal_rights_named castling) else None) faults.Castling)
     men side target halfmove fullmove
 
+-- the position of normal chess of these parts
+abbrev normal_setup : Men → Colour → Option ℕ → ℕ → ℕ → Rights → Setup
+normal_setup men colour target halfmove fullmove rights = record {
+  variant = Normal;
+  men = men;
+  side = colour;
+  rights = rights;
+  target = target;
+  halfmove = halfmove;
+  fullmove = max fullmove 1;
+}
+
 steps_kept : (c : List ℕ) (men : Option Men) (side : Option Colour) (fits : Bool) (target : Option (Option ℕ))
     (halfmove fullmove : Option ℕ)
     → (steps Normal c men side fits target halfmove fullmove >>= if_fit c)
@@ -59,16 +63,13 @@ steps_kept c (Some men) (Some colour) true None halfmove fullmove = refl
 steps_kept c (Some men) (Some colour) true (Some target) None fullmove = refl
 steps_kept c (Some men) (Some colour) true (Some target) (Some halfmove) None = refl
 steps_kept c (Some men) (Some colour) true (Some target) (Some halfmove) (Some fullmove) =
-    let p : Setup = record {
-      variant = Normal;
-      men = men;
-      side = colour;
-      rights = normal_rights_named c;
-      target = target;
-      halfmove = halfmove;
-      fullmove = max fullmove 1;
-    } in
-    ap (unless_fault p) (fault_kept p refl)
+    let p : Setup = normal_setup men colour target halfmove fullmove (normal_rights_named c) in
+    ap (λ (r : Rights). unless_fault (normal_setup men colour target halfmove fullmove r)
+    (first_failing (conditions_if (names_rights_well Normal men c)
+    (normal_setup men colour target halfmove fullmove r))))
+    (rights_as_options Normal men c)
+    ∙ ap (λ (b : Bool). unless_fault p (first_failing (conditions_if b p))) (wells_as_options Normal men c)
+    ∙ ap (unless_fault p) (fault_kept p refl)
 
 fields_kept : (a b c d h f : List ℕ)
     → (denoted_by Normal a b c d h f >>= if_fit c) ≡ (normal_setup_by a b c d h f >>= normal_sound)

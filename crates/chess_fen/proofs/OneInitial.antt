@@ -1,22 +1,9 @@
 -- Only the initial position of normal chess has its FEN.
-use Rattle.std.proofs.Common.{◌≡◌, ℕ, ◌+◌, ◌%◌, true, [], ◌∷◌, ◌++◌, get_or, Option, Some, None, refl, sym, ap, ◌∙◌, arith}
-use Rattle.std.specs.Prelude.{◌↔◌, Ok}
+use Rattle.std.proofs.Common.{◌≡◌, ℕ, ◌+◌, ◌%◌, true, [], ◌∷◌, ◌++◌, get_or, Option, Some, None, refl, sym, ap, ◌∙◌, arith, ◌↔◌, Ok}
 use Rattle.std.proofs.lemmas.Slice.Eq.{bytes_eq-Decides}
-use Rattle.chess_base.specs.declared.man.CastlingSide.TheVariants.{KingSide, QueenSide}
-use Rattle.chess_base.specs.declared.man.Colour.TheVariants.{White, Black}
-use Rattle.chess_base.specs.declared.man.Variant.{Variant}
-use Rattle.chess_base.specs.declared.man.Variant.TheVariants.{Normal, Fischerandom}
-use Rattle.chess_base.specs.declared.setup.Setup.{Setup}
-use Rattle.chess_base.specs.Initial.{initial_setup, initial_setup_of}
-use Rattle.chess_base.specs.Sound.{IsSound}
-use Rattle.chess_fen.specs.ties.Loops.{or_dash, right_text}
-use Rattle.chess_fen.proofs.RightLetters.{rights_are}
-use Rattle.chess_fen.specs.Reading.{fen_reading_as}
-use Rattle.chess_fen.specs.Texts.{fields_of}
-use Rattle.chess_fen.specs.Writing.{rights_text, fen, is_initial}
-use Rattle.chess_fen.proofs.DenotedFen.{reading-denoted}
-use Rattle.chess_fen.proofs.RoundTrip.{fen_fields}
-use Rattle.chess_fen.proofs.WrittenFen.{fen-denoted}
+use Rattle.chess_base.specs.{declared.man.CastlingSide.TheVariants.KingSide, declared.man.CastlingSide.TheVariants.QueenSide, declared.man.Colour.TheVariants.White, declared.man.Colour.TheVariants.Black, declared.man.Variant.Variant, declared.man.Variant.TheVariants.Normal, declared.man.Variant.TheVariants.Fischerandom, declared.setup.Setup.Setup, Initial.initial_setup, Initial.initial_setup_of, Sound.IsSound}
+use Rattle.chess_fen.specs.{ties.Loops.or_dash, ties.Loops.right_text, Reading.fen_reading_as, Texts.fields_of, Writing.rights_text, Writing.fen, Writing.is_initial}
+use Rattle.chess_fen.proofs.{RightLetters.rights_are, DenotedFen.reading-denoted, RoundTrip.fen_fields, WrittenFen.fen-denoted}
 
 -- the rights of Chess960 are not written as those of the initial position of normal chess, KQkq
 other_letters : (a b c d : Option ℕ) → or_dash (((right_text Fischerandom White KingSide a

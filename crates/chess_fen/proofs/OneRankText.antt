@@ -1,20 +1,11 @@
 -- A rank has one text in which no two digits are side by side: the one that is written.
-use Rattle.std.proofs.Common.{◌≡◌, ℕ, zero, suc, ◌+◌, ◌<◌, ◌≤◌, true, false, not, List, [], ◌∷◌, ◌++◌, length, Option, Some, None, refl, sym, ap, subst, ◌∙◌, inl, inr, arith}
-use Rattle.std.specs.Prelude.{◌&&◌, replicate}
+use Rattle.std.proofs.Common.{◌≡◌, ℕ, zero, suc, ◌+◌, ◌<◌, ◌≤◌, true, false, not, List, [], ◌∷◌, ◌++◌, length, Option, Some, None, refl, sym, ap, subst, ◌∙◌, inl, inr, arith, ◌&&◌, replicate}
 use Rattle.std.specs.List.{AllZip}
-use Rattle.std.proofs.lemmas.Bool.{and_parts}
-use Rattle.std.proofs.lemmas.Bool.Decides.{nat_tests}
-use Rattle.chess_base.specs.declared.man.Man.{Man}
+use Rattle.std.proofs.{lemmas.Bool.and_parts, lemmas.Bool.Decides.nat_tests}
+use Rattle.chess_base.specs.{declared.man.Man.Man, Letters.letter}
 use Rattle.byte_devices.specs.Bytes.{is_digit}
-use Rattle.chess_base.specs.Letters.{letter}
-use Rattle.chess_fen.specs.Denotation.{StandsFor}
-use Rattle.chess_fen.specs.Writing.{fen_rank}
-use Rattle.chess_fen.specs.ties.Loops.{run_text, row_text}
-use Rattle.chess_fen.proofs.DenotedRanks.{joined}
-use Rattle.chess_fen.proofs.FenBytes.{white_range}
-use Rattle.chess_fen.proofs.RoundTrip.{rank_denotes}
-use Rattle.chess_fen.proofs.WrittenRanks.{row_is}
-use Rattle.chess_fen.specs.laws.RankTexts.{digits_apart, IsRankText}
+use Rattle.chess_fen.specs.{Denotation.StandsFor, Writing.fen_rank, ties.Loops.run_text, ties.Loops.row_text, laws.RankTexts.digits_apart, laws.RankTexts.IsRankText}
+use Rattle.chess_fen.proofs.{DenotedRanks.joined, FenBytes.white_range, RoundTrip.rank_denotes, WrittenRanks.row_is}
 
 no_digit : (man : Man) → is_digit (letter man) ≡ false
 no_digit man = let range = white_range man.kind in grind (arith, nat_tests, range.0)

@@ -1,16 +1,12 @@
 -- Reading a placement byte by byte, up to the first space.
-use Rattle.std.proofs.Common.{◌≡◌, ℕ, zero, suc, ◌+◌, ◌-◌, ◌*◌, ◌<◌, ◌≤◌, Bool, true, false, cond, eqb, List, [], ◌∷◌, ◌++◌, length, map, get_or, take, drop, Option, Some, None, refl, sym, ap, ◌∙◌, ◌≢◌, append_assoc, append-nil, arith, length-append}
-use Rattle.std.specs.Prelude.{replicate, option_and_then}
-use Rattle.std.specs.Option.{option_map}
+use Rattle.std.proofs.Common.{◌≡◌, ℕ, zero, suc, ◌+◌, ◌-◌, ◌*◌, ◌<◌, ◌≤◌, Bool, true, false, cond, eqb, List, [], ◌∷◌, ◌++◌, length, map, get_or, take, drop, Option, Some, None, refl, sym, ap, ◌∙◌, ◌≢◌, append_assoc, append-nil, arith, length-append, option_map, replicate, option_and_then}
 use Rattle.std.specs.List.{slice_split, onto_first, position_or_len, before_first}
-use Rattle.std.proofs.lemmas.Bool.Decides.{nat_tests}
+use Rattle.std.proofs.{lemmas.Bool.Decides.nat_tests, lemmas.List.Splits.length-slice_split}
 use Rattle.std.proofs.lemmas.List.{take-replicate, drop-replicate, length-replicate, drop-take, take-take}
-use Rattle.std.proofs.lemmas.List.Splits.{length-slice_split}
 use Rattle.chess_base.specs.declared.man.Man.{Man}
 use Rattle.chess_fen.specs.Texts.{squares_of, all_there, rank_of, from_top, placement_of}
 use Rattle.chess_fen.specs.ties.Runs.{at_lower, last_rank, placing, from_space, NoRankIsRead, RankIsPlaced, SlashIsRead, NoSlashIsRead, Ends, PlacementIsRead}
-use Rattle.chess_fen.proofs.DenotedRanks.{joined, eight}
-use Rattle.chess_fen.proofs.RankBytes.{no_man, all_none, placing_over}
+use Rattle.chess_fen.proofs.{DenotedRanks.joined, DenotedRanks.eight, RankBytes.no_man, RankBytes.all_none, RankBytes.placing_over}
 
 abbrev no_board : Option (List (Option Man))
 no_board = None

@@ -1,14 +1,10 @@
 -- Reading a rank byte by byte.
-use Rattle.std.proofs.Common.{◌≡◌, ℕ, zero, suc, ◌+◌, ◌-◌, ◌<◌, ◌≤◌, Bool, true, false, cond, eqb, leb, List, [], ◌∷◌, ◌++◌, length, get_or, set, take, drop, Option, Some, None, refl, sym, ap, ◌∙◌, arith, length-append}
-use Rattle.std.proofs.Math.Seq.{take-length}
-use Rattle.std.specs.Prelude.{replicate, option_and_then}
+use Rattle.std.proofs.Common.{◌≡◌, ℕ, zero, suc, ◌+◌, ◌-◌, ◌<◌, ◌≤◌, Bool, true, false, cond, eqb, leb, List, [], ◌∷◌, ◌++◌, length, get_or, set, take, drop, Option, Some, None, refl, sym, ap, ◌∙◌, arith, length-append, replicate, option_and_then}
+use Rattle.std.proofs.{Math.Seq.take-length, Math.Seq.take-add, lemmas.Bool.Decides.nat_tests}
 use Rattle.std.specs.List.{position_or_len}
-use Rattle.std.proofs.lemmas.Bool.Decides.{nat_tests}
 use Rattle.std.proofs.lemmas.List.{at_drop_more, at_drop_all, take-replicate, drop-replicate, drop-drop, length-take, length-replicate, take-set, drop-set, drop-set-lt, length-set}
-use Rattle.std.proofs.Math.Seq.{take-add}
 use Rattle.chess_base.specs.declared.man.Man.{Man}
-use Rattle.chess_fen.specs.declared.letters.Run.{Run}
-use Rattle.chess_fen.specs.Texts.{squares_of}
+use Rattle.chess_fen.specs.{declared.letters.Run.Run, Texts.squares_of}
 use Rattle.chess_fen.specs.ties.Runs.{squares_in, at_lower, last_rank, placing, from_space, RankIsRead, NoRankIsRead}
 
 abbrev pub no_man : Option Man

@@ -1,28 +1,15 @@
 -- A FEN is read as it denotes. Rights that are named wrongly are refused by both: by the definition with a condition of
 -- their own, by the reader as rights whose rook is on a square that is no rook's.
-use Rattle.std.proofs.Common.{◌≡◌, ℕ, ◌⊎◌, inl, inr, Bool, true, false, cond, List, [], ◌∷◌, ◌++◌, map, take, drop, Option, Some, None, Result, Ok, Err, refl, sym, ap, ◌∙◌, arith}
-use Rattle.std.specs.Prelude.{◌&&◌, is_some, max, codes, IsOk, IfOk, IfErr, ◌↔◌}
-use Rattle.std.specs.List.{filter, fold}
+use Rattle.std.proofs.Common.{◌≡◌, ℕ, ◌⊎◌, inl, inr, Bool, true, false, cond, List, [], ◌∷◌, ◌++◌, map, take, drop, Option, Some, None, Result, Ok, Err, refl, sym, ap, ◌∙◌, arith, filter, fold, ◌&&◌, is_some, max, codes, IsOk, IfOk, IfErr, ◌↔◌}
 use Rattle.std.specs.Option.{option_flatten, option_map_or, ok_or, unwrap_or}
-use Rattle.chess_base.specs.declared.man.Colour.{Colour}
-use Rattle.chess_base.specs.declared.man.Colour.TheVariants.{White, Black}
-use Rattle.chess_base.specs.declared.man.CastlingSide.{CastlingSide}
-use Rattle.chess_base.specs.declared.man.CastlingSide.TheVariants.{KingSide, QueenSide}
-use Rattle.chess_base.specs.declared.man.Variant.{Variant}
-use Rattle.chess_base.specs.declared.man.Variant.TheVariants.{Normal, Fischerandom}
-use Rattle.chess_base.specs.declared.man.Rights.{Rights}
-use Rattle.chess_base.specs.declared.setup.Setup.{Setup}
-use Rattle.chess_base.specs.declared.fen_fault.FenFault.{FenFault}
+use Rattle.chess_base.specs.{declared.man.Colour.Colour, declared.man.Colour.TheVariants.White, declared.man.Colour.TheVariants.Black, declared.man.CastlingSide.CastlingSide, declared.man.CastlingSide.TheVariants.KingSide, declared.man.CastlingSide.TheVariants.QueenSide, declared.man.Variant.Variant, declared.man.Variant.TheVariants.Normal, declared.man.Variant.TheVariants.Fischerandom, declared.man.Rights.Rights, declared.setup.Setup.Setup, declared.fen_fault.FenFault.FenFault, Men.Men, Castling.are_placed_for_castling, Castling.right_is_sound, Castling.rights_by, Sound.IsSound}
 use Rattle.chess_base.specs.declared.fen_fault.FenFault.TheVariants as faults
-use Rattle.chess_base.specs.Men.{Men}
-use Rattle.chess_base.specs.Castling.{are_placed_for_castling, right_is_sound, rights_by}
 use Rattle.chess_base.specs.Faults.{conditions, rights_are_sound, first_failing, setup_fault}
-use Rattle.chess_base.specs.Sound.{IsSound}
-use Rattle.chess_base.proofs.shared.Sound.{no_fault_from_IsSound}
+use Rattle.chess_base.proofs.shared.Sound.{first_failing-conditions_if, no_fault_from_IsSound}
 use Rattle.text_lines.specs.Words.{short_number}
 use Rattle.chess_fen.specs.Texts.{placement_of, is_castling_field, target_of, fields_of}
-use Rattle.chess_fen.specs.RightNames.{right_by, right_in, names_rights_well, rights_in}
-use Rattle.chess_fen.proofs.RooksNamed.{names_right, rook_by, in_chess960}
+use Rattle.chess_fen.specs.RightNames.{names_right, rook_by, names_rights_well, rights_in}
+use Rattle.chess_fen.proofs.RooksNamed.{option_by, option_in, options_are_well, rights_by_options, in_chess960, rights_as_options, wells_as_options}
 use Rattle.chess_fen.specs.Reading.{◌>>=◌, side_of, fen_reading_as}
 use Rattle.chess_fen.specs.ties.Reader.{nowhere, outer_rook, named_square, one_or_nowhere, right_by_letters, setup_by, setup_in}
 use Rattle.chess_fen.proofs.Steps.{steps_to, steps, denoted_by, unless_fault, if_fit, denoted_in, third, reading-steps}
@@ -57,7 +44,7 @@ stays : (os : List (Option ℕ)) → fold one_or_nowhere (Some nowhere) (map or_
 stays [] = refl
 stays (o ∷ os) = stays os
 
-by_rooks : (os : List (Option ℕ)) → fold one_or_nowhere None (map or_nowhere os) ≡ sentinel (right_by os)
+by_rooks : (os : List (Option ℕ)) → fold one_or_nowhere None (map or_nowhere os) ≡ sentinel (option_by os)
 by_rooks [] = refl
 by_rooks (Some s ∷ []) = refl
 by_rooks (None ∷ []) = refl
@@ -65,7 +52,7 @@ by_rooks (Some s ∷ p ∷ os) = stays os
 by_rooks (None ∷ p ∷ os) = stays os
 
 right_is : (men : Men) (letters : List ℕ) (c : Colour) (w : CastlingSide)
-    → right_by_letters Fischerandom men letters c w ≡ sentinel (right_in Fischerandom men letters c w)
+    → right_by_letters Fischerandom men letters c w ≡ sentinel (option_in Fischerandom men letters c w)
 right_is men letters c w =
     only_named men c w None letters ∙ by_rooks (map (rook_by men c w) (filter (names_right men c w) letters))
     ∙ ap sentinel (sym (in_chess960 men c w letters))
@@ -157,20 +144,29 @@ module _ (men : Men) (colour : Colour) (target : Option ℕ) (halfmove fullmove 
       (one_nowhere a b c (Some nowhere) (inr (inr (inr (no_rook men Black QueenSide)))))
   named_alike (Some a) (Some b) (Some c) (Some d) = refl
 
-  alike : (v : Variant) (letters : List ℕ)
-      → said v (rights_in v men letters) (names_rights_well v men letters)
+  by_options : (v : Variant) (letters : List ℕ)
+      → said v (rights_by_options v men letters) (options_are_well v men letters)
       ≡ read v (rights_by (right_by_letters v men letters))
   unfolding setup_fault
-  alike Normal letters = refl
-  alike Fischerandom letters =
-      named_alike (right_in Fischerandom men letters White KingSide) (right_in Fischerandom men letters White QueenSide)
-      (right_in Fischerandom men letters Black KingSide) (right_in Fischerandom men letters Black QueenSide)
+  by_options Normal letters = refl
+  by_options Fischerandom letters =
+      named_alike (option_in Fischerandom men letters White KingSide)
+      (option_in Fischerandom men letters White QueenSide) (option_in Fischerandom men letters Black KingSide)
+      (option_in Fischerandom men letters Black QueenSide)
       ∙ rw (
         right_is men letters White KingSide,
         right_is men letters White QueenSide,
         right_is men letters Black KingSide,
         right_is men letters Black QueenSide,
       ) refl
+
+  alike : (v : Variant) (letters : List ℕ)
+      → said v (rights_in v men letters) (names_rights_well v men letters)
+      ≡ read v (rights_by (right_by_letters v men letters))
+  alike v letters =
+      ap (λ (r : Rights). said v r (names_rights_well v men letters)) (rights_as_options v men letters)
+      ∙ ap (λ (b : Bool). said v (rights_by_options v men letters) b) (wells_as_options v men letters)
+      ∙ by_options v letters
 
 -- ---- the fields
 
@@ -199,7 +195,9 @@ fields_are v a b c d h f =
     by_steps (Some men) (Some colour) true (Some target) None fullmove = refl
     by_steps (Some men) (Some colour) true (Some target) (Some halfmove) None = refl
     by_steps (Some men) (Some colour) true (Some target) (Some halfmove) (Some fullmove) =
-        alike men colour target halfmove (max fullmove 1) v c
+        let p : Setup = setup_with men colour target halfmove (max fullmove 1) v (rights_in v men c) in
+        ap (unless_fault p) (first_failing-conditions_if (names_rights_well v men c) p)
+        ∙ alike men colour target halfmove (max fullmove 1) v c
 
 fens_are : (v : Variant) (text : List ℕ) → fen_reading_as v text ≡ (setup_in v (fields_of text) >>= if_sound)
 fens_are v text = reading-steps v (fields_of text) ∙ by_fields (fields_of text)

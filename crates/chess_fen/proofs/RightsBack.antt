@@ -1,33 +1,14 @@
 -- In Chess960, the letters that are written for available rights name them.
-use Rattle.std.proofs.Common.{◌≡◌, ℕ, ◌+◌, ◌-◌, ◌<◌, ◌≤◌, ◌⊎◌, inl, inr, Bool, true, false, cond, eqb, leb, ltb, List, [], ◌∷◌, ◌++◌, length, map, Option, Some, None, refl, sym, ap, ◌∙◌, append-nil, arith}
-use Rattle.std.specs.Prelude.{IsTrue}
+use Rattle.std.proofs.Common.{◌≡◌, ℕ, ◌+◌, ◌-◌, ◌<◌, ◌≤◌, ◌⊎◌, inl, inr, Bool, true, false, cond, eqb, leb, ltb, List, [], ◌∷◌, ◌++◌, length, map, Option, Some, None, refl, sym, ap, ◌∙◌, append-nil, arith, IsTrue, length-append}
 use Rattle.std.specs.List.{AllByRecursion, filter, list_all}
-use Rattle.std.proofs.lemmas.Bool.{and_parts, eqb-true, ltb-true}
-use Rattle.std.proofs.lemmas.Bool.Decides.{nat_tests}
-use Rattle.std.proofs.lemmas.List.{length-append}
-use Rattle.std.proofs.lemmas.List.Elements.{filter-append}
-use Rattle.std.proofs.lemmas.List.Sums.{sum_by-append, sum_by-cons}
-use Rattle.chess_base.specs.declared.man.Colour.{Colour}
-use Rattle.chess_base.specs.declared.man.Colour.TheVariants.{White, Black}
-use Rattle.chess_base.specs.declared.man.CastlingSide.{CastlingSide}
-use Rattle.chess_base.specs.declared.man.CastlingSide.TheVariants.{KingSide, QueenSide}
-use Rattle.chess_base.specs.declared.man.Kind.TheVariants.{Rook}
-use Rattle.chess_base.specs.declared.man.Rights.{Rights}
-use Rattle.chess_base.specs.declared.man.Variant.{Variant}
-use Rattle.chess_base.specs.declared.man.Variant.TheVariants.{Fischerandom}
-use Rattle.chess_base.specs.Squares.{file, rank}
+use Rattle.std.proofs.{lemmas.Bool.and_parts, lemmas.Bool.eqb-true, lemmas.Bool.ltb-true, lemmas.Bool.Decides.nat_tests, lemmas.List.Elements.filter-append, lemmas.List.Sums.sum_by-append, lemmas.List.Sums.sum_by-cons}
+use Rattle.chess_base.specs.{declared.man.Colour.Colour, declared.man.Colour.TheVariants.White, declared.man.Colour.TheVariants.Black, declared.man.CastlingSide.CastlingSide, declared.man.CastlingSide.TheVariants.KingSide, declared.man.CastlingSide.TheVariants.QueenSide, declared.man.Kind.TheVariants.Rook, declared.man.Rights.Rights, declared.man.Variant.Variant, declared.man.Variant.TheVariants.Fischerandom, Squares.file, Squares.rank, shared.Parts.is_on_side_of_king, shared.Splits.right_is_sound_at}
 use Rattle.chess_base.specs.Men.{Men, man_at, is_man, other, first_rank}
 use Rattle.chess_base.specs.Castling.{home_square, king_square, is_to_side, right_of}
-use Rattle.chess_base.specs.shared.Parts.{is_on_side_of_king}
-use Rattle.chess_base.specs.shared.Splits.{right_is_sound_at}
-use Rattle.chess_fen.specs.ties.Loops.{or_dash, right_text}
-use Rattle.chess_fen.proofs.RightLetters.{rights_are}
+use Rattle.chess_fen.specs.{ties.Loops.or_dash, ties.Loops.right_text, ties.Reader.times, ties.Reader.names_once, Writing.rights_text}
+use Rattle.chess_fen.proofs.{RightLetters.rights_are, RooksNamed.option_by, RooksNamed.option_in, RooksNamed.in_chess960, Joined.all_append}
 use Rattle.chess_fen.specs.Texts.{first_letter, names_file, may_name_right, is_castling_field}
-use Rattle.chess_fen.specs.RightNames.{side_letter, is_towards, right_by, right_in}
-use Rattle.chess_fen.proofs.RooksNamed.{names_right, rook_by, in_chess960}
-use Rattle.chess_fen.specs.ties.Reader.{times, names_once}
-use Rattle.chess_fen.specs.Writing.{rights_text}
-use Rattle.chess_fen.proofs.Joined.{all_append}
+use Rattle.chess_fen.specs.RightNames.{side_letter, is_towards, names_right, rook_by}
 
 -- what an available right says of king and rook
 pub record Beside (men : Men) (c : Colour) (w : CastlingSide) (s : ℕ) : Type 0 where
@@ -201,15 +182,15 @@ own_letters men r Black QueenSide s =
     ) refl
 
 one_right : (men : Men) (c : Colour) (w : CastlingSide) (o : Option ℕ) → right_is_sound_at Fischerandom men c w o ≡ true
-    → right_by (map (rook_by men c w) (right_text Fischerandom c w o)) ≡ Some o
+    → option_by (map (rook_by men c w) (right_text Fischerandom c w o)) ≡ Some o
 one_right men c w None e = refl
 one_right men c w (Some s) e =
-    ap (λ rook. right_by (rook ∷ [])) (rook_own men c w s (beside men c w s e).rook_rank)
+    ap (λ rook. option_by (rook ∷ [])) (rook_own men c w s (beside men c w s e).rook_rank)
 
 pub right_back : (men : Men) (r : Rights) (c : Colour) (w : CastlingSide) → Stand Fischerandom men r
-    → right_in Fischerandom men (rights_text Fischerandom r) c w ≡ Some (right_of r c w)
+    → option_in Fischerandom men (rights_text Fischerandom r) c w ≡ Some (right_of r c w)
 right_back men r c w s =
-    in_chess960 men c w (rights_text Fischerandom r) ∙ ap (λ letters. right_by (map (rook_by men c w) letters)) (own_letters men r c w s)
+    in_chess960 men c w (rights_text Fischerandom r) ∙ ap (λ letters. option_by (map (rook_by men c w) letters)) (own_letters men r c w s)
     ∙ one_right men c w (right_of r c w) (s c w)
 
 -- ---- they are letters of rights, none twice

@@ -1,14 +1,7 @@
 -- The outermost rook, found from the edge on.
-use Rattle.std.proofs.Common.{◌≡◌, ℕ, zero, suc, ◌+◌, Bool, true, false, cond, List, [], ◌∷◌, Option, Some, refl, ap, ◌∙◌, arith}
-use Rattle.std.specs.Prelude.{find, unwrap_or}
-use Rattle.chess_base.specs.declared.man.Colour.{Colour}
-use Rattle.chess_base.specs.declared.man.CastlingSide.{CastlingSide}
-use Rattle.chess_base.specs.declared.man.CastlingSide.TheVariants.{KingSide, QueenSide}
-use Rattle.chess_base.specs.declared.man.Kind.TheVariants.{Rook}
-use Rattle.chess_base.specs.Men.{Men, man_at, is_man}
-use Rattle.chess_base.specs.Castling.{home_square}
-use Rattle.chess_fen.specs.ties.Reader.{nowhere, outer_rook}
-use Rattle.chess_fen.specs.ties.Loops.{edge_file, rook_among}
+use Rattle.std.proofs.Common.{◌≡◌, ℕ, zero, suc, ◌+◌, Bool, true, false, cond, List, [], ◌∷◌, Option, Some, refl, ap, ◌∙◌, arith, find, unwrap_or}
+use Rattle.chess_base.specs.{declared.man.Colour.Colour, declared.man.CastlingSide.CastlingSide, declared.man.CastlingSide.TheVariants.KingSide, declared.man.CastlingSide.TheVariants.QueenSide, declared.man.Kind.TheVariants.Rook, Men.Men, Men.man_at, Men.is_man, Castling.home_square}
+use Rattle.chess_fen.specs.{ties.Reader.nowhere, ties.Reader.outer_rook, ties.Loops.edge_file, ties.Loops.rook_among}
 
 pub rook_here : (men : Men) (c : Colour) (w : CastlingSide) (left k : ℕ) → k + 1 ≡ left
     → is_man c Rook (man_at men (home_square c (edge_file w k))) ≡ true

@@ -1,33 +1,141 @@
--- A right of Chess960 by the letters that name it, and the rooks that these name: a proof takes them one by one.
-use Rattle.std.proofs.Common.{◌≡◌, ℕ, Bool, List, [], ◌∷◌, map, Option, Some, refl, ap, arith}
-use Rattle.std.specs.Prelude.{find, ◌&&◌, ◌||◌, ◌==◌, ◌-◌, if◌then◌else◌}
-use Rattle.std.specs.List.{filter, filter_map}
-use Rattle.chess_base.specs.declared.man.CastlingSide.{CastlingSide}
-use Rattle.chess_base.specs.declared.man.Colour.{Colour}
-use Rattle.chess_base.specs.declared.man.Kind.TheVariants.{Rook}
-use Rattle.chess_base.specs.declared.man.Variant.TheVariants.{Fischerandom}
-use Rattle.chess_base.specs.Castling.{home_square, king_square}
-use Rattle.chess_base.specs.Men.{Men, man_at, is_man}
-use Rattle.chess_fen.specs.RightNames.{side_letter, from_edge, is_towards, rook_named, right_by, right_in}
-use Rattle.chess_fen.specs.Texts.{first_letter, names_file}
+-- What the letters of a castling field say of a right, as an option of an option: `None` for `Wrong`, `Some None` for
+-- `Absent`. Proofs about rights use this form; here it is shown to say the same as `right_in`.
+use Rattle.std.proofs.Common.{◌≡◌, ℕ, Bool, true, false, ◌&&◌, List, [], ◌∷◌, map, Option, Some, None, if◌then◌else◌, refl, sym, ap, ◌∙◌, is_some}
+use Rattle.std.specs.{Bool.then_some, List.filter, List.list_all, Option.option_flatten, Option.option_map_or}
+use Rattle.chess_base.specs.{declared.man.CastlingSide.CastlingSide, declared.man.CastlingSide.TheVariants.KingSide, declared.man.CastlingSide.TheVariants.QueenSide, declared.man.Colour.Colour, declared.man.Colour.TheVariants.White, declared.man.Colour.TheVariants.Black, declared.man.Rights.Rights, declared.man.Variant.Variant, declared.man.Variant.TheVariants.Normal, declared.man.Variant.TheVariants.Fischerandom, Castling.home_square, Castling.rook_file, Castling.rights_by, Men.Men}
+use Rattle.chess_fen.specs.RightNames.{all_rights, side_letter, names_right, rook_by, NamedRight, Absent, At, Wrong, right_by, right_in, is_named_well, names_rights_well, rook_of, rights_in}
+use Rattle.chess_fen.specs.Texts.{occurs}
 
--- the letter names colour c's right on side w
-abbrev pub names_right : Men → Colour → CastlingSide → ℕ → Bool
-names_right men c w letter = letter == side_letter c w
-    || names_file c letter && is_towards w (king_square men c) (home_square c (letter - first_letter c))
+-- ---- the form
 
--- the rook's square by a letter that names the right
-abbrev pub rook_by : Men → Colour → CastlingSide → ℕ → Option ℕ
-rook_by men c w letter =
-    if letter == side_letter c w then find (λ s. is_man c Rook (man_at men s)) (from_edge c w)
-    else Some (home_square c (letter - first_letter c))
+abbrev pub option_by : List (Option ℕ) → Option (Option ℕ)
+option_by [] = Some None
+option_by (Some s ∷ []) = Some (Some s)
+option_by _ = None
 
-module _ (men : Men) (c : Colour) (w : CastlingSide) where
-  rooks : (letters : List ℕ) → filter_map (rook_named men c w) letters
-      ≡ map (rook_by men c w) (filter (names_right men c w) letters)
-  rooks [] = refl
-  rooks (letter ∷ letters) = let more = rooks letters in grind (arith, more)
+abbrev pub option_in : Variant → Men → List ℕ → Colour → CastlingSide → Option (Option ℕ)
+option_in Normal men letters c w = Some (then_some (occurs (side_letter c w) letters) (home_square c (rook_file w)))
+option_in Fischerandom men letters c w = option_by (map (rook_by men c w) (filter (names_right men c w) letters))
 
-  pub in_chess960 : (letters : List ℕ) → right_in Fischerandom men letters c w
-      ≡ right_by (map (rook_by men c w) (filter (names_right men c w) letters))
-  in_chess960 letters = ap right_by (rooks letters)
+abbrev pub options_are_well : Variant → Men → List ℕ → Bool
+options_are_well v men letters = list_all (λ r. is_some (option_in v men letters r.0 r.1)) all_rights
+
+abbrev pub rights_by_options : Variant → Men → List ℕ → Rights
+rights_by_options v men letters = rights_by (λ c w. option_flatten (option_in v men letters c w))
+
+pub in_chess960 : (men : Men) (c : Colour) (w : CastlingSide) (letters : List ℕ)
+    → option_in Fischerandom men letters c w ≡ option_by (map (rook_by men c w) (filter (names_right men c w) letters))
+in_chess960 men c w letters = refl
+
+-- ---- one right
+
+abbrev as_option : NamedRight → Option (Option ℕ)
+as_option Absent = Some None
+as_option (At s) = Some (Some s)
+as_option Wrong = None
+
+by_option : (os : List (Option ℕ)) → as_option (right_by os) ≡ option_by os
+by_option [] = refl
+by_option (Some s ∷ []) = refl
+by_option (None ∷ []) = refl
+by_option (Some s ∷ o ∷ os) = refl
+by_option (None ∷ o ∷ os) = refl
+
+normal_option : (b : Bool) (s : ℕ) → as_option (if b then At s else Absent) ≡ Some (then_some b s)
+normal_option true s = refl
+normal_option false s = refl
+
+option_is : (v : Variant) (men : Men) (letters : List ℕ) (c : Colour) (w : CastlingSide)
+    → as_option (right_in v men letters c w) ≡ option_in v men letters c w
+option_is Normal men letters c w = normal_option (occurs (side_letter c w) letters) (home_square c (rook_file w))
+option_is Fischerandom men letters c w = by_option (map (rook_by men c w) (filter (names_right men c w) letters))
+
+-- ---- all rights
+
+rook_as_option : (n : NamedRight) → rook_of n ≡ option_flatten (as_option n)
+rook_as_option Absent = refl
+rook_as_option (At s) = refl
+rook_as_option Wrong = refl
+
+pub rook_is : (v : Variant) (men : Men) (letters : List ℕ) (c : Colour) (w : CastlingSide)
+    → rook_of (right_in v men letters c w) ≡ option_flatten (option_in v men letters c w)
+rook_is v men letters c w = rook_as_option (right_in v men letters c w)
+    ∙ ap (λ (o : Option (Option ℕ)). option_flatten o) (option_is v men letters c w)
+
+abbrev four_rights : Option ℕ → Option ℕ → Option ℕ → Option ℕ → Rights
+four_rights a b c d = record {
+  white = record { king_side = a; queen_side = b };
+  black = record { king_side = c; queen_side = d };
+}
+
+same_rights : (f g : Colour → CastlingSide → Option ℕ) → ((c : Colour) (w : CastlingSide) → f c w ≡ g c w)
+    → rights_by f ≡ rights_by g
+same_rights f g h =
+    ap (λ (o : Option ℕ). four_rights o (f White QueenSide) (f Black KingSide) (f Black QueenSide)) (h White KingSide)
+    ∙ ap (λ (o : Option ℕ). four_rights (g White KingSide) o (f Black KingSide) (f Black QueenSide)) (h White QueenSide)
+    ∙ ap (λ (o : Option ℕ). four_rights (g White KingSide) (g White QueenSide) o (f Black QueenSide)) (h Black KingSide)
+    ∙ ap (λ (o : Option ℕ). four_rights (g White KingSide) (g White QueenSide) (g Black KingSide) o) (h Black QueenSide)
+
+pub rights_as_options : (v : Variant) (men : Men) (letters : List ℕ)
+    → rights_in v men letters ≡ rights_by_options v men letters
+rights_as_options v men letters = same_rights (λ c w. rook_of (right_in v men letters c w))
+    (λ c w. option_flatten (option_in v men letters c w)) (rook_is v men letters)
+
+well_as_option : (n : NamedRight) → is_named_well n ≡ is_some (as_option n)
+well_as_option Absent = refl
+well_as_option (At s) = refl
+well_as_option Wrong = refl
+
+well_is : (v : Variant) (men : Men) (letters : List ℕ) (c : Colour) (w : CastlingSide)
+    → is_named_well (right_in v men letters c w) ≡ is_some (option_in v men letters c w)
+well_is v men letters c w = well_as_option (right_in v men letters c w)
+    ∙ ap (λ (o : Option (Option ℕ)). is_some o) (option_is v men letters c w)
+
+same_tests : (f g : Colour → CastlingSide → Bool) → ((c : Colour) (w : CastlingSide) → f c w ≡ g c w)
+    → (f White KingSide && (f White QueenSide && (f Black KingSide && (f Black QueenSide && true))))
+    ≡ (g White KingSide && (g White QueenSide && (g Black KingSide && (g Black QueenSide && true))))
+same_tests f g h =
+    ap (λ (b : Bool). b && (f White QueenSide && (f Black KingSide && (f Black QueenSide && true)))) (h White KingSide)
+    ∙ ap (λ (b : Bool). g White KingSide && (b && (f Black KingSide && (f Black QueenSide && true))))
+    (h White QueenSide)
+    ∙ ap (λ (b : Bool). g White KingSide && (g White QueenSide && (b && (f Black QueenSide && true))))
+    (h Black KingSide)
+    ∙ ap (λ (b : Bool). g White KingSide && (g White QueenSide && (g Black KingSide && (b && true))))
+    (h Black QueenSide)
+
+pub wells_as_options : (v : Variant) (men : Men) (letters : List ℕ)
+    → names_rights_well v men letters ≡ options_are_well v men letters
+wells_as_options v men letters = same_tests (λ c w. is_named_well (right_in v men letters c w))
+    (λ c w. is_some (option_in v men letters c w)) (well_is v men letters)
+
+-- ---- back
+
+abbrev of_option : Option (Option ℕ) → NamedRight
+of_option None = Wrong
+of_option (Some None) = Absent
+of_option (Some (Some s)) = At s
+
+back : (n : NamedRight) → of_option (as_option n) ≡ n
+back Absent = refl
+back (At s) = refl
+back Wrong = refl
+
+as_stated : (o : Option ℕ) → as_option (option_map_or At o Absent) ≡ Some o
+as_stated None = refl
+as_stated (Some s) = refl
+
+of_stated : (o : Option ℕ) → of_option (Some o) ≡ option_map_or At o Absent
+of_stated None = refl
+of_stated (Some s) = refl
+
+-- a right that is named well, as an option
+pub as_named : (v : Variant) (men : Men) (letters : List ℕ) (c : Colour) (w : CastlingSide) (o : Option ℕ)
+    → right_in v men letters c w ≡ option_map_or At o Absent → option_in v men letters c w ≡ Some o
+as_named v men letters c w o e =
+    sym (option_is v men letters c w) ∙ ap (λ (n : NamedRight). as_option n) e ∙ as_stated o
+
+-- and back
+pub of_named : (v : Variant) (men : Men) (letters : List ℕ) (c : Colour) (w : CastlingSide) (o : Option ℕ)
+    → option_in v men letters c w ≡ Some o → right_in v men letters c w ≡ option_map_or At o Absent
+of_named v men letters c w o e = sym (back (right_in v men letters c w))
+    ∙ ap (λ (x : Option (Option ℕ)). of_option x) (option_is v men letters c w ∙ e) ∙ of_stated o

@@ -1,45 +1,20 @@
 -- What is written for a position is read as that position.
-use Rattle.std.proofs.Common.{◌≡◌, ℕ, zero, suc, ◌+◌, ◌*◌, ◌<◌, ◌≤◌, inl, inr, true, eqb, leb, ltb, List, [], ◌∷◌, ◌++◌, length, take, drop, map, Option, Some, None, refl, sym, ap, subst, ◌∙◌, arith, rules}
-use Rattle.std.specs.Prelude.{replicate, decimal, is_some, Ok, max}
-use Rattle.std.specs.Bool.{then_some}
-use Rattle.std.specs.List.{AllZip, list_all, slice_split}
-use Rattle.std.proofs.lemmas.Bool.Decides.{nat_tests}
-use Rattle.std.proofs.lemmas.List.{append-nil, length-take, length-drop, take_all, length-append}
-use Rattle.std.proofs.lemmas.Fmt.{digits_decimal, decimal_is_IsNumeral, decimal_nonempty}
-use Rattle.std.specs.Str.Parse.{digits_value}
-use Rattle.std.proofs.lemmas.Str.Parse.{IsNumeralModel, numerals_by_value}
-use Rattle.chess_base.specs.declared.man.Man.{Man}
-use Rattle.chess_base.specs.declared.man.Colour.{Colour}
-use Rattle.chess_base.specs.declared.man.Colour.TheVariants.{White, Black}
-use Rattle.chess_base.specs.declared.man.CastlingSide.{CastlingSide}
-use Rattle.chess_base.specs.declared.man.CastlingSide.TheVariants.{KingSide, QueenSide}
-use Rattle.chess_base.specs.declared.man.Rights.{Rights}
-use Rattle.chess_base.specs.declared.man.Variant.{Variant}
-use Rattle.chess_base.specs.declared.man.Variant.TheVariants.{Normal, Fischerandom}
-use Rattle.chess_base.specs.declared.setup.Setup.{Setup}
-use Rattle.chess_base.specs.Letters.{letter}
+use Rattle.std.proofs.Common.{◌≡◌, ℕ, zero, suc, ◌+◌, ◌*◌, ◌<◌, ◌≤◌, inl, inr, true, eqb, leb, ltb, List, [], ◌∷◌, ◌++◌, length, take, drop, map, Option, Some, None, refl, sym, ap, subst, ◌∙◌, arith, rules, take-add, replicate, decimal, is_some, Ok, max, append-nil, length-take, length-drop, take_all, length-append}
+use Rattle.std.specs.{Bool.then_some, Option.option_flatten, List.AllZip, List.list_all, List.slice_split, Str.Parse.digits_value}
+use Rattle.std.proofs.{lemmas.Bool.Decides.nat_tests, lemmas.Fmt.digits_decimal, lemmas.Fmt.decimal_is_IsNumeral, lemmas.Fmt.decimal_nonempty, lemmas.Str.Parse.IsNumeralModel, lemmas.Str.Parse.numerals_by_value}
+use Rattle.chess_base.specs.{declared.man.Man.Man, declared.man.Colour.Colour, declared.man.Colour.TheVariants.White, declared.man.Colour.TheVariants.Black, declared.man.CastlingSide.CastlingSide, declared.man.CastlingSide.TheVariants.KingSide, declared.man.CastlingSide.TheVariants.QueenSide, declared.man.Rights.Rights, declared.man.Variant.Variant, declared.man.Variant.TheVariants.Normal, declared.man.Variant.TheVariants.Fischerandom, declared.setup.Setup.Setup, Letters.letter, Men.Men, Sound.IsSound, shared.Splits.right_is_sound_at}
 use Rattle.byte_devices.specs.Bytes.{is_digit}
-use Rattle.chess_base.specs.Men.{Men}
-use Rattle.chess_base.specs.Sound.{IsSound}
 use Rattle.chess_base.specs.Castling.{home_square, rook_file, right_of, right_is_sound}
-use Rattle.chess_base.specs.shared.Splits.{right_is_sound_at}
 use Rattle.chess_base.proofs.shared.Castling.{right_is_sound_of}
-use Rattle.std.proofs.Math.Seq.{take-add}
 use Rattle.text_lines.specs.Words.{short_number}
-use Rattle.chess_fen.specs.RightNames.{side_letter, right_in, names_rights_well}
+use Rattle.chess_fen.specs.RightNames.{side_letter, right_in, names_rights_well, rook_of}
 use Rattle.chess_fen.specs.Texts.{from_top, placement_of, occurs, may_name_right, is_castling_field, fields_of}
 use Rattle.chess_fen.specs.Writing.{fen_rank, placement_text, side_text, rights_text, target_text, fen}
-use Rattle.chess_fen.specs.Denotation.{DenotesSquares, DenotesRank}
-use Rattle.chess_fen.specs.ties.Reader.{right_named}
+use Rattle.chess_fen.specs.{Denotation.DenotesSquares, Denotation.DenotesRank, ties.Reader.right_named}
 use Rattle.chess_fen.specs.ties.Loops.{or_dash, ranks_down, run_text, row_text, ranks_text}
-use Rattle.chess_fen.proofs.DenotedFields.{placement-denoted, side-text, target-denoted}
-use Rattle.chess_fen.proofs.RightLetters.{letters, rights_are}
-use Rattle.chess_fen.proofs.RightsBack.{Stand, right_back, text_is_castling}
-use Rattle.chess_fen.proofs.WrittenRanks.{moved, row_is}
-use Rattle.chess_fen.proofs.Lengths.{short_decimal}
+use Rattle.chess_fen.proofs.{DenotedFields.placement-denoted, DenotedFields.side-text, DenotedFields.target-denoted, RightLetters.letters, RightLetters.rights_are, RightsBack.Stand, RightsBack.right_back, RightsBack.text_is_castling, WrittenRanks.moved, WrittenRanks.row_is, Lengths.short_decimal, Joined.each_weaker, Joined.slice_split-join, Joined.fields_of-join, Steps.denoted_in, Steps.third}
+use Rattle.chess_fen.proofs.RooksNamed.{option_in, options_are_well, rook_is, wells_as_options}
 use Rattle.chess_fen.proofs.FenBytes.{target_fits, rows_plain, fields, counters_fit, fields_plain}
-use Rattle.chess_fen.proofs.Joined.{each_weaker, slice_split-join, fields_of-join}
-use Rattle.chess_fen.proofs.Steps.{denoted_in, third}
 
 -- ---- numbers
 
@@ -108,7 +83,7 @@ right_read men r s c w = ap (λ b. then_some b (home_square c (rook_file w)))
 -- what is written for the rights of a position has the form of a castling field, and names them
 record ReadBack (v : Variant) (men : Men) (r : Rights) : Type 0 where
   castling : is_castling_field v (rights_text v r) ≡ true
-  rights : (c : Colour) (w : CastlingSide) → right_in v men (rights_text v r) c w ≡ Some (right_of r c w)
+  rights : (c : Colour) (w : CastlingSide) → option_in v men (rights_text v r) c w ≡ Some (right_of r c w)
 
 are_read : (v : Variant) (men : Men) (r : Rights) → Stand v men r → ReadBack v men r
 are_read Normal men r s =
@@ -226,13 +201,19 @@ fen_fields p h =
       ),
     )
 
+-- the rights that are read of what is written
+rights_back : (p : Setup) → ReadBack p.variant p.men p.rights → (c : Colour) (w : CastlingSide)
+    → rook_of (right_in p.variant p.men (rights_text p.variant p.rights) c w) ≡ right_of p.rights c w
+rights_back p back c w = rook_is p.variant p.men (rights_text p.variant p.rights) c w
+    ∙ ap (λ (o : Option (Option ℕ)). option_flatten o) (back.rights c w)
+
 pub written-fen : (p : Setup) → IsSound p → denoted_in p.variant (fields_of (fen p)) ≡ Ok p
 written-fen p h =
     let fit = counters_fit p h in
     let some : 0 < p.fullmove = let e = h.fullmove_low in grind (arith, nat_tests, e) in
     let counted : max p.fullmove 1 ≡ p.fullmove = omega (arith, some) in
     let back = read_back p h in
-    let t = back.rights in
+    let t = rights_back p back in
     ap (denoted_in p.variant) (fen_fields p h) ∙ rw (
       placement-text p.men h.board,
       side-text p.side,
@@ -250,6 +231,7 @@ written-fen p h =
 pub written-well : (p : Setup) → IsSound p → names_rights_well p.variant p.men (third (fields_of (fen p))) ≡ true
 written-well p h =
     let t = (read_back p h).rights in
-    let well : names_rights_well p.variant p.men (rights_text p.variant p.rights) ≡ true =
+    let well : options_are_well p.variant p.men (rights_text p.variant p.rights) ≡ true =
     rw (t White KingSide, t White QueenSide, t Black KingSide, t Black QueenSide) refl in
-    ap (λ fields. names_rights_well p.variant p.men (third fields)) (fen_fields p h) ∙ well
+    ap (λ fields. names_rights_well p.variant p.men (third fields)) (fen_fields p h)
+    ∙ wells_as_options p.variant p.men (rights_text p.variant p.rights) ∙ well

@@ -1,17 +1,10 @@
 -- The table of bytes is held against the definition at each of the 256 bytes, by computing.
-use Rattle.std.proofs.Common.{◌≡◌, ℕ, zero, suc, ◌-◌, ◌<◌, ◌≤◌, Bool, true, false, cond, eqb, leb, ◌&&◌, List, [], ◌∷◌, get_or, Option, Some, None, refl, sym, ap, ◌∙◌, arith}
-use Rattle.std.specs.Prelude.{is_none, replicate}
-use Rattle.std.specs.Option.{option_map}
+use Rattle.std.proofs.Common.{◌≡◌, ℕ, zero, suc, ◌-◌, ◌<◌, ◌≤◌, Bool, true, false, cond, eqb, leb, ◌&&◌, List, [], ◌∷◌, get_or, Option, Some, None, refl, sym, ap, ◌∙◌, arith, option_map, is_none, replicate}
 use Rattle.std.proofs.lemmas.Bool.{and_parts, agree_below, agree_below_at, eqb-true}
 use Rattle.std.proofs.lemmas.Bool.Decides.{nat_tests}
-use Rattle.chess_base.specs.declared.man.Man.{Man}
-use Rattle.chess_fen.specs.declared.letters.Run.{Run}
-use Rattle.chess_fen.specs.declared.letters.TheConstants.{RUNS}
-use Rattle.chess_base.specs.Letters.{letter, man_with_letter}
-use Rattle.chess_fen.specs.Texts.{squares_of}
-use Rattle.chess_fen.specs.ties.Runs.{squares_in}
-use Rattle.chess_fen.proofs.RankBytes.{no_man, squares-digit}
-use Rattle.chess_fen.proofs.DenotedRanks.{squares-letter}
+use Rattle.chess_base.specs.{declared.man.Man.Man, Letters.letter, Letters.man_with_letter}
+use Rattle.chess_fen.specs.{declared.letters.Run.Run, declared.letters.TheConstants.RUNS, Texts.squares_of, ties.Runs.squares_in}
+use Rattle.chess_fen.proofs.{RankBytes.no_man, RankBytes.squares-digit, DenotedRanks.squares-letter}
 
 abbrev no_squares : Option (List (Option Man))
 no_squares = None

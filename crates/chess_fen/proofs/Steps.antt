@@ -1,21 +1,13 @@
 -- The position that the six fields of a FEN denote, by what each of them denotes, and the reading of a list of fields as
 -- that of the position, sound or not, and of its conditions: a proof goes through the cases.
-use Rattle.std.proofs.Common.{◌≡◌, ℕ, Bool, false, cond, ◌==◌, if◌then◌else◌, length, List, [], ◌∷◌, ◌++◌, get_or, arith, Option, Result, Ok, Err, refl}
-use Rattle.std.specs.Prelude.{max, codes}
+use Rattle.std.proofs.Common.{◌≡◌, ℕ, Bool, false, cond, ◌==◌, if◌then◌else◌, length, List, [], ◌∷◌, ◌++◌, get_or, arith, Option, Result, Ok, Err, refl, max, codes}
 use Rattle.std.proofs.lemmas.Bool.Decides.{nat_tests}
 use Rattle.std.specs.Option.{ok_or, option_map_or}
-use Rattle.chess_base.specs.declared.fen_fault.FenFault.{FenFault}
+use Rattle.chess_base.specs.{declared.fen_fault.FenFault.FenFault, declared.man.Colour.Colour, declared.man.Rights.Rights, declared.man.Variant.Variant, declared.setup.Setup.Setup, Faults.first_failing, Men.Men}
 use Rattle.chess_base.specs.declared.fen_fault.FenFault.TheVariants as faults
-use Rattle.chess_base.specs.declared.man.Colour.{Colour}
-use Rattle.chess_base.specs.declared.man.Rights.{Rights}
-use Rattle.chess_base.specs.declared.man.Variant.{Variant}
-use Rattle.chess_base.specs.declared.setup.Setup.{Setup}
-use Rattle.chess_base.specs.Faults.{first_failing}
-use Rattle.chess_base.specs.Men.{Men}
 use Rattle.text_lines.specs.Words.{short_number}
-use Rattle.chess_fen.specs.RightNames.{rights_in}
+use Rattle.chess_fen.specs.{RightNames.rights_in, Texts.placement_of, Texts.is_castling_field, Texts.target_of}
 use Rattle.chess_fen.specs.Reading.{◌>>=◌, side_of, conditions_of, reading_in}
-use Rattle.chess_fen.specs.Texts.{placement_of, is_castling_field, target_of}
 
 -- the steps up to the position, with which `end` goes on; the rights are read when the pieces are known
 abbrev pub steps_to : (Setup → Result Setup FenFault) → Variant → (Men → Result Rights FenFault) → Option Men

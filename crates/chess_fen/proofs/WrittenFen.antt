@@ -1,13 +1,8 @@
 -- What is written denotes its position, and no other.
 use Rattle.std.proofs.Common.{◌≡◌, Ok, sym, subst, ◌∙◌}
-use Rattle.chess_base.specs.declared.setup.Setup.{Setup}
-use Rattle.chess_base.specs.Sound.{IsSound}
-use Rattle.chess_fen.specs.Denotation.{DenotesFenAs}
-use Rattle.chess_fen.specs.Texts.{fields_of}
-use Rattle.chess_fen.specs.Writing.{fen}
-use Rattle.chess_fen.proofs.RoundTrip.{written-fen, written-well}
-use Rattle.chess_fen.proofs.DenotedFen.{TextOutcome, text_outcome, text-denoted}
-use Rattle.chess_fen.proofs.Steps.{third}
+use Rattle.chess_base.specs.{declared.setup.Setup.Setup, Sound.IsSound}
+use Rattle.chess_fen.specs.{Denotation.DenotesFenAs, Texts.fields_of, Writing.fen}
+use Rattle.chess_fen.proofs.{RoundTrip.written-fen, RoundTrip.written-well, DenotedFen.TextOutcome, DenotedFen.text_outcome, DenotedFen.text-denoted, Steps.third}
 
 pub fen-denoted : (p : Setup) → IsSound p → DenotesFenAs p.variant (fen p) p
 fen-denoted p h = (

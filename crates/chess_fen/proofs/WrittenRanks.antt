@@ -1,31 +1,41 @@
 -- Writing a rank's squares and then the ranks, from the eighth down.
-use Rattle.std.proofs.Common.{◌≡◌, ℕ, zero, suc, ◌+◌, ◌-◌, ◌*◌, ◌<◌, List, [], ◌∷◌, ◌++◌, take, drop, Option, Some, None, refl, sym, ap, ◌∙◌, append_assoc, append-nil, arith}
-use Rattle.std.specs.Prelude.{replicate}
-use Rattle.chess_base.specs.declared.man.Man.{Man}
-use Rattle.chess_base.specs.Letters.{letter}
-use Rattle.chess_fen.specs.Writing.{raised, fen_rank}
-use Rattle.chess_fen.specs.ties.Loops.{run_text, row_text, ranks_text}
+use Rattle.std.proofs.Common.{◌≡◌, ℕ, zero, suc, ◌+◌, ◌-◌, ◌*◌, ◌<◌, List, [], ◌∷◌, ◌++◌, take, drop, Option, Some, None, refl, sym, ap, ◌∙◌, append_assoc, append-nil, arith, is_none, replicate, true}
+use Rattle.std.specs.List.{prefix_len}
+use Rattle.chess_base.specs.{declared.man.Man.Man, Letters.letter}
+use Rattle.chess_fen.specs.{Writing.squares_text, Writing.fen_rank, ties.Loops.run_text, ties.Loops.row_text, ties.Loops.ranks_text}
 
 -- ---- a rank
 
+-- the number of empty squares in front of others, the first of which is not empty
+run_len : (n : ℕ) (others : List (Option Man)) → prefix_len is_none others ≡ 0
+    → prefix_len is_none (replicate n None ++ others) ≡ n
+run_len zero others none = none
+run_len (suc n) others none =
+    let one : 1 + n ≡ suc n = omega arith in ap (λ k. 1 + k) (run_len n others none) ∙ one
+
+-- empty squares after another add nothing
+run_passed : (n : ℕ) (others : List (Option Man))
+    → squares_text true (replicate n None ++ others) ≡ squares_text true others
+run_passed zero others = refl
+run_passed (suc n) others = run_passed n others
+
 -- empty squares in front of others, the first of which is not empty
-runs : (others : List (Option Man)) → fen_rank (None ∷ others) ≡ 49 ∷ fen_rank others → (n : ℕ)
-    → fen_rank (replicate n None ++ others) ≡ run_text n ++ fen_rank others
-runs others one zero = refl
-runs others one (suc zero) = one
-runs others one (suc (suc n)) =
-    let count : suc (48 + suc n) ≡ 48 + suc (suc n) = omega arith in
-    ap raised (runs others one (suc n)) ∙ ap (λ c. c ∷ fen_rank others) count
+runs : (others : List (Option Man)) → prefix_len is_none others ≡ 0 → squares_text true others ≡ fen_rank others
+    → (n : ℕ) → fen_rank (replicate n None ++ others) ≡ run_text n ++ fen_rank others
+runs others none same zero = refl
+runs others none same (suc n) =
+    ap (λ k. (48 + k) ∷ squares_text true (replicate n None ++ others)) (run_len (suc n) others none)
+    ∙ ap (λ text. (48 + suc n) ∷ text) (run_passed n others ∙ same)
 
 pub moved : (n : ℕ) (row : List (Option Man)) → replicate (suc n) None ++ row ≡ replicate n None ++ None ∷ row
 moved zero row = refl
 moved (suc n) row = ap (λ xs. None ∷ xs) (moved n row)
 
 pub row_is : (row : List (Option Man)) (n : ℕ) → row_text n row ≡ fen_rank (replicate n None ++ row)
-row_is [] n = sym (runs [] refl n ∙ append-nil (run_text n))
+row_is [] n = sym (runs [] refl refl n ∙ append-nil (run_text n))
 row_is (None ∷ row) n = row_is row (suc n) ∙ ap fen_rank (moved n row)
 row_is (Some man ∷ row) n =
-    ap (λ text. run_text n ++ letter man ∷ text) (row_is row 0) ∙ sym (runs (Some man ∷ row) refl n)
+    ap (λ text. run_text n ++ letter man ∷ text) (row_is row 0) ∙ sym (runs (Some man ∷ row) refl refl n)
 
 -- ---- the ranks
 

@@ -1,15 +1,14 @@
 -- The position that a text denotes, field by field, or its first fault. This project's additions to the standard: the
--- counters may be left out, and a fullmove number of 0 is read as 1. Denotation and FenFaults say the same of a text
--- and a position or a fault, with relations for the placement, the side, the target and the order of faults; that both
--- agree is proved by the clauses `found`, `only`, `fault` and `refused` of `read_fen_as`.
-use Rattle.std.specs.Prelude.{ℕ, max, codes, Bool, List, [], ◌∷◌, ◌++◌, length, take, drop, Option, Some, None, Result, Ok, Err, ◌==◌, if◌then◌else◌}
+-- counters may be left out, and a fullmove number of 0 is read as 1. Denotation and FenFaults say the same by
+-- relations, as the clauses `found`, `only`, `fault` and `refused` of `read_fen_as` say.
+use Rattle.std.specs.Prelude.{ℕ, max, codes, Bool, List, [], ◌∷◌, ◌++◌, length, Option, Some, None, Result, Ok, Err, ◌==◌, if◌then◌else◌}
 use Rattle.std.specs.Option.{ok_or, option_map_or}
 use Rattle.chess_base.specs.declared.man.Colour.{Colour}
 use Rattle.chess_base.specs.declared.man.Colour.TheVariants.{White, Black}
 use Rattle.chess_base.specs.declared.man.Variant.{Variant}
 use Rattle.chess_base.specs.declared.man.Variant.TheVariants.{Normal}
 use Rattle.chess_base.specs.declared.setup.Setup.{Setup}
-use Rattle.chess_base.specs.Faults.{conditions, first_failing}
+use Rattle.chess_base.specs.Faults.{conditions_if, first_failing}
 use Rattle.chess_base.specs.declared.fen_fault.FenFault.{FenFault}
 use Rattle.chess_base.specs.declared.fen_fault.FenFault.TheVariants as faults
 use Rattle.byte_devices.specs.Bytes.{byte}
@@ -28,16 +27,12 @@ abbrev pub side_of : List ℕ → Option Colour
 side_of (c ∷ []) = if c == byte "w" then Some White else (if c == byte "b" then Some Black else None)
 side_of _ = None
 
--- each fault with the condition whose failure it reports, in the order in which they are checked: the seven conditions
--- of soundness (`conditions`), and between the fourth and the fifth, which is about castling rights, that the castling
--- field `letters` names no right wrongly
+-- the conditions that a position must meet where `letters` are the castling field of its FEN
 abbrev pub conditions_of : List ℕ → Setup → List (FenFault × Bool)
-conditions_of letters p =
-    take 4 (conditions p) ++ ((faults.Castling, names_rights_well p.variant p.men letters) ∷ drop 4 (conditions p))
+conditions_of letters p = conditions_if (names_rights_well p.variant p.men letters) p
 
--- the sound position p that the six fields of a FEN denote; or the fault: of the first field, from left to right, that
--- denotes nothing, or else of the first condition that p fails (`conditions_of`). A castling right that is named
--- wrongly is not there in p, and a fullmove number of 0 is read as 1. Any other number of fields is a fault
+-- the sound position that the six fields of a FEN denote; or the fault of the first field that denotes nothing, or else
+-- of the first condition that fails (`conditions_of`). Any other number of fields is a fault
 abbrev pub reading_in : Variant → List (List ℕ) → Result Setup FenFault
 reading_in v (placement ∷ side ∷ castling ∷ target ∷ halfmove ∷ fullmove ∷ []) = do
   pieces ← ok_or (placement_of placement) faults.Placement
@@ -58,11 +53,10 @@ reading_in v (placement ∷ side ∷ castling ∷ target ∷ halfmove ∷ fullmo
   option_map_or Err (first_failing (conditions_of castling p)) (Ok p)
 reading_in v _ = Err faults.Fields
 
--- the sound position that a text denotes as a FEN of variant v; or the fault: a wrong number of fields, the first field
--- that denotes nothing, or the first condition that fails. The two counters may be left out; then they are 0 and 1
+-- the sound position that a text denotes as a FEN of variant v, or its first fault (`reading_in`). The two counters may
+-- be left out; then they are 0 and 1
 abbrev pub fen_reading_as : Variant → List ℕ → Result Setup FenFault
-fen_reading_as v text =
-    let fields = fields_of text in
+fen_reading_as v text = let fields = fields_of text in
     reading_in v (if length fields == 4 then fields ++ (codes "0" ∷ codes "1" ∷ []) else fields)
 
 -- the sound position that a text denotes as a FEN of normal chess, or the fault, as `fen_reading_as` says

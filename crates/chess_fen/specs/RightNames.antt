@@ -1,9 +1,8 @@
 -- Which rights the letters of a FEN name: in normal chess K, Q, k and q (PGN standard of 1994, section 16.1.3.3); in
 -- Chess960 a rook by its file (Shredder-FEN), or the outermost one by its side (X-FEN).
-use Rattle.std.specs.Prelude.{ℕ, ◌+◌, ◌-◌, ◌==◌, nat_lt, Bool, false, not, ◌&&◌, List, [], ◌∷◌, map, find, Option, Some, None, is_some, if◌then◌else◌}
-use Rattle.std.specs.Bool.{then_some}
-use Rattle.std.specs.List.{list_all, filter_map}
-use Rattle.std.specs.Option.{option_flatten, option_map_or}
+use Rattle.std.specs.Prelude.{ℕ, ◌+◌, ◌-◌, ◌==◌, nat_lt, Bool, true, false, not, ◌&&◌, ◌||◌, List, [], ◌∷◌, map, find, Option, Some, None, if◌then◌else◌}
+use Rattle.std.specs.List.{list_all, filter}
+use Rattle.std.specs.Option.{option_map_or}
 use Rattle.chess_base.specs.declared.man.Colour.{Colour}
 use Rattle.chess_base.specs.declared.man.Colour.TheVariants.{White, Black}
 use Rattle.chess_base.specs.declared.man.CastlingSide.{CastlingSide}
@@ -22,13 +21,12 @@ use Rattle.chess_fen.specs.Texts.{occurs, first_letter, names_file}
 abbrev pub all_rights : List (Colour × CastlingSide)
 all_rights = (White, KingSide) ∷ (White, QueenSide) ∷ (Black, KingSide) ∷ (Black, QueenSide) ∷ []
 
--- the letter by which a FEN of normal chess names colour c's castling right on that side: K or Q for White, k or q for
--- Black
+-- the letter of colour c's castling right on that side: K or Q for White, k or q for Black
 abbrev pub side_letter : Colour → CastlingSide → ℕ
 side_letter c = by_side (letter_by c King) (letter_by c Queen)
 
--- the letter that is written for colour c's right on side w, with the rook on square s: in normal chess K, Q, k or q,
--- in Chess960 the letter of the rook's file, as H for White's rook on h1
+-- the letter that is written for colour c's right on side w, with the rook on square s: in normal chess that of the
+-- side, in Chess960 that of the rook's file, as H for White's rook on h1
 abbrev pub right_letter : Variant → Colour → CastlingSide → ℕ → ℕ
 right_letter Normal c w s = side_letter c w
 right_letter Fischerandom c w s = first_letter c + file s
@@ -41,47 +39,61 @@ abbrev pub from_edge : Colour → CastlingSide → List ℕ
 from_edge c w = map (home_square c)
     (by_side (7 ∷ 6 ∷ 5 ∷ 4 ∷ 3 ∷ 2 ∷ 1 ∷ 0 ∷ []) (0 ∷ 1 ∷ 2 ∷ 3 ∷ 4 ∷ 5 ∷ 6 ∷ 7 ∷ []) w)
 
--- square s is on that side of the king, whose square is `king`; both are on one rank, which is not tested. Queen side:
--- s is left of the king (nearer to the a-file). King side: it is not; so the king's own square is on the king side, and
--- without a king (`None`) each square is
+-- square s is on that side of the king's, if both are on one rank. King side is all that is not left of the king: also
+-- the king's own square, and without a king (`None`) each square
 abbrev pub is_towards : CastlingSide → Option ℕ → ℕ → Bool
 is_towards QueenSide king s = option_map_or (λ k. nat_lt s k) king false
 is_towards KingSide king s = not (option_map_or (λ k. nat_lt s k) king false)
 
--- whether the letter names colour c's right on side w (`None` if not), and the square of the rook that it names for it.
--- c's letter of that side (K or Q, k or q) names the rook of c on its first rank that is nearest to the board's edge on
--- side w: `Some None` if there is none. c's letter (A to H, a to h) of a file on that side of c's king names the square
--- on that file of c's first rank, with or without a rook
-abbrev pub rook_named : Men → Colour → CastlingSide → ℕ → Option (Option ℕ)
-rook_named men c w letter =
-    let s = home_square c (letter - first_letter c) in
-    if letter == side_letter c w then Some (find (λ t. is_man c Rook (man_at men t)) (from_edge c w))
-    else then_some (names_file c letter && is_towards w (king_square men c) s) (Some s)
+-- the letter names colour c's right on side w: it is c's letter of that side (K or Q, k or q), or that of a file (A to
+-- H, a to h) on that side of c's king
+abbrev pub names_right : Men → Colour → CastlingSide → ℕ → Bool
+names_right men c w letter = letter == side_letter c w
+    || names_file c letter && is_towards w (king_square men c) (home_square c (letter - first_letter c))
 
--- one castling right, from what `rook_named` gives for each letter that names it. No letter: the right is not there
--- (`Some None`). One letter, for which there is a rook: the right is there, given as the rook's square. Several
--- letters, or one for which there is no rook: the right is named wrongly (`None`)
-abbrev pub right_by : List (Option ℕ) → Option (Option ℕ)
-right_by [] = Some None
-right_by (Some s ∷ []) = Some (Some s)
-right_by _ = None
+-- the rook's square by a letter that names the right. By a side's letter it is that of the rook of c on its first rank
+-- that is nearest to that edge (`None`: there is none); by a file's letter the one on that file, even without a rook
+abbrev pub rook_by : Men → Colour → CastlingSide → ℕ → Option ℕ
+rook_by men c w letter = if letter == side_letter c w then find (λ s. is_man c Rook (man_at men s)) (from_edge c w)
+    else Some (home_square c (letter - first_letter c))
+
+-- what the letters of a castling field say of a right
+pub data NamedRight : Type 0 where
+  -- no letter names it: it is not there
+  Absent : NamedRight
+  -- it is there, with its rook on this square
+  At : (rook : ℕ) → NamedRight
+  -- it is named wrongly: by several letters, or by one for which there is no rook
+  Wrong : NamedRight
+
+-- a castling right of Chess960, from the rooks that the letters which name it give
+abbrev pub right_by : List (Option ℕ) → NamedRight
+right_by [] = Absent
+right_by (Some s ∷ []) = At s
+right_by _ = Wrong
 
 -- ---- both
 
--- colour c's castling right on side w by the letters of a castling field: its rook's square, or `Some None` if c does
--- not have it. In normal chess c has it if its letter (K, Q, k or q) is among them, and the rook's square is the
--- corner. `None` if the letters name it wrongly (`right_by`), which they never do in normal chess
-abbrev pub right_in : Variant → Men → List ℕ → Colour → CastlingSide → Option (Option ℕ)
-right_in Normal men letters c w = Some (then_some (occurs (side_letter c w) letters) (home_square c (rook_file w)))
-right_in Fischerandom men letters c w = right_by (filter_map (rook_named men c w) letters)
+-- colour c's castling right on side w by the letters of a castling field. In normal chess c has it if the side's letter
+-- is among them, with the rook in the corner
+abbrev pub right_in : Variant → Men → List ℕ → Colour → CastlingSide → NamedRight
+right_in Normal men letters c w = if occurs (side_letter c w) letters then At (home_square c (rook_file w)) else Absent
+right_in Fischerandom men letters c w = right_by (map (rook_by men c w) (filter (names_right men c w) letters))
 
--- whether the letters of a castling field name each right well (`right_by`): in Chess960 a right is named wrongly by
--- several letters, or by a side's letter (K, Q, k or q) if its colour has no rook on its first rank; whether there is a
--- rook on the file of a file's letter is not tested here. A right without a letter is not there, which is no fault. In
--- normal chess no right is named wrongly
+-- whether a right is not named wrongly
+abbrev pub is_named_well : NamedRight → Bool
+is_named_well Wrong = false
+is_named_well _ = true
+
+-- whether the letters of a castling field name no right wrongly
 abbrev pub names_rights_well : Variant → Men → List ℕ → Bool
-names_rights_well v men letters = list_all (λ r. is_some (right_in v men letters r.0 r.1)) all_rights
+names_rights_well v men letters = list_all (λ r. is_named_well (right_in v men letters r.0 r.1)) all_rights
+
+-- the square of a right's rook, if the right is there
+abbrev pub rook_of : NamedRight → Option ℕ
+rook_of (At s) = Some s
+rook_of _ = None
 
 -- the rights that the letters name, without those that are named wrongly
 abbrev pub rights_in : Variant → Men → List ℕ → Rights
-rights_in v men letters = rights_by (λ c w. option_flatten (right_in v men letters c w))
+rights_in v men letters = rights_by (λ c w. rook_of (right_in v men letters c w))

@@ -1,7 +1,7 @@
 -- The one FEN that is written for a position (PGN standard of 1994, section 16.1). The target is written as the
 -- position holds it, whether or not it can be captured on; numbers have no leading zeros.
-use Rattle.std.specs.Prelude.{ℕ, Bool, suc, ◌*◌, ◌==◌, if◌then◌else◌, length, List, [], ◌∷◌, map, take, drop, Option, Some, None, decimal, codes}
-use Rattle.std.specs.List.{filter_map, join_with_byte}
+use Rattle.std.specs.Prelude.{ℕ, Bool, true, false, ◌+◌, ◌*◌, ◌==◌, if◌then◌else◌, length, List, [], ◌∷◌, map, take, drop, Option, Some, None, is_none, decimal, codes}
+use Rattle.std.specs.List.{filter_map, join_with_byte, prefix_len}
 use Rattle.std.specs.Option.{option_map, option_map_or}
 use Rattle.chess_base.specs.declared.man.Man.{Man}
 use Rattle.chess_base.specs.declared.man.Colour.{Colour}
@@ -16,18 +16,17 @@ use Rattle.chess_base.specs.Castling.{right_of}
 use Rattle.chess_base.specs.Initial.{initial_setup}
 use Rattle.std.specs.Str.{bytes_eq}
 
--- the text with its first byte raised by one: "3p" for "2p"
-abbrev pub raised : List ℕ → List ℕ
-raised [] = []
-raised (c ∷ cs) = suc c ∷ cs
+-- the text of squares of one rank: a piece's letter for each piece, and for the first of empty squares side by side the
+-- digit that counts them; nothing for the others. `in_run`: whether the square before these is empty
+abbrev pub squares_text : Bool → List (Option Man) → List ℕ
+squares_text in_run [] = []
+squares_text in_run (Some man ∷ row) = letter man ∷ squares_text false row
+squares_text true (None ∷ row) = squares_text true row
+squares_text false (None ∷ row) = (byte "0" + prefix_len is_none (None ∷ row)) ∷ squares_text true row
 
--- the text of squares of one rank, from file a on, as "4P3": a piece's letter for each piece, and for empty squares
--- side by side the digit that counts them
+-- the text of squares of one rank, from file a on, as "4P3"
 abbrev pub fen_rank : List (Option Man) → List ℕ
-fen_rank [] = []
-fen_rank (Some man ∷ row) = letter man ∷ fen_rank row
-fen_rank (None ∷ None ∷ row) = raised (fen_rank (None ∷ row))
-fen_rank (None ∷ row) = byte "1" ∷ fen_rank row
+fen_rank row = squares_text false row
 
 -- a FEN's first field: the text of all eight ranks, rank 8 first, with a slash between them
 unfoldable pub placement_text : List (Option Man) → List ℕ
@@ -38,8 +37,8 @@ placement_text men = join_with_byte (byte "/")
 abbrev pub side_text : Colour → List ℕ
 side_text = by_colour (codes "w") (codes "b")
 
--- a FEN's third field: the letters (`right_letter`) of the castling rights that are there, in the order of
--- `all_rights`, in normal chess KQkq; a dash if there are none
+-- a FEN's third field: the letters of the castling rights that are there, in normal chess KQkq; a dash if there are
+-- none
 abbrev pub rights_text : Variant → Rights → List ℕ
 rights_text v rights =
     let letters = filter_map (λ r. option_map (right_letter v r.0 r.1) (right_of rights r.0 r.1)) all_rights in
@@ -54,7 +53,6 @@ abbrev pub fen : Setup → List ℕ
 fen p = join_with_byte space (placement_text p.men ∷ side_text p.side ∷ rights_text p.variant p.rights ∷ target_text
     p.target ∷ decimal p.halfmove ∷ decimal p.fullmove ∷ [])
 
--- whether a position has the FEN of normal chess's initial position. Of all sound positions only that one has it: no
--- two sound positions of normal chess have the same FEN, and in Chess960 rights have other letters
+-- whether a position has the FEN of normal chess's initial position; of all sound positions only that one has it
 abbrev pub is_initial : Setup → Bool
 is_initial start = bytes_eq (fen start) (fen initial_setup)

@@ -1,6 +1,6 @@
 //! Laws of FEN. A caller learns one by calling its function, which does nothing.
 
-ghost use Rattle.std.specs.Prelude.{◌≡◌, ◌↔◌, ◌∷◌, ◌++◌, ℕ, IsTrue, true, false, List, [], Option, Some, None, Ok, codes, length, replicate};
+ghost use Rattle.std.specs.Prelude.{◌≡◌, ◌↔◌, ◌∷◌, ◌++◌, ℕ, IsTrue, true, false, List, [], Option, None, Ok, codes, length, replicate};
 ghost use Rattle.chess_base.specs.declared.man.CastlingSide.TheVariants.{KingSide, QueenSide};
 ghost use Rattle.chess_base.specs.declared.man.Colour.TheVariants.{White, Black};
 ghost use Rattle.chess_base.specs.declared.man.Kind.TheVariants.{Pawn};
@@ -11,7 +11,7 @@ ghost use Rattle.chess_base.specs.Initial.{man_of};
 ghost use Rattle.chess_base.specs.Sound.{IsSound};
 ghost use Rattle.chess_fen.specs.Denotation.{DenotesFenAs};
 ghost use Rattle.chess_fen.specs.Reading.{fen_reading_as};
-ghost use Rattle.chess_fen.specs.RightNames.{right_in, names_rights_well};
+ghost use Rattle.chess_fen.specs.RightNames.{Absent, At, Wrong, right_in, names_rights_well};
 ghost use Rattle.chess_fen.specs.Texts.{fields_of};
 ghost use Rattle.chess_fen.specs.Writing.{fen, fen_rank};
 ghost use Rattle.chess_fen.specs.laws.Examples.{kings_and_pawn, three_rooks};
@@ -66,15 +66,15 @@ pub fn fens_are_worked_out()
         × DenotesFenAs Normal (codes "4k3/8/8/8/8/8/4P3/4K3 b - - 5 39") kings_and_pawn }
     ensures rank { IsRankText (replicate 4 None ++ (man_of White Pawn ∷ replicate 3 None)) (codes "4P3") }
     // The outermost rook on the king's side is on h1, the only one on the queen's side on b1.
-    ensures side { right_in Fischerandom three_rooks (codes "KQ") White KingSide ≡ Some (Some 7) }
-    ensures other_side { right_in Fischerandom three_rooks (codes "KQ") White QueenSide ≡ Some (Some 1) }
+    ensures side { right_in Fischerandom three_rooks (codes "KQ") White KingSide ≡ At 7 }
+    ensures other_side { right_in Fischerandom three_rooks (codes "KQ") White QueenSide ≡ At 1 }
     // A file's letter names the rook on that file.
-    ensures file { right_in Fischerandom three_rooks (codes "FB") White KingSide ≡ Some (Some 5) }
+    ensures file { right_in Fischerandom three_rooks (codes "FB") White KingSide ≡ At 5 }
     // No letter names the right: there is none.
-    ensures none { right_in Fischerandom three_rooks (codes "Q") White KingSide ≡ Some None }
+    ensures none { right_in Fischerandom three_rooks (codes "Q") White KingSide ≡ Absent }
     // Two letters name one right, or the letter names no rook: that is wrong.
-    ensures two { right_in Fischerandom three_rooks (codes "FK") White KingSide ≡ None }
-    ensures no_rook { right_in Fischerandom three_rooks (codes "k") Black KingSide ≡ None }
+    ensures two { right_in Fischerandom three_rooks (codes "FK") White KingSide ≡ Wrong }
+    ensures no_rook { right_in Fischerandom three_rooks (codes "k") Black KingSide ≡ Wrong }
     // So these letters name each right well, or one of them wrongly.
     ensures well { names_rights_well Fischerandom three_rooks (codes "FB") ≡ true }
     ensures wrongly { names_rights_well Fischerandom three_rooks (codes "FK") ≡ false }

@@ -1,23 +1,14 @@
 -- Pieces as sets of squares, and back.
-use Rattle.std.proofs.Common.{◌≡◌, ℕ, zero, suc, ◌<◌, inl, inr, Bool, true, false, not, ◌&&◌, ◌||◌, if◌then◌else◌, refl, sym, ◌∙◌, ap, subst, arith, Option, Some, None, length, true≢false}
+use Rattle.std.proofs.Common.{◌≡◌, ℕ, zero, suc, ◌<◌, inl, inr, Bool, true, false, not, ◌&&◌, ◌||◌, if◌then◌else◌, refl, sym, ◌∙◌, ap, subst, arith, Option, Some, None, length, true≢false, ext_get_or}
 use Rattle.std.proofs.lemmas.Bool.{or_from, or_parts, cases_Bool}
-use Rattle.std.proofs.lemmas.List.{ext_get_or}
-use Rattle.chess_base.specs.declared.man.Colour.{Colour}
-use Rattle.chess_base.specs.declared.man.Colour.TheVariants.{White, Black}
-use Rattle.chess_base.specs.declared.man.Kind.{Kind}
+use Rattle.chess_base.specs.{declared.man.Colour.Colour, declared.man.Colour.TheVariants.White, declared.man.Colour.TheVariants.Black, declared.man.Kind.Kind, declared.man.Man.Man, Squares.some_square, shared.Below.some_below, shared.Below.each_below, shared.Below.from_below}
 use Rattle.chess_base.specs.declared.man.Kind.TheVariants.{King, Queen, Rook, Bishop, Knight, Pawn}
-use Rattle.chess_base.specs.declared.man.Man.{Man}
 use Rattle.chess_base.specs.Men.{Men, man_at, is_of, is_man, same_colour, same_kind}
-use Rattle.chess_base.specs.Squares.{some_square}
-use Rattle.chess_base.specs.shared.Below.{some_below, each_below, from_below}
 use Rattle.chess_base.proofs.shared.Squares.{length-from_below, get_or-from_below, some_square_is, each_square_is}
 use Rattle.chess_moves.specs.Sets.{contains}
-use Rattle.chess_game.specs.Ends.{is_kind}
-use Rattle.chess_game.specs.Same.{same_man, same_men}
+use Rattle.chess_game.specs.{Ends.is_kind, Same.same_man, Same.same_men, declared.packed.PackedMen.PackedMen}
 use Rattle.chess_game.specs.ties.Packed.{man_of, man_in, men_in, IsPackedAt, ArePacked}
-use Rattle.chess_game.specs.declared.packed.PackedMen.{PackedMen}
-use Rattle.chess_game.proofs.EqualHashes.{places_equal}
-use Rattle.chess_game.proofs.SameSelf.{man_self}
+use Rattle.chess_game.proofs.{EqualHashes.places_equal, SameSelf.man_self}
 
 -- ---- White's pieces
 

@@ -1,12 +1,8 @@
 -- How often a position occurred, counted over the played moves of a game.
 use Rattle.std.proofs.Common.{◌≡◌, ◌∙◌, ℕ, ◌+◌, Bool, List, [], ◌∷◌, count_by, cond, sym, ap, subst}
 use Rattle.std.proofs.lemmas.List.Sums.{sum_by-cons}
-use Rattle.chess_base.specs.declared.setup.Setup.{Setup}
-use Rattle.chess_base.specs.Moves.{after}
-use Rattle.chess_game.specs.Line.{positions_of, position_after}
-use Rattle.chess_game.specs.Same.{is_same_position, repetition_count}
-use Rattle.chess_game.specs.ties.PlayedMoves.{moves_of, Follows}
-use Rattle.chess_game.specs.declared.game.PlayedMove.{PlayedMove}
+use Rattle.chess_base.specs.{declared.setup.Setup.Setup, Moves.after}
+use Rattle.chess_game.specs.{Line.positions_of, Line.position_after, Same.is_same_position, Same.repetition_count, ties.PlayedMoves.moves_of, ties.PlayedMoves.Follows, declared.game.PlayedMove.PlayedMove}
 
 abbrev pub one_if : Bool → ℕ
 one_if b = cond b 1 0

@@ -3,26 +3,13 @@ use Rattle.std.proofs.Common.{◌≡◌, ◌<◌, ℕ, inl, inr, Bool, true, not
 use Rattle.std.proofs.lemmas.Bool.Decides.{nat_tests}
 use Rattle.std.proofs.lemmas.Bool.{eqb-true, and_from, and_parts, both_ways}
 use Rattle.std.specs.List.{list_any}
-use Rattle.chess_base.specs.declared.man.Colour.{Colour}
-use Rattle.chess_base.specs.declared.man.Colour.TheVariants.{White, Black}
-use Rattle.chess_base.specs.declared.man.Kind.{Kind}
-use Rattle.chess_base.specs.declared.man.Kind.TheVariants.{Pawn}
-use Rattle.chess_base.specs.declared.man.Move.{Move}
-use Rattle.chess_base.specs.declared.setup.Setup.{Setup}
+use Rattle.chess_base.specs.{declared.man.Colour.Colour, declared.man.Colour.TheVariants.White, declared.man.Colour.TheVariants.Black, declared.man.Kind.Kind, declared.man.Kind.TheVariants.Pawn, declared.man.Move.Move, declared.setup.Setup.Setup, MoveList.move_of, MoveList.moves, Moves.is_legal, Moves.is_en_passant, Moves.pawn_advances, shared.Parts.crossed_rank, shared.Parts.one_rank_back, Sound.IsSound}
 use Rattle.chess_base.specs.Men.{man_at, is_man, other, first_rank, forward, pawn_rank}
-use Rattle.chess_base.specs.MoveList.{move_of, moves}
-use Rattle.chess_base.specs.Moves.{is_legal, is_en_passant, pawn_advances}
-use Rattle.chess_base.specs.shared.Parts.{crossed_rank, one_rank_back}
 use Rattle.chess_base.specs.Squares.{rank, is_at, some_square, squares}
-use Rattle.chess_base.specs.Sound.{IsSound}
-use Rattle.chess_base.proofs.shared.Changes.{advance_goes, at_target, pawn_no_castling}
-use Rattle.chess_base.proofs.shared.Men.{is_man-colour}
+use Rattle.chess_base.proofs.{shared.Changes.advance_goes, shared.Changes.at_target, shared.Changes.pawn_no_castling, shared.Men.is_man-colour, shared.Squares.some_square_same}
 use Rattle.chess_base.proofs.shared.MoveKinds.{MoveKind, ManMoves, Castles, PawnMoves, Advances, Captures, TakesEnPassant, moves_from_pattern}
-use Rattle.chess_base.proofs.shared.Squares.{some_square_same}
-use Rattle.chess_moves.specs.Promoting.{would_promote}
-use Rattle.chess_moves.specs.Sets.{contains, HasLegalStarts}
-use Rattle.chess_moves.proofs.shared.LegalMoves.{promotes_on_last_rank}
-use Rattle.chess_moves.proofs.shared.AnyMove.{any_by_start}
+use Rattle.chess_moves.specs.{Promoting.would_promote, Sets.contains, Sets.HasLegalStarts}
+use Rattle.chess_moves.proofs.{shared.LegalMoves.promotes_on_last_rank, shared.AnyMove.any_by_start}
 use Rattle.chess_game.proofs.SomeKind.{not_none}
 
 at_itself : (t : ℕ) → is_at (Some t) t ≡ true

@@ -1,18 +1,11 @@
 -- Positions that are the same have the same pieces, side and rights, so their hashes by one definition are equal.
-use Rattle.std.proofs.Common.{◌≡◌, ℕ, ◌<◌, true, false, not, ◌&&◌, ◌==◌, length, Option, None, Some, refl, sym, ◌∙◌, ap, arith, true≢false}
+use Rattle.std.proofs.Common.{◌≡◌, ℕ, ◌<◌, true, false, not, ◌&&◌, ◌==◌, length, Option, None, Some, refl, sym, ◌∙◌, ap, arith, true≢false, ext_get_or}
 use Rattle.std.proofs.lemmas.Bool.{and_parts, eqb-true, eq-eqb, false_from_ne_true}
-use Rattle.std.proofs.lemmas.List.{ext_get_or}
-use Rattle.chess_base.specs.declared.man.ColourRights.{ColourRights}
-use Rattle.chess_base.specs.declared.man.Man.{Man}
-use Rattle.chess_base.specs.declared.man.Rights.{Rights}
-use Rattle.chess_base.specs.declared.setup.Setup.{Setup}
+use Rattle.chess_base.specs.{declared.man.ColourRights.ColourRights, declared.man.Man.Man, declared.man.Rights.Rights, declared.setup.Setup.Setup, Sound.IsSound}
 use Rattle.chess_base.specs.Men.{Men, man_at, same_colour, same_kind}
-use Rattle.chess_base.specs.Sound.{IsSound}
-use Rattle.chess_base.proofs.shared.Men.{same_colour-true, same_kind-true}
-use Rattle.chess_base.proofs.shared.Squares.{each_square-at}
+use Rattle.chess_base.proofs.{shared.Men.same_colour-true, shared.Men.same_kind-true, shared.Squares.each_square-at}
 use Rattle.chess_game.specs.Same.{is_same_position, same_man, same_men, same_square, same_colour_rights, same_rights, legal_en_passant_square}
-use Rattle.chess_game.specs.ties.PlayedMoves.{Hashing, HasHash}
-use Rattle.chess_game.specs.declared.repetition.Hashed.{Hashed}
+use Rattle.chess_game.specs.{ties.PlayedMoves.Hashing, ties.PlayedMoves.HasHash, declared.repetition.Hashed.Hashed}
 
 -- ---- the same part by part
 

@@ -1,31 +1,12 @@
 -- No position before a capture or a pawn move is the same as one after it.
-use Rattle.std.proofs.Common.{◌≡◌, ◌∙◌, inl, inr, ℕ, zero, suc, ◌+◌, ◌<◌, ◌≤◌, true, false, List, [], ◌∷◌, ◌++◌, length, get_or, Option, None, Some, refl, sym, ap, subst, arith}
-use Rattle.std.proofs.Math.Seq.{get_or-append_seam}
-use Rattle.std.proofs.lemmas.List.{length-append, get_or_append_left}
-use Rattle.std.specs.Prelude.{◌==◌, sum, if◌then◌else◌}
-use Rattle.chess_base.specs.declared.man.Move.{Move}
-use Rattle.std.proofs.lemmas.Bool.{cases_Bool, and_parts, eqb-true}
-use Rattle.chess_base.specs.declared.man.Kind.TheVariants.{Pawn}
-use Rattle.chess_base.specs.declared.man.Man.{Man}
-use Rattle.chess_base.specs.declared.setup.Saved.{Saved}
-use Rattle.chess_base.specs.declared.setup.Setup.{Setup}
+use Rattle.std.proofs.Common.{◌≡◌, ◌∙◌, inl, inr, ℕ, zero, suc, ◌+◌, ◌<◌, ◌≤◌, true, false, List, [], ◌∷◌, ◌++◌, length, get_or, Option, None, Some, refl, sym, ap, subst, arith, ◌==◌, sum, if◌then◌else◌}
+use Rattle.std.proofs.{Math.Seq.get_or-append_seam, lemmas.List.length-append, lemmas.List.get_or_append_left, lemmas.Bool.cases_Bool, lemmas.Bool.and_parts, lemmas.Bool.eqb-true}
+use Rattle.chess_base.specs.{declared.man.Move.Move, declared.man.Kind.TheVariants.Pawn, declared.man.Man.Man, declared.setup.Saved.Saved, declared.setup.Setup.Setup, Moves.after, shared.Below.from_below, laws.Reserve.reserve, laws.Reserve.weight, laws.Reserve.ranks_to_go, laws.Laws.ReserveNeverGrows, laws.Laws.ReserveFallsForGood, Letters.white_letter}
 use Rattle.chess_base.specs.Men.{Men, man_at, same_colour, same_kind}
-use Rattle.chess_base.specs.Moves.{after}
-use Rattle.chess_base.specs.shared.Below.{from_below}
-use Rattle.chess_base.specs.laws.Reserve.{reserve, weight, ranks_to_go}
-use Rattle.chess_base.specs.laws.Laws.{ReserveNeverGrows, ReserveFallsForGood}
-use Rattle.chess_base.specs.Letters.{white_letter}
-use Rattle.chess_base.proofs.shared.Squares.{each_square-at, map_squares}
-use Rattle.chess_base.proofs.shared.Men.{same_colour-true}
+use Rattle.chess_base.proofs.{shared.Squares.each_square-at, shared.Squares.map_squares, shared.Men.same_colour-true}
 use Rattle.chess_moves.specs.Made.{WasMade}
-use Rattle.chess_game.specs.Line.{position_after}
-use Rattle.chess_game.specs.Same.{is_same_position, same_man, same_men}
-use Rattle.chess_game.specs.ties.PlayedMoves.{moves_of, IsKnown, Follows}
-use Rattle.chess_game.specs.ties.Buckets.{known_at, is_same_at}
-use Rattle.chess_game.specs.declared.game.PlayedMove.{PlayedMove}
-use Rattle.chess_game.specs.declared.repetition.Hashed.{Hashed}
-use Rattle.chess_game.proofs.Kept.{kept_as, follows_more, last-more}
-use Rattle.chess_game.proofs.Numbered.{known_before}
+use Rattle.chess_game.specs.{Line.position_after, Same.is_same_position, Same.same_man, Same.same_men, ties.PlayedMoves.moves_of, ties.PlayedMoves.IsKnown, ties.PlayedMoves.Follows, ties.Buckets.known_at, ties.Buckets.is_same_at, declared.game.PlayedMove.PlayedMove, declared.repetition.Hashed.Hashed}
+use Rattle.chess_game.proofs.{Kept.kept_as, Kept.follows_more, Kept.last-more, Numbered.known_before}
 
 -- ---- the same pieces have the same reserve
 

@@ -1,14 +1,10 @@
 -- The index of a game's positions: what a position more adds, and what one fewer leaves.
-use Rattle.std.proofs.Common.{◌≡◌, ◌≢◌, ◌∙◌, ℕ, suc, ◌-◌, ◌<◌, ◌≤◌, ◌==◌, Bool, true, false, List, [], ◌∷◌, ◌++◌, length, get_or, set, refl, sym, ap, subst, arith, true≢false}
+use Rattle.std.proofs.Common.{◌≡◌, ◌≢◌, ◌∙◌, ℕ, suc, ◌-◌, ◌<◌, ◌≤◌, ◌==◌, Bool, true, false, List, [], ◌∷◌, ◌++◌, length, get_or, set, refl, sym, ap, subst, arith, true≢false, eqb-true, eq-eqb}
 use Rattle.std.proofs.Math.Seq.{get_or-append_seam}
-use Rattle.std.proofs.lemmas.Bool.{eqb-true, eq-eqb}
 use Rattle.std.proofs.lemmas.List.{get_or-set_same, get_or-set_other, length-set, length-append, get_or_append_left}
 use Rattle.chess_base.specs.declared.setup.Setup.{Setup}
-use Rattle.chess_game.specs.Same.{is_same_position}
+use Rattle.chess_game.specs.{Same.is_same_position, declared.game.PlayedMove.PlayedMove, declared.index.TheConstants.BUCKETS, declared.repetition.Hashed.Hashed}
 use Rattle.chess_game.specs.ties.Buckets.{bucket, known_at, is_in, is_same_at, latest_below, count_below, HaveHeads, IsEmpty, HasEntry, HaveEntries, IsIndexed}
-use Rattle.chess_game.specs.declared.game.PlayedMove.{PlayedMove}
-use Rattle.chess_game.specs.declared.index.TheConstants.{BUCKETS}
-use Rattle.chess_game.specs.declared.repetition.Hashed.{Hashed}
 use Rattle.chess_game.proofs.Latest.{latest_alike, latest_fails, latest_here, count_alike}
 use Rattle.chess_game.proofs.Numbered.{known_place, known_before, known_last}
 

@@ -1,14 +1,8 @@
 -- No verdict came before the last move of a game.
 use Rattle.std.proofs.Common.{◌≡◌, ◌∙◌, ◌⊎◌, inl, inr, ℕ, ◌+◌, ◌-◌, ◌<◌, List, [], ◌∷◌, ◌++◌, length, take, slice_get, Option, None, Some, is_some, Ok, Bool, false, ◌||◌, refl, sym, ap, subst, arith}
-use Rattle.std.proofs.Math.Seq.{take-length}
-use Rattle.std.proofs.lemmas.List.{map-append, length-append, take-append-le}
-use Rattle.chess_base.specs.declared.setup.Setup.{Setup}
-use Rattle.chess_base.specs.declared.man.Move.{Move}
-use Rattle.chess_game.specs.Ends.{verdict}
-use Rattle.chess_game.specs.Game.{State, last_move, is_over}
-use Rattle.chess_game.specs.ties.PlayedMoves.{moves_of, IsUnended}
-use Rattle.chess_game.specs.declared.verdicts.Verdict.{Verdict}
-use Rattle.chess_game.specs.declared.game.PlayedMove.{PlayedMove}
+use Rattle.std.proofs.{Math.Seq.take-length, lemmas.List.map-append, lemmas.List.length-append, lemmas.List.take-append-le}
+use Rattle.chess_base.specs.{declared.setup.Setup.Setup, declared.man.Move.Move}
+use Rattle.chess_game.specs.{Ends.verdict, Game.State, Game.last_move, Game.is_over, ties.PlayedMoves.moves_of, ties.PlayedMoves.IsUnended, declared.verdicts.Verdict.Verdict, declared.game.PlayedMove.PlayedMove}
 
 last_or_below : (n k : ℕ) → k < n + 1 → (k ≡ n) ⊎ (k < n)
 last_or_below n k h = grind arith

@@ -1,23 +1,13 @@
 -- The played moves of a game: what a move adds, and what taking one back leaves.
-use Rattle.std.proofs.Common.{◌≡◌, ◌∙◌, ℕ, zero, suc, ◌+◌, ◌-◌, ◌<◌, List, [], ◌∷◌, ◌++◌, length, take, drop, get_or, Option, Result, Ok, Err, is_ok, is_err, Bool, false, if◌then◌else◌, refl, sym, ap, subst, arith}
-use Rattle.std.proofs.Math.ListN.{set}
-use Rattle.std.proofs.Math.Seq.{take-length, take-append_seam, set-append_seam}
-use Rattle.std.proofs.lemmas.Bool.Decides.{nat_tests}
+use Rattle.std.proofs.Common.{◌≡◌, ◌∙◌, ℕ, zero, suc, ◌+◌, ◌-◌, ◌<◌, List, [], ◌∷◌, ◌++◌, length, take, drop, get_or, Option, Result, Ok, Err, is_ok, is_err, Bool, false, if◌then◌else◌, refl, sym, ap, subst, arith, set}
+use Rattle.std.proofs.{Math.Seq.take-length, Math.Seq.take-append_seam, Math.Seq.set-append_seam, lemmas.Bool.Decides.nat_tests}
 use Rattle.std.proofs.lemmas.List.{length-map, map-append, length-append, drop_at, get_or_at}
 use Rattle.std.specs.List.{AllByRecursion}
-use Rattle.chess_base.specs.declared.man.Move.{Move}
-use Rattle.chess_base.specs.declared.setup.Saved.{Saved}
-use Rattle.chess_base.specs.declared.setup.Setup.{Setup}
-use Rattle.chess_base.specs.Moves.{after}
-use Rattle.chess_base.specs.Before.{saved_of}
+use Rattle.chess_base.specs.{declared.man.Move.Move, declared.setup.Saved.Saved, declared.setup.Setup.Setup, Moves.after, Before.saved_of}
 use Rattle.chess_moves.specs.Made.{WasMade}
-use Rattle.chess_game.specs.Line.{position_after, IsLine}
+use Rattle.chess_game.specs.{Line.position_after, Line.IsLine, declared.game.PlayedMove.PlayedMove, declared.index.Entry.Entry, declared.repetition.Hashed.Hashed, declared.results.Declared.Declared}
 use Rattle.chess_game.specs.ties.PlayedMoves.{moves_of, saved_with, WasPlayed, IsKnown, Hashing, HasHash, HaveHashes, Follows}
 use Rattle.chess_game.specs.Game.{Seen, with_state, played, is_full}
-use Rattle.chess_game.specs.declared.game.PlayedMove.{PlayedMove}
-use Rattle.chess_game.specs.declared.index.Entry.{Entry}
-use Rattle.chess_game.specs.declared.repetition.Hashed.{Hashed}
-use Rattle.chess_game.specs.declared.results.Declared.{Declared}
 
 -- a played move reached the position after the moves up to it
 pub record IsAt (p : Setup) (xs : List PlayedMove) (k : ℕ) (x : PlayedMove) : Type 0 where

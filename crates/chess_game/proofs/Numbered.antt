@@ -1,11 +1,8 @@
 -- The positions of a game by their numbers, and what is known of each.
 use Rattle.std.proofs.Common.{◌≡◌, ℕ, zero, suc, ◌<◌, List, [], ◌∷◌, ◌++◌, length, get_or, refl, sym, subst, arith}
 use Rattle.chess_base.specs.Sound.{IsSound}
-use Rattle.chess_game.specs.Line.{position_after}
+use Rattle.chess_game.specs.{Line.position_after, ties.Buckets.known_at, declared.game.PlayedMove.PlayedMove, declared.repetition.Hashed.Hashed}
 use Rattle.chess_game.specs.ties.PlayedMoves.{moves_of, Hashing, HasHash, HaveHashes, Follows}
-use Rattle.chess_game.specs.ties.Buckets.{known_at}
-use Rattle.chess_game.specs.declared.game.PlayedMove.{PlayedMove}
-use Rattle.chess_game.specs.declared.repetition.Hashed.{Hashed}
 use Rattle.chess_game.proofs.Kept.{AllHave}
 
 -- after the start they are those that the played moves reached

@@ -1,8 +1,7 @@
 -- Where a move may be played, the game is not over, there is room, and the move is legal.
 use Rattle.std.proofs.Common.{◌≡◌, Bool, true, false, None, Some, refl, if◌then◌else◌}
 use Rattle.std.specs.Option.{option_or}
-use Rattle.chess_base.specs.declared.man.Move.{Move}
-use Rattle.chess_base.specs.Moves.{is_legal}
+use Rattle.chess_base.specs.{declared.man.Move.Move, Moves.is_legal}
 use Rattle.chess_game.specs.Game.{Seen, current, is_over, is_full, play_refusal}
 use Rattle.chess_game.specs.declared.game.PlayRefusal.TheVariants.{Over, TooLong, Illegal}
 

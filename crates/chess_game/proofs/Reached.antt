@@ -1,10 +1,7 @@
 -- The positions of a game are its start and those that its played moves reached.
 use Rattle.std.proofs.Common.{◌≡◌, ◌∙◌, List, [], ◌∷◌, refl, sym, ap}
 use Rattle.chess_base.specs.declared.setup.Setup.{Setup}
-use Rattle.chess_game.specs.Line.{positions_of}
-use Rattle.chess_game.specs.ties.PlayedMoves.{moves_of, Follows}
-use Rattle.chess_game.specs.ties.PositionsLeft.{positions_reached}
-use Rattle.chess_game.specs.declared.game.PlayedMove.{PlayedMove}
+use Rattle.chess_game.specs.{Line.positions_of, ties.PlayedMoves.moves_of, ties.PlayedMoves.Follows, ties.PositionsLeft.positions_reached, declared.game.PlayedMove.PlayedMove}
 
 pub reached_are : (p : Setup) (xs : List PlayedMove) → Follows p xs
     → positions_of p (moves_of xs) ≡ p ∷ positions_reached xs

@@ -1,13 +1,8 @@
 -- A position is the same as itself.
 use Rattle.std.proofs.Common.{◌≡◌, ℕ, true, Option, None, Some, refl}
 use Rattle.std.proofs.lemmas.Bool.{and_from, eq-eqb}
-use Rattle.chess_base.specs.declared.man.Man.{Man}
-use Rattle.chess_base.specs.declared.man.Rights.{Rights}
-use Rattle.chess_base.specs.declared.man.ColourRights.{ColourRights}
-use Rattle.chess_base.specs.declared.setup.Setup.{Setup}
-use Rattle.chess_base.specs.Men.{Men, man_at}
-use Rattle.chess_base.proofs.shared.Squares.{each_square-all}
-use Rattle.chess_base.proofs.shared.Men.{same_colour-self, same_kind-self}
+use Rattle.chess_base.specs.{declared.man.Man.Man, declared.man.Rights.Rights, declared.man.ColourRights.ColourRights, declared.setup.Setup.Setup, Men.Men, Men.man_at}
+use Rattle.chess_base.proofs.{shared.Squares.each_square-all, shared.Men.same_colour-self, shared.Men.same_kind-self}
 use Rattle.chess_game.specs.Same.{is_same_position, same_man, same_men, same_square, same_colour_rights, same_rights, legal_en_passant_square}
 
 pub man_self : (o : Option Man) → same_man o o ≡ true

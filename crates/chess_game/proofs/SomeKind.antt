@@ -1,22 +1,12 @@
 -- Whether a piece of a kind is there, by the sets of its squares.
 use Rattle.std.proofs.Common.{◌≡◌, ℕ, zero, suc, ◌+◌, ◌<◌, ◌≤◌, Bool, not, ◌&&◌, ◌||◌, Option, Some, None, List, [], ◌∷◌, length, get_or, take, refl, sym, ◌∙◌, ap, arith}
-use Rattle.std.proofs.Math.Seq.{take-length}
-use Rattle.std.proofs.lemmas.List.Folds.{list_any_more}
+use Rattle.std.proofs.{Math.Seq.take-length, lemmas.List.Folds.list_any_more}
 use Rattle.std.specs.List.{list_any}
-use Rattle.chess_base.specs.declared.man.Colour.{Colour}
-use Rattle.chess_base.specs.declared.man.Colour.TheVariants.{White, Black}
-use Rattle.chess_base.specs.declared.man.Kind.{Kind}
-use Rattle.chess_base.specs.declared.man.Kind.TheVariants.{Queen, Rook, Pawn}
-use Rattle.chess_base.specs.declared.man.Man.{Man}
-use Rattle.chess_base.specs.declared.setup.Setup.{Setup}
+use Rattle.chess_base.specs.{declared.man.Colour.Colour, declared.man.Colour.TheVariants.White, declared.man.Colour.TheVariants.Black, declared.man.Kind.Kind, declared.man.Kind.TheVariants.Queen, declared.man.Kind.TheVariants.Rook, declared.man.Kind.TheVariants.Pawn, declared.man.Man.Man, declared.setup.Setup.Setup, Sound.IsSound, Squares.some_square, shared.Below.some_below}
 use Rattle.chess_base.specs.Men.{Men, man_at, is_man, same_colour, same_kind}
-use Rattle.chess_base.specs.Sound.{IsSound}
-use Rattle.chess_base.specs.Squares.{some_square}
-use Rattle.chess_base.specs.shared.Below.{some_below}
 use Rattle.chess_base.proofs.shared.Squares.{some_square_is, some_square_same}
 use Rattle.chess_moves.specs.Sets.{contains}
-use Rattle.chess_game.specs.Ends.{is_kind}
-use Rattle.chess_game.specs.ties.Material.{is_pawn_rook_or_queen}
+use Rattle.chess_game.specs.{Ends.is_kind, ties.Material.is_pawn_rook_or_queen}
 
 -- ---- over lists
 

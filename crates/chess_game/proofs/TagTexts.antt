@@ -1,7 +1,6 @@
 -- Texts of tags.
 use Rattle.std.proofs.Common.{◌≡◌, ℕ, ◌≤◌, List, length, map, take, ap, arith}
-use Rattle.std.proofs.lemmas.Bool.Decides.{nat_tests}
-use Rattle.std.proofs.lemmas.List.{length-map, length-take}
+use Rattle.std.proofs.{lemmas.Bool.Decides.nat_tests, lemmas.List.length-map, lemmas.List.length-take}
 use Rattle.chess_game.specs.Results.{IsTagText}
 use Rattle.byte_devices.specs.Bytes.{shown_byte}
 use Rattle.chess_game.proofs.CommentTexts.{kept_text}

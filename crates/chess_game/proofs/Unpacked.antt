@@ -4,13 +4,8 @@ use Rattle.std.proofs.Common.{◌≡◌, ◌≢◌, ℕ, ◌<◌, ◌==◌, ◌�
 use Rattle.std.proofs.lemmas.Bool.{cases_Bool, cases_eq, eqb-true, ne_eqb}
 use Rattle.std.proofs.lemmas.List.{ext_get_or, get_or-replicate}
 use Rattle.std.specs.List.{list_any}
-use Rattle.chess_base.specs.declared.man.Colour.{Colour}
-use Rattle.chess_base.specs.declared.man.Kind.{Kind}
+use Rattle.chess_base.specs.{declared.man.Colour.Colour, declared.man.Kind.Kind, declared.man.Man.Man, Men.Men, Men.man_at, shared.Below.from_below, Squares.squares}
 use Rattle.chess_base.specs.declared.man.Kind.TheVariants.{King, Queen, Rook, Bishop, Knight, Pawn}
-use Rattle.chess_base.specs.declared.man.Man.{Man}
-use Rattle.chess_base.specs.Men.{Men, man_at}
-use Rattle.chess_base.specs.shared.Below.{from_below}
-use Rattle.chess_base.specs.Squares.{squares}
 use Rattle.chess_base.proofs.shared.Squares.{length-from_below, get_or-from_below}
 use Rattle.chess_moves.specs.Sets.{contains, members}
 use Rattle.chess_moves.proofs.shared.AnyMove.{any-filter, any-square}

@@ -1,23 +1,12 @@
 -- A walk along the links of a bucket, and what the played moves keep.
-use Rattle.std.proofs.Common.{◌≡◌, ◌∙◌, ℕ, suc, ◌+◌, ◌-◌, ◌%◌, ◌<◌, ◌≤◌, true, false, cond, List, [], ◌∷◌, length, get_or, count_by, refl, sym, ap, subst, arith}
-use Rattle.std.proofs.lemmas.Bool.{eq-eqb, eqb-true}
-use Rattle.std.proofs.lemmas.List.{nil_from_length}
-use Rattle.std.proofs.lemmas.List.Sums.{sum_by-cons}
-use Rattle.chess_base.specs.declared.setup.Setup.{Setup}
-use Rattle.chess_base.specs.Sound.{IsSound}
-use Rattle.chess_game.specs.Line.{position_after}
-use Rattle.chess_game.specs.Same.{is_same_position, repetition_count}
+use Rattle.std.proofs.Common.{◌≡◌, ◌∙◌, ℕ, suc, ◌+◌, ◌-◌, ◌%◌, ◌<◌, ◌≤◌, true, false, cond, List, [], ◌∷◌, length, get_or, count_by, refl, sym, ap, subst, arith, eq-eqb, eqb-true}
+use Rattle.std.proofs.{lemmas.List.nil_from_length, lemmas.List.Sums.sum_by-cons}
+use Rattle.chess_base.specs.{declared.setup.Setup.Setup, Sound.IsSound}
+use Rattle.chess_game.specs.{Line.position_after, Same.is_same_position, Same.repetition_count, declared.game.PlayedMove.PlayedMove, declared.index.TheConstants.BUCKETS, declared.repetition.Hashed.Hashed}
 use Rattle.chess_game.specs.ties.PlayedMoves.{moves_of, Hashing, HasHash, HaveHashes, Follows}
 use Rattle.chess_game.specs.ties.Buckets.{bucket, known_at, is_in, is_same_at, latest_below, count_below, HasEntry, HaveEntries}
-use Rattle.chess_game.specs.declared.game.PlayedMove.{PlayedMove}
-use Rattle.chess_game.specs.declared.index.TheConstants.{BUCKETS}
-use Rattle.chess_game.specs.declared.repetition.Hashed.{Hashed}
-use Rattle.chess_game.proofs.Counting.{seen, counted, one_if}
-use Rattle.chess_game.proofs.EqualHashes.{equal_hashes, same_alike}
-use Rattle.chess_game.proofs.Kept.{at_end}
+use Rattle.chess_game.proofs.{Counting.seen, Counting.counted, Counting.one_if, EqualHashes.equal_hashes, EqualHashes.same_alike, Kept.at_end, Numbered.known_place, Numbered.hash_of_known, Numbered.sound_is, SameSelf.same_self}
 use Rattle.chess_game.proofs.Latest.{latest_low, latest_passes, count_low, count_alike, count_here, count_fails, count_first, count_none, skipped}
-use Rattle.chess_game.proofs.Numbered.{known_place, hash_of_known, sound_is}
-use Rattle.chess_game.proofs.SameSelf.{same_self}
 
 -- what a walk rests on: the positions of a game, and one that is looked for
 pub record IsSought (start : Hashed) (xs : List PlayedMove) (now : Hashed) : Type 0 where

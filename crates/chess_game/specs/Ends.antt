@@ -33,21 +33,18 @@ is_kind k o = option_map_or (λ x. same_kind k x.kind) o false
 unfoldable pub has_bishop_on : ℕ → Men → Bool
 has_bishop_on parity men = some_square (λ s. ((file s + rank s) % 2 == parity) && is_kind Bishop (man_at men s))
 
--- there is no pawn, rook or queen, and either at most one bishop or knight in all, of both sides together, or no knight
--- and all bishops on squares of one colour: no moves lead to mate (5.2.2). Other dead positions are not found
+-- there is no pawn, rook or queen, and there is at most one bishop or knight, or there are only bishops, on squares of
+-- one colour: no moves lead to mate (5.2.2). Other dead positions are not found
 unfoldable pub has_insufficient_material : Men → Bool
-has_insufficient_material men =
-    not (list_any (λ o. is_kind Pawn o || is_kind Rook o || is_kind Queen o) men)
+has_insufficient_material men = not (list_any (λ o. is_kind Pawn o || is_kind Rook o || is_kind Queen o) men)
     && (nat_le (count_by (λ o. is_kind Bishop o || is_kind Knight o) men) 1 || (not (list_any (is_kind Knight) men)
     && not (has_bishop_on 0 men && has_bishop_on 1 men)))
 
--- why the game from `start` by the moves ms is over without a declared result. It is the first of these that holds: no
--- legal move (in check the other side has mated, otherwise stalemate); insufficient material; the present position has
--- occurred at least five times; the halfmove clock, which continues from that of `start`, is at least 150, which is 75
--- moves of each side without a pawn move or capture. `None` if none holds
+-- why the game from `start` by the moves ms is over without a declared result: the first that holds of mate or
+-- stalemate, insufficient material, fivefold repetition, and 75 moves of each side without a pawn move or capture, by
+-- the halfmove clock, which continues from that of `start`; `None` if none holds
 unfoldable pub verdict : Setup → List Move → Option Verdict
-verdict start ms =
-    let p = position_after start ms in
+verdict start ms = let p = position_after start ms in
     if length (moves p) == 0
     then Some (if is_in_check p.men p.side then by_colour WhiteMates BlackMates (other p.side) else Stalemate)
     else if has_insufficient_material p.men then Some InsufficientMaterial
@@ -60,8 +57,7 @@ verdict start ms =
 unfoldable pub result_text : Declared → List ℕ
 result_text d = outcome_text d.outcome ++ (codes " {" ++ (d.comment ++ codes "}"))
 
--- the result that a verdict gives: a win of the side that mates, otherwise a draw, with a comment. `result_text` writes
--- it, as in `1-0 {White mates}`
+-- the result that a verdict gives, with its comment
 abbrev pub verdict_result : Verdict → Declared
 verdict_result WhiteMates = record { outcome = WhiteWins; comment = codes "White mates" }
 verdict_result BlackMates = record { outcome = BlackWins; comment = codes "Black mates" }
@@ -70,10 +66,9 @@ verdict_result InsufficientMaterial = record { outcome = Draw; comment = codes "
 verdict_result FivefoldRepetition = record { outcome = Draw; comment = codes "Fivefold repetition" }
 verdict_result SeventyFiveMoves = record { outcome = Draw; comment = codes "75-move rule" }
 
--- which draws the player on move may claim after the moves ms from `start`. Threefold repetition: the position is there
--- at least for the third time (9.2.2). 50 moves: the halfmove clock, which continues from that of `start`, is at least
--- 100, 50 moves of each side without a pawn move or capture (9.3.2). Claims with a move yet to be made (9.2.1, 9.3.1)
--- are not included. It makes no difference here whether the game is over
+-- which draws the player on move may claim after the moves ms from `start`, whether the game is over or not: by
+-- threefold repetition (9.2.2), and by 50 moves of each side without a pawn move or capture (9.3.2). Claims with a move
+-- yet to be made (9.2.1, 9.3.1) are not included
 abbrev pub claims : Setup → List Move → Claims
 claims start ms = record {
   threefold = nat_le 3 (repetition_count start ms);
@@ -84,7 +79,7 @@ claims start ms = record {
 abbrev pub draw_claim : Claims → Option DrawClaim
 draw_claim c = if c.threefold then Some Threefold else if c.fifty_moves then Some FiftyMoves else None
 
--- the comment on a draw that was claimed for this reason, as in the result line `1/2-1/2 {50-move rule}`
+-- the comment on a draw that was claimed for this reason
 abbrev pub claim_comment : DrawClaim → List ℕ
 claim_comment Threefold = codes "Threefold repetition"
 claim_comment FiftyMoves = codes "50-move rule"

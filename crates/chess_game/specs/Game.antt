@@ -34,8 +34,7 @@ pub record Seen : Type 0 where
 abbrev pub current : State → Setup
 current s = position_after s.start s.moves
 
--- why the game is over by its position and its moves (mate, stalemate, insufficient material, fivefold repetition,
--- 75-move rule); `None` if it is not
+-- why the game is over by its position and its moves (`verdict`); `None` if it is not
 abbrev pub verdict_now : State → Option Verdict
 verdict_now s = verdict s.start s.moves
 

@@ -13,11 +13,11 @@ use Rattle.chess_base.specs.Moves.{is_en_passant}
 use Rattle.chess_base.specs.MoveList.{moves}
 use Rattle.chess_game.specs.Line.{positions_of, position_after}
 
--- two squares' contents, as `man_at` gives them, are equal: pieces of the same kind and colour, or both none
+-- two squares' contents are equal: pieces of the same kind and colour, or both none
 abbrev pub same_man : Option Man → Option Man → Bool
 same_man o r = option_eq (λ x y. same_colour x.colour y.colour && same_kind x.kind y.kind) o r
 
--- on each square two boards have the same content: a piece of the same kind and colour, or none
+-- two boards have the same content on each square
 unfoldable pub same_men : Men → Men → Bool
 same_men men others = each_square (λ s. same_man (man_at men s) (man_at others s))
 
@@ -25,7 +25,7 @@ same_men men others = each_square (λ s. same_man (man_at men s) (man_at others 
 abbrev pub same_square : Option ℕ → Option ℕ → Bool
 same_square o r = option_eq (λ s t. s == t) o r
 
--- one colour's castling rights r and q are equal, king-side and queen-side; each is the castling rook's square, or none
+-- one colour's castling rights r and q are equal
 abbrev pub same_colour_rights : ColourRights → ColourRights → Bool
 same_colour_rights r q = same_square r.king_side q.king_side && same_square r.queen_side q.queen_side
 
@@ -38,9 +38,8 @@ same_rights r q = same_colour_rights r.white q.white && same_colour_rights r.bla
 unfoldable pub legal_en_passant_square : Setup → Option ℕ
 legal_en_passant_square p = if list_any (λ m. is_en_passant p m) (moves p) then p.target else None
 
--- two positions are the same: the same side on move, the same pieces on the same squares, the same castling rights, and
--- the same target of a legal capture en passant, or none in both. Variant, halfmove clock and fullmove number are not
--- compared
+-- two positions are the same: in side on move, pieces, castling rights and the target of a legal capture en passant.
+-- Variant, halfmove clock and fullmove number are not compared
 unfoldable pub is_same_position : Setup → Setup → Bool
 is_same_position p q = same_colour p.side q.side && same_men p.men q.men && same_rights p.rights q.rights
     && same_square (legal_en_passant_square p) (legal_en_passant_square q)

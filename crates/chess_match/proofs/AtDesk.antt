@@ -1,32 +1,16 @@
 -- What passed at a desk, step by step, and what each device then did in a whole match.
-use native.Mathlib.Omega.{arith}
-use Rattle.std.proofs.Common.{◌≡◌, ℕ, Bool, true, false, List, [], ◌∷◌, ◌++◌, refl, ap, sym, ◌∙◌, subst, append_assoc, append-nil, Option, None, Some, Result, Ok, Err}
-use Rattle.std.specs.Prelude.{if◌then◌else◌}
-use Rattle.byte_devices.specs.Devices.{InputState, OutputState}
-use Rattle.byte_devices.specs.Transfers.{Devices}
-use Rattle.chess_base.specs.declared.man.Colour.{Colour}
-use Rattle.chess_base.specs.Men.{other}
-use Rattle.text_lines.specs.Lines.{Held, LineSeen, nothing_held}
-use Rattle.text_lines.specs.Next.{NextLine, NextLineUntil}
+use Rattle.std.proofs.Common.{◌≡◌, ℕ, Bool, true, false, List, [], ◌∷◌, ◌++◌, refl, ap, sym, ◌∙◌, subst, append_assoc, append-nil, Option, None, Some, Result, Ok, Err, arith, if◌then◌else◌}
+use Rattle.byte_devices.specs.{Devices.InputState, Devices.OutputState, Transfers.Devices}
+use Rattle.chess_base.specs.{declared.man.Colour.Colour, Men.other, Options.list_if}
+use Rattle.text_lines.specs.{Lines.Held, Lines.LineSeen, Lines.nothing_held, Next.NextLine, Next.NextLineUntil}
 use Rattle.chess_match.specs.Acts.{Act, Block, Sends, SendFails, Happens, is_over}
-use Rattle.chess_match.specs.Effects.{Match, effect}
-use Rattle.chess_match.specs.Rules.{Rules}
-use Rattle.chess_match.specs.laws.Laws.{moments_shown, notes_given}
+use Rattle.chess_match.specs.{Effects.Match, Effects.effect, Rules.Rules, laws.Laws.moments_shown, laws.Laws.notes_given, Lines.SentLine, Lines.bytes_of, Reasons.is_write_fault_of, Run.ClockReadings, Run.text_read, declared.reason.Reason.Reason, declared.run.TheConstants.ENGINE_LINE_LEN, ties.EngineOutput.OutputAt, ties.Reported.SendsIf}
 use Rattle.chess_match.specs.Events.{Line, Opened, Silent, OutputEnds, FailsToRead, FailsToWrite}
-use Rattle.chess_base.specs.Options.{list_if}
-use Rattle.chess_match.specs.Lines.{SentLine, bytes_of}
 use Rattle.chess_match.specs.Notes.{Note, Noted, Happened, Gives, WasNoted}
-use Rattle.chess_match.specs.Reasons.{is_write_fault_of}
-use Rattle.chess_match.specs.Run.{ClockReadings, text_read}
 use Rattle.chess_match.specs.Table.{Does, LooksFor, ReadsLine, FindsNoLine, ReadsClock, Notes, Passes, Step, reading_of, reading_until, sending, watched}
-use Rattle.chess_match.specs.declared.reason.Reason.{Reason}
-use Rattle.chess_match.specs.declared.run.TheConstants.{ENGINE_LINE_LEN}
 use Rattle.chess_match.specs.ties.AtDesk.{Did, NotedSince, ReadsOf, WritesAt, WritesOf, acts_in, moments_in, notes_in}
-use Rattle.chess_match.specs.ties.EngineOutput.{OutputAt}
-use Rattle.chess_match.specs.ties.Reported.{SendsIf}
-use Rattle.chess_match.proofs.ClockAsked.{asked_more, asked_none}
+use Rattle.chess_match.proofs.{ClockAsked.asked_more, ClockAsked.asked_none, shared.MatchCases.unread}
 use Rattle.chess_match.proofs.LinesRead.{act_read, other_read, other_silent, own_read, own_silent}
-use Rattle.chess_match.proofs.shared.MatchCases.{unread}
 
 -- ---- one step more
 

@@ -1,13 +1,9 @@
 -- Each block that a match sends has a line.
 use Rattle.std.proofs.Common.{List, [], ◌∷◌, ◌++◌, if◌then◌else◌}
-use Rattle.chess_base.specs.declared.man.Colour.{Colour}
-use Rattle.chess_base.specs.declared.man.Colour.TheVariants.{White}
-use Rattle.chess_base.specs.Men.{other}
+use Rattle.chess_base.specs.{declared.man.Colour.Colour, declared.man.Colour.TheVariants.White, Men.other}
 use Rattle.chess_match.specs.Acts.{Act, Block, Sends, IsMatch, block_of, blocks_from, is_over}
-use Rattle.chess_match.specs.Effects.{Match, beginning, effect}
+use Rattle.chess_match.specs.{Effects.Match, Effects.beginning, Effects.effect, Lines.SentLine, Rules.Rules}
 use Rattle.chess_match.specs.Events.{Line, Silent, OutputEnds, FailsToRead, FailsToWrite}
-use Rattle.chess_match.specs.Lines.{SentLine}
-use Rattle.chess_match.specs.Rules.{Rules}
 use Rattle.chess_match.proofs.shared.MatchCases.{by_cases}
 
 -- there is a line

@@ -1,7 +1,5 @@
 -- The moments that were asked of a clock.
-use Rattle.std.proofs.Common.{◌≡◌, ℕ, zero, suc, ◌+◌, ◌<◌, List, [], ◌∷◌, ◌++◌, length, ap, sym, ◌∙◌, arith, length-append, subst, Option, Some, None, zero-add}
-use Rattle.std.specs.Prelude.{slice_get}
-use Rattle.std.specs.Option.{IfSome}
+use Rattle.std.proofs.Common.{◌≡◌, ℕ, zero, suc, ◌+◌, ◌<◌, List, [], ◌∷◌, ◌++◌, length, ap, sym, ◌∙◌, arith, length-append, subst, Option, Some, None, zero-add, slice_get, IfSome}
 use Rattle.chess_match.specs.Run.{ClockReadings}
 
 some_of : {P Q : ℕ → Type 0} (o : Option ℕ) → ((t : ℕ) → P t → Q t) → IfSome o P → IfSome o Q

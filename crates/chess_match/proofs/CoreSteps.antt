@@ -1,40 +1,15 @@
 -- How the core goes on, step by step.
-use Rattle.std.proofs.Common.{◌≡◌, ◌⊎◌, inl, inr, ℕ, ◌+◌, ◌<◌, Bool, true, false, List, [], ◌∷◌, ◌++◌, length, length-append, refl, ap, sym, ◌∙◌, subst, Option, None, Some, append-nil, zero-add, arith}
-use Rattle.std.specs.Bool.{then_some}
-use Rattle.std.specs.Option.{option_map_or}
-use Rattle.std.specs.Prelude.{if◌then◌else◌, ◌-◌, codes, nat_lt, sum, unwrap_or}
+use Rattle.std.proofs.Common.{◌≡◌, ◌⊎◌, inl, inr, ℕ, ◌+◌, ◌<◌, Bool, true, false, List, [], ◌∷◌, ◌++◌, length, length-append, refl, ap, sym, ◌∙◌, subst, Option, None, Some, append-nil, zero-add, arith, if◌then◌else◌, ◌-◌, codes, nat_lt, sum, unwrap_or}
+use Rattle.std.specs.{Bool.then_some, Option.option_map_or}
 use Rattle.std.proofs.lemmas.List.Sums.{sum_by-append}
-use Rattle.chess_base.specs.declared.man.Colour.{Colour}
-use Rattle.chess_base.specs.declared.man.Colour.TheVariants.{White, Black}
-use Rattle.chess_base.specs.declared.man.Move.{Move}
-use Rattle.chess_base.specs.ByColour.{with_colour}
-use Rattle.chess_base.specs.Men.{other, same_colour}
-use Rattle.chess_base.specs.Options.{list_if}
+use Rattle.chess_base.specs.{declared.man.Colour.Colour, declared.man.Colour.TheVariants.White, declared.man.Colour.TheVariants.Black, declared.man.Move.Move, ByColour.with_colour, Men.other, Men.same_colour, Options.list_if}
 use Rattle.cecp_engine.specs.Clocks.{ClocksSeen, charged, side_clock, remaining}
-use Rattle.cecp_engine.specs.EngineLines.{LineKind}
-use Rattle.cecp_engine.specs.Levels.{LevelSeen}
-use Rattle.cecp_engine.specs.Items.{Item, takes}
-use Rattle.cecp_engine.specs.Seen.{features_of}
-use Rattle.chess_match.specs.Acts.{is_over}
-use Rattle.chess_match.specs.Effects.{Match, Phase, Handshake, Opening, BeforeMove, Over, Effect, awaited_since, begins_turn, clock, ends, handshake_row, is_owed_move, line_row, moved, reply_row, sends_nothing, sends_to, over_by_position, silence_row, unless_over, with_seat}
-use Rattle.chess_match.specs.shared.Parts.{enter, with_answers, answers_to, counted}
-use Rattle.chess_match.specs.Events.{Seat}
-use Rattle.chess_match.specs.Lines.{SentLine, Says}
-use Rattle.chess_match.specs.Reasons.{is_write_fault_of, reported_reason}
-use Rattle.chess_match.specs.Rules.{Rules}
-use Rattle.chess_match.specs.declared.phase.Phase.{Phase as CorePhase}
+use Rattle.cecp_engine.specs.{EngineLines.LineKind, Levels.LevelSeen, Items.Item, Items.takes, Seen.features_of}
+use Rattle.chess_match.specs.{Acts.is_over, shared.Parts.enter, shared.Parts.counted, Events.Seat, Lines.SentLine, Lines.Says, Reasons.is_write_fault_of, Reasons.reported_reason, Rules.Rules, declared.phase.Phase.Phase as CorePhase, declared.reason.MatchFault.TheVariants.NoAnswer, declared.reason.Reason.Reason, declared.state.Actions.Actions, declared.state.MatchState.MatchState, declared.state.Player.Player, declared.texts.LastMove.LastMove, declared.texts.MoveTexts.MoveTexts, laws.Laws.items_in_line, ties.Texts.all_sent, ties.Texts.AreOfLast, ties.Texts.AreTexts}
+use Rattle.chess_match.specs.Effects.{Match, Phase, Handshake, Opening, BeforeMove, Over, Effect, awaited_since, begins_turn, clock, ends, handshake_row, is_owed_move, line_row, moved, reply_row, sends_nothing, sends_to, over_by_position, silence_row, unless_over, with_seat, with_answers, answers_to}
 use Rattle.chess_match.specs.declared.phase.Phase.TheVariants as core_in
-use Rattle.chess_match.specs.declared.reason.MatchFault.TheVariants.{NoAnswer}
-use Rattle.chess_match.specs.declared.reason.Reason.{Reason}
-use Rattle.chess_match.specs.declared.state.Actions.{Actions}
-use Rattle.chess_match.specs.declared.state.MatchState.{MatchState}
-use Rattle.chess_match.specs.declared.state.Player.{Player}
-use Rattle.chess_match.specs.declared.texts.LastMove.{LastMove}
-use Rattle.chess_match.specs.declared.texts.MoveTexts.{MoveTexts}
 use Rattle.chess_match.specs.ties.Represents.{Goes, Keeps, Represents, after_answers, clocks_of, given_lines, is_unsent, items_to, last_lines, lines_if_to, name_by, nothing_said, offered_core, phase_lines, phase_of, played_core, player, side_of}
-use Rattle.chess_match.specs.laws.Laws.{items_in_line}
 use Rattle.chess_match.proofs.shared.LineCases.{handshake_by_items}
-use Rattle.chess_match.specs.ties.Texts.{all_sent, AreOfLast, AreTexts}
 use Rattle.chess_game.specs.Ends.{verdict}
 
 -- ---- what the core keeps of a match

@@ -1,30 +1,12 @@
 -- The blocks of an event, sent one after the other.
-use native.Mathlib.Omega.{arith}
-use Rattle.std.proofs.Common.{◌≡◌, ◌<◌, Bool, true, false, ◌||◌, List, [], ◌++◌, length, refl, ap, sym, ◌∙◌, subst, append_assoc, append-nil}
-use Rattle.chess_base.specs.declared.man.Colour.{Colour}
-use Rattle.chess_base.specs.declared.man.Colour.TheVariants.{White, Black}
-use Rattle.chess_base.specs.declared.man.Move.{Move}
-use Rattle.chess_base.specs.ByColour.{by_colour}
-use Rattle.chess_base.specs.Men.{other, same_colour}
+use Rattle.std.proofs.Common.{◌≡◌, ◌<◌, Bool, true, false, ◌||◌, List, [], ◌++◌, length, refl, ap, sym, ◌∙◌, subst, append_assoc, append-nil, arith}
+use Rattle.chess_base.specs.{declared.man.Colour.Colour, declared.man.Colour.TheVariants.White, declared.man.Colour.TheVariants.Black, declared.man.Move.Move, ByColour.by_colour, Men.other, Men.same_colour}
 use Rattle.chess_base.proofs.shared.Men.{same_colour-other, same_colour-self}
 use Rattle.chess_match.specs.Acts.{Block, block_of, blocks_from, is_over}
-use Rattle.chess_match.specs.shared.Parts.{blocks_after}
-use Rattle.chess_match.specs.Effects.{Match, Effect, effect}
-use Rattle.chess_match.specs.Events.{FailsToWrite}
-use Rattle.chess_match.specs.Lines.{SentLine}
-use Rattle.chess_match.specs.Reasons.{is_write_fault_of}
-use Rattle.chess_match.specs.Rules.{Rules}
-use Rattle.chess_match.specs.Table.{Step, Passing, Passes}
-use Rattle.chess_match.specs.declared.reason.MatchFault.TheVariants.{Write}
-use Rattle.chess_match.specs.declared.reason.Reason.{Reason}
-use Rattle.chess_match.specs.declared.reason.Reason.TheVariants.{Faulted}
-use Rattle.chess_match.specs.declared.state.MatchState.{MatchState}
+use Rattle.chess_match.specs.{shared.Parts.blocks_after, Effects.Match, Effects.Effect, Effects.effect, Events.FailsToWrite, Lines.SentLine, Reasons.is_write_fault_of, Rules.Rules, Table.Step, Table.Passing, Table.Passes, declared.reason.MatchFault.TheVariants.Write, declared.reason.Reason.Reason, declared.reason.Reason.TheVariants.Faulted, declared.state.MatchState.MatchState, ties.Represents.Represents, ties.Sane.IsWritten}
 use Rattle.chess_match.specs.ties.Driving.{Delivered, Leads, by_turn, giving, steps_of}
-use Rattle.chess_match.specs.ties.Represents.{Represents}
-use Rattle.chess_match.specs.ties.Sane.{IsWritten}
 use Rattle.chess_match.proofs.Leading.{leads_as, leads_failed, leads_farewell, leads_on, leads_sent, none, one_block, only, over_first, unsent}
-use Rattle.chess_match.proofs.Passings.{passed_as}
-use Rattle.chess_match.proofs.StaysSane.{sane_over}
+use Rattle.chess_match.proofs.{Passings.passed_as, StaysSane.sane_over}
 
 -- ---- who failed
 

@@ -1,14 +1,8 @@
 -- What the core, the match and the game say of one another.
 use Rattle.std.proofs.Common.{◌≡◌, ◌<◌, ◌≤◌, true, List, length, ap, ◌∙◌, arith, None}
-use Rattle.chess_base.specs.declared.man.Colour.{Colour}
-use Rattle.chess_base.specs.declared.man.Colour.TheVariants.{White, Black}
-use Rattle.chess_base.specs.declared.man.Move.{Move}
+use Rattle.chess_base.specs.{declared.man.Colour.Colour, declared.man.Colour.TheVariants.White, declared.man.Colour.TheVariants.Black, declared.man.Move.Move}
 use Rattle.cecp_engine.specs.Clocks.{side_clock}
-use Rattle.chess_match.specs.Effects.{Match}
-use Rattle.chess_match.specs.Rules.{Rules}
-use Rattle.chess_match.specs.ties.Represents.{Represents, phase_of}
-use Rattle.chess_match.specs.ties.Sane.{IsSane, in_turn}
-use Rattle.chess_match.specs.declared.state.MatchState.{MatchState}
+use Rattle.chess_match.specs.{Effects.Match, Rules.Rules, ties.Represents.Represents, ties.Represents.phase_of, ties.Sane.IsSane, ties.Sane.in_turn, declared.state.MatchState.MatchState}
 use Rattle.chess_match.proofs.CoreSteps.{clocks_moves}
 use Rattle.chess_game.specs.Ends.{verdict}
 

@@ -1,35 +1,19 @@
 -- What each device of a desk did in a whole match.
-use Rattle.std.proofs.Common.{◌≡◌, ℕ, Bool, true, false, List, [], ◌∷◌, ◌++◌, refl, sym, ◌∙◌, subst, append_assoc, append-nil, Option, None, Some}
-use Rattle.std.specs.Bool.{MatchBool}
-use Rattle.std.specs.Prelude.{if◌then◌else◌}
+use Rattle.std.proofs.Common.{◌≡◌, ℕ, Bool, true, false, List, [], ◌∷◌, ◌++◌, refl, sym, ◌∙◌, subst, append_assoc, append-nil, Option, None, Some, MatchBool, if◌then◌else◌}
 use Rattle.byte_devices.specs.Devices.{OutputState, CutShort}
-use Rattle.byte_devices.specs.Transfers.{ToOutput, Devices, OutputTook, all_of, all_for}
-use Rattle.byte_devices.proofs.shared.Transfers.{broke, some_for, took_each, took_nothing, took_some_more}
-use Rattle.chess_base.specs.declared.man.Colour.{Colour}
-use Rattle.chess_base.specs.ByColour.{of_colour}
-use Rattle.chess_base.specs.Men.{same_colour}
+use Rattle.byte_devices.specs.Transfers.{ToOutput, Devices, OutputTook, all_of}
+use Rattle.byte_devices.proofs.shared.Transfers.{broke, all_for, some_for, took_each, took_nothing, took_some_more}
+use Rattle.chess_base.specs.{declared.man.Colour.Colour, ByColour.of_colour, Men.same_colour, Options.list_if}
 use Rattle.chess_game.specs.Game as game
 use Rattle.text_lines.specs.Lines.{Held, nothing_held}
 use Rattle.chess_match.specs.Acts.{Act, IsMatch, Sends, SendFails, Happens}
-use Rattle.chess_match.specs.laws.Laws.{broken_blocks, lines_sent, notes_given}
+use Rattle.chess_match.specs.{laws.Laws.broken_blocks, laws.Laws.lines_sent, laws.Laws.notes_given, Lines.SentLine, Lines.bytes_of, Notes.Note, Notes.Noted, Notes.WasNoted, Rules.Rules, Rules.rules_of, Run.ClockReadings, declared.reason.Reason.Reason, declared.run.MatchEnd.MatchEnd, declared.run.Setup.Setup, ties.AtDesk.Did, ties.AtDesk.NotedSince, ties.AtDesk.WritesOf}
 use Rattle.chess_match.specs.Effects as effects
-use Rattle.chess_base.specs.Options.{list_if}
-use Rattle.chess_match.specs.Lines.{SentLine, bytes_of}
-use Rattle.chess_match.specs.Notes.{Note, Noted, WasNoted}
 use Rattle.chess_match.specs.Played.{Passed, PlayedAt, PlayedNoting, WasSent, World}
-use Rattle.chess_match.specs.Rules.{Rules, rules_of}
-use Rattle.chess_match.specs.Run.{ClockReadings}
 use Rattle.chess_match.specs.Table.{Beginning, Passes, Step, watched}
-use Rattle.chess_match.specs.declared.reason.Reason.{Reason}
-use Rattle.chess_match.specs.declared.run.MatchEnd.{MatchEnd}
-use Rattle.chess_match.specs.declared.run.Setup.{Setup}
-use Rattle.chess_match.specs.ties.AtDesk.{Did, NotedSince, WritesOf}
-use Rattle.chess_match.proofs.BlocksFilled.{HasLine, SendFilled, blocks_filled}
+use Rattle.chess_match.proofs.{BlocksFilled.HasLine, BlocksFilled.SendFilled, BlocksFilled.blocks_filled, ClockAsked.asked_none, OutputByActs.all_read, shared.Lines.bytes_of-append}
 use Rattle.chess_match.proofs.AtDesk.{moments_watched, notes_watched, reads_watched, writes_watched}
-use Rattle.chess_match.proofs.ClockAsked.{asked_none}
 use Rattle.chess_match.proofs.shared.MatchCases.{all_reads_end, all_sends_end, sends_end, unsent_in}
-use Rattle.chess_match.proofs.OutputByActs.{all_read}
-use Rattle.chess_match.proofs.shared.Lines.{bytes_of-append}
 
 -- ---- what was written
 

@@ -1,8 +1,6 @@
 -- The items of a line are a part of it.
-use Rattle.std.proofs.Common.{◌≡◌, ℕ, ◌-◌, ◌≤◌, Bool, true, false, ◌&&◌, List, length, drop, take, length-drop, ap, Option, Some, None, arith}
-use Rattle.std.specs.Prelude.{if◌then◌else◌, codes}
+use Rattle.std.proofs.Common.{◌≡◌, ℕ, ◌-◌, ◌≤◌, Bool, true, false, ◌&&◌, List, length, drop, take, length-drop, ap, Option, Some, None, arith, bytes_eq, if◌then◌else◌, codes}
 use Rattle.std.specs.Option.{option_map_or}
-use Rattle.std.specs.Str.{bytes_eq}
 use Rattle.chess_base.specs.declared.man.Colour.TheVariants.{White, Black}
 use Rattle.text_lines.specs.Words.{word_of, argument_of, command_number}
 use Rattle.text_lines.proofs.shared.Lines.{without_front_blanks-short}

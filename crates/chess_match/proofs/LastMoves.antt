@@ -1,14 +1,11 @@
 -- The last move of a line, and its text.
-use Rattle.std.proofs.Common.{◌≡◌, ℕ, ◌-◌, Bool, List, [], ◌∷◌, ◌++◌, length, length-append, refl, ap, sym, ◌∙◌, Option, None, Some, arith}
+use Rattle.std.proofs.Common.{◌≡◌, ℕ, ◌-◌, Bool, List, [], ◌∷◌, ◌++◌, length, length-append, refl, ap, sym, ◌∙◌, Option, None, Some, arith, if◌then◌else◌}
 use Rattle.std.specs.List.{last_or}
 use Rattle.std.proofs.Math.Seq.{take-append_seam}
-use Rattle.chess_base.specs.declared.man.Move.{Move}
-use Rattle.chess_base.specs.declared.setup.Setup.{Setup}
-use Rattle.chess_base.specs.Moves.{after}
+use Rattle.chess_base.specs.{declared.man.Move.Move, declared.setup.Setup.Setup, Moves.after}
 use Rattle.chess_game.specs.Line.{position_after}
 use Rattle.chess_text.specs.San.{check_mark, san, shown_move}
 use Rattle.chess_match.specs.Rules.{text_of_last}
-use Rattle.std.specs.Prelude.{if◌then◌else◌}
 use Rattle.chess_game.proofs.shared.Lines.{position_after-snoc}
 
 last_is : (o : Option Move) (ms : List Move) (m : Move) → last_or o (ms ++ m ∷ []) ≡ Some m

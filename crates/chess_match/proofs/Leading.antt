@@ -1,25 +1,14 @@
 -- Steps that lead from one match to another.
-use Rattle.std.proofs.Common.{◌≡◌, ℕ, ◌<◌, Bool, true, false, ◌||◌, List, [], ◌∷◌, ◌++◌, length, refl, ap, sym, ◌∙◌, subst, append_assoc, append-nil, arith, lt-ltb}
-use Rattle.std.specs.Prelude.{if◌then◌else◌, nat_lt}
+use Rattle.std.proofs.Common.{◌≡◌, ℕ, ◌<◌, Bool, true, false, ◌||◌, List, [], ◌∷◌, ◌++◌, length, refl, ap, sym, ◌∙◌, subst, append_assoc, append-nil, arith, lt-ltb, if◌then◌else◌, nat_lt}
 use Rattle.std.specs.Cmp.Derive.{both_true}
-use Rattle.chess_base.specs.declared.man.Colour.{Colour}
-use Rattle.chess_base.specs.declared.man.Colour.TheVariants.{White, Black}
-use Rattle.chess_base.specs.Men.{other, same_colour}
+use Rattle.chess_base.specs.{declared.man.Colour.Colour, declared.man.Colour.TheVariants.White, declared.man.Colour.TheVariants.Black, Men.other, Men.same_colour, Options.list_if}
 use Rattle.chess_base.proofs.shared.Men.{same_colour-true}
 use Rattle.chess_match.specs.Acts.{Act, Block, Sends, SendFails, Happens, IsMatchFrom, awaits_line, is_limited, is_over, block_of, blocks_from, waits_until}
-use Rattle.chess_match.specs.shared.Parts.{blocks_after}
-use Rattle.chess_match.specs.laws.Laws.{broken_blocks, is_broken}
+use Rattle.chess_match.specs.{shared.Parts.blocks_after, laws.Laws.broken_blocks, laws.Laws.is_broken, Lines.SentLine, Lines.bytes_of, Notes.Happened, Notes.Gives, Reasons.is_write_fault_of, Rules.Rules, declared.reason.Reason.Reason}
 use Rattle.chess_match.specs.Effects.{Match, Effect, Opening, Over, effect}
 use Rattle.chess_match.specs.Events.{Event, Line, Opened, Silent, OutputEnds, FailsToRead, FailsToWrite}
-use Rattle.chess_base.specs.Options.{list_if}
-use Rattle.chess_match.specs.Lines.{SentLine, bytes_of}
-use Rattle.chess_match.specs.Notes.{Happened, Gives}
-use Rattle.chess_match.specs.Reasons.{is_write_fault_of}
-use Rattle.chess_match.specs.Rules.{Rules}
 use Rattle.chess_match.specs.Table.{Step, Does, Notes, watched}
-use Rattle.chess_match.specs.declared.reason.Reason.{Reason}
-use Rattle.chess_match.proofs.shared.LineCases.{silence_cases}
-use Rattle.chess_match.proofs.shared.Reasons.{unwritten}
+use Rattle.chess_match.proofs.{shared.LineCases.silence_cases, shared.Reasons.unwritten}
 use Rattle.chess_match.specs.ties.Driving.{Leads, giving, is_of_output, is_silence, looks_of, steps_of}
 
 -- no write failed

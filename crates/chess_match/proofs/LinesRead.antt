@@ -1,18 +1,12 @@
 -- What a call for the next line does to the outputs.
-use Rattle.std.proofs.Common.{◌≡◌, Bool, true, false, inl, inr, refl, sym, subst, Option, Some, None, Result, Ok, Err}
-use Rattle.std.specs.Prelude.{if◌then◌else◌}
-use Rattle.std.specs.Bool.{MatchBool}
-use Rattle.chess_base.specs.declared.man.Colour.{Colour}
+use Rattle.std.proofs.Common.{◌≡◌, Bool, true, false, inl, inr, refl, sym, subst, Option, Some, None, Result, Ok, Err, if◌then◌else◌, MatchBool}
+use Rattle.chess_base.specs.{declared.man.Colour.Colour, Men.other, Men.same_colour}
 use Rattle.byte_devices.specs.Devices.{InputState}
-use Rattle.chess_base.specs.Men.{other, same_colour}
 use Rattle.chess_base.proofs.shared.Men.{same_colour-other, same_colour-self}
 use Rattle.text_lines.specs.Lines.{LineSeen, Held}
 use Rattle.text_lines.specs.Next.{NextLine, NextLineUntil, GotLine, GotLast}
-use Rattle.chess_match.specs.Acts.{Act, Happens}
+use Rattle.chess_match.specs.{Acts.Act, Acts.Happens, Run.text_read, ties.EngineOutput.OutputAt, declared.run.TheConstants.ENGINE_LINE_LEN}
 use Rattle.chess_match.specs.Events.{Line, Silent, OutputEnds, FailsToRead}
-use Rattle.chess_match.specs.Run.{text_read}
-use Rattle.chess_match.specs.ties.EngineOutput.{OutputAt}
-use Rattle.chess_match.specs.declared.run.TheConstants.{ENGINE_LINE_LEN}
 
 own : (S : Colour) (P Q : Type 0) → P → MatchBool (same_colour S S) P Q
 own S P Q p = subst (λ (x : Bool). MatchBool x P Q) (sym (same_colour-self S)) p

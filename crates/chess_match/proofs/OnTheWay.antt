@@ -1,50 +1,23 @@
 -- A match that goes on at a table.
-use Rattle.std.proofs.Common.{◌≡◌, ℕ, ◌+◌, ◌*◌, ◌<◌, ◌≤◌, Bool, true, false, ◌||◌, List, [], ◌++◌, refl, ap, sym, ◌∙◌, subst, arith, Option, None, Some}
+use Rattle.std.proofs.Common.{◌≡◌, ℕ, ◌+◌, ◌*◌, ◌<◌, ◌≤◌, Bool, true, false, ◌||◌, List, [], ◌++◌, refl, ap, sym, ◌∙◌, subst, arith, Option, None, Some, codes, if◌then◌else◌, is_some}
 use Rattle.std.specs.Option.{option_map, option_map_or, option_or}
-use Rattle.std.specs.Prelude.{codes, if◌then◌else◌, is_some}
 use Rattle.std.proofs.Math.Path.{fun_ext}
-use Rattle.chess_base.specs.ByColour.{by_colour, of_colour}
-use Rattle.chess_base.specs.declared.by_colour.ByColour.{ByColour}
-use Rattle.chess_base.specs.declared.man.Colour.{Colour}
-use Rattle.chess_base.specs.declared.man.Colour.TheVariants.{White, Black}
-use Rattle.chess_base.specs.declared.man.Move.{Move}
-use Rattle.chess_base.specs.declared.setup.Setup.{Setup}
-use Rattle.chess_game.specs.Ends.{verdict, verdict_result}
+use Rattle.chess_base.specs.{ByColour.by_colour, ByColour.of_colour, declared.by_colour.ByColour.ByColour, declared.man.Colour.Colour, declared.man.Colour.TheVariants.White, declared.man.Colour.TheVariants.Black, declared.man.Move.Move, declared.setup.Setup.Setup}
+use Rattle.chess_game.specs.{Ends.verdict, Ends.verdict_result, Game.from_start, Game.outcome_now, Game.verdict_now, Results.cut_tag, declared.verdicts.Verdict.Verdict, declared.results.Declared.Declared, declared.results.Outcome.Outcome, declared.results.Outcome.TheVariants.Unfinished, declared.tags.HowEnded.HowEnded}
 use Rattle.chess_game.specs.Game as game
-use Rattle.chess_game.specs.Game.{from_start, outcome_now, verdict_now}
-use Rattle.chess_game.specs.Results.{cut_tag}
-use Rattle.chess_game.specs.declared.verdicts.Verdict.{Verdict}
-use Rattle.chess_game.specs.declared.results.Declared.{Declared}
-use Rattle.chess_game.specs.declared.results.Outcome.{Outcome}
-use Rattle.chess_game.specs.declared.results.Outcome.TheVariants.{Unfinished}
-use Rattle.chess_game.specs.declared.tags.HowEnded.{HowEnded}
 use Rattle.cecp_engine.specs.Items.{Item, last_said}
 use Rattle.chess_match.specs.Acts.{Block, awaits_line, blocks_from, first_beyond, is_limited, is_over, waits_until}
-use Rattle.chess_match.specs.shared.Parts.{blocks_after}
+use Rattle.chess_match.specs.{shared.Parts.blocks_after, Played.PlayedAt, Rules.Rules, Rules.rules_of, declared.patience.Patience.Patience, declared.phase.Phase.Phase as CorePhase, declared.reason.Reason.Reason, declared.run.MatchEnd.MatchEnd, declared.state.MatchState.MatchState, ties.Awaits.until_of, ties.Chess.Plays, ties.Reported.IsReported, ties.Sane.IsSane, ties.Sane.in_turn}
 use Rattle.chess_match.specs.Effects.{Match, Phase, Handshake, Setup as SetupPhase, Opening, BeforeMove, AfterMove, Over, Effect, beginning, clock, effect}
 use Rattle.chess_match.specs.Events.{Event, Line, Opened, Silent, OutputEnds, FailsToRead}
-use Rattle.chess_match.specs.Played.{PlayedAt}
 use Rattle.chess_match.specs.Reasons.{comment_of, declared_at, ended_by, reported_fault, reported_reason, outcome_by_reason, reported}
-use Rattle.chess_match.specs.Rules.{Rules, rules_of}
-use Rattle.chess_match.specs.declared.patience.Patience.{Patience}
 use Rattle.chess_match.specs.Table.{Step, Passing, Passes, watched}
-use Rattle.chess_match.specs.declared.phase.Phase.{Phase as CorePhase}
 use Rattle.chess_match.specs.declared.phase.Phase.TheVariants as core_in
-use Rattle.chess_match.specs.declared.reason.Reason.{Reason}
-use Rattle.chess_match.specs.declared.run.MatchEnd.{MatchEnd}
 use Rattle.chess_match.specs.declared.run.Setup as run_setup
-use Rattle.chess_match.specs.declared.state.MatchState.{MatchState}
-use Rattle.chess_match.specs.ties.Awaits.{until_of}
-use Rattle.chess_match.specs.ties.Chess.{Plays}
 use Rattle.chess_match.specs.ties.Driving.{Delivered, Leads, is_line_event, is_of_output, is_silence, looks_of, steps_of}
-use Rattle.chess_match.specs.ties.Reported.{IsReported}
 use Rattle.chess_match.specs.ties.Represents.{Goes, Represents, given_lines, name_by, nothing_said, phase_of}
-use Rattle.chess_match.specs.ties.Sane.{IsSane, in_turn}
-use Rattle.chess_match.proofs.CoreSteps.{clocks_left}
+use Rattle.chess_match.proofs.{CoreSteps.clocks_left, Passings.passed_as, Passings.passed_more, StaysSane.fine_after, StaysSane.sane_start, shared.MatchCases.on_when_read}
 use Rattle.chess_match.proofs.Leading.{leads_as, leads_event, leads_on, leads_opened, leads_out, none}
-use Rattle.chess_match.proofs.Passings.{passed_as, passed_more}
-use Rattle.chess_match.proofs.StaysSane.{fine_after, sane_start}
-use Rattle.chess_match.proofs.shared.MatchCases.{on_when_read}
 
 -- core, game and table agree with a match that has come to `m`, by the steps `K`
 pub record IsOnTheWay (r : Rules) (old new : Passing) (core : MatchState) (played : List Move) (failed : Colour → Bool)

@@ -1,16 +1,10 @@
 -- A line that none of the cases above takes is one of the other kinds.
-use native.Mathlib.Omega.{arith}
-use Rattle.std.proofs.Common.{◌≡◌, ℕ, List, [], Option}
-use Rattle.std.specs.Borrow.{Bor}
+use Rattle.std.proofs.Common.{◌≡◌, ℕ, List, [], Option, arith, Bor}
 use Rattle.chess_base.specs.declared.man.Colour.{Colour}
-use Rattle.cecp_engine.specs.Seen.{seen}
-use Rattle.cecp_engine.specs.declared.engine_line.EngineLine.{EngineLine}
+use Rattle.cecp_engine.specs.{Seen.seen, declared.engine_line.EngineLine.EngineLine}
 use Rattle.cecp_engine.specs.declared.engine_line.EngineLine.TheVariants.{Features, Move, Resign, Offer, Draw, Win, Rejection, Pong}
 use Rattle.chess_match.specs.Effects.{Match, Setup, AfterMove, before_move, ends, ignores, line_row, move_row, turn_row}
-use Rattle.chess_match.specs.laws.Laws.{items_in_line}
-use Rattle.chess_match.specs.Rules.{Rules}
-use Rattle.chess_match.specs.shared.Parts.{since_counted}
-use Rattle.chess_match.specs.declared.reason.Reason.TheVariants.{MovesIllegally}
+use Rattle.chess_match.specs.{laws.Laws.items_in_line, Rules.Rules, shared.Parts.since_counted, declared.reason.Reason.TheVariants.MovesIllegally}
 use Rattle.chess_base.specs.declared.man.Move as chess
 use Rattle.chess_text.specs.declared.reading.Reading.{Reading}
 use Rattle.chess_text.specs.declared.reading.Reading.TheVariants as reads

@@ -1,29 +1,16 @@
 -- What was read from an engine, act by act.
 use mathlib.Core.Bool.{or-false}
-use Rattle.std.proofs.Common.{◌≡◌, ℕ, Bool, true, false, ◌||◌, ◌⊎◌, inl, inr, List, [], ◌∷◌, ◌++◌, map, refl, ap, sym, ◌∙◌, subst, append_assoc, append-nil, Option, None, Some}
-use Rattle.std.specs.Bool.{MatchBool}
-use Rattle.std.specs.List.{count_by, flat_map, last_or}
-use Rattle.std.specs.Io.KnownBytes.{Consumes, IsAtEnd}
-use Rattle.chess_base.specs.declared.man.Colour.{Colour}
-use Rattle.chess_base.specs.Men.{same_colour}
-use Rattle.byte_devices.specs.Devices.{InputState, saturating_increment}
+use Rattle.std.proofs.Common.{◌≡◌, ℕ, Bool, true, false, ◌||◌, ◌⊎◌, inl, inr, List, [], ◌∷◌, ◌++◌, map, refl, ap, sym, ◌∙◌, subst, append_assoc, append-nil, Option, None, Some, MatchBool}
+use Rattle.std.specs.{List.count_by, List.flat_map, List.last_or, Io.KnownBytes.Consumes, Io.KnownBytes.IsAtEnd}
+use Rattle.chess_base.specs.{declared.man.Colour.Colour, Men.same_colour, Options.list_if}
+use Rattle.byte_devices.specs.{Devices.InputState, Devices.saturating_increment, Transfers.FromInput, Transfers.InputGave}
 use Rattle.text_lines.specs.Lines.{LineSeen, Held, nothing_held, stream_lines, lines_held}
 use Rattle.text_lines.specs.Next.{GotLine, GotLast, GotNone, GotFault, GotSilence}
-use Rattle.byte_devices.specs.Transfers.{FromInput, InputGave}
 use Rattle.byte_devices.proofs.shared.Transfers.{came, saturating_increment_if}
 use Rattle.chess_match.specs.Acts.{Act, Sends, SendFails, Happens}
-use Rattle.chess_match.specs.ByDevice.{is_silence_of, look}
+use Rattle.chess_match.specs.{ByDevice.is_silence_of, ByDevice.look, laws.Laws.has_ended, laws.Laws.has_failed_read, laws.Laws.lines_read, Played.SaidBy, Run.text_read, Run.engine_lines, declared.run.TheConstants.ENGINE_LINE_LEN, ties.AtDesk.ReadsOf, ties.EngineOutput.OutputSoFar, ties.EngineOutput.OutputEnded}
 use Rattle.chess_match.specs.Events.{Line, Opened, Silent, OutputEnds, FailsToRead, FailsToWrite}
-use Rattle.chess_match.specs.laws.Laws.{has_ended, has_failed_read, lines_read}
-use Rattle.chess_base.specs.Options.{list_if}
-use Rattle.chess_match.specs.Played.{SaidBy}
-use Rattle.chess_match.specs.Run.{text_read, engine_lines}
-use Rattle.chess_match.specs.declared.run.TheConstants.{ENGINE_LINE_LEN}
-use Rattle.chess_match.specs.ties.AtDesk.{ReadsOf}
-use Rattle.chess_match.specs.ties.EngineOutput.{OutputSoFar, OutputEnded}
-use Rattle.chess_match.proofs.shared.MatchCases.{quiet_read, reads_end, unread}
-use Rattle.chess_match.proofs.AtDesk.{tail_same}
-use Rattle.chess_match.proofs.SilencesCounted.{silences_counted}
+use Rattle.chess_match.proofs.{shared.MatchCases.quiet_read, shared.MatchCases.reads_end, shared.MatchCases.unread, AtDesk.tail_same, SilencesCounted.silences_counted}
 use Rattle.chess_match.proofs.OutputByCalls.{output_all, output_more, output_last, output_none, output_fault, output_silent, output_start}
 
 map_both : (xs ys : List LineSeen) → map text_read (xs ++ ys) ≡ map text_read xs ++ map text_read ys

@@ -2,10 +2,8 @@
 use Rattle.std.proofs.Common.{◌≡◌, ◌≢◌, ℕ, Bool, List, [], ◌∷◌, ◌++◌, sym, ◌∙◌, append_assoc, append-nil, subst}
 use Rattle.byte_devices.specs.Bytes.{new_line}
 use Rattle.chess_base.specs.declared.man.Colour.{Colour}
-use Rattle.chess_match.specs.Lines.{SentLine, bytes_of, text_of}
-use Rattle.chess_match.specs.Notes.{Gives}
+use Rattle.chess_match.specs.{Lines.SentLine, Lines.bytes_of, Lines.text_of, Notes.Gives, ties.Driving.giving}
 use Rattle.chess_match.specs.Table.{Step, Does, Notes, Passing, Passes, sending}
-use Rattle.chess_match.specs.ties.Driving.{giving}
 
 pub passed_none : (d : Passing) → Passes d d []
 passed_none d = record {

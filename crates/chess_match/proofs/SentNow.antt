@@ -1,6 +1,5 @@
 -- A text that was written and flushed.
-use Rattle.std.proofs.Common.{ℕ, List, Result, Ok, Err}
-use Rattle.std.specs.Result.{is_err}
+use Rattle.std.proofs.Common.{ℕ, List, Result, Ok, Err, is_err}
 use Rattle.byte_devices.specs.Devices.{OutputState, Sends}
 use Rattle.byte_devices.proofs.shared.Transfers.{took_all}
 use Rattle.chess_match.specs.ties.Reported.{SendsIf}

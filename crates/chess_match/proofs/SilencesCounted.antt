@@ -1,24 +1,15 @@
 -- How many looks for an engine's line found none: its output counted as many.
-use Rattle.std.proofs.Common.{◌≡◌, ℕ, ◌+◌, Bool, true, false, cond, inl, inr, List, [], ◌∷◌, sym, ap, ◌∙◌, zero-add}
-use Rattle.std.specs.Bool.{MatchBool}
-use Rattle.std.specs.List.{count_by}
+use Rattle.std.proofs.Common.{◌≡◌, ℕ, ◌+◌, Bool, true, false, cond, inl, inr, List, [], ◌∷◌, sym, ap, ◌∙◌, zero-add, MatchBool, count_by, ◌⊎◌}
 use Rattle.std.specs.Io.KnownBytes.{Consumes}
-use Rattle.std.specs.Prelude.{◌⊎◌}
 use Rattle.std.proofs.lemmas.List.Sums.{sum_by-cons}
 use Rattle.byte_devices.specs.Devices.{InputState, saturating_add}
-use Rattle.byte_devices.proofs.shared.Devices.{add_one_more}
-use Rattle.byte_devices.proofs.shared.Transfers.{saturating_increment_if}
-use Rattle.chess_base.specs.declared.man.Colour.{Colour}
-use Rattle.chess_base.specs.Men.{same_colour}
+use Rattle.byte_devices.proofs.{shared.Devices.add_one_more, shared.Transfers.saturating_increment_if}
+use Rattle.chess_base.specs.{declared.man.Colour.Colour, Men.same_colour}
 use Rattle.text_lines.specs.Lines.{Held, LineSeen}
 use Rattle.text_lines.specs.Next.{GotLine, GotLast, GotNone, GotFault, GotSilence}
 use Rattle.chess_match.specs.Acts.{Act, Sends, SendFails, Happens}
-use Rattle.chess_match.specs.ByDevice.{is_silence_of}
+use Rattle.chess_match.specs.{ByDevice.is_silence_of, Run.text_read, declared.run.TheConstants.ENGINE_LINE_LEN, ties.AtDesk.ReadsOf, ties.EngineOutput.OutputAt}
 use Rattle.chess_match.specs.Events.{Line, Opened, Silent, OutputEnds, FailsToRead, FailsToWrite}
-use Rattle.chess_match.specs.Run.{text_read}
-use Rattle.chess_match.specs.declared.run.TheConstants.{ENGINE_LINE_LEN}
-use Rattle.chess_match.specs.ties.AtDesk.{ReadsOf}
-use Rattle.chess_match.specs.ties.EngineOutput.{OutputAt}
 
 kept : (r r' : InputState) → r' ≡ r → r'.silence_count ≡ r.silence_count
 kept r r' e = ap (λ (x : InputState). x.silence_count) e

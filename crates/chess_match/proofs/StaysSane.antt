@@ -1,21 +1,11 @@
 -- What holds of every match that is played stays so with every event.
 use Rattle.std.proofs.Common.{◌≡◌, ℕ, ◌+◌, ◌-◌, ◌≤◌, ◌<◌, true, false, [], ◌∷◌, ◌++◌, length, length-append, refl, ap, sym, ◌∙◌, subst, Option, None, arith}
-use Rattle.chess_base.specs.declared.man.Colour.{Colour}
-use Rattle.chess_base.specs.declared.man.Colour.TheVariants.{White, Black}
-use Rattle.chess_base.specs.declared.man.Move.{Move}
-use Rattle.chess_base.specs.Men.{other}
+use Rattle.chess_base.specs.{declared.man.Colour.Colour, declared.man.Colour.TheVariants.White, declared.man.Colour.TheVariants.Black, declared.man.Move.Move, Men.other}
 use Rattle.chess_base.proofs.shared.Men.{same_colour-true}
 use Rattle.cecp_engine.specs.EngineLines.{LineKind}
-use Rattle.chess_match.specs.laws.Laws.{line_kind}
-use Rattle.chess_match.specs.Acts.{awaits_line, is_over}
+use Rattle.chess_match.specs.{laws.Laws.line_kind, Acts.awaits_line, Acts.is_over, Reasons.is_write_fault_of, Rules.Rules, declared.reason.Reason.Reason, declared.reason.Reason.TheVariants.Claimed, declared.reason.Reason.TheVariants.Decided, ties.Driving.is_of_output, ties.Sane.IsSane, ties.Sane.IsWritten, ties.Sane.in_turn}
 use Rattle.chess_match.specs.Effects.{Match, Phase, Handshake, Setup, Opening, Over, beginning, effect, line_row, moved}
 use Rattle.chess_match.specs.Events.{Event, Line, Silent, OutputEnds, FailsToRead}
-use Rattle.chess_match.specs.Reasons.{is_write_fault_of}
-use Rattle.chess_match.specs.Rules.{Rules}
-use Rattle.chess_match.specs.declared.reason.Reason.{Reason}
-use Rattle.chess_match.specs.declared.reason.Reason.TheVariants.{Claimed, Decided}
-use Rattle.chess_match.specs.ties.Driving.{is_of_output}
-use Rattle.chess_match.specs.ties.Sane.{IsSane, IsWritten, in_turn}
 use Rattle.chess_match.proofs.shared.LineCases.{LineCases, line_cases, offering, said_by, silence_cases, offered_used, said_used}
 use Rattle.chess_game.specs.Ends.{verdict}
 use Rattle.chess_match.proofs.shared.MatchCases.{on_when_read}

@@ -1,23 +1,11 @@
 -- What looking for the next line of an engine comes to.
-use Rattle.std.proofs.Common.{◌≡◌, ◌<◌, ℕ, Bool, true, false, List, [], ◌∷◌, ◌++◌, refl, ap, sym, ◌∙◌, subst, Option, None, Some, Result, Ok, Err}
-use Rattle.std.specs.Prelude.{if◌then◌else◌, is_some}
-use Rattle.chess_base.specs.declared.man.Colour.{Colour}
-use Rattle.chess_base.specs.declared.man.Move.{Move}
-use Rattle.chess_base.specs.Men.{other}
+use Rattle.std.proofs.Common.{◌≡◌, ◌<◌, ℕ, Bool, true, false, List, [], ◌∷◌, ◌++◌, refl, ap, sym, ◌∙◌, subst, Option, None, Some, Result, Ok, Err, if◌then◌else◌, is_some}
+use Rattle.chess_base.specs.{declared.man.Colour.Colour, declared.man.Move.Move, Men.other}
 use Rattle.cecp_engine.specs.Items.{Item}
 use Rattle.text_lines.specs.Lines.{LineSeen}
-use Rattle.chess_match.specs.Acts.{Happens, awaits_line}
-use Rattle.chess_match.specs.Effects.{Match, effect}
-use Rattle.chess_match.specs.Events.{Event, OutputEnds, FailsToRead}
-use Rattle.chess_match.specs.Lines.{bytes_of}
-use Rattle.chess_match.specs.shared.Parts.{answers_to}
-use Rattle.chess_match.specs.Rules.{Rules}
-use Rattle.chess_match.specs.Run.{text_read}
+use Rattle.chess_match.specs.{Acts.Happens, Acts.awaits_line, Effects.Match, Effects.effect, Effects.answers_to, Events.Event, Events.OutputEnds, Events.FailsToRead, Lines.bytes_of, Rules.Rules, Run.text_read, declared.state.Actions.Actions, declared.state.MatchState.MatchState, ties.Represents.Goes, ties.Represents.Represents, ties.Represents.nothing_said}
 use Rattle.chess_match.specs.Table.{Does, LooksFor, ReadsLine, FindsNoLine, Passing, Passes, reading_until}
-use Rattle.chess_match.specs.declared.state.Actions.{Actions}
-use Rattle.chess_match.specs.declared.state.MatchState.{MatchState}
 use Rattle.chess_match.specs.ties.Driving.{is_line_event, is_of_output, is_silence, looks_of, steps_of}
-use Rattle.chess_match.specs.ties.Represents.{Goes, Represents, nothing_said}
 
 -- an event without items that is no line and no silence
 pub bare : (plays : Rules → Type 0) (old new : Passing) (core : MatchState) (played : List Move) (core' : MatchState)

@@ -11,8 +11,7 @@ use Rattle.chess_match.specs.Lines.{SentLine}
 use Rattle.chess_match.specs.declared.patience.Patience.{Patience}
 use Rattle.chess_match.specs.Effects.{Match, Phase, Handshake, Setup, Opening, BeforeMove, AfterMove, Over, Effect, clock, effect, beginning}
 
--- a block: all lines that the engine of the side `to` is sent as the effect of one event, or at the beginning of the
--- match
+-- a block: all lines that the engine of the side `to` is sent at one event, or when the match begins
 pub record Block : Type 0 where
   pub to : Colour
   pub lines : List SentLine
@@ -24,27 +23,25 @@ pub data Act : Type 0 where
   Sends : (block : Block) → Act
   -- a write or a flush failed while this block was sent; a beginning of it, or all of it, may have been written
   SendFails : (block : Block) → Act
-  -- an event was read: a line, and right after it the clock (`Line`); the clock, when the lines that open a turn had
-  -- been sent (`Opened`); that no line had come, and right after it the clock (`Silent`); the end of an engine's output
-  -- (`OutputEnds`; bytes after its last `\n` are no line); or a failure to read (`FailsToRead`)
+  -- an event was read: a line or a silence, and right after it the clock; the clock, when a turn's opening was sent
+  -- (`Opened`); the end of an engine's output (bytes after its last `\n` are no line); or a failure to read
   Happens : (event : Event) → Act
 
 -- ---- what is due
 
--- the block of these lines for this side, as a list of one; empty if there are no lines
+-- the block of these lines for this side, as a list of one; empty without lines
 abbrev pub block_of : Colour → List SentLine → List Block
 block_of S [] = []
 block_of S (l ∷ ls) = record { to = S; lines = l ∷ ls } ∷ []
 
--- the blocks by which each side `S` is sent the lines `lines S`: first the one for the side `first`, then the other
--- side's. There is no block for a side without lines
+-- the blocks by which each side `S` is sent the lines `lines S`, first that for the side `first`
 abbrev pub blocks_from : Colour → (Colour → List SentLine) → List Block
 blocks_from first lines = block_of first (lines first) ++ block_of (other first) (lines (other first))
 
 -- ---- what may come next
 
--- whether a line of the side `S` is awaited in this phase: only one of the side that the phase names, and none while a
--- turn is opened (`Opening`) or after the end (`Over`). What the other side sends meanwhile is not read yet
+-- whether a line of the side `S` is awaited in this phase: none while a turn is opened or after the end. What the other
+-- side sends meanwhile is not read yet
 abbrev pub awaits_line : Phase → Colour → Bool
 awaits_line (Handshake side) S = same_colour side S
 awaits_line (Setup side) S = same_colour side S
@@ -72,9 +69,7 @@ waits_until r (BeforeMove side opened) m =
 -- owed for longer. As long as its time doesn't run, a look doesn't wait (0). In other phases no line is looked for
 waits_until r _ m = option_map (λ limit. option_map_or (λ since. first_beyond since limit) m.since 0) r.patience.reply
 
--- this event may come in this phase: a line, the end of an output or a failed read, if a line of this side is awaited;
--- a silence, if besides the phase is limited; `Opened`, if this side's turn is being opened. A failed write is no act
--- `Happens`, but an act `SendFails`
+-- this event may come in this phase. A failed write is no act `Happens`, but an act `SendFails`
 abbrev pub MayCome : Patience → Phase → Event → Type 0
 MayCome patience phase (Line S text moment) = awaits_line phase S ≡ true
 MayCome patience phase (Silent S moment) = (awaits_line phase S && is_limited patience phase) ≡ true
@@ -88,36 +83,35 @@ abbrev pub is_over : Phase → Bool
 is_over (Over reason) = true
 is_over _ = false
 
--- the blocks that are due after this event had the effect `done`: after a line of the side `S` first the one for `S`,
--- then the other side's; but if the match is over then, and after any other event, first White's, then Black's
+-- the blocks that are due after this event had the effect `done`: after a line first the one for the side that sent it,
+-- unless the match is over then; otherwise first White's
 abbrev pub due_after : Event → Effect → List Block
 due_after (Line S text moment) done = blocks_from (if is_over done.after.phase then White else S) done.to
 due_after event done = blocks_from White done.to
 
--- these acts, in order, are the rest of a match by the rules `r`: before them its state is `m`, and the blocks `due`
--- are still to be sent; after them it is over, in the state `final`. Each row says which act may come first, and which
--- state and blocks due it leaves for the acts `H` after it. While a block is due, nothing is read
+-- the state and the blocks due after a block for this side could not be sent, from the state before that and the other
+-- blocks due. If the match was over, these are still sent. Otherwise the failure ends it, and only what reports this to
+-- the other side is due
+abbrev pub after_failed_send : Rules → Match → List Block → Colour → Match × List Block
+after_failed_send r m due side = let done = effect r m (FailsToWrite side) in
+    if is_over m.phase then (m, due) else (done.after, blocks_from White done.to)
+
+-- these acts, in order, are the rest of a match by the rules `r`, whose state is `m`, and in which the blocks `due` are
+-- still to be sent; `final` is its state in the end. While a block is due, nothing is read
 abbrev pub IsMatchFrom : Rules → Match → List Block → List Act → Match → Type 0
--- a block is due: the first one due is sent. The state stays, and the other blocks are still due
+-- the first block due is sent
 IsMatchFrom r m (block ∷ due) (Sends sent ∷ H) final = (block ≡ sent) × IsMatchFrom r m due H final
--- a block is due, and sending the first one due fails. If the match was already over, its state stays, and the other
--- blocks (`due`) are still sent. Otherwise the failure ends the match: nothing of `due` is sent, and the only block due
--- is the one that reports the end to the other side. `next` is the new state, and the blocks then due
+-- sending the first block due fails
 IsMatchFrom r m (block ∷ due) (SendFails sent ∷ H) final =
-    let done = effect r m (FailsToWrite sent.to) in
-    let next : Match × List Block = if is_over m.phase then (m, due) else (done.after, blocks_from White done.to) in
-    (block ≡ sent) × IsMatchFrom r next.0 next.1 H final
--- no block is due: an event that may come in this phase happens. Its effect gives the new state and the blocks that are
--- then due
-IsMatchFrom r m [] (Happens event ∷ H) final =
-    let done = effect r m event in
+    let next = after_failed_send r m due sent.to in (block ≡ sent) × IsMatchFrom r next.0 next.1 H final
+-- no block is due: an event that may come in this phase happens
+IsMatchFrom r m [] (Happens event ∷ H) final = let done = effect r m event in
     MayCome r.patience m.phase event × IsMatchFrom r done.after (due_after event done) H final
--- no act is left: no block is due, the match is over, and `final` is its state
+-- no act is left: no block is due, and the match is over
 IsMatchFrom r m [] [] final = (is_over m.phase ≡ true) × (final ≡ m)
 -- any other list of acts is not the rest of a match
 IsMatchFrom r m due H final = ⊥
 
--- these acts, in order, are a whole match by the rules `r`, from the state and the blocks due at its beginning
--- (`beginning`); `final` is its state at the end
+-- these acts, in order, are a whole match by the rules `r`, from its `beginning` on; `final` is its state at the end
 abbrev pub IsMatch : Rules → List Act → Match → Type 0
 IsMatch r H final = IsMatchFrom r beginning.after (blocks_from White beginning.to) H final

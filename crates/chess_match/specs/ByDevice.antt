@@ -12,8 +12,8 @@ use Rattle.chess_match.specs.declared.reason.Reason.{Reason}
 
 -- ---- what was read
 
--- the line that this act read from the engine of the side `S`, as a list of one (`None`: a line that was too long);
--- empty if it read none of `S`
+-- the line that this act read from the engine of the side `S` (`None`: it was too long), as a list of one, if it read
+-- one
 abbrev pub line_read : Colour → Act → List (Option (List ℕ))
 line_read S (Happens (Line side text moment)) = list_if (same_colour side S) (text ∷ [])
 line_read S _ = []
@@ -33,8 +33,7 @@ abbrev pub is_silence_of : Colour → Act → Bool
 is_silence_of S (Happens (Silent side moment)) = same_colour side S
 is_silence_of S _ = false
 
--- whether by this act a line of the side `S` was looked for and had not come (true) or a line, an end or a failed read
--- was found (false), as a list of one; empty if no line of `S` was looked for
+-- as a list of one, whether a look for a line of the side `S` by this act found none; empty if there was no such look
 abbrev pub look : Colour → Act → List Bool
 look S (Happens (Silent side moment)) = list_if (same_colour side S) (true ∷ [])
 look S (Happens (Line side text moment)) = list_if (same_colour side S) (false ∷ [])
@@ -42,8 +41,7 @@ look S (Happens (OutputEnds side)) = list_if (same_colour side S) (false ∷ [])
 look S (Happens (FailsToRead side)) = list_if (same_colour side S) (false ∷ [])
 look S _ = []
 
--- the moment, in milliseconds, that the clock showed in this act, whichever side it was read for, as a list of one;
--- empty if the clock was not read
+-- the moment that the clock showed in this act, as a list of one; empty if the clock was not read
 abbrev pub moment_shown : Act → List ℕ
 moment_shown (Happens (Line side text moment)) = moment ∷ []
 moment_shown (Happens (Opened side moment)) = moment ∷ []
@@ -52,26 +50,24 @@ moment_shown _ = []
 
 -- ---- what was written
 
--- the lines that the side `S` was sent by this act: those of a block for `S` that was sent; otherwise none
+-- the lines that the side `S` was sent by this act
 abbrev pub lines_to : Colour → Act → List SentLine
 lines_to S (Sends block) = list_if (same_colour block.to S) block.lines
 lines_to S _ = []
 
--- the block for the side `S` that this act failed to send, given by its lines, as a list of one; otherwise empty. In a
--- match there is at most one such block for each side, by the law `failed_blocks_are_last`
+-- the lines of the block for the side `S` that this act failed to send, as a list of one, if it did. In a match there
+-- is at most one for each side (the law `failed_blocks_are_last`)
 abbrev pub broken_block : Colour → Act → List (List SentLine)
 broken_block S (SendFails block) = list_if (same_colour block.to S) (block.lines ∷ [])
 broken_block S _ = []
 
 -- ---- what was noted
 
--- the notes that a witness, such as the log, is given of this act of a match that ended for this reason: the bytes of a
--- block, or an event; but none of a failed write after the end
+-- the notes that a witness, such as the log, is given of this act of a match that ended for this reason
 abbrev pub notes_of : Reason → Act → List Note
 -- a block that was sent: its bytes
 notes_of reason (Sends block) = Gives block.to (bytes_of block.lines) ∷ []
 -- a block that could not be sent: all its bytes; then the failure, but only if the match ended by it
--- (`is_write_fault_of`)
 notes_of reason (SendFails block) = Gives block.to (bytes_of block.lines)
     ∷ list_if (is_write_fault_of reason block.to) (Happened (FailsToWrite block.to) ∷ [])
 -- an event that was read: itself

@@ -55,11 +55,10 @@ pub record Match : Type 0 where
   pub seat : Colour → Seat
   -- the moves so far
   pub played : List Move
-  -- how many lines came so far in this handshake, or were ignored so far in this setup or turn. A turn lasts until the
-  -- `pong` after its move
+  -- how many lines came so far in this handshake, or were ignored so far in this setup or turn
   pub count : ℕ
   -- the moment from which the time for a reply runs: that of the last line that counted (a `feature` line, `pong 1` or
-  -- a line before a move), before any that of the first silence; `None` before both
+  -- a line before a move), or before one that of the first silence
   pub since : Option ℕ
 
 -- what an event does: the match after it, and the lines that each side is then sent (`to`)
@@ -69,33 +68,30 @@ pub record Effect : Type 0 where
 
 -- ---- what is asked of a match
 
--- the milliseconds that the side `S` has left after the moves that it has made, at least 0; the time of a turn in
--- progress is not deducted
+-- the milliseconds that the side `S` has left after the moves that it has made, at least 0
 abbrev pub clock : Rules → Match → Colour → ℕ
 clock r m S = allotted (r.level S) (length (m.seat S).used) - sum (m.seat S).used
 
--- the number of the `ping` that the side `S` is sent after the latest of its moves: n + 1 after the n-th; 1, the `ping`
--- of its setup, if it has not moved yet. Its moves are counted by their times in `used`
+-- the number of the `ping` that the side `S` is sent after the latest of its moves: n + 1 after the n-th; 1, in its
+-- setup, before any
 abbrev pub ping_number : Match → Colour → ℕ
 ping_number m S = length (m.seat S).used + 1
 
 -- what an engine that sent these items lacks for the match, the first of: `ping=1`; `setboard=1`, if the start's FEN is
--- to be sent; for Chess960, `fischerandom` in its last item `variants` (an engine without an item `variants` is taken
--- to play it). `None` if it lacks nothing
+-- to be sent; for Chess960, `fischerandom`. `None` if it lacks nothing
 abbrev pub missing : Rules → List Item → Option MatchFault
-missing r items =
-    if not (takes (codes "ping") items) then Some NoPing
+missing r items = if not (takes (codes "ping") items) then Some NoPing
     else if is_some (start_fen r.start) && not (takes (codes "setboard") items) then Some NoSetboard
     else if is_fischerandom r.start.variant && not (plays_fischerandom items) then Some NoVariant
     else None
 
--- the draw that may be claimed (the option), if draws are automatic; otherwise `None`
+-- the draw that may be claimed (the option), if draws are automatic
 abbrev pub if_automatic : Draws → Option DrawClaim → Option DrawClaim
 if_automatic Automatic claim = claim
 if_automatic _ claim = None
 
--- why a match is over by the position after the moves ms: for the board's verdict, if there is one; otherwise, if draws
--- are automatic and one may be claimed, for this draw. `None` if the position ends nothing
+-- why a match is over by the position after the moves ms: for the board's verdict, or otherwise for an automatic draw.
+-- `None` if the position ends nothing
 abbrev pub over_by_position : Rules → List Move → Option Reason
 over_by_position r ms = option_or (option_map (λ v. Decided v) (verdict r.start ms))
     (option_map (λ claim. Claimed claim) (if_automatic r.draws (draw_claim (claims r.start ms))))
@@ -111,19 +107,16 @@ is_owed_move _ S = false
 abbrev pub handshake_lines : List SentLine
 handshake_lines = Says (codes "xboard") ∷ Says (codes "protover 2") ∷ []
 
--- the line that sends the last move to the side `S`: with `usermove` before it if the engine of `S` has that feature
--- on, and in SAN if it has `san` on. So it is `e2e4`, `usermove e2e4`, `e4` or `usermove e4`
+-- the line that sends the last move to the side `S`: `e2e4`, `usermove e2e4`, `e4` or `usermove e4`, by the features
+-- `usermove` and `san` of its engine
 abbrev pub move_line : Rules → Match → Colour → SentLine
-move_line r m S =
-    MoveSent (takes (codes "usermove") (m.seat S).items)
+move_line r m S = MoveSent (takes (codes "usermove") (m.seat S).items)
     (text_of_last (takes (codes "san") (m.seat S).items) r.start m.played)
 
 -- the lines that open a turn of the side `S`: in its first turn the last move (if one was made), the clocks and `go`;
--- in later turns the clocks and the last move. The clocks are `time T`, its own, and `otim U`, the other's, in
--- centiseconds, rounded down; they are left out if its engine turned them off, as by `time=0`
+-- in later turns the clocks and the last move. The clocks, in centiseconds rounded down, are left out after `time=0`
 abbrev pub opening : Rules → Match → Colour → List SentLine
-opening r m S =
-    let last = list_if (nat_lt 0 (length m.played)) (move_line r m S ∷ []) in
+opening r m S = let last = list_if (nat_lt 0 (length m.played)) (move_line r m S ∷ []) in
     let times = Time (clock r m S / 10) ∷ Otim (clock r m (other S) / 10) ∷ [] in
     let clocks = list_if (takes (codes "time") (m.seat S).items) times in
     if nat_lt 0 (length (m.seat S).used) then clocks ++ last else last ++ (clocks ++ Says (codes "go") ∷ [])
@@ -134,7 +127,7 @@ opening r m S =
 abbrev pub sends_nothing : Match → Effect
 sends_nothing m = record { after = m; to = λ S. [] }
 
--- the effect after which the match is `m`, and by which the engine of this side is sent these lines, the other none
+-- the effect after which the match is `m`, and by which only the engine of this side is sent these lines
 abbrev pub sends_to : Colour → List SentLine → Match → Effect
 sends_to side lines m = record { after = m; to = λ S. list_if (same_colour side S) lines }
 
@@ -142,10 +135,9 @@ sends_to side lines m = record { after = m; to = λ S. list_if (same_colour side
 abbrev pub with_seat : Colour → (Seat → Seat) → Match → Match
 with_seat S change m = record m { seat = λ side. if same_colour side S then change (m.seat side) else m.seat side }
 
--- the match `m` ends for this reason. Each side is sent the last move, if by the phase of `m` it has yet to be sent it;
--- the result with its comment, such as `result 1-0 {Black resigns}`; and `quit`. The result is that of the board's
--- verdict, if there is one, also where a fault ends the match. But if the reason is that writing to a side failed, that
--- side is sent nothing
+-- the match `m` ends for this reason. Each side is sent the last move, if it is owed; the result, such as
+-- `result 1-0 {Black resigns}`, which is the board's verdict, if there is one; and `quit`. But if the reason is that
+-- writing to a side failed, that side is sent nothing
 abbrev pub ends : Rules → Reason → Match → Effect
 ends r reason m = record {
   after = record m { phase = Over reason };
@@ -156,54 +148,50 @@ ends r reason m = record {
 
 -- a line of the side `S` is ignored; the 10,000th ignored line of one setup or turn ends the match
 abbrev pub ignores : Rules → Colour → Match → Effect
-ignores r S m =
-    if nat_le 10000 (m.count + 1) then ends r (Faulted S Flood) m
+ignores r S m = if nat_le 10000 (m.count + 1) then ends r (Faulted S Flood) m
     else sends_nothing (record m { count = m.count + 1 })
 
--- the turn of the side `S` is opened: `S` is sent the lines of `opening`, and no line of the turn is counted yet. Its
--- time runs from the moment that the clock shows once these are sent; until that is read, the phase is `Opening`
+-- the turn of the side `S` is opened. Its time runs from the moment that the clock shows once these lines are sent;
+-- until that is read, the phase is `Opening`
 abbrev pub begins_turn : Rules → Colour → Match → Effect
 begins_turn r S m = sends_to S (opening r m S) (record m { phase = Opening S; count = 0 })
 
--- the end of the match `m`, if it is over by the position after its moves; otherwise the effect `otherwise`
+-- the end of the match `m`, if its position ends it; otherwise the effect `otherwise`
 abbrev pub unless_over : Rules → Match → Effect → Effect
 unless_over r m otherwise = option_map_or (λ reason. ends r reason m) (over_by_position r m.played) otherwise
 
 -- ---- a line in a turn
 
 -- `offer draw` of the side `S`. If an offer of the other side is open, the draw is agreed. If one of `S` is open
--- already, the line is ignored. Else the offer of `S` is open from now on, and the other side is sent `draw`, unless
--- the engine of that side has the feature off (`draw=0`)
+-- already, the line is ignored. Else the offer is open from now on, and the other side is sent `draw`, unless by
+-- `draw=0`
 abbrev pub offer_row : Rules → Colour → Match → Effect
-offer_row r S m =
-    if (m.seat (other S)).offers then ends r Agreed m
+offer_row r S m = if (m.seat (other S)).offers then ends r Agreed m
     else if (m.seat S).offers then ignores r S m
     else sends_to (other S) (list_if (takes (codes "draw") (m.seat (other S)).items) (Says (codes "draw") ∷ []))
     (with_seat S (λ s. record s { offers = true }) m)
 
--- what a line of this kind of the side `S` does in the turn of `S`, before its move or after it. `move` never comes
--- here, nor does `pong` after the move: `before_move` and `line_row` have rows of their own for these
+-- what a line of this kind of the side `S` does in the turn of `S`, before its move or after it, but for `move`, and
+-- for `pong` after the move
 abbrev pub turn_row : Rules → Colour → LineKind → Match → Effect
 -- `resign`: `S` loses
 turn_row r S Resigns m = ends r (over_by.Resigns S) m
--- `offer draw`: see `offer_row`
 turn_row r S OffersDraw m = offer_row r S m
 -- `1/2-1/2`: a draw, if one may be claimed; otherwise an offer of a draw
 turn_row r S ClaimsDraw m =
     option_map_or (λ claim. ends r (Claimed claim) m) (draw_claim (claims r.start m.played)) (offer_row r S m)
--- `1-0` or `0-1`: `S` loses, by a false claim if it names itself the winner (a mate ends the match without a claim),
--- otherwise by resigning
+-- `1-0` or `0-1`: `S` loses, by a false claim if it names itself the winner (a mate needs no claim), otherwise by
+-- resigning
 turn_row r S (ClaimsWin winner) m = ends r (if same_colour winner S then ClaimsFalsely S else over_by.Resigns S) m
--- `Illegal move`: `S` rejects the last move that it was sent, which was legal, since only legal moves are sent on; so
--- `S` loses. But if it was never sent a move, the line is ignored. What is tested is whether the other side has made a
--- move (`used` has a time for each): in its turn `S` was sent each of these
+-- `Illegal move`: `S` rejects a move that it was sent, which was legal; so `S` loses. If the other side has made none
+-- (`used` has a time for each), the line is ignored
 turn_row r S Rejects m =
     if nat_lt 0 (length (m.seat (other S)).used) then ends r (RejectsLegalMove S) m else ignores r S m
 -- any other line is ignored
 turn_row r S _ m = ignores r S m
 
--- the match `m` after this move of the side `S`, which took `used` milliseconds: they are added to its used times, an
--- open offer of a draw by the other side lapses, and the `pong` of `S` is awaited
+-- the match `m` after this move of the side `S`, which took `used` milliseconds: an open offer by the other side
+-- lapses, and the `pong` of `S` is awaited
 abbrev pub moved : Colour → Move → ℕ → Match → Match
 moved S move used m =
     with_seat (other S) (λ s. record s { offers = false }) (with_seat S (λ s. record s { used = s.used ++ used ∷ [] })
@@ -211,8 +199,7 @@ moved S move used m =
 
 -- what a line `move M` of the side `S` does, `used` milliseconds after its turn began, by what M denotes
 abbrev pub move_row : Rules → Colour → ℕ → Reading → Match → Effect
--- one legal move: it is made. The match is then over, if the position ends it (`over_by_position`); otherwise `S` is
--- sent the next `ping`
+-- one legal move: it is made, and `S` is sent the next `ping`, unless the position ends the match
 move_row r S used (reads.Move move) m =
     let m' = moved S move used m in unless_over r m' (sends_to S (ping (ping_number m' S) ∷ []) m')
 -- no legal move, or more than one: `S` loses
@@ -221,9 +208,8 @@ move_row r S used _ m = ends r (MovesIllegally S) m
 -- what a line of this kind of the side `S` does, if its move is awaited and its flag has not fallen; its turn began
 -- `used` milliseconds before
 abbrev pub before_move : Rules → Colour → ℕ → LineKind → Match → Effect
--- `move M`: if there are already as many half-moves as the limit allows, the match ends, whatever M is
-before_move r S used (Moves text) m =
-    if nat_le r.limit (length m.played) then ends r GameTooLong m
+-- `move M`: if there are as many half-moves as the limit allows, the match ends, whatever M is
+before_move r S used (Moves text) m = if nat_le r.limit (length m.played) then ends r GameTooLong m
     else move_row r S used (reading (position_after r.start m.played) text) m
 -- any line that is no move: see `turn_row`
 before_move r S used kind m = turn_row r S kind m
@@ -231,8 +217,7 @@ before_move r S used kind m = turn_row r S kind m
 -- the flag of the side `S` has fallen: it loses, but if the other side has only its king, the game is drawn. Article
 -- 6.9 of the Laws of Chess 2023 has further draws on time; they are not judged here
 abbrev pub flag_row : Rules → Colour → Match → Effect
-flag_row r S m =
-    let bare = has_bare_king (other S) (position_after r.start m.played).men in
+flag_row r S m = let bare = has_bare_king (other S) (position_after r.start m.played).men in
     ends r (if bare then ForfeitsToBareKing else Forfeits S) m
 
 -- ---- silences
@@ -242,11 +227,10 @@ abbrev pub awaited_since : ℕ → Match → Match
 awaited_since moment m = record m { since = Some moment }
 
 -- no line of the side `S` had come at this moment, which owes one that is no move. If it has owed it for longer than
--- the rules allow, the match ends by this fault. Otherwise nothing changes, but that the time for the first line of the
--- match runs from its first silence
+-- the rules allow, the match ends by this fault. Otherwise nothing changes, but that the time for the match's first
+-- line runs from its first silence
 abbrev pub reply_row : Rules → Colour → MatchFault → ℕ → Match → Effect
-reply_row r S fault moment m =
-    let since = unwrap_or m.since moment in
+reply_row r S fault moment m = let since = unwrap_or m.since moment in
     if option_map_or (λ limit. nat_lt limit (moment - since)) r.patience.reply false then ends r (Faulted S fault) m
     else sends_nothing (awaited_since since m)
 
@@ -254,8 +238,7 @@ reply_row r S fault moment m =
 abbrev pub silence_row : Rules → Phase → Colour → ℕ → Match → Effect
 silence_row r (Handshake side) S moment m = reply_row r S NoHandshake moment m
 silence_row r (Setup side) S moment m = reply_row r S NoAnswer moment m
--- before a move: if by then `S` has used more than it has left, its flag has fallen, as with a line. Otherwise nothing
--- changes
+-- before a move: if `S` has used more than it has left, its flag has fallen, as with a line
 silence_row r (BeforeMove side opened) S moment m =
     if nat_lt (clock r m S) (moment - opened) then flag_row r S m else sends_nothing m
 silence_row r (AfterMove side) S moment m = reply_row r S NoAnswer moment m
@@ -264,8 +247,8 @@ silence_row r _ _ _ m = sends_nothing m
 
 -- ---- a line before the game
 
--- what follows once both handshakes are done; the options are what White's engine lacks, and what Black's lacks
--- (`None`: nothing). In each case the count of lines, which was that of the handshake, is 0 again
+-- what follows once both handshakes are done; the options are what White's engine lacks, and what Black's lacks. The
+-- count of lines is 0 again
 abbrev pub judged : Rules → Option MatchFault → Option MatchFault → Match → Effect
 -- White's engine lacks something: the match ends, whatever Black's lacks
 judged r (Some fault) _ m = ends r (Faulted White fault) (record m { count = 0 })
@@ -274,28 +257,32 @@ judged r None (Some fault) m = ends r (Faulted Black fault) (record m { count = 
 -- neither does: White's setup begins
 judged r None None m = sends_to White (setup_lines r White) (record m { phase = Setup White; count = 0 })
 
--- what follows when the handshake of this side is done: after White's comes Black's, and after that it is judged what
--- each engine lacks
+-- what follows when the handshake of this side is done: after White's comes Black's, and then what each engine lacks
 abbrev pub handshake_done : Rules → Colour → Match → Effect
 handshake_done r White m = sends_to Black handshake_lines (record m { phase = Handshake Black; count = 0 })
 handshake_done r Black m = judged r (missing r (m.seat White).items) (missing r (m.seat Black).items) m
 
--- what a line of the side `S` does in its handshake; `items` are those of the line, none if it is no `feature` line.
--- They are added to those known of `S`. `done=1` ends the handshake; if the 1,000th line, of whatever kind, comes
--- without it, the match ends. Before all that follows (`next`) the engine of `S` is sent an answer to each of these
--- items, in their order and whatever the item's value: `accepted` and its name, such as `accepted ping`, if the arbiter
--- knows the name (`is_known`); otherwise `rejected` and the name
-abbrev pub handshake_row : Rules → Colour → List Item → Match → Effect
-handshake_row r S items m =
-    let reply = map (λ i. Says ((if is_known i.name then codes "accepted " else codes "rejected ") ++ i.name)) items in
-    let m' = with_seat S (λ s. record s { items = s.items ++ items }) m in
-    let next = if list_any ends_handshake items then handshake_done r S m'
-    else if nat_le 1000 (m.count + 1) then ends r (Faulted S NoDone) m'
-    else sends_nothing (record m' { count = m.count + 1 }) in
-    record next { to = λ side. list_if (same_colour S side) reply ++ next.to side }
+-- the answers to these items, whatever their values: `accepted` and the name, such as `accepted ping`, if the arbiter
+-- knows it (`is_known`); otherwise `rejected` and the name
+abbrev pub answers_to : List Item → List SentLine
+answers_to items = map (λ i. Says ((if is_known i.name then codes "accepted " else codes "rejected ") ++ i.name)) items
 
--- what follows when this side is set up: after White's setup comes Black's. Then the first turn begins, unless the
--- match is over by the position at the start
+-- the effect `e`, but the engine of this side is first sent the answers to these items
+abbrev pub with_answers : Colour → List Item → Effect → Effect
+with_answers side items e = record e { to = λ S. list_if (same_colour side S) (answers_to items) ++ e.to S }
+
+-- what a line of the side `S` does in its handshake; `items` are those of the line, none if it is no `feature` line.
+-- They are answered, and added to those known of `S`. `done=1` ends the handshake; if the 1,000th line, of whatever
+-- kind, comes without it, the match ends
+abbrev pub handshake_row : Rules → Colour → List Item → Match → Effect
+handshake_row r S items m = let m' = with_seat S (λ s. record s { items = s.items ++ items }) m in
+    with_answers S items
+    (if list_any ends_handshake items then handshake_done r S m'
+    else if nat_le 1000 (m.count + 1) then ends r (Faulted S NoDone) m'
+    else sends_nothing (record m' { count = m.count + 1 }))
+
+-- what follows when this side is set up: after White's setup comes Black's, and then the first turn, unless the
+-- position at the start ends the match
 abbrev pub setup_done : Rules → Colour → Match → Effect
 setup_done r White m = sends_to Black (setup_lines r Black) (record m { phase = Setup Black; count = 0 })
 setup_done r Black m = unless_over r m (begins_turn r r.start.side m)
@@ -303,7 +290,7 @@ setup_done r Black m = unless_over r m (begins_turn r r.start.side m)
 -- ---- one event
 
 -- what a line of this kind does in the phase given; it was sent by the side `S` that this phase waits for, and came at
--- `moment`, in milliseconds by the clock. In a handshake only a `feature` line has items
+-- `moment`. In a handshake only a `feature` line has items
 abbrev pub line_row : Rules → Phase → LineKind → ℕ → Match → Effect
 line_row r (Handshake S) (Features text) moment m = handshake_row r S (items_of text) (awaited_since moment m)
 line_row r (Handshake S) kind _ m = handshake_row r S [] m
@@ -311,8 +298,7 @@ line_row r (Handshake S) kind _ m = handshake_row r S [] m
 line_row r (Setup S) (Answers n) moment m =
     if n == 1 then setup_done r S (awaited_since moment m) else ignores r S m
 line_row r (Setup S) kind _ m = ignores r S m
--- before a move: the time used is `moment - opened`, or 0 if that is negative. If it is more than `S` has left, the
--- flag has fallen, whatever the line says
+-- before a move: if the time used is more than `S` has left, the flag has fallen, whatever the line says
 line_row r (BeforeMove S opened) kind moment m =
     if nat_lt (clock r m S) (moment - opened) then flag_row r S m
     else before_move r S (moment - opened) kind (awaited_since moment m)
@@ -327,20 +313,18 @@ line_row r _ _ _ m = sends_nothing m
 
 -- what an event does to the match `m`
 abbrev pub effect : Rules → Match → Event → Effect
--- a line; one that was too long is of the kind `SaysElse`. `line_row` takes its side from the phase: only lines of the
--- side that `m` waits for are read (`awaits_line` in Acts)
+-- a line; one that was too long is of the kind `SaysElse`. Only lines of the side of the phase are read (`awaits_line`)
 effect r m (Line S text moment) = line_row r m.phase (option_map_or kind_of text SaysElse) moment m
--- no line had come: see `silence_row`
+-- no line had come
 effect r m (Silent S moment) = silence_row r m.phase S moment m
 -- the lines that open a turn were sent: from this moment on its time runs
 effect r m (Opened S moment) = sends_nothing (record m { phase = BeforeMove S moment })
--- an engine's output ended, or a read from the engine or a write to it failed: the match ends by that fault
+-- an engine's output ended, or a read from the engine or a write to it failed
 effect r m (OutputEnds S) = ends r (Faulted S Ended) m
 effect r m (FailsToRead S) = ends r (Faulted S Read) m
 effect r m (FailsToWrite S) = ends r (Faulted S Write) m
 
--- what a match begins with: White is sent the lines of its handshake (Black when White's is done); nothing is known of
--- either engine, and no move is made
+-- what a match begins with: White is sent the lines of its handshake; nothing is known of either engine
 abbrev pub beginning : Effect
 beginning = sends_to White handshake_lines (record {
   phase = Handshake White;

@@ -3,15 +3,14 @@ use Rattle.std.specs.Prelude.{ℕ, Bool, List, Option}
 use Rattle.chess_base.specs.declared.man.Colour.{Colour}
 use Rattle.cecp_engine.specs.Items.{Item}
 
--- an event of a match, which is one game between two engines. `moment` is what the clock, read right after the event,
--- showed: milliseconds, counted from any beginning
+-- an event of a match, which is one game between two engines. `moment` is what the clock, read right after it, showed,
+-- in milliseconds counted from any beginning
 pub data Event : Type 0 where
   -- a line of that side's engine was read: this text, or `None` if the line was too long
   Line : (side : Colour) → (text : Option (List ℕ)) → (moment : ℕ) → Event
   -- all lines that open that side's turn were sent; the time of the turn runs from `moment` on
   Opened : (side : Colour) → (moment : ℕ) → Event
-  -- a look for a line of that side's engine found none; the clock, read after it, showed `moment`. A line that is begun
-  -- counts as none
+  -- a look for a line of that side's engine found none, or one that is only begun
   Silent : (side : Colour) → (moment : ℕ) → Event
   -- that side's engine ended its output
   OutputEnds : (side : Colour) → Event

@@ -3,7 +3,7 @@
 use Rattle.std.specs.Prelude.{◌≡◌, ◌||◌, ℕ, true, nat_lt, List, [], ◌∷◌, ◌++◌, length, codes, Option, None, Some}
 use Rattle.std.specs.List.{count_by, flat_map, last_or, list_any}
 use Rattle.chess_base.specs.declared.man.Colour.{Colour}
-use Rattle.byte_devices.specs.Transfers.{FromInput, ToOutput, Devices, RanWithWaits, all_for, BreaksOffIn}
+use Rattle.byte_devices.specs.Transfers.{FromInput, ToOutput, Devices, RanWithWaits, all_flushed, BreaksOffIn}
 use Rattle.chess_game.specs.Game as game
 use Rattle.chess_game.specs.Results.{cut_tag}
 use Rattle.cecp_engine.specs.Items.{last_said}
@@ -22,22 +22,19 @@ use Rattle.chess_match.specs.declared.run.MatchEnd.{MatchEnd}
 use Rattle.chess_match.specs.declared.run.Setup.{Setup}
 use Rattle.chess_game.specs.Ends.{verdict}
 
--- what contracts see, at one time, of the devices of a match and of its game. Given the world before a match and the
--- one after it, contracts say what passed at each device. The witness of the match, such as the log, is not among these
--- devices; it is given notes of the events and of the blocks that engines are sent (see Notes)
+-- what contracts see, at one time, of the devices of a match and of its game. The witness of the match, such as the
+-- log, is not among the devices; it is given notes (see Notes)
 pub record World : Type 0 where
-  -- each engine's devices, named as the arbiter sees them: `input` is the engine's output, which is read, and `output`
-  -- is its input, which is written
+  -- each engine's devices: `input` is the engine's output, which is read, and `output` is its input, which is written
   pub engines : Colour → Devices
-  -- the moment, in milliseconds, that each reading of the clock will give, where 0 is the next reading; `None` if it is
-  -- not known
+  -- the moment that each reading of the clock will give, where 0 is the next reading; `None` if it is not known
   pub coming : ℕ → Option ℕ
-  -- the game in which the match is played: how many half-moves it may have, and its state, which the match replaces
+  -- the game in which the match is played, whose state the match replaces
   pub game : game.Seen
 
--- `i` is what came from the engine of the side `S` in the acts `H`. Its bytes, `i.text`, may contain more lines than
--- were read in these acts; but not if the end of the output was read or a read failed (`all`), nor if the last look for
--- a line found none (`all_if_silent`). What follows the last `\n` is no line. Nothing is said of `i.early`
+-- `i` is what came from the engine of the side `S` in the acts `H`. Its bytes may contain more lines than were read,
+-- but not after an end or a failed read (`all`), nor if the last look for a line found none (`all_if_silent`). What
+-- follows the last `\n` is no line
 pub record SaidBy (S : Colour) (H : List Act) (i : FromInput) : Type 0 where
   -- the lines that were read are the first lines of these bytes; `rest` are the others
   pub lines : (rest : List (Option (List ℕ))) × (engine_lines i.text ≡ flat_map (line_read S) H ++ rest)
@@ -52,19 +49,18 @@ pub record SaidBy (S : Colour) (H : List Act) (i : FromInput) : Type 0 where
   pub all_if_silent : last_or None (flat_map (look S) H) ≡ Some true → engine_lines i.text ≡ flat_map (line_read S) H
 
 -- `o` is what went to an engine's input, if the lines in the first list were sent to it, and then the blocks in the
--- second list, each as its lines, could not be sent
+-- second list could not be sent
 abbrev pub WasSent : List SentLine → List (List SentLine) → ToOutput → Type 0
--- no block failed: all lines `sent`, written and flushed, and nothing more; no call failed
-WasSent sent [] o = o ≡ all_for sent (bytes_of sent)
--- a block failed: the lines `sent`, written and flushed; then a beginning of the block, not flushed, maybe nothing or
--- all of it; then a write or a flush failed
-WasSent sent (block ∷ []) o = BreaksOffIn (all_for sent (bytes_of sent)) (bytes_of block) o
+-- no block failed: all lines were written and flushed, and no call failed
+WasSent sent [] o = o ≡ all_flushed (nat_lt 0 (length sent)) (bytes_of sent)
+-- a block failed, after the lines that were sent
+WasSent sent (block ∷ []) o = BreaksOffIn (all_flushed (nat_lt 0 (length sent)) (bytes_of sent)) (bytes_of block) o
 -- no more than one block fails
 WasSent sent _ o = ⊥
 
 -- the acts `H` are a match by the rules `r`, and `final` is its state at the end. From the world `w` to `w'` each
--- engine's output, each engine's input and the clock did what these acts say of it. Each device is looked at by itself:
--- nothing is said of the order of acts at different devices, nor of the games of `w` and `w'`
+-- device did what these acts say of it. Nothing is said here of the order of acts at different devices, nor of the
+-- games
 pub record Passed (r : Rules) (H : List Act) (final : Match) (w w' : World) : Type 0 where
   pub is_match : IsMatch r H final
   -- for each side: an `i` came from its engine and an `o` went to it that agree with the acts
@@ -73,26 +69,23 @@ pub record Passed (r : Rules) (H : List Act) (final : Match) (w w' : World) : Ty
   -- the clock was read as often as the acts say, and showed the moments that they name
   pub moments : ClockReadings w.coming w'.coming (flat_map moment_shown H)
 
--- `end` is the report of a match of the acts `H` by the rules `r`, which ended for this reason; `final` is its state at
--- the end
+-- `end` is the report of a match of the acts `H` by the rules `r`, which ended for this reason in the state `final`
 pub record ReportedAs (r : Rules) (H : List Act) (final : Match) (reason : Reason) (end : MatchEnd) : Type 0 where
   -- the reason is that of the last state
   pub ended : final.phase ≡ Over reason
-  -- the outcome, the comment, and how the match ended (`end.ended`, for the tag Termination) are those of the board's
-  -- verdict after the moves played, if there is one; otherwise those of the reason
+  -- the outcome, the comment, and how the match ended: by the board's verdict after the moves played, or otherwise by
+  -- the reason
   pub report : reported (reported_reason (verdict r.start final.played) reason) ≡ (end.outcome, end.comment, end.ended)
-  -- the name of each engine is the value of the last `myname` in its handshake, as a PGN tag keeps it: its first 60
-  -- bytes, with `?` in place of what is not printable ASCII; empty if it sent none
+  -- the name of each engine is the value of the last `myname` in its handshake, as a PGN tag keeps it; empty without
+  -- one
   pub name : (S : Colour) → by_colour end.white_name end.black_name S
       ≡ cut_tag (last_said (λ v. v.text) [] (codes "myname") (final.seat S).items)
-  -- the first fault, and whose it is: the one that ended the match; if none did, a failed write after the end (White's,
-  -- if writing to both sides failed); `None` if there was none
+  -- the fault that ended the match; otherwise a failed write after the end, White's first
   pub fault : end.fault ≡ reported_fault reason (λ S. nat_lt 0 (length (flat_map (broken_block S) H)))
 
--- a match of the acts `H` was played from the world `w` to `w'`, from the start position and with the time controls of
--- `setup`, for at most as many half-moves as the game's limit. It ended for this reason, and was reported as `end`. In
--- `w'` the game has the start of `setup`, the moves of the match and the same limit; the reason's result is declared in
--- it, but none if the board has a verdict, such as mate. What was in the game before is gone
+-- a match of the acts `H` was played from the world `w` to `w'`, as `setup` says, for at most as many half-moves as the
+-- game's limit. It ended for this reason, and was reported as `end`. In `w'` the game has the moves of the match, and
+-- the reason's result is declared in it, unless the board has a verdict; what was in it before is gone
 abbrev pub PlayedBy : List Act → Reason → Setup → MatchEnd → World → World → Type 0
 PlayedBy H reason setup end w w' =
     let r = rules_of setup.start (of_colour setup.levels) setup.patience setup.draws w.game.limit in

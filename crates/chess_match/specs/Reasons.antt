@@ -24,8 +24,7 @@ colour_name c = by_colour (codes "White") (codes "Black") c
 abbrev pub win_of : Colour → Outcome
 win_of c = by_colour WhiteWins BlackWins c
 
--- what the comment says of an engine with this fault, after the name of its side: ` has no ping`, as in
--- `White has no ping`
+-- what the comment says of an engine with this fault, after the name of its side
 abbrev pub fault_comment : MatchFault → List ℕ
 fault_comment Ended = codes " ended its output"
 fault_comment Read = codes " can not be read"
@@ -38,10 +37,9 @@ fault_comment NoVariant = codes " has no fischerandom"
 fault_comment NoHandshake = codes " sent no done=1 (a UCI engine needs polyglot)"
 fault_comment NoAnswer = codes " did not answer"
 
--- how a match that ended for this reason is reported: its outcome; its comment, without braces, as `Black resigns`; and
--- how it ended, for the tag Termination (which is `unterminated` in any case if the outcome is `*`). The side `c` that
--- a reason names loses, except by a fault of its engine or a device (`Faulted`): then, and if the game is too long, the
--- outcome is `*`
+-- how a match that ended for this reason is reported: its outcome; its comment, without braces; and how it ended, for
+-- the tag Termination. The side `c` that a reason names loses, but by a fault of its engine or a device (`Faulted`):
+-- then, and if the game is too long, the outcome is `*`
 abbrev pub reported : Reason → Outcome × List ℕ × HowEnded
 reported (Decided v) = ((verdict_result v).outcome, (verdict_result v).comment, Normal)
 reported (Claimed claim) = (Draw, claim_comment claim, Normal)
@@ -60,7 +58,7 @@ reported (Faulted c f) = (Unfinished, colour_name c ++ fault_comment f, Normal)
 abbrev pub outcome_by_reason : Reason → Outcome
 outcome_by_reason reason = (reported reason).0
 
--- the comment on the end of a match that ended for this reason, without braces, such as `Black resigns`
+-- the comment on a match that ended for this reason, such as `Black resigns`
 abbrev pub comment_of : Reason → List ℕ
 comment_of reason = (reported reason).1
 
@@ -73,20 +71,19 @@ abbrev pub ended_by : Reason → HowEnded
 ended_by reason = (reported reason).2
 
 -- the reason that is reported of a match that ended for this reason: if the board has a verdict (the first argument),
--- the verdict, also where a fault ended the match; otherwise the reason itself
+-- that, even where a fault ended the match
 abbrev pub reported_reason : Option Verdict → Reason → Reason
 reported_reason (Some v) _ = Decided v
 reported_reason None reason = reason
 
--- the fault that is reported of a match that ended for this reason, and its side: the fault that is the reason itself;
--- otherwise `Write`, if writing the last lines to a side failed (`failed`), of the first such side, White before Black.
--- `None` if there was no fault
+-- the fault that is reported of a match that ended for this reason, and its side: the reason itself, or otherwise
+-- `Write`, if writing the last lines to a side failed, White before Black
 abbrev pub reported_fault : Reason → (Colour → Bool) → Option (Colour × MatchFault)
 reported_fault (Faulted c f) failed = Some (c, f)
 reported_fault _ failed = option_map (λ side. (side, Write)) (find failed (White ∷ Black ∷ []))
 
--- the result that is declared in the game when the match ends for this reason; `None` if the board has a verdict (the
--- first argument), since the game has its result by that
+-- the result that is declared in the game when the match ends for this reason; none if the board has a verdict (the
+-- first argument)
 abbrev pub declared_at : Option Verdict → Reason → Option Declared
 declared_at (Some v) reason = None
 declared_at None reason = Some (result_of reason)

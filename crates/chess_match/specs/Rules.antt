@@ -34,17 +34,16 @@ rules_of start level patience draws limit =
     record { start = start; level = level; patience = patience; draws = draws; limit = limit }
 
 -- the FEN that engines are sent by `setboard` for a match from this start; `None` for the initial position of normal
--- chess, which `new` sets up. In Chess960 there is always one
+-- chess, which `new` sets up
 unfoldable pub start_fen : Setup → Option (List ℕ)
 start_fen start = if is_initial start && not (is_fischerandom start.variant) then None else Some (fen start)
 
--- the text of the last of these moves of a game from `start`: in SAN if `as_san`, otherwise by its squares (`e2e4`),
--- where castling in Chess960 is `O-O` or `O-O-O`. Empty if there is no move
+-- the text of the last of these moves of a game from `start`: in SAN if `as_san`, otherwise by its squares
+-- (`shown_move`). Empty if there is no move
 abbrev pub text_of_last : Bool → Setup → List Move → List ℕ
-text_of_last as_san start played =
-    let before = position_after start (take (length played - 1) played) in
+text_of_last as_san start played = let before = position_after start (take (length played - 1) played) in
     option_map_or (λ move. if as_san then san before move else shown_move before move) (last_or None played) []
 
--- whether the side `c` has no piece but its king; `men` are the 64 squares. That it has a king is not tested here
+-- whether the side `c` has no piece but its king
 unfoldable pub has_bare_king : Colour → Men → Bool
 has_bare_king c men = list_all (λ man. not (is_of c man) || is_man c King man) men

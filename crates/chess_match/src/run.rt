@@ -15,7 +15,7 @@ ghost use Rattle.chess_match.specs.shared.Parts.{blocks_after};
 ghost use Rattle.chess_match.specs.Effects.{Effect, Match, effect};
 ghost use Rattle.chess_match.specs.Events.{Event, FailsToWrite, Silent};
 ghost use Rattle.chess_match.specs.Lines.{bytes_of};
-ghost use Rattle.chess_match.specs.shared.Parts.{answers_to};
+ghost use Rattle.chess_match.specs.Effects.{answers_to};
 ghost use Rattle.chess_match.specs.Notes.{WasNoted};
 ghost use Rattle.chess_match.specs.Played.{Played, PlayedNoting, PlayedAt};
 ghost use Rattle.chess_match.specs.Reasons.{declared_at};

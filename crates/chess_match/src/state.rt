@@ -9,10 +9,9 @@ ghost use Rattle.cecp_engine.specs.Seen.{item_seen, features_of};
 ghost use Rattle.cecp_engine.specs.Items as feature_items;
 ghost use Rattle.cecp_engine.specs.Items.{items_of, ends_handshake};
 ghost use Rattle.chess_match.specs.ties.Represents.{name_by, Represents};
-ghost use Rattle.chess_match.specs.Effects.{beginning};
+ghost use Rattle.chess_match.specs.Effects.{beginning, answers_to};
 ghost use Rattle.chess_match.specs.Rules.{Rules};
 ghost use Rattle.chess_match.specs.Lines.{bytes_of};
-ghost use Rattle.chess_match.specs.shared.Parts.{answers_to};
 ghost use Rattle.chess_match.specs.ties.Texts.{unsent_in};
 
 use crate::block::{Block, add_answer};

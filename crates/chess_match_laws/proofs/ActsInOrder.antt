@@ -1,16 +1,10 @@
 -- The acts of a match are in order.
-use Rattle.std.specs.Prelude.{if◌then◌else◌}
-use Rattle.std.proofs.Common.{◌≡◌, ℕ, Bool, true, false, List, [], ◌∷◌, ◌++◌, refl, Option, None, Some}
-use Rattle.chess_base.specs.Options.{list_if}
-use Rattle.chess_base.specs.declared.man.Colour.{Colour}
+use Rattle.std.proofs.Common.{◌≡◌, ℕ, Bool, true, false, List, [], ◌∷◌, ◌++◌, refl, Option, None, Some, if◌then◌else◌}
+use Rattle.chess_base.specs.{Options.list_if, declared.man.Colour.Colour}
 use Rattle.chess_match.specs.Acts.{Act, Sends, SendFails, Happens, is_over}
-use Rattle.chess_match.specs.Effects.{Match, effect}
+use Rattle.chess_match.specs.{Effects.Match, Effects.effect, Notes.Note, Notes.Happened, Reasons.is_write_fault_of, Rules.Rules, declared.reason.Reason.Reason}
 use Rattle.chess_match.specs.Events.{Event, Line, Opened, Silent, OutputEnds, FailsToRead, FailsToWrite}
-use Rattle.chess_match.specs.Notes.{Note, Happened}
-use Rattle.chess_match.specs.Reasons.{is_write_fault_of}
-use Rattle.chess_match.specs.Rules.{Rules}
 use Rattle.chess_match.specs.Table.{Step, Does, LooksFor, ReadsLine, FindsNoLine, ReadsClock, Notes, watched}
-use Rattle.chess_match.specs.declared.reason.Reason.{Reason}
 use Rattle.chess_match_laws.specs.OfActs.{LinesAreReadInOrder, NothingIsDueAtEvents, SilencesAreReadInOrder}
 
 -- the step of a look for a line of this side, by what it found: a line, or none; and the event that this is

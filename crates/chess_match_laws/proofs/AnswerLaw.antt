@@ -1,29 +1,14 @@
 -- Each item of a `feature` line is answered.
-use Rattle.std.proofs.Common.{◌≡◌, ◌∙◌, ℕ, ◌-◌, Bool, true, false, List, [], ◌∷◌, ◌++◌, map, refl, sym, ap, subst, append-nil, arith}
-use Rattle.std.specs.Prelude.{codes, if◌then◌else◌}
-use Rattle.std.specs.List.{flat_map}
-use Rattle.std.proofs.lemmas.Grind.{flat_map-append}
-use Rattle.std.proofs.lemmas.List.{map-append}
-use Rattle.chess_base.specs.declared.man.Colour.{Colour}
-use Rattle.chess_base.specs.declared.man.Colour.TheVariants.{White, Black}
-use Rattle.chess_base.specs.Men.{other, same_colour}
-use Rattle.chess_base.specs.Options.{list_if}
-use Rattle.cecp_engine.specs.EngineLines.{LineKind}
-use Rattle.cecp_engine.specs.Items.{Item, has_word, is_known}
+use Rattle.std.proofs.Common.{◌≡◌, ◌∙◌, ℕ, ◌-◌, Bool, true, false, List, [], ◌∷◌, ◌++◌, map, refl, sym, ap, subst, append-nil, arith, flat_map, codes, if◌then◌else◌}
+use Rattle.std.proofs.{lemmas.Grind.flat_map-append, lemmas.List.map-append}
+use Rattle.chess_base.specs.{declared.man.Colour.Colour, declared.man.Colour.TheVariants.White, declared.man.Colour.TheVariants.Black, Men.other, Men.same_colour, Options.list_if}
+use Rattle.cecp_engine.specs.{EngineLines.LineKind, Items.Item, Items.has_word, Items.is_known}
 use Rattle.chess_match.specs.Acts.{Block, Happens, IsMatchFrom, awaits_line}
 use Rattle.chess_match.specs.Effects.{Match, Phase, Handshake, Setup, Opening, BeforeMove, AfterMove, Over, beginning, handshake_lines, line_row, moved, opening}
-use Rattle.chess_match.specs.Events.{Line}
-use Rattle.chess_match.specs.shared.Parts.{answers_to}
-use Rattle.chess_match.specs.Lines.{SentLine, Says, setup_lines}
-use Rattle.chess_match.specs.Rules.{Rules}
-use Rattle.chess_match.specs.laws.Laws.{items_in_line}
+use Rattle.chess_match.specs.{Events.Line, shared.Parts.answers_to, Lines.SentLine, Lines.Says, Lines.setup_lines, Rules.Rules, laws.Laws.items_in_line}
 use Rattle.chess_match.proofs.shared.LineCases.{line_cases, offering, said_by}
-use Rattle.chess_match_laws.specs.OfActs.{AtEachLine}
-use Rattle.chess_match_laws.specs.Handshakes.{ItemsAreAnswered, NamesAreKnown, name_answered}
-use Rattle.chess_match_laws.proofs.Givings.{lines_due}
-use Rattle.chess_match_laws.proofs.Points.{Kept, moved_items, offered_items}
-use Rattle.chess_match_laws.proofs.SentByLinesLaw.{items_are_said}
-use Rattle.chess_match_laws.proofs.Tellings.{Tells, told_at}
+use Rattle.chess_match_laws.specs.{OfActs.AtEachLine, Handshakes.ItemsAreAnswered, Handshakes.NamesAreKnown, Handshakes.name_answered}
+use Rattle.chess_match_laws.proofs.{Givings.lines_due, Points.Kept, Points.moved_items, Points.offered_items, SentByLinesLaw.items_are_said, Tellings.Tells, Tellings.told_at}
 
 -- ---- lines
 

@@ -1,50 +1,30 @@
 -- An engine that answers has no fault, and loses only by mate.
-use Rattle.std.proofs.Common.{◌≡◌, ◌⊎◌, inl, inr, ℕ, suc, ◌+◌, ◌-◌, ◌<◌, Bool, true, false, not, List, [], ◌∷◌, ◌++◌, length, refl, ap, sym, ◌∙◌, subst, Option, None, Some, arith}
-use Rattle.std.specs.List.{list_any}
-use Rattle.std.specs.Option.{option_map, option_map_or}
-use Rattle.std.specs.Prelude.{if◌then◌else◌, nat_le, nat_lt, unwrap_or, ◌==◌}
-use Rattle.std.proofs.lemmas.Bool.{or_parts}
-use Rattle.std.proofs.lemmas.Bool.Decides.{nat_tests}
-use Rattle.chess_base.specs.declared.man.Colour.{Colour}
-use Rattle.chess_base.specs.declared.man.Colour.TheVariants.{White, Black}
-use Rattle.chess_base.specs.declared.man.Move.{Move}
-use Rattle.chess_base.specs.Men.{other, same_colour}
-use Rattle.chess_base.specs.Options.{list_if}
+use Rattle.std.proofs.Common.{◌≡◌, ◌⊎◌, inl, inr, ℕ, suc, ◌+◌, ◌-◌, ◌<◌, Bool, true, false, not, List, [], ◌∷◌, ◌++◌, length, refl, ap, sym, ◌∙◌, subst, Option, None, Some, arith, if◌then◌else◌, nat_le, nat_lt, unwrap_or, ◌==◌}
+use Rattle.std.specs.{List.list_any, Option.option_map, Option.option_map_or}
+use Rattle.std.proofs.{lemmas.Bool.or_parts, lemmas.Bool.Decides.nat_tests}
+use Rattle.chess_base.specs.{declared.man.Colour.Colour, declared.man.Colour.TheVariants.White, declared.man.Colour.TheVariants.Black, declared.man.Move.Move, Men.other, Men.same_colour, Options.list_if}
 use Rattle.chess_base.proofs.shared.Men.{same_colour-self, same_colour-true}
 use Rattle.chess_game.specs.Ends.{claims, draw_claim, verdict, verdict_result}
-use Rattle.chess_game.specs.Line.{position_after}
-use Rattle.chess_game.specs.declared.results.Outcome.{Outcome}
+use Rattle.chess_game.specs.{Line.position_after, declared.results.Outcome.Outcome, declared.tags.HowEnded.HowEnded, declared.verdicts.DrawClaim.DrawClaim, declared.verdicts.Verdict.Verdict}
 use Rattle.chess_game.specs.declared.results.Outcome.TheVariants.{BlackWins, Draw, Unfinished, WhiteWins}
-use Rattle.chess_game.specs.declared.tags.HowEnded.{HowEnded}
-use Rattle.chess_game.specs.declared.verdicts.DrawClaim.{DrawClaim}
-use Rattle.chess_game.specs.declared.verdicts.Verdict.{Verdict}
 use Rattle.chess_game.specs.declared.verdicts.Verdict.TheVariants.{BlackMates, FivefoldRepetition, InsufficientMaterial, SeventyFiveMoves, Stalemate, WhiteMates}
 use Rattle.cecp_engine.specs.EngineLines.{LineKind, Answers, ClaimsDraw, ClaimsWin, Features, Moves, OffersDraw, Rejects, Resigns, SaysElse}
 use Rattle.cecp_engine.specs.Items.{Item, ends_handshake, items_of}
-use Rattle.chess_text.specs.Moves.{reading}
-use Rattle.chess_text.specs.declared.reading.Reading.{Reading}
+use Rattle.chess_text.specs.{Moves.reading, declared.reading.Reading.Reading}
 use Rattle.chess_text.specs.declared.reading.Reading.TheVariants as reads
 use Rattle.chess_match.specs.Acts.{Act, Block, Happens, IsMatch, SendFails, Sends, awaits_line, blocks_from, is_over}
-use Rattle.chess_match.specs.ByDevice.{broken_block, is_end_of, is_failed_read_of}
+use Rattle.chess_match.specs.{ByDevice.broken_block, ByDevice.is_end_of, ByDevice.is_failed_read_of, Lines.SentLine, Rules.Rules, declared.reason.MatchFault.MatchFault, declared.reason.Reason.Reason, shared.Parts.enter}
 use Rattle.chess_match.specs.Effects.{Match, Phase, Handshake, Setup, Opening, BeforeMove, AfterMove, Over, awaited_since, before_move, beginning, begins_turn, clock, effect, ends, flag_row, handshake_done, handshake_row, ignores, judged, line_row, missing, move_row, offer_row, ping_number, sends_nothing, setup_done, silence_row, turn_row, with_seat}
 use Rattle.chess_match.specs.Events.{FailsToRead, FailsToWrite, Line, Opened, OutputEnds, Silent}
-use Rattle.chess_match.specs.Lines.{SentLine}
 use Rattle.chess_match.specs.Reasons.{outcome_by_reason, reported_fault, reported_reason, win_of}
-use Rattle.chess_match.specs.Rules.{Rules}
-use Rattle.chess_match.specs.declared.reason.MatchFault.{MatchFault}
 use Rattle.chess_match.specs.declared.reason.MatchFault.TheVariants.{Flood, NoAnswer, NoDone, NoHandshake, Write}
-use Rattle.chess_match.specs.declared.reason.Reason.{Reason}
 use Rattle.chess_match.specs.declared.reason.Reason.TheVariants.{Agreed, Claimed, ClaimsFalsely, Decided, Faulted, Forfeits, ForfeitsToBareKing, GameTooLong, MovesIllegally, MovesOutOfTurn, RejectsLegalMove}
 use Rattle.chess_match.specs.declared.reason.Reason.TheVariants as over_by
-use Rattle.chess_match.specs.shared.Parts.{enter}
 use Rattle.chess_match.specs.laws.Laws.{broken_blocks, has_ended, has_failed_read, is_broken, items_in_line, line_kind, match_after}
 use Rattle.chess_match.proofs.shared.LineCases.{line_cases, offering, said_by, silence_cases}
 use Rattle.chess_match.proofs.shared.MatchCases.{by_cases}
-use Rattle.chess_match_laws.specs.Answering.{AnsweringEnginesAreBlameless, mates}
-use Rattle.chess_match_laws.specs.OfActs.{is_beyond}
-use Rattle.chess_match_laws.proofs.LinesDue.{IsExpected, due_is_expected, facts_at}
-use Rattle.chess_match_laws.proofs.Silences.{beyond}
-use Rattle.chess_match_laws.proofs.VerdictLaw.{decided_by_the_board}
+use Rattle.chess_match_laws.specs.{Answering.AnsweringEnginesAreBlameless, Answering.mates, OfActs.is_beyond}
+use Rattle.chess_match_laws.proofs.{LinesDue.IsExpected, LinesDue.due_is_expected, LinesDue.facts_at, Silences.beyond, VerdictLaw.decided_by_the_board}
 
 -- ---- ends for which a side is not to blame
 

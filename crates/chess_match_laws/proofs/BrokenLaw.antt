@@ -1,17 +1,12 @@
 -- After a block that could not be sent, nothing is sent to its side.
-use Rattle.std.proofs.Common.{◌≡◌, ◌≤◌, Bool, true, false, List, [], ◌∷◌, ◌++◌, length, refl, ap, arith}
-use Rattle.std.specs.Prelude.{if◌then◌else◌}
-use Rattle.chess_base.specs.declared.man.Colour.{Colour}
-use Rattle.chess_base.specs.Men.{same_colour}
-use Rattle.chess_base.specs.Options.{list_if}
+use Rattle.std.proofs.Common.{◌≡◌, ◌≤◌, Bool, true, false, List, [], ◌∷◌, ◌++◌, length, refl, ap, arith, if◌then◌else◌}
+use Rattle.chess_base.specs.{declared.man.Colour.Colour, Men.same_colour, Options.list_if}
 use Rattle.chess_base.proofs.shared.Men.{same_colour-self}
 use Rattle.chess_match.specs.Acts.{Act, Block, Sends, SendFails, Happens}
-use Rattle.chess_match.specs.Lines.{SentLine}
-use Rattle.chess_match.specs.laws.Laws.{broken_blocks, is_broken}
+use Rattle.chess_match.specs.{Lines.SentLine, laws.Laws.broken_blocks, laws.Laws.is_broken}
 use Rattle.chess_match_laws.specs.OfActs.{FailedBlocksAreLast, InEachMatch, OneBlockFails, WriteFaultsAreOfBlocks, blocks_given, ended_by_write_to}
 use Rattle.chess_match.proofs.shared.MatchCases.{all_sends_end, both_not, sends_end, unsent_in}
-use Rattle.chess_match_laws.proofs.MoveLaw.{written}
-use Rattle.chess_match_laws.proofs.OneLaw.{not_to, silent_unbroken}
+use Rattle.chess_match_laws.proofs.{MoveLaw.written, OneLaw.not_to, OneLaw.silent_unbroken}
 
 none_given : (S : Colour) (H : List Act) → unsent_in S H ≡ true → blocks_given S H ≡ []
 none_given S [] u = refl

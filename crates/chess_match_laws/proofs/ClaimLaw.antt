@@ -1,15 +1,11 @@
 -- A draw that may be claimed ends the match when it is claimed.
-use Rattle.std.proofs.Common.{◌≡◌, ℕ, ◌-◌, ◌≤◌, Bool, true, false, sym, ap, subst, Option, Some}
-use Rattle.std.specs.Prelude.{if◌then◌else◌, nat_lt}
+use Rattle.std.proofs.Common.{◌≡◌, ℕ, ◌-◌, ◌≤◌, Bool, true, false, sym, ap, subst, Option, Some, if◌then◌else◌, nat_lt}
 use Rattle.std.specs.Option.{option_map_or}
 use Rattle.chess_base.specs.declared.man.Colour.{Colour}
 use Rattle.cecp_engine.specs.EngineLines.{LineKind, ClaimsDraw}
-use Rattle.chess_game.specs.Ends.{claims, draw_claim}
-use Rattle.chess_game.specs.declared.verdicts.DrawClaim.{DrawClaim}
+use Rattle.chess_game.specs.{Ends.claims, Ends.draw_claim, declared.verdicts.DrawClaim.DrawClaim}
 use Rattle.chess_match.specs.Effects.{Match, Phase, BeforeMove, AfterMove, Over, awaited_since, before_move, clock, ends, flag_row, line_row, offer_row, turn_row}
-use Rattle.chess_match.specs.Rules.{Rules}
-use Rattle.chess_match.specs.declared.reason.Reason.TheVariants.{Claimed}
-use Rattle.chess_match.specs.laws.Laws.{line_kind}
+use Rattle.chess_match.specs.{Rules.Rules, declared.reason.Reason.TheVariants.Claimed, laws.Laws.line_kind}
 use Rattle.chess_match_laws.specs.Claims.{DrawClaimsEndMatches}
 use Rattle.chess_match_laws.proofs.IgnoredLaw.{in_time}
 

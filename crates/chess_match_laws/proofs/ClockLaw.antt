@@ -1,18 +1,11 @@
 -- No clock underflows.
-use Rattle.std.proofs.Common.{◌≡◌, ℕ, ◌+◌, ◌-◌, ◌≤◌, Bool, true, false, List, [], ◌∷◌, ◌++◌, length, length-append, refl, subst, arith, ap, ◌∙◌, zero-add}
-use Rattle.std.specs.Prelude.{if◌then◌else◌, sum}
-use Rattle.chess_base.specs.declared.man.Colour.{Colour}
-use Rattle.chess_base.specs.declared.man.Move.{Move}
-use Rattle.chess_base.specs.Men.{same_colour}
+use Rattle.std.proofs.Common.{◌≡◌, ℕ, ◌+◌, ◌-◌, ◌≤◌, Bool, true, false, List, [], ◌∷◌, ◌++◌, length, length-append, refl, subst, arith, ap, ◌∙◌, zero-add, if◌then◌else◌, sum}
+use Rattle.chess_base.specs.{declared.man.Colour.Colour, declared.man.Move.Move, Men.same_colour}
 use Rattle.chess_base.proofs.shared.Men.{same_colour-true}
-use Rattle.cecp_engine.specs.EngineLines.{LineKind}
-use Rattle.chess_match.specs.laws.Laws.{line_kind, match_after}
-use Rattle.cecp_engine.specs.Levels.{LevelSeen, allotted}
+use Rattle.cecp_engine.specs.{EngineLines.LineKind, Levels.LevelSeen, Levels.allotted}
+use Rattle.chess_match.specs.{laws.Laws.line_kind, laws.Laws.match_after, Acts.awaits_line, Events.Silent, Rules.Rules}
 use Rattle.cecp_engine.proofs.shared.Levels.{allotted_grows}
-use Rattle.chess_match.specs.Acts.{awaits_line}
 use Rattle.chess_match.specs.Effects.{Match, beginning, clock, effect, line_row, moved}
-use Rattle.chess_match.specs.Events.{Silent}
-use Rattle.chess_match.specs.Rules.{Rules}
 use Rattle.chess_match_laws.specs.OfActs.{AtEachMoment, ClocksDoNotUnderflow}
 use Rattle.std.proofs.lemmas.List.Sums.{sum_by-append}
 use Rattle.chess_match.proofs.shared.LineCases.{line_cases, said_by, silence_cases, offered_used, said_used}

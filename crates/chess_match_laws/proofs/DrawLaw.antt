@@ -1,21 +1,11 @@
 -- Why a match ended: by a draw that needs no claim.
 use Rattle.std.proofs.Common.{◌≡◌, ◌⊎◌, true, false, List, [], refl, ap, sym, ◌∙◌, subst, inl, inr, None, Some}
-use Rattle.chess_base.specs.declared.man.Colour.{Colour}
-use Rattle.chess_base.specs.declared.man.Colour.TheVariants.{White}
-use Rattle.chess_base.specs.declared.man.Move.{Move}
-use Rattle.chess_game.specs.declared.verdicts.DrawClaim.{DrawClaim}
-use Rattle.chess_game.specs.declared.verdicts.Verdict.{Verdict}
-use Rattle.chess_game.specs.Ends.{claims, draw_claim, verdict}
+use Rattle.chess_base.specs.{declared.man.Colour.Colour, declared.man.Colour.TheVariants.White, declared.man.Move.Move}
+use Rattle.chess_game.specs.{declared.verdicts.DrawClaim.DrawClaim, declared.verdicts.Verdict.Verdict, Ends.claims, Ends.draw_claim, Ends.verdict}
 use Rattle.cecp_engine.specs.EngineLines.{LineKind}
-use Rattle.chess_match.specs.laws.Laws.{line_kind}
+use Rattle.chess_match.specs.{laws.Laws.line_kind, Events.Silent, Rules.Rules, declared.draws.Draws.Draws, declared.reason.MatchFault.MatchFault, declared.reason.Reason.Reason, declared.reason.Reason.TheVariants.Claimed, declared.reason.Reason.TheVariants.Faulted}
 use Rattle.chess_match.specs.Acts.{Act, IsMatch, awaits_line, blocks_from, is_over}
 use Rattle.chess_match.specs.Effects.{Match, Phase, Handshake, Setup, Over, beginning, effect, if_automatic, line_row}
-use Rattle.chess_match.specs.Events.{Silent}
-use Rattle.chess_match.specs.Rules.{Rules}
-use Rattle.chess_match.specs.declared.draws.Draws.{Draws}
-use Rattle.chess_match.specs.declared.reason.MatchFault.{MatchFault}
-use Rattle.chess_match.specs.declared.reason.Reason.{Reason}
-use Rattle.chess_match.specs.declared.reason.Reason.TheVariants.{Claimed, Faulted}
 use Rattle.chess_match.proofs.shared.LineCases.{draw_by_itself, in_turn, is_fault, line_cases, silence_cases}
 use Rattle.chess_match.proofs.shared.MatchCases.{by_cases, on_when_read}
 use Rattle.chess_match_laws.specs.OfActs.{AutomaticDrawsEndMatches}

@@ -1,23 +1,12 @@
 -- No move is made after a verdict or a draw that needs no claim, and none beyond the limit.
-use Rattle.std.proofs.Common.{◌≡◌, ◌∙◌, ℕ, ◌+◌, ◌≤◌, ◌<◌, Bool, true, false, List, [], ◌∷◌, ◌++◌, length, length-append, take, refl, sym, ap, subst, None, arith}
-use Rattle.std.specs.Prelude.{nat_lt}
-use Rattle.std.proofs.Math.Seq.{take-append_seam}
-use Rattle.std.proofs.lemmas.Bool.Decides.{nat_tests}
-use Rattle.std.proofs.lemmas.List.{take-append-le}
-use Rattle.chess_base.specs.declared.man.Colour.{Colour}
-use Rattle.chess_base.specs.declared.man.Colour.TheVariants.{White}
-use Rattle.chess_base.specs.declared.man.Move.{Move}
+use Rattle.std.proofs.Common.{◌≡◌, ◌∙◌, ℕ, ◌+◌, ◌≤◌, ◌<◌, Bool, true, false, List, [], ◌∷◌, ◌++◌, length, length-append, take, refl, sym, ap, subst, None, arith, nat_lt}
+use Rattle.std.proofs.{Math.Seq.take-append_seam, lemmas.Bool.Decides.nat_tests, lemmas.List.take-append-le}
+use Rattle.chess_base.specs.{declared.man.Colour.Colour, declared.man.Colour.TheVariants.White, declared.man.Move.Move}
 use Rattle.cecp_engine.specs.EngineLines.{LineKind}
 use Rattle.chess_game.specs.Ends.{claims, draw_claim, verdict}
-use Rattle.chess_match.specs.Acts.{awaits_line, blocks_from}
+use Rattle.chess_match.specs.{Acts.awaits_line, Acts.blocks_from, Events.Silent, Rules.Rules, declared.draws.Draws.Draws, declared.draws.Draws.TheVariants.Automatic, laws.Laws.line_kind}
 use Rattle.chess_match.specs.Effects.{Match, Phase, Opening, BeforeMove, AfterMove, beginning, effect, if_automatic, line_row}
-use Rattle.chess_match.specs.Events.{Silent}
-use Rattle.chess_match.specs.Rules.{Rules}
-use Rattle.chess_match.specs.declared.draws.Draws.{Draws}
-use Rattle.chess_match.specs.declared.draws.Draws.TheVariants.{Automatic}
-use Rattle.chess_match.specs.laws.Laws.{line_kind}
-use Rattle.chess_match.proofs.shared.LineCases.{draw_by_itself, line_cases, silence_cases}
-use Rattle.chess_match.proofs.shared.MatchCases.{by_cases}
+use Rattle.chess_match.proofs.{shared.LineCases.draw_by_itself, shared.LineCases.line_cases, shared.LineCases.silence_cases, shared.MatchCases.by_cases}
 use Rattle.chess_match_laws.specs.OfActs.{EndsAtVerdicts, InEachMatch}
 
 -- whether a match in this phase is in a turn

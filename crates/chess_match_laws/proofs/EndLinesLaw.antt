@@ -1,16 +1,13 @@
 -- What two engines and a clock give fixes what happens, whichever end lines can be sent.
-use Rattle.std.proofs.Common.{◌≡◌, ℕ, Bool, true, false, ◌||◌, List, [], ◌∷◌, ◌++◌, refl, ap, sym, ◌∙◌, ◌<◌, subst, None, Some, Option, length}
-use Rattle.std.specs.Prelude.{if◌then◌else◌, nat_lt, slice_get}
-use Rattle.chess_base.specs.declared.man.Colour.{Colour}
-use Rattle.chess_base.specs.declared.man.Colour.TheVariants.{White}
+use Rattle.std.proofs.Common.{◌≡◌, ℕ, Bool, true, false, ◌||◌, List, [], ◌∷◌, ◌++◌, refl, ap, sym, ◌∙◌, ◌<◌, subst, None, Some, Option, length, if◌then◌else◌, nat_lt, slice_get}
+use Rattle.chess_base.specs.{declared.man.Colour.Colour, declared.man.Colour.TheVariants.White}
 use Rattle.std.proofs.lemmas.Bool.{and_from}
 use Rattle.chess_base.proofs.shared.Men.{same_colour-self}
 use Rattle.chess_match.specs.Acts.{Act, Block, IsMatch, IsMatchFrom, Sends, SendFails, Happens, awaits_line, blocks_from, is_limited, is_over}
 use Rattle.chess_match.specs.ByDevice.{is_end_of, is_failed_read_of, line_read, look, moment_shown}
 use Rattle.chess_match.specs.Effects.{Match, Phase, beginning, effect}
 use Rattle.chess_match.specs.Events.{Event, FailsToRead, FailsToWrite, Line, Opened, OutputEnds, Silent}
-use Rattle.chess_match.specs.Lines.{SentLine}
-use Rattle.chess_match.specs.Rules.{Rules}
+use Rattle.chess_match.specs.{Lines.SentLine, Rules.Rules}
 use Rattle.chess_match_laws.specs.Streams.{Streams, looks}
 use Rattle.chess_match.specs.laws.Laws.{broken_blocks, has_ended, has_failed_read, is_broken, lines_read, moments_shown}
 use Rattle.chess_match_laws.specs.OfActs.{AreOf, OneMatchButForEndLines, ReadFrom, ended_by_write_to, events_of}

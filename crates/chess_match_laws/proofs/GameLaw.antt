@@ -1,20 +1,12 @@
 -- The moves of a match are legal, each in the position to which those before it lead.
 use Rattle.std.proofs.Common.{ℕ, List, [], ◌∷◌, ◌++◌, subst}
-use Rattle.chess_base.specs.Men.{other}
-use Rattle.chess_base.specs.declared.man.Colour.{Colour}
-use Rattle.chess_base.specs.declared.man.Move.{Move}
-use Rattle.chess_base.specs.declared.setup.Setup.{Setup}
+use Rattle.chess_base.specs.{Men.other, declared.man.Colour.Colour, declared.man.Move.Move, declared.setup.Setup.Setup}
 use Rattle.chess_game.specs.Line.{IsLine, position_after}
 use Rattle.chess_text.specs.laws.Laws.{ReadMovesAreLegal}
 use Rattle.cecp_engine.specs.Levels.{LevelSeen}
-use Rattle.chess_match.specs.declared.draws.Draws.{Draws}
-use Rattle.chess_match.specs.Rules.{Rules, rules_of}
-use Rattle.chess_match.specs.declared.patience.Patience.{Patience}
-use Rattle.chess_match_laws.specs.Streams.{AreRead, moves_of}
-use Rattle.chess_match.specs.laws.Laws.{lines_read}
-use Rattle.chess_match_laws.specs.OfActs.{GamesAreLines, MovesAreRead}
-use Rattle.chess_match_laws.proofs.Points.{in_each}
-use Rattle.chess_match_laws.proofs.ReadLaw.{moves_are_read}
+use Rattle.chess_match.specs.{declared.draws.Draws.Draws, Rules.Rules, Rules.rules_of, declared.patience.Patience.Patience, laws.Laws.lines_read}
+use Rattle.chess_match_laws.specs.{Streams.AreRead, Streams.moves_of, OfActs.GamesAreLines, OfActs.MovesAreRead}
+use Rattle.chess_match_laws.proofs.{Points.in_each, ReadLaw.moves_are_read}
 use Rattle.chess_game.proofs.shared.Lines.{position_after-snoc}
 
 line_from : ReadMovesAreLegal → (start : Setup) (level : Colour → LevelSeen) (patience : Patience) (draws : Draws) (limit : ℕ)

@@ -1,29 +1,15 @@
 -- Lines of one kind that an engine is sent, along the acts of a match.
-use native.Mathlib.Omega.{arith}
-use Rattle.std.proofs.Common.{◌≡◌, ℕ, ◌+◌, ◌-◌, ◌≤◌, ◌<◌, Bool, true, false, List, [], ◌∷◌, ◌++◌, length, length-append, refl, ap, sym, ◌∙◌, subst, append-nil, append_assoc, Option}
-use Rattle.std.specs.Prelude.{if◌then◌else◌}
-use Rattle.std.specs.List.{flat_map}
+use Rattle.std.proofs.Common.{◌≡◌, ℕ, ◌+◌, ◌-◌, ◌≤◌, ◌<◌, Bool, true, false, List, [], ◌∷◌, ◌++◌, length, length-append, refl, ap, sym, ◌∙◌, subst, append-nil, append_assoc, Option, arith, if◌then◌else◌, flat_map}
 use Rattle.std.proofs.lemmas.Grind.{flat_map-append}
-use Rattle.chess_base.specs.declared.man.Colour.{Colour}
-use Rattle.chess_base.specs.declared.man.Colour.TheVariants.{White, Black}
-use Rattle.chess_base.specs.declared.man.Move.{Move}
-use Rattle.chess_base.specs.Men.{other, same_colour}
-use Rattle.chess_base.specs.Options.{list_if}
-use Rattle.cecp_engine.specs.EngineLines.{LineKind}
-use Rattle.chess_match.specs.laws.Laws.{line_kind, lines_given, match_after}
-use Rattle.cecp_engine.specs.Items.{Item}
+use Rattle.chess_base.specs.{declared.man.Colour.Colour, declared.man.Colour.TheVariants.White, declared.man.Colour.TheVariants.Black, declared.man.Move.Move, Men.other, Men.same_colour, Options.list_if}
+use Rattle.cecp_engine.specs.{EngineLines.LineKind, Items.Item}
+use Rattle.chess_match.specs.{laws.Laws.line_kind, laws.Laws.lines_given, laws.Laws.match_after, shared.Parts.enter, shared.Parts.blocks_after, Events.Line, Rules.Rules, declared.reason.Reason.Reason, declared.reason.Reason.TheVariants.Claimed, declared.reason.Reason.TheVariants.Decided}
 use Rattle.chess_match.specs.Acts.{Act, Block, IsMatch, IsMatchFrom, awaits_line, is_over, block_of, blocks_from}
-use Rattle.chess_match.specs.Effects.{Match, Handshake, Setup, Opening, BeforeMove, AfterMove, Effect, beginning, begins_turn, effect, ends, handshake_lines, line_row, moved}
-use Rattle.chess_match.specs.shared.Parts.{enter, blocks_after, answers_to}
-use Rattle.chess_match.specs.Events.{Line}
+use Rattle.chess_match.specs.Effects.{Match, Handshake, Setup, Opening, BeforeMove, AfterMove, Effect, beginning, begins_turn, effect, ends, handshake_lines, line_row, moved, answers_to}
 use Rattle.chess_match.specs.Lines.{SentLine, Says, MoveSent, Time, Otim, setup_lines}
-use Rattle.chess_match.specs.Rules.{Rules}
-use Rattle.chess_match.specs.declared.reason.Reason.{Reason}
-use Rattle.chess_match.specs.declared.reason.Reason.TheVariants.{Claimed, Decided}
 use Rattle.chess_match.proofs.shared.LineCases.{LineCases, line_cases, offering, said_by}
 use Rattle.chess_match.proofs.shared.MatchCases.{both_not, on_when_read}
-use Rattle.chess_match_laws.proofs.Points.{Kept, by_points}
-use Rattle.chess_match_laws.proofs.Silences.{by_silence}
+use Rattle.chess_match_laws.proofs.{Points.Kept, Points.by_points, Silences.by_silence}
 
 -- ---- lines that only say something
 

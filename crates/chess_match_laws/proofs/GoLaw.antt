@@ -1,31 +1,15 @@
 -- Each side is sent `go` once, with the opening of its first turn.
-use Rattle.std.proofs.Common.{◌≡◌, ◌∙◌, ℕ, zero, suc, ◌-◌, ◌≤◌, Bool, true, false, ◌||◌, List, [], ◌∷◌, ◌++◌, length, length-append, refl, sym, ap, subst, append-nil, arith}
-use Rattle.std.specs.Prelude.{codes, if◌then◌else◌, nat_lt}
-use Rattle.std.specs.List.{flat_map}
-use Rattle.std.proofs.lemmas.Grind.{flat_map-append}
-use Rattle.std.proofs.lemmas.Bool.Decides.{nat_tests}
-use Rattle.chess_base.specs.declared.man.Colour.{Colour}
-use Rattle.chess_base.specs.declared.man.Colour.TheVariants.{White, Black}
-use Rattle.chess_base.specs.declared.man.Move.{Move}
-use Rattle.chess_base.specs.Men.{other, same_colour}
-use Rattle.chess_base.specs.Options.{list_if}
+use Rattle.std.proofs.Common.{◌≡◌, ◌∙◌, ℕ, zero, suc, ◌-◌, ◌≤◌, Bool, true, false, ◌||◌, List, [], ◌∷◌, ◌++◌, length, length-append, refl, sym, ap, subst, append-nil, arith, flat_map, codes, if◌then◌else◌, nat_lt}
+use Rattle.std.proofs.{lemmas.Grind.flat_map-append, lemmas.Bool.Decides.nat_tests}
+use Rattle.chess_base.specs.{declared.man.Colour.Colour, declared.man.Colour.TheVariants.White, declared.man.Colour.TheVariants.Black, declared.man.Move.Move, Men.other, Men.same_colour, Options.list_if}
 use Rattle.chess_base.proofs.shared.Men.{same_colour-self, same_colour-true}
-use Rattle.cecp_engine.specs.EngineLines.{LineKind}
-use Rattle.cecp_engine.specs.Items.{Item}
+use Rattle.cecp_engine.specs.{EngineLines.LineKind, Items.Item}
 use Rattle.chess_match.specs.Acts.{Block, Happens, IsMatchFrom, awaits_line}
-use Rattle.chess_match.specs.Effects.{Match, Phase, Handshake, Setup, Opening, BeforeMove, AfterMove, Over, beginning, begins_turn, ends, handshake_lines, line_row, moved, opening}
-use Rattle.chess_match.specs.Events.{Opened}
-use Rattle.chess_match.specs.shared.Parts.{answers_to}
-use Rattle.chess_match.specs.Lines.{SentLine, setup_lines}
-use Rattle.chess_match.specs.Rules.{Rules}
-use Rattle.chess_match.specs.declared.reason.Reason.{Reason}
-use Rattle.chess_match.specs.declared.reason.Reason.TheVariants.{Claimed, Decided}
+use Rattle.chess_match.specs.Effects.{Match, Phase, Handshake, Setup, Opening, BeforeMove, AfterMove, Over, beginning, begins_turn, ends, handshake_lines, line_row, moved, opening, answers_to}
+use Rattle.chess_match.specs.{Events.Opened, Lines.SentLine, Lines.setup_lines, Rules.Rules, declared.reason.Reason.Reason, declared.reason.Reason.TheVariants.Claimed, declared.reason.Reason.TheVariants.Decided}
 use Rattle.chess_match.proofs.shared.LineCases.{line_cases, offered_used, offering, said_by}
-use Rattle.chess_match_laws.specs.OfActs.{AtEachMoment, AtEachOpening}
-use Rattle.chess_match_laws.specs.Rows.{GoIsSentOnce, WasSentGo, go_text}
-use Rattle.chess_match_laws.proofs.Givings.{lines_due}
-use Rattle.chess_match_laws.proofs.Points.{Kept, turn_in, turns_of}
-use Rattle.chess_match_laws.proofs.Tellings.{Tells, told_at}
+use Rattle.chess_match_laws.specs.{OfActs.AtEachMoment, OfActs.AtEachOpening, Rows.GoIsSentOnce, Rows.WasSentGo, Rows.go_text}
+use Rattle.chess_match_laws.proofs.{Givings.lines_due, Points.Kept, Points.turn_in, Points.turns_of, Tellings.Tells, Tellings.told_at}
 
 -- ---- lines
 

@@ -1,16 +1,10 @@
 -- Lines that say nothing are ignored, up to the 10,000th.
-use Rattle.std.proofs.Common.{◌≡◌, ℕ, ◌+◌, ◌-◌, ◌≤◌, ◌<◌, Bool, true, false, List, [], length, refl, sym, ap, subst, arith, Option, Some}
-use Rattle.std.specs.Prelude.{if◌then◌else◌, nat_le, nat_lt, ◌==◌}
-use Rattle.std.proofs.lemmas.Bool.{leb-false, leb-true}
+use Rattle.std.proofs.Common.{◌≡◌, ℕ, ◌+◌, ◌-◌, ◌≤◌, ◌<◌, Bool, true, false, List, [], length, refl, sym, ap, subst, arith, Option, Some, leb-false, leb-true, if◌then◌else◌, nat_le, nat_lt, ◌==◌}
 use Rattle.std.proofs.lemmas.Bool.Decides.{nat_tests}
-use Rattle.chess_base.specs.declared.man.Colour.{Colour}
-use Rattle.chess_base.specs.Men.{other}
+use Rattle.chess_base.specs.{declared.man.Colour.Colour, Men.other}
 use Rattle.cecp_engine.specs.EngineLines.{LineKind, Features, Moves, Resigns, OffersDraw, ClaimsDraw, ClaimsWin, Rejects, Answers, SaysElse}
 use Rattle.chess_match.specs.Effects.{Match, Phase, Setup, BeforeMove, AfterMove, awaited_since, before_move, begins_turn, clock, ends, flag_row, ignores, line_row, ping_number, sends_nothing, setup_done, turn_row}
-use Rattle.chess_match.specs.Rules.{Rules}
-use Rattle.chess_match.specs.declared.reason.MatchFault.TheVariants.{Flood}
-use Rattle.chess_match.specs.declared.reason.Reason.TheVariants.{Faulted, RejectsLegalMove}
-use Rattle.chess_match.specs.laws.Laws.{is_pong, line_kind}
+use Rattle.chess_match.specs.{Rules.Rules, declared.reason.MatchFault.TheVariants.Flood, declared.reason.Reason.TheVariants.Faulted, declared.reason.Reason.TheVariants.RejectsLegalMove, laws.Laws.is_pong, laws.Laws.line_kind}
 use Rattle.chess_match_laws.specs.Ignored.{IsIgnored, OtherLinesAreIgnored, is_talk}
 
 -- the time is not yet used up

@@ -2,21 +2,12 @@
 use Rattle.std.proofs.Common.{◌≡◌, ℕ, Bool, true, false, List, [], ◌∷◌, ◌++◌, refl, ap, sym, ◌∙◌, Option, None, Some}
 use Rattle.chess_base.specs.declared.man.Colour.{Colour}
 use Rattle.cecp_engine.specs.EngineLines.{LineKind}
-use Rattle.chess_match.specs.laws.Laws.{line_kind, whose_line}
+use Rattle.chess_match.specs.{laws.Laws.line_kind, laws.Laws.whose_line, Events.Line, Events.Opened, Events.Silent, Rules.Rules, declared.patience.Patience.Patience, declared.reason.MatchFault.MatchFault, declared.reason.MatchFault.TheVariants.Ended, declared.reason.MatchFault.TheVariants.Read, declared.reason.MatchFault.TheVariants.Write, declared.reason.Reason.Reason, declared.reason.Reason.TheVariants.Claimed, declared.reason.Reason.TheVariants.Decided, declared.reason.Reason.TheVariants.Faulted}
 use Rattle.chess_match.specs.Acts.{Act, Block, IsMatchFrom, Happens, Sends, awaits_line, is_over}
 use Rattle.chess_match.specs.Effects.{Match, Phase, Over, effect, line_row}
-use Rattle.chess_match.specs.Events.{Line, Opened, Silent}
-use Rattle.chess_match.specs.Rules.{Rules}
-use Rattle.chess_match.specs.declared.patience.Patience.{Patience}
-use Rattle.chess_match.specs.declared.reason.MatchFault.{MatchFault}
-use Rattle.chess_match.specs.declared.reason.MatchFault.TheVariants.{Ended, Read, Write}
-use Rattle.chess_match.specs.declared.reason.Reason.{Reason}
-use Rattle.chess_match.specs.declared.reason.Reason.TheVariants.{Claimed, Decided, Faulted}
 use Rattle.chess_match_laws.specs.OfActs.{LastLineIsTheirs, only_sends}
-use Rattle.chess_match.proofs.shared.LineCases.{line_cases}
-use Rattle.chess_match.proofs.shared.MatchCases.{both_not, on_when_read}
-use Rattle.chess_match_laws.proofs.Points.{Stays, by_points, whole}
-use Rattle.chess_match_laws.proofs.Silences.{by_silence}
+use Rattle.chess_match.proofs.{shared.LineCases.line_cases, shared.MatchCases.both_not, shared.MatchCases.on_when_read}
+use Rattle.chess_match_laws.proofs.{Points.Stays, Points.by_points, Points.whole, Silences.by_silence}
 
 -- if a match is over in this phase for what a side's line did, it is a line of the side `S`
 abbrev Theirs : Patience → Colour → Phase → Type 0

@@ -1,13 +1,10 @@
 -- After the silence that ends a match no line is left over.
 use Rattle.std.proofs.Common.{◌≡◌, ℕ, Bool, true, List, [], ◌∷◌, ◌++◌, refl, ap, ◌∙◌, Option, None, Some}
 use Rattle.std.specs.List.{flat_map, last_or}
-use Rattle.chess_base.specs.declared.man.Colour.{Colour}
-use Rattle.chess_base.specs.Men.{same_colour}
-use Rattle.chess_base.specs.Options.{list_if}
+use Rattle.chess_base.specs.{declared.man.Colour.Colour, Men.same_colour, Options.list_if}
 use Rattle.chess_base.proofs.shared.Men.{same_colour-self}
 use Rattle.chess_match.specs.Acts.{Act, Sends, SendFails, Happens}
-use Rattle.chess_match.specs.ByDevice.{look}
-use Rattle.chess_match.specs.Events.{Silent}
+use Rattle.chess_match.specs.{ByDevice.look, Events.Silent}
 use Rattle.chess_match_laws.specs.OfActs.{SilencesLeaveNoLine, only_sends}
 
 -- a block is no look

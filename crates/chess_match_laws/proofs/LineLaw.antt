@@ -1,15 +1,9 @@
 -- A match ends within so many lines.
 use Rattle.std.proofs.Common.{◌≡◌, ℕ, ◌+◌, ◌*◌, ◌≤◌, ◌<◌, Bool, true, false, List, [], ◌∷◌, ◌++◌, length, length-append, refl, subst, arith, Option}
-use Rattle.chess_base.specs.declared.man.Colour.{Colour}
-use Rattle.chess_base.specs.declared.man.Colour.TheVariants.{White, Black}
-use Rattle.chess_base.specs.Men.{same_colour}
-use Rattle.chess_base.specs.Options.{list_if}
+use Rattle.chess_base.specs.{declared.man.Colour.Colour, declared.man.Colour.TheVariants.White, declared.man.Colour.TheVariants.Black, Men.same_colour, Options.list_if}
 use Rattle.cecp_engine.specs.EngineLines.{LineKind}
-use Rattle.chess_match.specs.Acts.{Act, awaits_line}
-use Rattle.chess_match.specs.laws.Laws.{lines_read, line_kind}
+use Rattle.chess_match.specs.{Acts.Act, Acts.awaits_line, laws.Laws.lines_read, laws.Laws.line_kind, Events.Silent, Rules.Rules}
 use Rattle.chess_match.specs.Effects.{Match, Phase, Handshake, Setup, Opening, BeforeMove, AfterMove, Over, effect, line_row}
-use Rattle.chess_match.specs.Events.{Silent}
-use Rattle.chess_match.specs.Rules.{Rules}
 use Rattle.chess_match_laws.specs.OfActs.{AtEachMoment, LinesAreFew}
 use Rattle.chess_match.proofs.shared.LineCases.{line_cases, silence_cases}
 use Rattle.chess_match_laws.proofs.Points.{by_points}

@@ -1,13 +1,8 @@
 -- A line that is due, by the lines that its engine was sent and has said, is one that the match waits for.
-use Rattle.std.proofs.Common.{◌≡◌, ◌∙◌, ℕ, ◌+◌, ◌-◌, ◌≤◌, ◌<◌, Bool, true, false, List, [], ◌∷◌, ◌++◌, length, length-append, refl, sym, ap, subst, append-nil, append_assoc, Option, None, arith}
-use Rattle.std.specs.Prelude.{◌/◌, codes, if◌then◌else◌, nat_lt}
+use Rattle.std.proofs.Common.{◌≡◌, ◌∙◌, ℕ, ◌+◌, ◌-◌, ◌≤◌, ◌<◌, Bool, true, false, List, [], ◌∷◌, ◌++◌, length, length-append, refl, sym, ap, subst, append-nil, append_assoc, Option, None, arith, ◌/◌, codes, if◌then◌else◌, nat_lt}
 use Rattle.std.specs.List.{flat_map, list_any}
 use Rattle.std.proofs.lemmas.Bool.Decides.{nat_tests}
-use Rattle.chess_base.specs.Men.{other, same_colour}
-use Rattle.chess_base.specs.Options.{list_if}
-use Rattle.chess_base.specs.declared.man.Colour.{Colour}
-use Rattle.chess_base.specs.declared.man.Colour.TheVariants.{White, Black}
-use Rattle.chess_base.specs.declared.man.Move.{Move}
+use Rattle.chess_base.specs.{Men.other, Men.same_colour, Options.list_if, declared.man.Colour.Colour, declared.man.Colour.TheVariants.White, declared.man.Colour.TheVariants.Black, declared.man.Move.Move}
 use Rattle.chess_base.proofs.shared.Men.{same_colour-true}
 use Rattle.cecp_engine.specs.EngineLines.{LineKind, Answers, Features, Moves, SaysElse}
 use Rattle.cecp_engine.specs.Items.{ends_handshake, items_of, takes}
@@ -16,19 +11,15 @@ use Rattle.chess_text.specs.Moves.{reading}
 use Rattle.chess_text.specs.declared.reading.Reading.TheVariants as reads
 use Rattle.chess_match.specs.Acts.{Act, Block, Happens, IsMatch, IsMatchFrom, awaits_line}
 use Rattle.chess_match.specs.Effects.{Match, Phase, Handshake, Setup, Opening, BeforeMove, AfterMove, Over, beginning, clock, effect, line_row, missing, move_line, opening, ping_number}
-use Rattle.chess_match.specs.Events.{Line}
+use Rattle.chess_match.specs.{Events.Line, Rules.Rules}
 use Rattle.chess_match.specs.Lines.{SentLine, Says, Time, Otim}
-use Rattle.chess_match.specs.Rules.{Rules}
 use Rattle.chess_match.specs.laws.Laws.{line_kind, lines_given, lines_read, match_after}
 use Rattle.chess_match.proofs.shared.LineCases.{in_turn, line_cases, silence_cases}
 use Rattle.chess_match_laws.specs.Answering.{IsDue, ends_in_ping, idle, of_handshake, to_ping, to_turn}
-use Rattle.chess_match_laws.specs.Rows.{ping_text, pings}
-use Rattle.chess_match_laws.specs.Streams.{items_said}
-use Rattle.chess_match_laws.proofs.Givings.{lines_due}
+use Rattle.chess_match_laws.specs.{Rows.ping_text, Rows.pings, Streams.items_said}
+use Rattle.chess_match_laws.proofs.{Givings.lines_due, SentByLinesLaw.items_are_said, Tellings.Tells, Tellings.told_at}
 use Rattle.chess_match_laws.proofs.PingLaw as ping_law
 use Rattle.chess_match_laws.proofs.Points.{Kept, by_points, turn_in, turns_of}
-use Rattle.chess_match_laws.proofs.SentByLinesLaw.{items_are_said}
-use Rattle.chess_match_laws.proofs.Tellings.{Tells, told_at}
 
 -- ---- what is expected
 

@@ -1,28 +1,17 @@
 -- An engine is sent the other's moves, each once and in order.
-use Rattle.std.proofs.Common.{◌≡◌, ℕ, ◌+◌, ◌≤◌, Bool, true, false, List, [], ◌∷◌, ◌++◌, length, length-append, refl, ap, sym, subst, ◌∙◌, append-nil, append_assoc, lt-ltb, Option, arith}
-use Rattle.std.specs.Prelude.{if◌then◌else◌, nat_lt, codes}
+use Rattle.std.proofs.Common.{◌≡◌, ℕ, ◌+◌, ◌≤◌, Bool, true, false, List, [], ◌∷◌, ◌++◌, length, length-append, refl, ap, sym, subst, ◌∙◌, append-nil, append_assoc, lt-ltb, Option, arith, if◌then◌else◌, nat_lt, codes}
 use Rattle.std.proofs.lemmas.Grind.{flat_map-append}
-use Rattle.chess_base.specs.declared.man.Colour.{Colour}
-use Rattle.chess_base.specs.declared.man.Colour.TheVariants.{White, Black}
-use Rattle.chess_base.specs.declared.man.Move.{Move}
-use Rattle.chess_base.specs.Men.{other, same_colour}
-use Rattle.chess_base.specs.Options.{list_if}
+use Rattle.chess_base.specs.{declared.man.Colour.Colour, declared.man.Colour.TheVariants.White, declared.man.Colour.TheVariants.Black, declared.man.Move.Move, Men.other, Men.same_colour, Options.list_if}
 use Rattle.chess_base.proofs.shared.Men.{same_colour-true}
 use Rattle.cecp_engine.specs.Items.{takes}
 use Rattle.chess_match.specs.Acts.{Act, Block, IsMatch, IsMatchFrom, Sends, SendFails, Happens, awaits_line, is_over}
 use Rattle.chess_match.specs.Effects.{Match, Phase, Handshake, Setup, Opening, BeforeMove, AfterMove, Over, begins_turn, beginning, effect, ends, is_owed_move, moved, opening}
-use Rattle.chess_match.specs.shared.Parts.{enter}
-use Rattle.chess_match.specs.Events.{Line, Opened, Silent}
-use Rattle.chess_match.specs.Lines.{SentLine}
-use Rattle.chess_match.specs.Reasons.{is_write_fault_of}
-use Rattle.chess_match.specs.Rules.{Rules, text_of_last}
-use Rattle.chess_match.specs.declared.reason.Reason.{Reason}
+use Rattle.chess_match.specs.{shared.Parts.enter, Events.Line, Events.Opened, Events.Silent, Lines.SentLine, Reasons.is_write_fault_of, Rules.Rules, Rules.text_of_last, declared.reason.Reason.Reason}
 use Rattle.chess_match_laws.specs.Streams.{move_sent, moves_sent, texts_from}
 use Rattle.chess_match.specs.laws.Laws.{broken_blocks, is_broken, lines_sent, line_kind, lines_given, match_after}
 use Rattle.chess_match_laws.specs.OfActs.{AllMovesAreGiven, AllMovesAreSent, AtEachLine, AtEachMoment, AtEachOpening, InEachMatch, IsSentAllMoves, MovesAreSent, MovesSentAreKnown, ended_by_write_to, others_moves}
 use Rattle.chess_match_laws.proofs.Givings.{Gives, Goes, given_at, grows, sends}
-use Rattle.chess_match.proofs.shared.LineCases.{line_cases, silence_cases}
-use Rattle.chess_match.proofs.shared.MatchCases.{both_not, on_when_read}
+use Rattle.chess_match.proofs.{shared.LineCases.line_cases, shared.LineCases.silence_cases, shared.MatchCases.both_not, shared.MatchCases.on_when_read}
 use Rattle.chess_match_laws.proofs.Points.{by_points, whole, mover, moved_items, offered_items, turn_in, turns_of}
 
 -- ---- texts of moves

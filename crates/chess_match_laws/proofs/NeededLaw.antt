@@ -1,29 +1,19 @@
 -- Engines whose handshakes are done have what the match needs.
-use Rattle.std.proofs.Common.{◌≡◌, ℕ, ◌+◌, ◌-◌, Bool, true, false, not, ◌&&◌, List, [], ◌∷◌, refl, sym, ap, subst, Option, None, Some}
-use Rattle.std.specs.Prelude.{codes, if◌then◌else◌, is_some, nat_le}
+use Rattle.std.proofs.Common.{◌≡◌, ℕ, ◌+◌, ◌-◌, Bool, true, false, not, ◌&&◌, List, [], ◌∷◌, refl, sym, ap, subst, Option, None, Some, codes, if◌then◌else◌, is_some, nat_le}
 use Rattle.std.specs.List.{list_any}
-use Rattle.chess_base.specs.declared.man.Colour.{Colour}
-use Rattle.chess_base.specs.declared.man.Colour.TheVariants.{White, Black}
+use Rattle.chess_base.specs.{declared.man.Colour.Colour, declared.man.Colour.TheVariants.White, declared.man.Colour.TheVariants.Black}
 use Rattle.chess_base.proofs.shared.Men.{same_colour-true}
 use Rattle.chess_text.specs.San.{is_fischerandom}
 use Rattle.cecp_engine.specs.EngineLines.{LineKind}
 use Rattle.cecp_engine.specs.Items.{Item, ends_handshake, plays_fischerandom, takes}
 use Rattle.chess_match.specs.Acts.{Block, Happens, IsMatchFrom, awaits_line}
 use Rattle.chess_match.specs.Effects.{Effect, Match, Phase, Handshake, Setup, Opening, BeforeMove, AfterMove, Over, ends, handshake_done, handshake_row, judged, line_row, missing, sends_nothing}
-use Rattle.chess_match.specs.Events.{Opened}
-use Rattle.chess_match.specs.shared.Parts.{counted}
-use Rattle.chess_match.specs.Rules.{Rules, start_fen}
-use Rattle.chess_match.specs.declared.reason.MatchFault.{MatchFault}
+use Rattle.chess_match.specs.{Events.Opened, shared.Parts.counted, Rules.Rules, Rules.start_fen, declared.reason.MatchFault.MatchFault, declared.reason.Reason.TheVariants.Faulted, laws.Laws.items_in_line, laws.Laws.line_kind}
 use Rattle.chess_match.specs.declared.reason.MatchFault.TheVariants.{NoDone, NoPing, NoSetboard, NoVariant}
-use Rattle.chess_match.specs.declared.reason.Reason.TheVariants.{Faulted}
-use Rattle.chess_match.specs.laws.Laws.{items_in_line, line_kind}
 use Rattle.chess_match.proofs.shared.LineCases.{handshake_by_items, handshakes_done, line_cases, said_by}
 use Rattle.chess_match.proofs.shared.MatchCases.{both_not}
-use Rattle.chess_match_laws.specs.OfActs.{AtEachOpening}
-use Rattle.chess_match_laws.specs.Handshakes.{BothHaveNeeded, HasNeeded}
-use Rattle.chess_match_laws.proofs.OfferedLaw.{not_early}
-use Rattle.chess_match_laws.proofs.Points.{by_points, moved_items, offered_items}
-use Rattle.chess_match_laws.proofs.Silences.{by_silence}
+use Rattle.chess_match_laws.specs.{OfActs.AtEachOpening, Handshakes.BothHaveNeeded, Handshakes.HasNeeded}
+use Rattle.chess_match_laws.proofs.{OfferedLaw.not_early, Points.by_points, Points.moved_items, Points.offered_items, Silences.by_silence}
 
 -- ---- nothing is missing
 

@@ -1,29 +1,15 @@
 -- The notes of a match have all its events and all lines that are sent.
-use Rattle.std.proofs.Common.{◌≡◌, ℕ, Bool, true, false, List, [], ◌∷◌, ◌++◌, refl, ap, sym, subst, ◌∙◌}
-use Rattle.std.specs.Prelude.{if◌then◌else◌}
-use Rattle.chess_base.specs.declared.man.Colour.{Colour}
-use Rattle.chess_base.specs.declared.man.Colour.TheVariants.{White, Black}
-use Rattle.chess_base.specs.Men.{same_colour}
-use Rattle.chess_base.specs.Options.{list_if}
+use Rattle.std.proofs.Common.{◌≡◌, ℕ, Bool, true, false, List, [], ◌∷◌, ◌++◌, refl, ap, sym, subst, ◌∙◌, if◌then◌else◌}
+use Rattle.chess_base.specs.{declared.man.Colour.Colour, declared.man.Colour.TheVariants.White, declared.man.Colour.TheVariants.Black, Men.same_colour, Options.list_if}
 use Rattle.chess_match.specs.Acts.{Act, Block, Sends, SendFails, Happens, blocks_from, is_over}
 use Rattle.chess_match.specs.Effects.{Match, Phase, Over, beginning, effect}
-use Rattle.chess_match.specs.shared.Parts.{farewell}
+use Rattle.chess_match.specs.{shared.Parts.farewell, Lines.SentLine, Lines.bytes_of, Notes.Note, Notes.Happened, Reasons.is_write_fault_of, Rules.Rules, declared.reason.MatchFault.TheVariants.Write, declared.reason.Reason.Reason, declared.reason.Reason.TheVariants.Faulted}
 use Rattle.chess_match.specs.Events.{Event, Line, Opened, Silent, OutputEnds, FailsToRead, FailsToWrite}
-use Rattle.chess_match.specs.Lines.{SentLine, bytes_of}
-use Rattle.chess_match.specs.Notes.{Note, Happened}
-use Rattle.chess_match.specs.Reasons.{is_write_fault_of}
-use Rattle.chess_match.specs.Rules.{Rules}
-use Rattle.chess_match.specs.declared.reason.MatchFault.TheVariants.{Write}
-use Rattle.chess_match.specs.declared.reason.Reason.{Reason}
-use Rattle.chess_match.specs.declared.reason.Reason.TheVariants.{Faulted}
 use Rattle.chess_match.specs.laws.Laws.{events_in, lines_read, notes_given, lines_given, match_after}
 use Rattle.chess_match_laws.specs.Streams.{given_in, lines_noted, moments_noted}
 use Rattle.chess_match_laws.specs.OfActs.{NotesAreInOrder, NotesHaveAllLines, NotesHaveLinesRead, NotesHaveMoments, NotesHaveTheEvents, after_events, ended_by_write_to, events_of}
-use Rattle.chess_match.proofs.shared.Reasons.{unwritten}
-use Rattle.chess_match.proofs.shared.MatchCases.{both_not, by_cases, on_when_read}
-use Rattle.chess_match_laws.proofs.MoveLaw.{line_written, silent_written}
-use Rattle.chess_match_laws.proofs.Points.{end_after_acts}
-use Rattle.chess_match.proofs.shared.Lines.{bytes_of-append}
+use Rattle.chess_match.proofs.{shared.Reasons.unwritten, shared.MatchCases.both_not, shared.MatchCases.by_cases, shared.MatchCases.on_when_read, shared.Lines.bytes_of-append}
+use Rattle.chess_match_laws.proofs.{MoveLaw.line_written, MoveLaw.silent_written, Points.end_after_acts}
 
 -- ---- lines
 

@@ -1,34 +1,22 @@
 -- A draw is agreed by two offers, and no move of the side that answers in between.
-use Rattle.std.proofs.Common.{◌≡◌, ◌∙◌, ◌⊎◌, ℕ, ◌-◌, Bool, true, false, not, ◌&&◌, ◌||◌, List, [], ◌∷◌, ◌++◌, length, refl, sym, ap, subst, inl, inr, Option, Some, None, arith}
-use Rattle.std.specs.Prelude.{if◌then◌else◌, nat_lt, nat_le, unwrap_or, ◌==◌}
-use Rattle.std.specs.List.{list_any}
-use Rattle.std.specs.Option.{option_map_or}
+use Rattle.std.proofs.Common.{◌≡◌, ◌∙◌, ◌⊎◌, ℕ, ◌-◌, Bool, true, false, not, ◌&&◌, ◌||◌, List, [], ◌∷◌, ◌++◌, length, refl, sym, ap, subst, inl, inr, Option, Some, None, arith, if◌then◌else◌, nat_lt, nat_le, unwrap_or, ◌==◌}
+use Rattle.std.specs.{List.list_any, Option.option_map_or}
 use Rattle.std.proofs.lemmas.Bool.{and_parts, or_cases}
-use Rattle.chess_base.specs.declared.man.Colour.{Colour}
-use Rattle.chess_base.specs.Men.{other, same_colour}
+use Rattle.chess_base.specs.{declared.man.Colour.Colour, Men.other, Men.same_colour}
 use Rattle.chess_base.proofs.shared.Men.{other-other, same_colour-true}
-use Rattle.chess_game.specs.Ends.{verdict}
-use Rattle.chess_game.specs.Line.{position_after}
-use Rattle.chess_game.specs.declared.verdicts.DrawClaim.{DrawClaim}
-use Rattle.chess_game.specs.declared.verdicts.Verdict.{Verdict}
+use Rattle.chess_game.specs.{Ends.verdict, Line.position_after, declared.verdicts.DrawClaim.DrawClaim, declared.verdicts.Verdict.Verdict}
 use Rattle.cecp_engine.specs.EngineLines.{LineKind, Features, Moves, Resigns, OffersDraw, ClaimsDraw, ClaimsWin, Rejects, Answers, SaysElse}
-use Rattle.chess_text.specs.Moves.{reading}
-use Rattle.chess_text.specs.declared.reading.Reading.{Reading}
+use Rattle.chess_text.specs.{Moves.reading, declared.reading.Reading.Reading}
 use Rattle.chess_text.specs.declared.reading.Reading.TheVariants as reads
 use Rattle.chess_match.specs.Acts.{Act, Block, IsMatchFrom, Sends, Happens, awaits_line, is_over}
 use Rattle.chess_match.specs.Effects.{Effect, Match, Phase, Handshake, Setup, Opening, BeforeMove, AfterMove, Over, awaited_since, before_move, beginning, begins_turn, clock, effect, ends, flag_row, ignores, line_row, move_row, moved, offer_row, ping_number, reply_row, sends_nothing, silence_row, turn_row}
-use Rattle.chess_match.specs.Events.{Line, Opened, Silent}
-use Rattle.chess_match.specs.Rules.{Rules, has_bare_king}
-use Rattle.chess_match.specs.declared.reason.Reason.{Reason}
+use Rattle.chess_match.specs.{Events.Line, Events.Opened, Events.Silent, Rules.Rules, Rules.has_bare_king, declared.reason.Reason.Reason, declared.reason.MatchFault.MatchFault, laws.Laws.line_kind}
 use Rattle.chess_match.specs.declared.reason.Reason.TheVariants.{Agreed, Faulted, Forfeits, ForfeitsToBareKing, GameTooLong}
-use Rattle.chess_match.specs.declared.reason.MatchFault.{MatchFault}
 use Rattle.chess_match.specs.declared.reason.MatchFault.TheVariants.{Ended, NoAnswer, NoHandshake, Read, Write}
-use Rattle.chess_match.specs.laws.Laws.{line_kind}
 use Rattle.chess_match.proofs.shared.LineCases.{draw_by_itself, in_turn, is_fault, line_cases, over_for, playing, said_by}
 use Rattle.chess_match.proofs.shared.MatchCases.{both_not, on_when_read}
-use Rattle.chess_match_laws.specs.OfActs.{InEachMatch, only_sends}
+use Rattle.chess_match_laws.specs.{OfActs.InEachMatch, OfActs.only_sends, Streams.is_move}
 use Rattle.chess_match_laws.specs.Rows.{AgreedDrawsAreOffered, IsAgreed, is_move_of, is_offer}
-use Rattle.chess_match_laws.specs.Streams.{is_move}
 use Rattle.chess_match_laws.proofs.Points.{Stays, by_points, whole}
 
 -- ---- a line

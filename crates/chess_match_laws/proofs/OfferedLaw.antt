@@ -1,34 +1,18 @@
 -- A side is sent `draw` only where the other side offers one.
-use Rattle.std.proofs.Common.{◌≡◌, ◌∙◌, ◌⊎◌, ℕ, suc, ◌+◌, ◌-◌, ◌≤◌, Bool, true, false, not, ◌&&◌, List, [], ◌∷◌, ◌++◌, length, length-append, refl, sym, ap, subst, inl, inr, append-nil, arith, Option}
-use Rattle.std.specs.Prelude.{codes, if◌then◌else◌}
-use Rattle.std.specs.List.{flat_map}
-use Rattle.std.proofs.lemmas.Bool.{and_parts, or_cases}
-use Rattle.std.proofs.lemmas.Grind.{flat_map-append}
-use Rattle.chess_base.specs.declared.man.Colour.{Colour}
-use Rattle.chess_base.specs.declared.man.Colour.TheVariants.{White, Black}
-use Rattle.chess_base.specs.Men.{other, same_colour}
-use Rattle.chess_base.specs.Options.{list_if}
-use Rattle.cecp_engine.specs.EngineLines.{LineKind}
-use Rattle.cecp_engine.specs.Items.{takes}
+use Rattle.std.proofs.Common.{◌≡◌, ◌∙◌, ◌⊎◌, ℕ, suc, ◌+◌, ◌-◌, ◌≤◌, Bool, true, false, not, ◌&&◌, List, [], ◌∷◌, ◌++◌, length, length-append, refl, sym, ap, subst, inl, inr, append-nil, arith, Option, flat_map, codes, if◌then◌else◌}
+use Rattle.std.proofs.{lemmas.Bool.and_parts, lemmas.Bool.or_cases, lemmas.Grind.flat_map-append}
+use Rattle.chess_base.specs.{declared.man.Colour.Colour, declared.man.Colour.TheVariants.White, declared.man.Colour.TheVariants.Black, Men.other, Men.same_colour, Options.list_if}
+use Rattle.cecp_engine.specs.{EngineLines.LineKind, Items.takes}
 use Rattle.chess_match.specs.Acts.{Act, Block, IsMatchFrom, awaits_line, blocks_from, is_over}
 use Rattle.chess_match.specs.Effects.{Effect, Match, Phase, Handshake, Setup, Opening, BeforeMove, AfterMove, Over, beginning, effect, ends, handshake_lines, line_row, moved, opening}
-use Rattle.chess_match.specs.Events.{Line}
-use Rattle.chess_match.specs.Lines.{SentLine, Says, setup_lines}
-use Rattle.chess_match.specs.Rules.{Rules}
-use Rattle.chess_match.specs.declared.reason.MatchFault.TheVariants.{Ended, Read, Write}
-use Rattle.chess_match.specs.declared.reason.Reason.{Reason}
-use Rattle.chess_match.specs.declared.reason.Reason.TheVariants.{Claimed, Decided, Faulted}
-use Rattle.chess_match.specs.laws.Laws.{line_kind, lines_given, lines_read}
+use Rattle.chess_match.specs.{Events.Line, Lines.SentLine, Lines.Says, Lines.setup_lines, Rules.Rules, declared.reason.MatchFault.TheVariants.Ended, declared.reason.MatchFault.TheVariants.Read, declared.reason.MatchFault.TheVariants.Write, declared.reason.Reason.Reason, declared.reason.Reason.TheVariants.Claimed, declared.reason.Reason.TheVariants.Decided, declared.reason.Reason.TheVariants.Faulted, laws.Laws.line_kind, laws.Laws.lines_given, laws.Laws.lines_read}
 use Rattle.chess_match.proofs.shared.LineCases.{in_turn, line_cases, offering, said_by}
 use Rattle.chess_match.proofs.shared.MatchCases.{both_not}
-use Rattle.chess_match_laws.specs.OfActs.{AtEachMoment}
+use Rattle.chess_match_laws.specs.{OfActs.AtEachMoment, Streams.is_move}
 use Rattle.chess_match_laws.specs.Rows.{DrawsAreOffered, draw_text, is_offer, offer_of}
-use Rattle.chess_match_laws.specs.Streams.{is_move}
-use Rattle.chess_match_laws.proofs.Givings.{both_due, lines_due}
+use Rattle.chess_match_laws.proofs.{Givings.both_due, Givings.lines_due, Points.by_points, Silences.by_silence}
 use Rattle.chess_match_laws.proofs.OfferLaw.{Fresh, Open, line_fresh, line_open}
 use Rattle.chess_match_laws.proofs.PassingLaw.{answered, end_none, if_none, opening_none, setup_none}
-use Rattle.chess_match_laws.proofs.Points.{by_points}
-use Rattle.chess_match_laws.proofs.Silences.{by_silence}
 
 abbrev one_if : Bool → ℕ
 one_if true = 1

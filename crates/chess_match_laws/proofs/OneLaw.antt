@@ -1,24 +1,14 @@
 -- There is only one match of two engines and a clock.
-use Rattle.std.proofs.Common.{◌≡◌, ℕ, ◌+◌, ◌-◌, ◌<◌, ◌≤◌, Bool, true, false, List, [], ◌∷◌, ◌++◌, length, drop, suc, subst, refl, ap, sym, ◌∙◌, append_assoc, lt-ltb, Option, None, Some, arith}
-use Rattle.std.specs.Prelude.{if◌then◌else◌, nat_lt, option_map, slice_get}
-use Rattle.std.specs.Option.{IfSome}
-use Rattle.std.proofs.Math.Seq.{drop-append_seam}
-use Rattle.std.proofs.lemmas.Bool.{and_parts, or_left, or_right}
-use Rattle.chess_base.specs.declared.man.Colour.{Colour}
-use Rattle.chess_base.specs.declared.man.Colour.TheVariants.{White, Black}
-use Rattle.chess_base.specs.Men.{same_colour}
-use Rattle.chess_base.specs.Options.{list_if}
+use Rattle.std.proofs.Common.{◌≡◌, ℕ, ◌+◌, ◌-◌, ◌<◌, ◌≤◌, Bool, true, false, List, [], ◌∷◌, ◌++◌, length, drop, suc, subst, refl, ap, sym, ◌∙◌, append_assoc, lt-ltb, Option, None, Some, arith, IfSome, if◌then◌else◌, nat_lt, option_map, slice_get}
+use Rattle.std.proofs.{Math.Seq.drop-append_seam, lemmas.Bool.and_parts, lemmas.Bool.or_left, lemmas.Bool.or_right}
+use Rattle.chess_base.specs.{declared.man.Colour.Colour, declared.man.Colour.TheVariants.White, declared.man.Colour.TheVariants.Black, Men.same_colour, Options.list_if}
 use Rattle.chess_base.proofs.shared.Men.{same_colour-self}
 use Rattle.chess_match.specs.Acts.{Act, Block, IsMatch, IsMatchFrom, Sends, SendFails, Happens, awaits_line, blocks_from, is_limited, is_over}
-use Rattle.chess_match.specs.ByDevice.{look}
-use Rattle.chess_match.specs.shared.Parts.{blocks_after}
+use Rattle.chess_match.specs.{ByDevice.look, shared.Parts.blocks_after, Rules.Rules, Lines.SentLine}
 use Rattle.chess_match.specs.Effects.{Match, Phase, Opening, beginning, effect}
 use Rattle.chess_match.specs.Events.{Event, Line, Opened, Silent, OutputEnds, FailsToRead, FailsToWrite}
-use Rattle.chess_match.specs.Rules.{Rules}
-use Rattle.chess_match.specs.Lines.{SentLine}
-use Rattle.chess_match_laws.specs.Streams.{Streams, blocks_sent, looks}
+use Rattle.chess_match_laws.specs.{Streams.Streams, Streams.blocks_sent, Streams.looks, OfActs.AreOf, OfActs.OnlyOneMatch}
 use Rattle.chess_match.specs.laws.Laws.{broken_blocks, has_ended, has_failed_read, is_broken, lines_read, moments_shown, match_after}
-use Rattle.chess_match_laws.specs.OfActs.{AreOf, OnlyOneMatch}
 use Rattle.chess_match.proofs.shared.MatchCases.{all_sends_end, both_not, by_cases, none_read, on_when_read, sends_end, unread, unsent_in}
 use Rattle.chess_match_laws.proofs.Points.{end_after_acts}
 

@@ -1,26 +1,15 @@
 -- There is only one match of a run whose devices show all.
 use mathlib.Core.Bool.{or-true}
-use Rattle.std.proofs.Common.{◌≡◌, ℕ, ◌+◌, ◌<◌, ◌≤◌, ◌^◌, ◌-◌, zero, suc, ◌||◌, ◌⊎◌, inl, inr, Bool, true, false, List, [], ◌∷◌, ◌++◌, length, length-append, refl, ap, sym, ◌∙◌, Option, None, Some, arith}
-use Rattle.std.specs.Prelude.{if◌then◌else◌, is_some, nat_lt, slice_get}
-use Rattle.std.specs.Option.{IfSome}
+use Rattle.std.proofs.Common.{◌≡◌, ℕ, ◌+◌, ◌<◌, ◌≤◌, ◌^◌, ◌-◌, zero, suc, ◌||◌, ◌⊎◌, inl, inr, Bool, true, false, List, [], ◌∷◌, ◌++◌, length, length-append, refl, ap, sym, ◌∙◌, Option, None, Some, arith, IfSome, if◌then◌else◌, is_some, nat_lt, slice_get}
 use Rattle.std.specs.Io.KnownBytes.{Appends, Consumes}
 use Rattle.std.proofs.lemmas.List.{append_cancel_left, append_cancel_right}
-use Rattle.byte_devices.specs.Bytes.{new_line}
-use Rattle.chess_base.specs.Men.{other, same_colour}
-use Rattle.chess_base.specs.Options.{list_if}
-use Rattle.chess_base.specs.declared.man.Colour.{Colour}
-use Rattle.chess_base.specs.declared.man.Colour.TheVariants.{White}
-use Rattle.byte_devices.specs.Devices.{OutputState, saturating_add, saturating_increment}
-use Rattle.byte_devices.specs.Transfers.{FromInput, ToOutput, OutputTook}
-use Rattle.byte_devices.proofs.shared.Devices.{add_some}
-use Rattle.byte_devices.proofs.shared.Transfers.{saturating_increment_if}
+use Rattle.byte_devices.specs.{Bytes.new_line, Devices.OutputState, Devices.saturating_add, Devices.saturating_increment, Transfers.FromInput, Transfers.ToOutput, Transfers.OutputTook}
+use Rattle.chess_base.specs.{Men.other, Men.same_colour, Options.list_if, declared.man.Colour.Colour, declared.man.Colour.TheVariants.White}
+use Rattle.byte_devices.proofs.{shared.Devices.add_some, shared.Transfers.saturating_increment_if}
 use Rattle.chess_match.specs.Acts.{Act, Block, IsMatch, Sends, SendFails, Happens, block_of, blocks_from, is_over}
 use Rattle.chess_match.specs.Events.{Line, Opened, Silent, OutputEnds, FailsToRead, FailsToWrite}
-use Rattle.chess_match.specs.Effects.{Match, beginning, effect}
-use Rattle.chess_match.specs.Lines.{SentLine, bytes_of, text_of}
+use Rattle.chess_match.specs.{Effects.Match, Effects.beginning, Effects.effect, Lines.SentLine, Lines.bytes_of, Lines.text_of, Rules.Rules, Run.engine_lines}
 use Rattle.chess_match.specs.Played.{Passed, SaidBy, WasSent, World}
-use Rattle.chess_match.specs.Rules.{Rules}
-use Rattle.chess_match.specs.Run.{engine_lines}
 use Rattle.chess_match_laws.specs.Streams.{Streams}
 use Rattle.chess_match.specs.laws.Laws.{broken_blocks, has_ended, has_failed_read, is_broken, lines_sent, moments_shown}
 use Rattle.chess_match_laws.specs.OfActs.{AreSilent, HaveSameSilences, OnlyOneMatchOfARun, ShowsAll, ShowsFlushed}

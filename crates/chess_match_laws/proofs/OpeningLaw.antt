@@ -1,19 +1,12 @@
 -- Each turn is opened once.
 use Rattle.std.proofs.Common.{◌≡◌, ◌∙◌, ℕ, ◌+◌, ◌-◌, ◌≤◌, Bool, true, false, List, [], ◌∷◌, ◌++◌, length, length-append, refl, sym, ap, subst, arith}
-use Rattle.chess_base.specs.declared.man.Colour.{Colour}
-use Rattle.chess_base.specs.declared.man.Colour.TheVariants.{White, Black}
-use Rattle.chess_base.specs.declared.man.Move.{Move}
-use Rattle.chess_base.specs.Men.{other, same_colour}
+use Rattle.chess_base.specs.{declared.man.Colour.Colour, declared.man.Colour.TheVariants.White, declared.man.Colour.TheVariants.Black, declared.man.Move.Move, Men.other, Men.same_colour}
 use Rattle.cecp_engine.specs.EngineLines.{LineKind}
-use Rattle.chess_match.specs.Acts.{Act, awaits_line}
+use Rattle.chess_match.specs.{Acts.Act, Acts.awaits_line, Rules.Rules, laws.Laws.line_kind, laws.Laws.match_after}
 use Rattle.chess_match.specs.Effects.{Match, Phase, Handshake, Setup, Opening, BeforeMove, AfterMove, Over, beginning, line_row, moved}
-use Rattle.chess_match.specs.Rules.{Rules}
-use Rattle.chess_match.specs.laws.Laws.{line_kind, match_after}
 use Rattle.chess_match.proofs.shared.LineCases.{line_cases, offered_used, said_by, said_used}
-use Rattle.chess_match_laws.specs.OfActs.{AtEachMoment}
-use Rattle.chess_match_laws.specs.Rows.{TurnsAreOpenedOnce, one_if, openings}
-use Rattle.chess_match_laws.proofs.Points.{by_points}
-use Rattle.chess_match_laws.proofs.Silences.{by_silence}
+use Rattle.chess_match_laws.specs.{OfActs.AtEachMoment, Rows.TurnsAreOpenedOnce, Rows.one_if, Rows.openings}
+use Rattle.chess_match_laws.proofs.{Points.by_points, Silences.by_silence}
 
 -- as many, or one more
 abbrev Bounds : ℕ → ℕ → Type 0

@@ -1,31 +1,15 @@
 -- An open offer of a draw was passed on, and a side is sent at most one `draw` more than it has made moves.
-use Rattle.std.proofs.Common.{◌≡◌, ◌∙◌, ℕ, ◌+◌, ◌-◌, ◌≤◌, Bool, true, false, List, [], ◌∷◌, ◌++◌, length, length-append, refl, sym, ap, subst, append-nil, arith}
-use Rattle.std.specs.Prelude.{codes}
-use Rattle.std.specs.List.{flat_map}
+use Rattle.std.proofs.Common.{◌≡◌, ◌∙◌, ℕ, ◌+◌, ◌-◌, ◌≤◌, Bool, true, false, List, [], ◌∷◌, ◌++◌, length, length-append, refl, sym, ap, subst, append-nil, arith, codes, flat_map}
 use Rattle.std.proofs.lemmas.Grind.{flat_map-append}
-use Rattle.chess_base.specs.declared.man.Colour.{Colour}
-use Rattle.chess_base.specs.declared.man.Colour.TheVariants.{White, Black}
-use Rattle.chess_base.specs.declared.man.Move.{Move}
-use Rattle.chess_base.specs.Men.{other, same_colour}
-use Rattle.chess_base.specs.Options.{list_if}
-use Rattle.cecp_engine.specs.EngineLines.{LineKind}
-use Rattle.cecp_engine.specs.Items.{Item, takes}
+use Rattle.chess_base.specs.{declared.man.Colour.Colour, declared.man.Colour.TheVariants.White, declared.man.Colour.TheVariants.Black, declared.man.Move.Move, Men.other, Men.same_colour, Options.list_if}
+use Rattle.cecp_engine.specs.{EngineLines.LineKind, Items.Item, Items.takes}
 use Rattle.chess_match.specs.Acts.{Block, Happens, IsMatchFrom, awaits_line}
 use Rattle.chess_match.specs.Effects.{Match, Phase, Handshake, Setup, Opening, BeforeMove, AfterMove, Over, beginning, ends, handshake_lines, line_row, moved, opening}
-use Rattle.chess_match.specs.Events.{Line}
-use Rattle.chess_match.specs.shared.Parts.{answers_to}
-use Rattle.chess_match.specs.Lines.{SentLine, Says, setup_lines}
-use Rattle.chess_match.specs.Rules.{Rules}
-use Rattle.chess_match.specs.declared.reason.Reason.{Reason}
-use Rattle.chess_match.specs.declared.reason.Reason.TheVariants.{Claimed, Decided}
+use Rattle.chess_match.specs.{Events.Line, shared.Parts.answers_to, Lines.SentLine, Lines.Says, Lines.setup_lines, Rules.Rules, declared.reason.Reason.Reason, declared.reason.Reason.TheVariants.Claimed, declared.reason.Reason.TheVariants.Decided}
 use Rattle.chess_match.proofs.shared.LineCases.{in_turn, line_cases, offering, said_by, said_used}
 use Rattle.chess_match.proofs.shared.MatchCases.{both_not}
-use Rattle.chess_match_laws.specs.OfActs.{AtEachLine, AtEachMoment}
-use Rattle.chess_match_laws.specs.Rows.{DrawsAreFew, OffersArePassedOn, draw_text}
-use Rattle.chess_match_laws.proofs.Givings.{lines_due}
-use Rattle.chess_match_laws.proofs.OfferLaw.{said_offers}
-use Rattle.chess_match_laws.proofs.Points.{Kept}
-use Rattle.chess_match_laws.proofs.Tellings.{Tells, told_at}
+use Rattle.chess_match_laws.specs.{OfActs.AtEachLine, OfActs.AtEachMoment, Rows.DrawsAreFew, Rows.OffersArePassedOn, Rows.draw_text}
+use Rattle.chess_match_laws.proofs.{Givings.lines_due, OfferLaw.said_offers, Points.Kept, Tellings.Tells, Tellings.told_at}
 
 -- ---- lines
 

@@ -1,30 +1,16 @@
 -- Each move that an engine is sent has `usermove` before it, if the engine asked for it.
-use Rattle.std.proofs.Common.{◌≡◌, ◌∙◌, ℕ, ◌-◌, Bool, true, false, List, [], ◌∷◌, ◌++◌, length, refl, sym, ap, subst, append-nil, arith}
-use Rattle.std.specs.Prelude.{◌/◌, codes, if◌then◌else◌, nat_lt}
+use Rattle.std.proofs.Common.{◌≡◌, ◌∙◌, ℕ, ◌-◌, Bool, true, false, List, [], ◌∷◌, ◌++◌, length, refl, sym, ap, subst, append-nil, arith, ◌/◌, codes, if◌then◌else◌, nat_lt}
 use Rattle.std.specs.List.{AllByRecursion, flat_map}
 use Rattle.std.proofs.lemmas.Grind.{flat_map-append}
-use Rattle.chess_base.specs.declared.man.Colour.{Colour}
-use Rattle.chess_base.specs.declared.man.Colour.TheVariants.{White, Black}
-use Rattle.chess_base.specs.Men.{other, same_colour}
-use Rattle.chess_base.specs.Options.{list_if}
-use Rattle.cecp_engine.specs.EngineLines.{LineKind}
-use Rattle.cecp_engine.specs.Items.{Item, takes}
-use Rattle.chess_match.specs.Acts.{awaits_line}
+use Rattle.chess_base.specs.{declared.man.Colour.Colour, declared.man.Colour.TheVariants.White, declared.man.Colour.TheVariants.Black, Men.other, Men.same_colour, Options.list_if}
+use Rattle.cecp_engine.specs.{EngineLines.LineKind, Items.Item, Items.takes}
+use Rattle.chess_match.specs.{Acts.awaits_line, shared.Parts.answers_to, Reasons.is_write_fault_of, Reasons.reported_reason, Reasons.result_of, Rules.Rules, declared.reason.Reason.Reason, declared.reason.Reason.TheVariants.Claimed, declared.reason.Reason.TheVariants.Decided, laws.Laws.items_in_line}
 use Rattle.chess_match.specs.Effects.{Match, Phase, Handshake, Setup, Opening, BeforeMove, AfterMove, Over, beginning, clock, ends, handshake_lines, is_owed_move, line_row, move_line, moved, opening}
-use Rattle.chess_match.specs.shared.Parts.{answers_to}
 use Rattle.chess_match.specs.Lines.{SentLine, Says, Time, Otim, setup_lines}
 use Rattle.chess_game.specs.Ends.{result_text, verdict}
-use Rattle.chess_match.specs.Reasons.{is_write_fault_of, reported_reason, result_of}
-use Rattle.chess_match.specs.Rules.{Rules}
-use Rattle.chess_match.specs.declared.reason.Reason.{Reason}
-use Rattle.chess_match.specs.declared.reason.Reason.TheVariants.{Claimed, Decided}
-use Rattle.chess_match.specs.laws.Laws.{items_in_line}
 use Rattle.chess_match.proofs.shared.LineCases.{line_cases, offering, said_by}
-use Rattle.chess_match_laws.specs.OfActs.{AtEachMoment}
-use Rattle.chess_match_laws.specs.Handshakes.{PrefixesAreAsAsked, prefix_of}
-use Rattle.chess_match_laws.proofs.Givings.{lines_due}
-use Rattle.chess_match_laws.proofs.Points.{Kept, moved_items, offered_items}
-use Rattle.chess_match_laws.proofs.Tellings.{Tells, told_at}
+use Rattle.chess_match_laws.specs.{OfActs.AtEachMoment, Handshakes.PrefixesAreAsAsked, Handshakes.prefix_of}
+use Rattle.chess_match_laws.proofs.{Givings.lines_due, Points.Kept, Points.moved_items, Points.offered_items, Tellings.Tells, Tellings.told_at}
 
 -- ---- lists
 

@@ -1,21 +1,13 @@
 -- The moves of a match are read off the two engines' lines.
 use Rattle.std.proofs.Common.{◌≡◌, ℕ, ◌+◌, ◌-◌, ◌≤◌, true, false, List, [], ◌∷◌, ◌++◌, length, refl, ap, sym, subst, ◌∙◌, append-nil, append_assoc, Option, arith}
 use Rattle.std.specs.List.{list_any}
-use Rattle.chess_base.specs.declared.man.Colour.{Colour}
-use Rattle.chess_base.specs.declared.man.Colour.TheVariants.{White, Black}
-use Rattle.chess_base.specs.declared.man.Move.{Move}
-use Rattle.chess_base.specs.Men.{other, same_colour}
-use Rattle.chess_base.specs.Options.{list_if}
+use Rattle.chess_base.specs.{declared.man.Colour.Colour, declared.man.Colour.TheVariants.White, declared.man.Colour.TheVariants.Black, declared.man.Move.Move, Men.other, Men.same_colour, Options.list_if}
 use Rattle.chess_base.proofs.shared.Men.{other-other}
-use Rattle.cecp_engine.specs.EngineLines.{Moves}
-use Rattle.cecp_engine.specs.Items.{ends_handshake}
+use Rattle.cecp_engine.specs.{EngineLines.Moves, Items.ends_handshake}
 use Rattle.chess_match.specs.Acts.{Act, Sends, SendFails, Happens, awaits_line, is_over}
 use Rattle.chess_match.specs.Effects.{Match, Phase, Handshake, Setup, Opening, BeforeMove, AfterMove, Over, ends, line_row, moved}
-use Rattle.chess_match.specs.shared.Parts.{enter}
+use Rattle.chess_match.specs.{shared.Parts.enter, Rules.Rules, declared.reason.MatchFault.TheVariants.Ended, declared.reason.MatchFault.TheVariants.Read, declared.reason.MatchFault.TheVariants.Write, declared.reason.Reason.TheVariants.Claimed, declared.reason.Reason.TheVariants.Decided, declared.reason.Reason.TheVariants.Faulted}
 use Rattle.chess_text.specs.declared.reading.Reading.TheVariants as reads
-use Rattle.chess_match.specs.Rules.{Rules}
-use Rattle.chess_match.specs.declared.reason.MatchFault.TheVariants.{Ended, Read, Write}
-use Rattle.chess_match.specs.declared.reason.Reason.TheVariants.{Claimed, Decided, Faulted}
 use Rattle.chess_match_laws.specs.Streams.{AreRead, lines_after_handshake, lines_after_pong, moves_said}
 use Rattle.chess_match.specs.laws.Laws.{is_pong, move_said, lines_read, items_in_line, line_kind}
 use Rattle.chess_match_laws.specs.OfActs.{AtEachMoment, MovesAreRead, only_sends}

@@ -1,25 +1,17 @@
 -- The two engines' lines alone say which moves each engine is sent.
-use Rattle.std.proofs.Common.{◌≡◌, ℕ, ◌+◌, ◌-◌, ◌≤◌, Bool, true, false, List, [], ◌∷◌, ◌++◌, length, refl, ap, sym, ◌∙◌, append-nil, append_assoc, Option, arith}
+use Rattle.std.proofs.Common.{◌≡◌, ℕ, ◌+◌, ◌-◌, ◌≤◌, Bool, true, false, List, [], ◌∷◌, ◌++◌, length, refl, ap, sym, ◌∙◌, append-nil, append_assoc, Option, arith, if◌then◌else◌}
 use Rattle.std.specs.List.{list_any}
-use Rattle.std.specs.Prelude.{if◌then◌else◌}
-use Rattle.chess_base.specs.declared.man.Colour.{Colour}
-use Rattle.chess_base.specs.declared.man.Colour.TheVariants.{White, Black}
-use Rattle.chess_base.specs.Men.{other, same_colour}
+use Rattle.chess_base.specs.{declared.man.Colour.Colour, declared.man.Colour.TheVariants.White, declared.man.Colour.TheVariants.Black, Men.other, Men.same_colour}
 use Rattle.cecp_engine.specs.Items.{Item, ends_handshake}
-use Rattle.chess_match.specs.Acts.{Act, awaits_line, is_over}
+use Rattle.chess_match.specs.{Acts.Act, Acts.awaits_line, Acts.is_over, shared.Parts.enter, Rules.Rules, declared.reason.MatchFault.TheVariants.Ended, declared.reason.MatchFault.TheVariants.Read, declared.reason.MatchFault.TheVariants.Write, declared.reason.Reason.TheVariants.Claimed, declared.reason.Reason.TheVariants.Decided, declared.reason.Reason.TheVariants.Faulted}
 use Rattle.chess_match.specs.Effects.{Match, Phase, Handshake, Setup, Opening, Over, beginning, ends, line_row, moved}
-use Rattle.chess_match.specs.shared.Parts.{enter}
-use Rattle.chess_match.specs.Rules.{Rules}
-use Rattle.chess_match.specs.declared.reason.MatchFault.TheVariants.{Ended, Read, Write}
-use Rattle.chess_match.specs.declared.reason.Reason.TheVariants.{Claimed, Decided, Faulted}
 use Rattle.chess_match.specs.laws.Laws.{items_in_line, lines_read, line_kind, lines_given, match_after}
 use Rattle.chess_match_laws.specs.Streams.{items_said, moves_sent}
 use Rattle.chess_match_laws.specs.OfActs.{AtEachMoment, EachIsSentOthersMoves, InEachMatch, ItemsAreSaid, MovesAreRead, MovesAreSent, ended_by_write_to, only_sends, others_moves}
 use Rattle.chess_match.proofs.shared.LineCases.{handshakes_done, line_cases, offering, said_by, turn_done}
 use Rattle.chess_match.proofs.shared.MatchCases.{both_not}
-use Rattle.chess_match_laws.proofs.MoveLaw.{all_moves_are_given, moves_are_sent}
+use Rattle.chess_match_laws.proofs.{MoveLaw.all_moves_are_given, MoveLaw.moves_are_sent, Silences.by_silence}
 use Rattle.chess_match_laws.proofs.Points.{by_points, in_each, moved_items, offered_items}
-use Rattle.chess_match_laws.proofs.Silences.{by_silence}
 use Rattle.chess_match_laws.proofs.ReadLaw.{Streamed, lines_in, moves_are_read, none_read_in, with_line}
 
 -- the items that lines to come say

@@ -1,18 +1,8 @@
 -- What an engine is sent in its setup.
-use Rattle.std.proofs.Common.{◌≡◌, ◌∙◌, ℕ, eqb, arith, Bool, true, false, not, ◌&&◌, None, Some, List, [], ◌∷◌, ◌++◌, refl, sym, ap, subst, append-nil, append_assoc, Option}
-use Rattle.std.specs.Prelude.{codes, if◌then◌else◌}
+use Rattle.std.proofs.Common.{◌≡◌, ◌∙◌, ℕ, eqb, arith, Bool, true, false, not, ◌&&◌, None, Some, List, [], ◌∷◌, ◌++◌, refl, sym, ap, subst, append-nil, append_assoc, Option, bytes_eq, flat_map, codes, if◌then◌else◌}
 use Rattle.std.proofs.lemmas.Bool.Decides.{nat_tests}
-use Rattle.std.specs.Option.{option_map_or}
-use Rattle.std.specs.Str.{bytes_eq}
-use Rattle.std.specs.Fmt.{digits}
-use Rattle.std.specs.List.{flat_map}
-use Rattle.chess_base.specs.declared.man.Colour.{Colour}
-use Rattle.chess_base.specs.declared.man.Colour.TheVariants.{White, Black}
-use Rattle.chess_base.specs.declared.man.Variant.TheVariants.{Fischerandom, Normal}
-use Rattle.chess_base.specs.declared.setup.Setup.{Setup as Position}
-use Rattle.chess_base.specs.Initial.{initial_setup, initial_setup_of}
-use Rattle.chess_base.specs.Men.{same_colour}
-use Rattle.chess_base.specs.Options.{list_if}
+use Rattle.std.specs.{Option.option_map_or, Fmt.digits}
+use Rattle.chess_base.specs.{declared.man.Colour.Colour, declared.man.Colour.TheVariants.White, declared.man.Colour.TheVariants.Black, declared.man.Variant.TheVariants.Fischerandom, declared.man.Variant.TheVariants.Normal, declared.setup.Setup.Setup as Position, Initial.initial_setup, Initial.initial_setup_of, Men.same_colour, Options.list_if}
 use Rattle.chess_base.proofs.shared.Men.{same_colour-self}
 use Rattle.chess_fen.specs.Writing.{fen, is_initial}
 use Rattle.chess_text.specs.San.{is_fischerandom}
@@ -20,17 +10,12 @@ use Rattle.cecp_engine.specs.EngineLines.{LineKind}
 use Rattle.cecp_engine.specs.Levels.{LevelSeen, base_text, decimals_text, increment_text, level_text}
 use Rattle.chess_match.specs.Acts.{Block, Happens, IsMatchFrom, awaits_line}
 use Rattle.chess_match.specs.Effects.{Match, Phase, Handshake, Setup, Opening, BeforeMove, AfterMove, Over, beginning, line_row}
-use Rattle.chess_match.specs.Events.{Line}
+use Rattle.chess_match.specs.{Events.Line, Rules.Rules, Rules.start_fen, laws.Laws.lines_given}
 use Rattle.chess_match.specs.Lines.{SentLine, Says, bytes_of, ping, setup_lines}
-use Rattle.chess_match.specs.Rules.{Rules, start_fen}
-use Rattle.chess_match.specs.laws.Laws.{lines_given}
-use Rattle.chess_match.proofs.shared.LineCases.{in_turn, line_cases}
-use Rattle.chess_match.proofs.shared.Lines.{bytes_of-append}
+use Rattle.chess_match.proofs.{shared.LineCases.in_turn, shared.LineCases.line_cases, shared.Lines.bytes_of-append}
 use Rattle.chess_match_laws.specs.OfActs.{AtEachLine}
 use Rattle.chess_match_laws.specs.Rows.{IsSetUp, SetUpBy, chess960_setup, normal_setup}
-use Rattle.chess_match_laws.proofs.Givings.{lines_due}
-use Rattle.chess_match_laws.proofs.Points.{Kept}
-use Rattle.chess_match_laws.proofs.Tellings.{Tells, told_at}
+use Rattle.chess_match_laws.proofs.{Givings.lines_due, Points.Kept, Tellings.Tells, Tellings.told_at}
 
 -- ---- all lines
 

@@ -1,24 +1,15 @@
 -- What silences do, and that they come only where the rules ask for them.
-use Rattle.std.proofs.Common.{◌≡◌, ℕ, ◌-◌, ◌<◌, Bool, true, false, List, [], ◌∷◌, ◌++◌, length, refl, ap, sym, ◌∙◌, Option, None, Some, arith}
-use Rattle.std.specs.List.{list_any}
-use Rattle.std.specs.Option.{option_map_or}
-use Rattle.std.specs.Prelude.{if◌then◌else◌, is_some, nat_lt, slice_get, unwrap_or}
+use Rattle.std.proofs.Common.{◌≡◌, ℕ, ◌-◌, ◌<◌, Bool, true, false, List, [], ◌∷◌, ◌++◌, length, refl, ap, sym, ◌∙◌, Option, None, Some, arith, if◌then◌else◌, is_some, nat_lt, slice_get, unwrap_or}
+use Rattle.std.specs.{List.list_any, Option.option_map_or}
 use Rattle.std.proofs.lemmas.Bool.{and_parts}
-use Rattle.chess_base.specs.declared.man.Colour.{Colour}
-use Rattle.chess_base.specs.declared.man.Colour.TheVariants.{White}
+use Rattle.chess_base.specs.{declared.man.Colour.Colour, declared.man.Colour.TheVariants.White, Options.list_if, Men.same_colour}
 use Rattle.chess_match.specs.Acts.{Act, Block, IsMatch, IsMatchFrom, Sends, SendFails, Happens, awaits_line, blocks_from, is_limited, is_over}
 use Rattle.chess_match.specs.Effects.{Effect, Match, Phase, Handshake, Setup, Opening, BeforeMove, AfterMove, Over, beginning, clock, effect, ends, flag_row, sends_nothing, silence_row}
 use Rattle.chess_match.specs.Events.{Line, Opened, Silent, OutputEnds, FailsToRead, FailsToWrite}
-use Rattle.chess_base.specs.Options.{list_if}
-use Rattle.chess_base.specs.Men.{same_colour}
-use Rattle.chess_match.specs.Rules.{Rules}
-use Rattle.chess_match.specs.declared.patience.Patience.{Patience}
-use Rattle.chess_match.specs.declared.reason.Reason.{Reason}
+use Rattle.chess_match.specs.{Rules.Rules, declared.patience.Patience.Patience, declared.reason.Reason.Reason, laws.Laws.match_after}
 use Rattle.chess_match_laws.specs.Streams.{looks}
 use Rattle.chess_match_laws.specs.OfActs.{AreSilent, SilencesAreAskedFor, SilencesChangeNothing, SilencesEndMatches, endless, is_beyond, is_silent, only_sends}
-use Rattle.chess_match.specs.laws.Laws.{match_after}
-use Rattle.chess_match.proofs.shared.LineCases.{MayStopSilent, silence_cases}
-use Rattle.chess_match.proofs.shared.MatchCases.{by_acts, by_cases, on_when_read}
+use Rattle.chess_match.proofs.{shared.LineCases.MayStopSilent, shared.LineCases.silence_cases, shared.MatchCases.by_acts, shared.MatchCases.by_cases, shared.MatchCases.on_when_read}
 use Rattle.chess_match_laws.proofs.Points.{Stays}
 
 -- what follows of a match that ends by a silence, and of one that goes on, follows of the silence

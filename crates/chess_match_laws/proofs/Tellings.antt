@@ -1,24 +1,13 @@
 -- What the lines that an engine is sent say of the match, along its acts.
-use Rattle.std.proofs.Common.{◌≡◌, ◌∙◌, ℕ, true, false, List, [], ◌∷◌, ◌++◌, sym, ap, subst, append-nil, append_assoc, Option}
-use Rattle.std.specs.Prelude.{if◌then◌else◌}
-use Rattle.std.specs.List.{flat_map}
+use Rattle.std.proofs.Common.{◌≡◌, ◌∙◌, ℕ, true, false, List, [], ◌∷◌, ◌++◌, sym, ap, subst, append-nil, append_assoc, Option, if◌then◌else◌, flat_map}
 use Rattle.std.proofs.lemmas.Grind.{flat_map-append}
-use Rattle.chess_base.specs.declared.man.Colour.{Colour}
-use Rattle.chess_base.specs.declared.man.Colour.TheVariants.{White}
-use Rattle.chess_base.specs.Men.{same_colour}
-use Rattle.chess_base.specs.Options.{list_if}
+use Rattle.chess_base.specs.{declared.man.Colour.Colour, declared.man.Colour.TheVariants.White, Men.same_colour, Options.list_if}
 use Rattle.cecp_engine.specs.EngineLines.{LineKind}
 use Rattle.chess_match.specs.Acts.{Act, Block, IsMatch, IsMatchFrom, awaits_line, blocks_from, is_over}
 use Rattle.chess_match.specs.Effects.{Effect, Match, Opening, BeforeMove, beginning, effect, ends, line_row}
-use Rattle.chess_match.specs.Events.{Line}
-use Rattle.chess_match.specs.Lines.{SentLine}
-use Rattle.chess_match.specs.Rules.{Rules}
-use Rattle.chess_match.specs.declared.reason.Reason.{Reason}
-use Rattle.chess_match.specs.laws.Laws.{line_kind, lines_given, match_after}
+use Rattle.chess_match.specs.{Events.Line, Lines.SentLine, Rules.Rules, declared.reason.Reason.Reason, laws.Laws.line_kind, laws.Laws.lines_given, laws.Laws.match_after}
 use Rattle.chess_match.proofs.shared.MatchCases.{on_when_read}
-use Rattle.chess_match_laws.proofs.Givings.{both_due, lines_due}
-use Rattle.chess_match_laws.proofs.Points.{Kept, by_points}
-use Rattle.chess_match_laws.proofs.Silences.{by_silence}
+use Rattle.chess_match_laws.proofs.{Givings.both_due, Givings.lines_due, Points.Kept, Points.by_points, Silences.by_silence}
 
 -- what each event does to `Told`, which holds of a match and of all that S was sent or is to be sent by then
 pub record Tells {A : Type 0} (f : SentLine → List A) (r : Rules) (S : Colour) (Told : Match → List A → Type 0) : Type 0

@@ -1,29 +1,19 @@
 -- A side loses on time exactly if the clock showed more than it had left.
-use Rattle.std.proofs.Common.{◌≡◌, ℕ, ◌-◌, Bool, true, false, List, [], ◌∷◌, ◌++◌, refl, ap, sym, ◌∙◌, subst, Option, None, Some, arith}
-use Rattle.std.specs.Prelude.{if◌then◌else◌, length, nat_le, nat_lt}
+use Rattle.std.proofs.Common.{◌≡◌, ℕ, ◌-◌, Bool, true, false, List, [], ◌∷◌, ◌++◌, refl, ap, sym, ◌∙◌, subst, Option, None, Some, arith, if◌then◌else◌, length, nat_le, nat_lt}
 use Rattle.std.specs.Option.{option_map_or}
 use Rattle.std.proofs.lemmas.Bool.{and_parts}
-use Rattle.chess_base.specs.declared.man.Colour.{Colour}
-use Rattle.chess_base.specs.declared.man.Colour.TheVariants.{White}
-use Rattle.chess_base.specs.Men.{other, same_colour}
+use Rattle.chess_base.specs.{declared.man.Colour.Colour, declared.man.Colour.TheVariants.White, Men.other, Men.same_colour}
 use Rattle.chess_base.proofs.shared.Men.{same_colour-self, same_colour-true}
-use Rattle.chess_game.specs.Ends.{claims, draw_claim}
-use Rattle.chess_game.specs.Line.{position_after}
-use Rattle.chess_game.specs.declared.verdicts.DrawClaim.{DrawClaim}
+use Rattle.chess_game.specs.{Ends.claims, Ends.draw_claim, Line.position_after, declared.verdicts.DrawClaim.DrawClaim}
 use Rattle.cecp_engine.specs.EngineLines.{LineKind, Features, Moves, Resigns, OffersDraw, ClaimsDraw, ClaimsWin, Rejects}
 use Rattle.cecp_engine.specs.Items.{Item, items_of}
-use Rattle.chess_text.specs.declared.reading.Reading.{Reading}
-use Rattle.chess_text.specs.Moves.{reading}
+use Rattle.chess_text.specs.{declared.reading.Reading.Reading, Moves.reading}
 use Rattle.chess_match.specs.Acts.{Act, Block, IsMatch, IsMatchFrom, Sends, Happens, awaits_line, blocks_from, is_limited, is_over}
 use Rattle.chess_match.specs.Effects.{Effect, Match, Phase, Handshake, Setup, Opening, BeforeMove, AfterMove, Over, awaited_since, before_move, beginning, clock, effect, ends, flag_row, handshake_row, ignores, line_row, move_row, offer_row, setup_done, silence_row, turn_row}
 use Rattle.chess_match.specs.Events.{Event, Line, Opened, Silent}
-use Rattle.chess_match.specs.Rules.{Rules, has_bare_king}
-use Rattle.chess_match.specs.declared.reason.MatchFault.{MatchFault}
-use Rattle.chess_match.specs.declared.reason.MatchFault.TheVariants.{Ended, Read, Write}
-use Rattle.chess_match.specs.declared.reason.Reason.{Reason}
+use Rattle.chess_match.specs.{Rules.Rules, Rules.has_bare_king, declared.reason.MatchFault.MatchFault, declared.reason.MatchFault.TheVariants.Ended, declared.reason.MatchFault.TheVariants.Read, declared.reason.MatchFault.TheVariants.Write, declared.reason.Reason.Reason, laws.Laws.line_kind, laws.Laws.match_after}
 use Rattle.chess_match.specs.declared.reason.Reason.TheVariants.{Claimed, ClaimsFalsely, Faulted, Forfeits, ForfeitsToBareKing, GameTooLong, RejectsLegalMove}
 use Rattle.chess_match.specs.declared.reason.Reason.TheVariants as over_by
-use Rattle.chess_match.specs.laws.Laws.{line_kind, match_after}
 use Rattle.chess_match_laws.specs.OfActs.{EndsOverstepped, InEachMatch, OverstepsTime, TimeForfeitsAreShown, only_sends, shows_fallen}
 use Rattle.chess_match.proofs.shared.MatchCases.{both_not, by_acts, by_cases, on_when_read}
 use Rattle.chess_match_laws.proofs.Points.{Stays, by_points, whole}

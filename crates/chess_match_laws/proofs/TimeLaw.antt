@@ -1,29 +1,14 @@
 -- The times that an engine is sent are the clocks.
-use Rattle.std.proofs.Common.{◌≡◌, ℕ, ◌+◌, ◌-◌, ◌/◌, ◌≤◌, Bool, true, false, ◌||◌, List, [], ◌∷◌, ◌++◌, length, length-append, drop, refl, ap, sym, subst, ◌∙◌, append-nil, arith}
-use Rattle.std.specs.Prelude.{if◌then◌else◌, codes, sum}
-use Rattle.std.specs.List.{flat_map}
-use Rattle.std.proofs.lemmas.Grind.{flat_map-append}
-use Rattle.std.proofs.lemmas.List.Sums.{sum_by-cons}
-use Rattle.chess_base.specs.declared.man.Colour.{Colour}
-use Rattle.chess_base.specs.declared.man.Colour.TheVariants.{White, Black}
-use Rattle.chess_base.specs.declared.man.Move.{Move}
-use Rattle.chess_base.specs.Men.{other, same_colour}
-use Rattle.chess_base.specs.Options.{list_if}
+use Rattle.std.proofs.Common.{◌≡◌, ℕ, ◌+◌, ◌-◌, ◌/◌, ◌≤◌, Bool, true, false, ◌||◌, List, [], ◌∷◌, ◌++◌, length, length-append, drop, refl, ap, sym, subst, ◌∙◌, append-nil, arith, flat_map, if◌then◌else◌, codes, sum}
+use Rattle.std.proofs.{lemmas.Grind.flat_map-append, lemmas.List.Sums.sum_by-cons}
+use Rattle.chess_base.specs.{declared.man.Colour.Colour, declared.man.Colour.TheVariants.White, declared.man.Colour.TheVariants.Black, declared.man.Move.Move, Men.other, Men.same_colour, Options.list_if}
 use Rattle.chess_base.proofs.shared.Men.{same_colour-true}
-use Rattle.cecp_engine.specs.Items.{takes}
-use Rattle.cecp_engine.specs.Levels.{LevelSeen, allotted}
-use Rattle.chess_match.specs.Acts.{Act, IsMatch, is_over}
+use Rattle.cecp_engine.specs.{Items.takes, Levels.LevelSeen, Levels.allotted}
+use Rattle.chess_match.specs.{Acts.Act, Acts.IsMatch, Acts.is_over, shared.Parts.enter, Lines.SentLine, Lines.Says, Rules.Rules, declared.reason.Reason.Reason, laws.Laws.lines_given, laws.Laws.match_after}
 use Rattle.chess_match.specs.Effects.{Match, Phase, Handshake, Setup, Opening, BeforeMove, AfterMove, Over, begins_turn, beginning, ends, moved, opening}
-use Rattle.chess_match.specs.shared.Parts.{enter}
-use Rattle.chess_match.specs.Lines.{SentLine, Says}
-use Rattle.chess_match.specs.Rules.{Rules}
-use Rattle.chess_match.specs.declared.reason.Reason.{Reason}
-use Rattle.chess_match_laws.specs.Streams.{centiseconds, otim_sent, time_sent}
-use Rattle.chess_match_laws.specs.OfActs.{AtEachMoment, OtherTimesAreClocks, TimesAreClocks}
-use Rattle.chess_match.specs.laws.Laws.{lines_given, match_after}
+use Rattle.chess_match_laws.specs.{Streams.centiseconds, Streams.otim_sent, Streams.time_sent, OfActs.AtEachMoment, OfActs.OtherTimesAreClocks, OfActs.TimesAreClocks}
 use Rattle.chess_match_laws.proofs.Givings.{Gives, Goes, given_at, grows, sends}
-use Rattle.chess_match_laws.proofs.ClockLaw.{sum-snoc}
-use Rattle.chess_match_laws.proofs.Points.{moved_items, moved_used, offered_items}
+use Rattle.chess_match_laws.proofs.{ClockLaw.sum-snoc, Points.moved_items, Points.moved_used, Points.offered_items}
 use Rattle.chess_match.proofs.shared.LineCases.{offered_used, said_used}
 
 -- ---- the lines

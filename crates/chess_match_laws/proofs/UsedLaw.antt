@@ -1,23 +1,15 @@
 -- Each used time is the moment of its move's line less the moment of its turn's opening.
-use Rattle.std.proofs.Common.{◌≡◌, ℕ, ◌+◌, ◌-◌, ◌≤◌, Bool, true, false, List, [], ◌∷◌, ◌++◌, length, refl, ap, sym, subst, ◌∙◌, append-nil, append_assoc, Option, None, Some, arith}
-use Rattle.std.specs.Prelude.{if◌then◌else◌}
-use Rattle.chess_base.specs.declared.man.Colour.{Colour}
-use Rattle.chess_base.specs.declared.man.Colour.TheVariants.{White, Black}
-use Rattle.chess_base.specs.Men.{other, same_colour}
+use Rattle.std.proofs.Common.{◌≡◌, ℕ, ◌+◌, ◌-◌, ◌≤◌, Bool, true, false, List, [], ◌∷◌, ◌++◌, length, refl, ap, sym, subst, ◌∙◌, append-nil, append_assoc, Option, None, Some, arith, if◌then◌else◌}
+use Rattle.chess_base.specs.{declared.man.Colour.Colour, declared.man.Colour.TheVariants.White, declared.man.Colour.TheVariants.Black, Men.other, Men.same_colour}
 use Rattle.cecp_engine.specs.EngineLines.{LineKind}
 use Rattle.chess_match.specs.Acts.{Act, Sends, SendFails, Happens, awaits_line, is_over}
 use Rattle.chess_match.specs.Effects.{Match, Phase, Handshake, Setup, Opening, BeforeMove, Over, effect, line_row, moved}
-use Rattle.chess_match.specs.shared.Parts.{enter}
-use Rattle.chess_match.specs.Events.{Line, Opened}
-use Rattle.chess_match.specs.Rules.{Rules}
-use Rattle.chess_match.specs.declared.reason.Reason.TheVariants.{Claimed, Decided}
+use Rattle.chess_match.specs.{shared.Parts.enter, Events.Line, Events.Opened, Rules.Rules, declared.reason.Reason.TheVariants.Claimed, declared.reason.Reason.TheVariants.Decided, laws.Laws.move_said, laws.Laws.line_kind}
 use Rattle.chess_match_laws.specs.Streams.{is_move}
-use Rattle.chess_match.specs.laws.Laws.{move_said, line_kind}
 use Rattle.chess_match_laws.specs.OfActs.{AtEachMoment, UsedTimesAreDifferences, move_times, only_sends}
 use Rattle.chess_match.proofs.shared.LineCases.{line_cases, offering, said_by, offered_used, said_used}
 use Rattle.chess_match.proofs.shared.MatchCases.{both_not}
-use Rattle.chess_match_laws.proofs.Points.{Stays, by_points, moved_used}
-use Rattle.chess_match_laws.proofs.Silences.{by_silence}
+use Rattle.chess_match_laws.proofs.{Points.Stays, Points.by_points, Points.moved_used, Silences.by_silence}
 
 -- the moment of the opening, where a move of S is awaited
 abbrev awaited : Colour → Phase → Option ℕ

@@ -1,16 +1,9 @@
 -- Why a match ended, and its outcome: by the board's verdict.
 use Rattle.std.proofs.Common.{◌≡◌, ℕ, List, refl, ap, sym, ◌∙◌, subst, Option, None, Some}
 use Rattle.std.specs.Option.{option_map, option_map_or, option_or}
-use Rattle.chess_game.specs.declared.verdicts.Verdict.{Verdict}
-use Rattle.chess_match.specs.Effects.{Phase}
-use Rattle.chess_match.specs.Reasons.{declared_at, outcome_by_reason, reported_reason}
-use Rattle.chess_match.specs.declared.reason.Reason.{Reason}
+use Rattle.chess_game.specs.{declared.verdicts.Verdict.Verdict, Ends.verdict, Ends.verdict_result, Game.Seen, Game.outcome_now, declared.results.Outcome.Outcome, declared.results.Outcome.TheVariants.Unfinished, declared.tags.HowEnded.HowEnded}
+use Rattle.chess_match.specs.{Effects.Phase, Reasons.declared_at, Reasons.outcome_by_reason, Reasons.reported_reason, declared.reason.Reason.Reason}
 use Rattle.chess_match_laws.specs.OfActs.{DecidedByTheBoard, OutcomesAreOfTheGame}
-use Rattle.chess_game.specs.Ends.{verdict, verdict_result}
-use Rattle.chess_game.specs.Game.{Seen, outcome_now}
-use Rattle.chess_game.specs.declared.results.Outcome.{Outcome}
-use Rattle.chess_game.specs.declared.results.Outcome.TheVariants.{Unfinished}
-use Rattle.chess_game.specs.declared.tags.HowEnded.{HowEnded}
 use Rattle.chess_match.proofs.shared.Verdicts.{ByBoard, judged_at_end}
 
 pub decided_by_the_board : DecidedByTheBoard

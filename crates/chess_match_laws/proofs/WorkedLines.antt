@@ -1,12 +1,9 @@
 -- Lines of engines and to them, time controls and ends of a match, by computation.
 use Rattle.std.proofs.Common.{refl}
 use Rattle.std.specs.Fmt.{digits}
-use Rattle.chess_base.specs.Initial.{initial_setup, initial_setup_of}
-use Rattle.chess_base.specs.Men.{is_of, is_man}
-use Rattle.chess_base.specs.Moves.{after}
+use Rattle.chess_base.specs.{Initial.initial_setup, Initial.initial_setup_of, Men.is_of, Men.is_man, Moves.after}
 use Rattle.chess_text.specs.San.{shown_move}
-use Rattle.chess_match.specs.Lines.{bytes_of}
-use Rattle.chess_match.specs.Rules.{has_bare_king}
+use Rattle.chess_match.specs.{Lines.bytes_of, Rules.has_bare_king}
 use Rattle.text_lines.specs.Words.{argument_of, command_number}
 use Rattle.cecp_engine.specs.EngineLines.{kind_of}
 use Rattle.cecp_engine.specs.Items.{has_word, item_of, items_of, plays_fischerandom, takes}

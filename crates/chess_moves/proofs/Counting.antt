@@ -1,14 +1,10 @@
 -- How many squares a set has: how many bits of its word are 1.
 use Rattle.std.proofs.Common.{◌≡◌, ℕ, zero, suc, ◌+◌, ◌*◌, ◌/◌, ◌%◌, ◌^◌, ◌<◌, inl, inr, Bool, cond, List, ◌∷◌, length, refl, sym, ap, ◌∙◌, arith}
-use Rattle.std.proofs.lemmas.Bool.{cases_Bool}
-use Rattle.std.specs.Int.{bit_at}
-use Rattle.std.specs.Int.RustNames.{count_ones}
-use Rattle.std.specs.List.{range_with_len, filter}
-use Rattle.std.proofs.Math.Nat.{div-div-eq-div-mul, pow-suc}
+use Rattle.std.proofs.{lemmas.Bool.cases_Bool, Math.Nat.div-div-eq-div-mul, Math.Nat.pow-suc}
+use Rattle.std.specs.{Int.bit_at, Int.RustNames.count_ones, List.range_with_len, List.filter}
 use lib.Count.{ones_step}
 use Rattle.chess_moves.specs.Sets.{contains, members}
-use Rattle.chess_moves.proofs.shared.Members.{of_range}
-use Rattle.chess_moves.proofs.SetBits.{bit_cases}
+use Rattle.chess_moves.proofs.{shared.Members.of_range, SetBits.bit_cases}
 
 one_more : (q : ℕ → Bool) (a : ℕ) (xs : List ℕ) → length (filter q (a ∷ xs)) ≡ cond (q a) 1 0 + length (filter q xs)
 one_more q a xs = elim (cases_Bool (q a)) [ inl kept ↦ rw kept (omega arith) | inr left ↦ rw left (omega arith) ]

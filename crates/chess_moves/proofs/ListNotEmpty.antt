@@ -1,19 +1,11 @@
 -- Where a move is legal, there are legal moves.
 use Rattle.std.proofs.Common.{◌≡◌, ℕ, ◌<◌, inl, inr, Bool, true, false, Option, Some, None, List, [], ◌∷◌, length, map, refl, ◌∙◌, arith, ◌==◌, nat_lt}
-use Rattle.std.proofs.lemmas.Bool.{cases_Bool, both_ways, lt-ltb}
-use Rattle.std.proofs.lemmas.List.Folds.{list_any_at}
+use Rattle.std.proofs.{lemmas.Bool.cases_Bool, lemmas.Bool.both_ways, lemmas.Bool.lt-ltb, lemmas.List.Folds.list_any_at}
 use Rattle.std.specs.List.{filter, flat_map, list_any}
-use Rattle.chess_base.specs.declared.man.Kind.{Kind}
+use Rattle.chess_base.specs.{declared.man.Kind.Kind, declared.man.Move.Move, declared.setup.Setup.Setup, Castling.castle_from, Men.other, Men.first_rank, Moves.is_legal, Moves.promotion_fits, Squares.rank, Squares.squares}
 use Rattle.chess_base.specs.declared.man.Kind.TheVariants.{King, Queen, Rook, Bishop, Knight, Pawn}
-use Rattle.chess_base.specs.declared.man.Move.{Move}
-use Rattle.chess_base.specs.declared.setup.Setup.{Setup}
-use Rattle.chess_base.specs.Castling.{castle_from}
-use Rattle.chess_base.specs.Men.{other, first_rank}
 use Rattle.chess_base.specs.MoveList.{promotions, move_of, all_moves, moves}
-use Rattle.chess_base.specs.Moves.{is_legal, promotion_fits}
-use Rattle.chess_base.specs.Squares.{rank, squares}
-use Rattle.chess_base.proofs.shared.MoveKinds.{MoveKind, ManMoves, Castles, PawnMoves, promoted_by_kind, castles_unpromoted}
-use Rattle.chess_moves.proofs.Reach.{moves_of}
+use Rattle.chess_base.proofs.shared.MoveKinds.{MoveKind, ManMoves, Castles, PawnMoves, promoted_by_kind, castles_unpromoted, Moves-from_legal}
 use Rattle.chess_moves.proofs.shared.AnyMove.{any-flat_map, any-square}
 
 -- its promotion fits, on its last rank or elsewhere
@@ -68,6 +60,6 @@ some_kept q (x ∷ xs) h =
 pub some_legal : (p : Setup) (m : Move) → is_legal p m ≡ true → nat_lt 0 (length (moves p)) ≡ true
 unfolding moves
 some_legal p m legal =
-    let h = moves_of p m legal in
+    let h = Moves-from_legal p m legal in
     some_kept (λ x. is_legal p x) all_moves
     (any-triple (λ x. is_legal p x) m h.from_in h.to_in (fits_by_kind p m h.kind) legal)

@@ -1,12 +1,9 @@
 -- No legal move goes between squares out of reach.
 use Rattle.std.proofs.Common.{◌≡◌, ℕ, false, []}
 use Rattle.std.proofs.lemmas.Bool.{false_from_ne_true, both_ways}
-use Rattle.chess_base.specs.declared.setup.Setup.{Setup}
-use Rattle.chess_base.specs.MoveList.{promotions, move_of}
-use Rattle.chess_moves.specs.ties.Candidates.{is_in_reach}
-use Rattle.chess_moves.specs.shared.MovesBySquares.{moves_between}
-use Rattle.chess_moves.proofs.Reach.{legal_in_reach}
-use Rattle.chess_moves.proofs.shared.MovesBySquares.{none_with}
+use Rattle.chess_base.specs.{declared.setup.Setup.Setup, MoveList.promotions, MoveList.move_of}
+use Rattle.chess_moves.specs.{ties.Candidates.is_in_reach, shared.MovesBySquares.moves_between}
+use Rattle.chess_moves.proofs.{Reach.legal_in_reach, shared.MovesBySquares.none_with}
 
 pub none_between : (p : Setup) (a b : ℕ) → is_in_reach a b ≡ false → moves_between p a b ≡ []
 unfolding moves_between

@@ -1,7 +1,6 @@
 -- Sets shifted by a number of squares, and files and ranks as sets.
-use Rattle.std.proofs.Common.{◌≡◌, ℕ, ◌<◌, ◌≤◌, ◌+◌, ◌-◌, ◌*◌, ◌/◌, ◌%◌, ◌^◌, inl, inr, ◌&&◌, ◌==◌, refl, sym, ap, ◌∙◌, arith, nat_le, pow_pos, shr-shr}
+use Rattle.std.proofs.Common.{◌≡◌, ℕ, ◌<◌, ◌≤◌, ◌+◌, ◌-◌, ◌*◌, ◌/◌, ◌%◌, ◌^◌, inl, inr, ◌&&◌, ◌==◌, refl, sym, ap, ◌∙◌, arith, nat_le, pow_pos, shr-shr, div-add-mod'}
 use Rattle.std.proofs.lemmas.Bool.{cases_lt, cases_Bool, le-leb, lt-leb, eqb-true, eq-eqb, ne_eqb, both_ways, agree_below_at}
-use Rattle.std.proofs.lemmas.Nat.{div-add-mod'}
 use Rattle.std.proofs.lemmas.Nat.Bits.{bit_at-zero, bit_at_cat_low, bit_at_cat_high}
 use Rattle.std.specs.Int.{bit_at}
 use Rattle.chess_base.specs.Squares.{file, rank}

@@ -1,8 +1,7 @@
 -- The table of bytes is held against the definitions at each of the 256 bytes, by computing.
 use Rattle.std.proofs.Common.{◌≡◌, ℕ, ◌<◌, ◌||◌, nat_eq, eqb, get_or, refl}
 use Rattle.byte_devices.proofs.shared.ByteTables.{agree_below, class_by_test}
-use Rattle.chess_pgn.specs.declared.bytes.TheConstants.{CLASSES}
-use Rattle.chess_pgn.specs.Tokens.{is_word_byte, is_white_space}
+use Rattle.chess_pgn.specs.{declared.bytes.TheConstants.CLASSES, Tokens.is_word_byte, Tokens.is_white_space}
 
 pub word_class : (b : ℕ) → b < 256 → nat_eq (get_or CLASSES b 0) 119 ≡ is_word_byte b
 unfolding agree_below

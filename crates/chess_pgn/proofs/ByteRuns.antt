@@ -1,11 +1,8 @@
 -- Runs of bytes, and the bytes before a `}`.
 use Rattle.std.proofs.Common.{◌≡◌, ℕ, suc, ◌+◌, Bool, true, false, cond, not, eqb, List, [], ◌∷◌, ◌++◌, take, drop, Option, Some, None, refl, sym, ap, subst, ◌∙◌, arith}
 use Rattle.std.specs.List.{list_all, prefix_len}
-use Rattle.std.proofs.lemmas.Bool.{and_parts, eqb-true}
-use Rattle.std.proofs.lemmas.Bool.Decides.{nat_tests}
-use Rattle.chess_pgn.specs.Tokens.{after_brace, line_end}
-use Rattle.chess_pgn.specs.Split.{lacks}
-use Rattle.chess_pgn.specs.shared.Kinds.{IsLongest}
+use Rattle.std.proofs.{lemmas.Bool.and_parts, lemmas.Bool.eqb-true, lemmas.Bool.Decides.nat_tests}
+use Rattle.chess_pgn.specs.{Tokens.after_brace, Tokens.line_end, Split.lacks, shared.Kinds.IsLongest}
 use Rattle.chess_pgn.proofs.Skipped.{line_end-more}
 
 pub differs : (p : ℕ → Bool) (c k : ℕ) → p c ≡ true → p k ≡ false → eqb c k ≡ false

@@ -1,25 +1,13 @@
 -- A fault's offset is in the text, and not before the offset where reading began; a game ends in the text, and each
 -- half-move takes at least a byte.
-use Rattle.std.proofs.Common.{◌≡◌, ℕ, zero, suc, ◌+◌, ◌-◌, ◌≤◌, ◌<◌, Bool, true, eqb, List, [], ◌∷◌, length, take, drop, Option, Some, None, IfSome, Result, Ok, Err, IfOk, IfErr, sym, ap, subst, arith}
-use Rattle.std.specs.Prelude.{◌&&◌}
-use Rattle.std.specs.Str.{bytes_eq}
-use Rattle.std.proofs.lemmas.Bool.{and_parts}
-use Rattle.std.proofs.lemmas.List.{length-append, length-drop, length-take}
-use Rattle.std.proofs.lemmas.Bool.Decides.{nat_tests}
-use Rattle.std.proofs.lemmas.Slice.Eq.{bytes_eq-Decides}
-use Rattle.chess_pgn.specs.declared.read.PgnEnd.{PgnEnd}
-use Rattle.chess_pgn.specs.declared.read.PgnFault.{PgnFault}
-use Rattle.chess_pgn.specs.GameRead.{GameRead, tagged_variant, pgn_read}
-use Rattle.chess_pgn.specs.LastTags.{tag_section}
+use Rattle.std.proofs.Common.{◌≡◌, ℕ, zero, suc, ◌+◌, ◌-◌, ◌≤◌, ◌<◌, Bool, true, eqb, List, [], ◌∷◌, length, take, drop, Option, Some, None, IfSome, Result, Ok, Err, IfOk, IfErr, sym, ap, subst, arith, ◌&&◌, bytes_eq, length-append, length-drop, length-take}
+use Rattle.std.proofs.{lemmas.Bool.and_parts, lemmas.Bool.Decides.nat_tests, lemmas.Slice.Eq.bytes_eq-Decides}
+use Rattle.chess_pgn.specs.{declared.read.PgnEnd.PgnEnd, declared.read.PgnFault.PgnFault, GameRead.GameRead, GameRead.tagged_variant, GameRead.pgn_read, LastTags.tag_section, laws.Offsets.FaultsHaveOffsets, laws.Offsets.HalfMovesHaveBytes}
 use Rattle.chess_pgn.specs.laws.TokenByToken.{SoFar, Step, On, Stop, step, read_rest_with, game_of, at_text_end, nothing_read, tokens_read}
-use Rattle.chess_pgn.specs.laws.Offsets.{FaultsHaveOffsets, HalfMovesHaveBytes}
 use Rattle.chess_pgn.specs.Tokens.{Token, token_at, tokens_of, begins_line, tokens_from}
 use Rattle.byte_devices.specs.Bytes.{after_byte_order_mark}
-use Rattle.chess_pgn.proofs.GamesByTags.{reads_alike}
-use Rattle.chess_pgn.proofs.ByteRuns.{pick}
+use Rattle.chess_pgn.proofs.{GamesByTags.reads_alike, ByteRuns.pick, TokenPlaces.within, Walk.shorter}
 use Rattle.chess_pgn.proofs.StepKinds.{StepIs, passes, stays, plays, starts, stops, finishes, step_is}
-use Rattle.chess_pgn.proofs.TokenPlaces.{within}
-use Rattle.chess_pgn.proofs.Walk.{shorter}
 
 -- what was read from an offset on, with `done` half-moves before it and `moves` in the end: a fault is from there to
 -- the offset `last`, and so is an end, which leaves a byte for each half-move and one more
@@ -83,7 +71,7 @@ game_in_place limit total (suc n) begins g (c ∷ rest) h =
 
 -- ---- the offset where reading begins
 
-not_before : (text : List ℕ) (at : ℕ) → at ≤ length text → (at ≤ after_byte_order_mark text at)
+pub not_before : (text : List ℕ) (at : ℕ) → at ≤ length text → (at ≤ after_byte_order_mark text at)
     × (after_byte_order_mark text at ≤ length text)
 not_before text at h = pick (λ (n : ℕ). (at ≤ n) × (n ≤ length text))
     (eqb at 0 && bytes_eq (take 3 text) (239 ∷ 187 ∷ 191 ∷ [])) _ _ (λ e. mark (and_parts (eqb at 0) _ e))

@@ -1,9 +1,6 @@
 -- A FEN that is read in a variant denotes a position of that variant.
-use Rattle.std.proofs.Common.{◌≡◌, ℕ, List, Ok, refl, subst}
-use Rattle.std.specs.Prelude.{IfOk}
-use Rattle.chess_base.specs.declared.man.Variant.{Variant}
-use Rattle.chess_base.specs.declared.setup.Setup.{Setup}
-use Rattle.chess_base.specs.Initial.{initial_setup_of}
+use Rattle.std.proofs.Common.{◌≡◌, ℕ, List, Ok, refl, subst, IfOk}
+use Rattle.chess_base.specs.{declared.man.Variant.Variant, declared.setup.Setup.Setup, Initial.initial_setup_of}
 use Rattle.chess_fen.proofs.shared.Variants.{reading_in_variant}
 use Rattle.chess_fen.specs.Reading.{fen_reading_as}
 

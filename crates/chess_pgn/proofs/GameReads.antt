@@ -1,29 +1,15 @@
 -- Reading a game, token by token.
-use Rattle.std.proofs.Common.{◌≡◌, ℕ, ◌-◌, ◌≤◌, ◌<◌, Bool, true, false, cond, List, ◌∷◌, arith, length, get_or, take, drop, Some, None, is_some, Result, Ok, Err, refl, sym, ap, subst, ◌∙◌, Option, IsNone, OnErr}
-use Rattle.std.specs.Prelude.{codes}
-use Rattle.chess_base.specs.declared.man.Variant.{Variant}
-use Rattle.chess_base.specs.declared.man.Variant.TheVariants.{Normal}
-use Rattle.chess_base.specs.declared.setup.Setup.{Setup}
-use Rattle.chess_base.specs.Initial.{initial_setup, initial_setup_of}
-use Rattle.chess_game.specs.Game.{State, Seen, from_start}
-use Rattle.chess_game.specs.Game.{with_state as left_at}
-use Rattle.chess_pgn.specs.declared.read.PgnEnd.{PgnEnd}
-use Rattle.chess_pgn.specs.declared.read.PgnFault.{PgnFault}
-use Rattle.chess_pgn.specs.declared.progress.Progress.{Progress}
-use Rattle.chess_pgn.specs.laws.WordKinds.{word_kind}
+use Rattle.std.proofs.Common.{◌≡◌, ℕ, ◌-◌, ◌≤◌, ◌<◌, Bool, true, false, cond, List, ◌∷◌, arith, length, get_or, take, drop, Some, None, is_some, Result, Ok, Err, refl, sym, ap, subst, ◌∙◌, Option, IsNone, OnErr, codes}
+use Rattle.chess_base.specs.{declared.man.Variant.Variant, declared.man.Variant.TheVariants.Normal, declared.setup.Setup.Setup, Initial.initial_setup, Initial.initial_setup_of}
+use Rattle.chess_game.specs.Game.{State, Seen, from_start, with_state as left_at}
+use Rattle.chess_pgn.specs.{declared.read.PgnEnd.PgnEnd, declared.read.PgnFault.PgnFault, declared.progress.Progress.Progress, laws.WordKinds.word_kind, GameRead.tagged_variant, GameRead.pgn_read, LastTags.may_precede_tags, LastTags.named_tag, LastTags.tag_section, ties.Seen.SkipsTo}
 use Rattle.chess_pgn.specs.Tokens.{Token, Skip, Word, after_brace, token_at, begins_line, tokens_from}
 use Rattle.byte_devices.specs.Bytes.{after_byte_order_mark}
-use Rattle.chess_pgn.specs.GameRead.{tagged_variant, pgn_read}
 use Rattle.chess_pgn.specs.laws.TokenByToken.{SoFar, Step, On, Stop, word_step, step, read_rest_with, game_of, nothing_read, tokens_read}
-use Rattle.chess_pgn.specs.LastTags.{may_precede_tags, named_tag, tag_section}
 use Rattle.chess_pgn.specs.ties.GameSteps.{IsWithin, so_far, begun, StopsAt, IsReadOn, ReadsAlike, IsTaken, GoesOn, step_seen}
-use Rattle.chess_pgn.specs.ties.Seen.{SkipsTo}
-use Rattle.chess_pgn.proofs.GamesByTags.{reads_alike}
+use Rattle.chess_pgn.proofs.{GamesByTags.reads_alike, TokenPlaces.token_within, SkippedTokens.skips_alike, SkippedTokens.skips_say, Walk.NextToken, Walk.next_token}
 use Rattle.chess_pgn.proofs.StepKinds.{StepIs, passes, stays, plays, starts, stops, finishes, step_is}
-use Rattle.chess_pgn.proofs.TokenPlaces.{token_within}
-use Rattle.chess_pgn.proofs.SkippedTokens.{skips_alike, skips_say}
 use Rattle.chess_pgn.proofs.TagScans.{variant_or, variant_said, variant_from, variants_are}
-use Rattle.chess_pgn.proofs.Walk.{NextToken, next_token}
 
 -- ---- nothing is declared before the game's end, and nothing after a fault
 
@@ -82,12 +68,13 @@ nothing_met : Progress
 nothing_met = record { is_met = false; is_begun = false; termination = None }
 
 pub first : (old game : Seen) (start : Setup) (v : Variant) (p : Progress) (text : List ℕ) (here : ℕ)
-    → game ≡ left_at old (from_start start) → start ≡ initial_setup_of v
-    → v ≡ tagged_variant (tag_section (tokens_from text here))
+    → game ≡ left_at old (from_start start) → start ≡ initial_setup_of v → (there : ℕ)
+    → v ≡ tagged_variant (tag_section (tokens_from text there))
+    → tagged_variant (tag_section (tokens_from text there)) ≡ tagged_variant (tag_section (tokens_from text here))
     → p ≡ record { is_met = false; is_begun = false; termination = None } → here ≤ length text
     → IsReadOn old.limit text here game p here
 unfolding nothing_met
-first old game start v p text here restarted initial variant none h =
+first old game start v p text here restarted initial there variant same none h =
     let state : game.state ≡ from_start (initial_setup_of v) = ap (λ g. g.state) restarted ∙ ap from_start initial in
     record {
       forward = omega arith;
@@ -96,7 +83,7 @@ first old game start v p text here restarted initial variant none h =
       whole =
           ap (λ q. game_of old.limit (length text) (so_far game.state q) (tokens_from text here)) none
           ∙ ap (λ s. game_of old.limit (length text) (so_far s nothing_met) (tokens_from text here)) state
-          ∙ ap (λ u. game_of old.limit (length text) (nothing_read u) (tokens_from text here)) variant;
+          ∙ ap (λ u. game_of old.limit (length text) (nothing_read u) (tokens_from text here)) (variant ∙ same);
     }
 
 -- ---- the loop over tags: what is left gives the whole
@@ -184,6 +171,12 @@ first_normal old game start p text here restarted initial none h =
           ap (λ q. game_of old.limit (length text) (so_far game.state q) (tokens_from text here)) none
           ∙ ap (λ s. game_of old.limit (length text) (so_far s nothing_met) (tokens_from text here)) state;
     }
+
+-- the tags from here on name the variant that all of the game's name
+pub same_variant : (limit : ℕ) (text : List ℕ) (from : ℕ) (game : Seen) (p : Progress) (here : ℕ)
+    → ReadsNormal limit text from game p here
+    → tagged_variant (tag_section (tokens_from text here)) ≡ tagged_variant (tag_section (tokens_from text from))
+same_variant limit text from game p here r = sym (variants_are (tokens_from text here)) ∙ r.says.whole
 
 -- one more tag, or what is passed over
 pub more_normal : (limit : ℕ) (text : List ℕ) (from : ℕ) (game new : Seen) (p q : Progress) (here onward : ℕ)

@@ -1,45 +1,24 @@
 -- What is read of a game by its tags and moves is what is read token by token.
-use Rattle.std.proofs.Common.{◌≡◌, ℕ, suc, ◌+◌, ◌-◌, Bool, true, false, cond, List, [], ◌∷◌, ◌++◌, length, take, drop, Option, Some, None, Result, Ok, Err, refl, sym, ap, ◌∙◌, arith}
-use Rattle.std.specs.Prelude.{◌&&◌, ◌||◌, nat_lt, is_some, codes, map, slice_get, option_and_then}
+use Rattle.std.proofs.Common.{◌≡◌, ℕ, suc, ◌+◌, ◌-◌, Bool, true, false, cond, List, [], ◌∷◌, ◌++◌, length, take, drop, Option, Some, None, Result, Ok, Err, refl, sym, ap, ◌∙◌, arith, bytes_eq, take-append-drop, append-nil, ◌&&◌, ◌||◌, nat_lt, is_some, codes, map, slice_get, option_and_then}
 use Rattle.std.specs.List.{list_all, list_any, prefix_len, take_while, filter_map, cons_option, last_or}
 use Rattle.std.specs.Option.{option_map_or, unwrap_or}
 use Rattle.std.specs.Result.{is_ok, result_ok, result_err, result_map_both}
-use Rattle.std.specs.Str.{bytes_eq}
-use Rattle.std.proofs.lemmas.Bool.{and_parts}
-use Rattle.std.proofs.lemmas.List.{take-append-drop, append-nil}
-use Rattle.std.proofs.lemmas.List.Folds.{length-prefix_len}
-use Rattle.std.proofs.lemmas.Slice.Eq.{bytes_eq-Decides}
-use Rattle.chess_base.specs.declared.fen_fault.FenFault.{FenFault}
-use Rattle.chess_base.specs.declared.man.Variant.{Variant}
-use Rattle.chess_base.specs.declared.setup.Setup.{Setup}
+use Rattle.std.proofs.{lemmas.Bool.and_parts, lemmas.List.Folds.length-prefix_len, lemmas.Slice.Eq.bytes_eq-Decides}
+use Rattle.chess_base.specs.{declared.fen_fault.FenFault.FenFault, declared.man.Variant.Variant, declared.setup.Setup.Setup, Initial.initial_setup_of}
 use Rattle.byte_devices.specs.Bytes.{is_digit, after_byte_order_mark}
-use Rattle.chess_base.specs.Initial.{initial_setup_of}
 use Rattle.chess_fen.specs.Reading.{fen_reading_as}
-use Rattle.chess_game.specs.Game.{Seen, State, from_start, played, current, verdict_now}
-use Rattle.chess_game.specs.Game.{with_state as left_at}
-use Rattle.chess_pgn.specs.declared.read.PgnEnd.{PgnEnd}
-use Rattle.chess_pgn.specs.declared.read.PgnFault.{PgnFault}
-use Rattle.chess_pgn.specs.declared.read.PgnFaultKind.TheVariants.{BadTag, BadFen}
+use Rattle.chess_game.specs.Game.{Seen, State, from_start, played, current, verdict_now, with_state as left_at}
+use Rattle.chess_pgn.specs.{declared.read.PgnEnd.PgnEnd, declared.read.PgnFault.PgnFault, declared.read.PgnFaultKind.TheVariants.BadTag, declared.read.PgnFaultKind.TheVariants.BadFen, declared.word_kind.WordKind.WordKind, Words.is_marks, laws.WordKinds.word_kind}
 use Rattle.chess_game.specs.declared.results.Outcome.{Outcome}
-use Rattle.chess_text.specs.declared.reading.Reading.{Reading}
+use Rattle.chess_text.specs.{declared.reading.Reading.Reading, Moves.reading}
 use Rattle.chess_text.specs.declared.reading.Reading.TheVariants as reads
-use Rattle.chess_text.specs.Moves.{reading}
-use Rattle.pgn_writer.specs.declared.termination.Termination.{Termination}
-use Rattle.pgn_writer.specs.Terminations.{termination_named}
-use Rattle.chess_pgn.specs.GameRead.{GameRead, tagged_variant, pgn_read, Goes_on, Ends, failed, move_row, row, after_row, moves_read, fen_read, last_start, read_after_tags, read_of_split}
+use Rattle.pgn_writer.specs.{declared.termination.Termination.Termination, Terminations.termination_named, Outcomes.outcome_of}
+use Rattle.chess_pgn.specs.GameRead.{GameRead, tagged_variant, pgn_read, Goes_on, Ends, failed, move_row, row, after_row, moves_read, fen_read, last_start, read_after_tags, read_of_split, IsRead}
 use Rattle.chess_pgn.specs.laws.TokenByToken.{SoFar, Step, On, word_step, move_step, fen_step, step, read_rest_with, game_of, termination_after, tokens_read}
-use Rattle.chess_pgn.specs.GameRead.{IsRead}
 use Rattle.chess_pgn.specs.LastTags.{says_nothing, may_precede_tags, tag_section, tags_named, last_tag}
-use Rattle.chess_pgn.specs.declared.word_kind.WordKind.{WordKind}
 use Rattle.chess_pgn.specs.declared.word_kind.WordKind.TheVariants.{End, Number, Marks, Move}
-use Rattle.pgn_writer.specs.Outcomes.{outcome_of}
-use Rattle.chess_pgn.specs.Words.{is_marks}
-use Rattle.chess_pgn.specs.laws.WordKinds.{word_kind}
 use Rattle.chess_pgn.specs.Tokens.{Token, Skip, Tag, Word, Bad_tag, Unclosed_comment, Unclosed_variation, Bad, tokens_from}
-use Rattle.chess_pgn.proofs.PgnWords.{are_marks, marks_by_kind}
-use Rattle.chess_pgn.proofs.ByteRuns.{run_passes}
-use Rattle.chess_pgn.proofs.FenVariants.{initial_variant, read_variant}
-use Rattle.chess_pgn.proofs.Splits.{split_read}
+use Rattle.chess_pgn.proofs.{PgnWords.are_marks, PgnWords.marks_by_kind, ByteRuns.run_passes, FenVariants.initial_variant, FenVariants.read_variant, Splits.split_read}
 
 -- ---- words, where `met` and `begun` say what came before them
 
@@ -55,7 +34,7 @@ module _ (limit total : ℕ) (termination : Option Termination) (met begun : Boo
   by_reading : (left : ℕ) (word : List ℕ) (over room : Bool) (r : Reading)
       → is_some (verdict_now s) ≡ over → nat_lt (length s.moves) limit ≡ room
       → read_rest_with (move_step limit (so_far met begun termination s) (total - left) r) later
-      ≡ after_row total termination s left (move_row limit s left r) next
+      ≡ after_row termination s (move_row limit s (total - left) r) next
   by_reading left word over room reads.NotAMove o e = refl
   by_reading left word true room (reads.Move m) o e = rw o refl
   by_reading left word false true (reads.Move m) o e = rw (o, e) (same (played s m))
@@ -71,15 +50,15 @@ module _ (limit total : ℕ) (termination : Option Termination) (met begun : Boo
   by_kind : {K : Type 0} (left : ℕ) (word : List ℕ) (end : Outcome → K) (number marks move : K) (steps : K → Step)
       (o : Option Outcome) (is_number is_mark : Bool)
       → ((o : Outcome) → read_rest_with (steps (end o)) later
-      ≡ after_row total termination s left (Ends o (length word)) next)
+      ≡ after_row termination s (Ends o (total - left + length word)) next)
       → read_rest_with (steps number) later ≡ next s
       → (option_map_or end o (cond is_number number (cond is_mark marks move)) ≡ marks
       → read_rest_with (steps marks) later ≡ next s)
       → read_rest_with (steps move) later
-      ≡ after_row total termination s left (move_row limit s left (reading (current s) word)) next
+      ≡ after_row termination s (move_row limit s (total - left) (reading (current s) word)) next
       → read_rest_with (steps (option_map_or end o (cond is_number number (cond is_mark marks move)))) later
-      ≡ after_row total termination s left (option_map_or (λ k. Ends k (length word)) o
-      (cond (is_number || is_mark) (Goes_on s) (move_row limit s left (reading (current s) word)))) next
+      ≡ after_row termination s (option_map_or (λ k. Ends k (total - left + length word)) o
+      (cond (is_number || is_mark) (Goes_on s) (move_row limit s (total - left) (reading (current s) word)))) next
   by_kind left word end number marks move steps (Some o) is_number is_mark e n m r = e o
   by_kind left word end number marks move steps None true is_mark e n m r = n
   by_kind left word end number marks move steps None false true e n m r = m refl
@@ -88,7 +67,7 @@ module _ (limit total : ℕ) (termination : Option Termination) (met begun : Boo
   by_word : (left : ℕ) (word : List ℕ)
       → (word_kind word ≡ Marks → later (so_far met begun termination s) ≡ next s)
       → read_rest_with (step limit total (so_far met begun termination s) left (Word word)) later
-      ≡ after_row total termination s left (row limit s (left, Word word)) next
+      ≡ after_row termination s (row limit total s (left, Word word)) next
   by_word left word marks =
       by_kind left word End Number Marks Move
       (λ k. word_step limit (so_far met begun termination s) (total - left) word k) (outcome_of word)
@@ -107,7 +86,7 @@ moves_are limit total termination s (t ∷ ts) =
     by_token : (left : ℕ) (t : Token)
         → ((r : State) → game_of limit total (started termination r) ts ≡ moves_read limit total termination r ts)
         → read_rest_with (step limit total (started termination s) left t) (λ g. game_of limit total g ts)
-        ≡ after_row total termination s left (row limit s (left, t)) (λ r. moves_read limit total termination r ts)
+        ≡ after_row termination s (row limit total s (left, t)) (λ r. moves_read limit total termination r ts)
     by_token left Skip same = same s
     by_token left (Tag name string at_string) same = refl
     by_token left (Word word) same = by_word limit total termination true true s (λ g. game_of limit total g ts)

@@ -1,9 +1,7 @@
 -- A gap byte by byte is the one by lines.
 use Rattle.std.proofs.Common.{◌≡◌, ℕ, suc, ◌+◌, ◌-◌, ◌≤◌, Bool, true, false, not, cond, eqb, List, [], ◌∷◌, length, get_or, take, drop, Some, refl, sym, ap, ◌∙◌, arith}
 use Rattle.std.specs.List.{list_all, join_with_byte, onto_first, prefix_len, take_while}
-use Rattle.std.proofs.lemmas.Bool.Decides.{nat_tests}
-use Rattle.std.proofs.lemmas.List.{take_rest}
-use Rattle.std.proofs.lemmas.List.Splits.{join_with_byte-slice_split}
+use Rattle.std.proofs.{lemmas.Bool.Decides.nat_tests, lemmas.List.take_rest, lemmas.List.Splits.join_with_byte-slice_split}
 use Rattle.text_lines.specs.Lines.{parts}
 use Rattle.chess_pgn.specs.Tokens.{is_white_space, after_white_space, is_gap_line, after_gap_lines, after_gap, after_byte, after_next}
 use Rattle.chess_pgn.specs.shared.Gaps.{gap_left}

@@ -1,17 +1,11 @@
 -- The last tag of a name, token by token: what is left gives the whole.
-use Rattle.std.proofs.Common.{◌≡◌, ◌≤◌, ℕ, ◌-◌, true, cond, List, ◌∷◌, length, Option, Some, None, IfSome, refl, sym, ap, subst, ◌∙◌, arith}
+use Rattle.std.proofs.Common.{◌≡◌, ◌≤◌, ℕ, ◌-◌, true, cond, List, ◌∷◌, length, Option, Some, None, IfSome, refl, sym, ap, subst, ◌∙◌, arith, bytes_eq}
 use Rattle.std.specs.Option.{option_or}
-use Rattle.std.specs.Str.{bytes_eq}
 use Rattle.chess_pgn.specs.LastTags.{may_precede_tags, named_tag, tag_section, last_tag}
 use Rattle.chess_pgn.specs.Tokens.{Token, Skip, Word, Bad_tag, Unclosed_comment, Unclosed_variation, Bad, tokens_from}
 use Rattle.chess_pgn.specs.Tokens as tokens
-use Rattle.chess_pgn.specs.declared.tag.Tag.{Tag}
-use Rattle.chess_pgn.specs.ties.GameSteps.{IsWithin}
-use Rattle.chess_pgn.specs.ties.Seen.{found_seen, SkipsTo}
-use Rattle.chess_pgn.proofs.ByteRuns.{pick}
-use Rattle.chess_pgn.proofs.SkippedTokens.{skips_last}
-use Rattle.chess_pgn.proofs.TagScans.{last_from, last_step}
-use Rattle.chess_pgn.proofs.TokenPlaces.{token_within}
+use Rattle.chess_pgn.specs.{declared.tag.Tag.Tag, ties.GameSteps.IsWithin, ties.Seen.found_seen, ties.Seen.SkipsTo}
+use Rattle.chess_pgn.proofs.{ByteRuns.pick, SkippedTokens.skips_last, TagScans.last_from, TagScans.last_step, TokenPlaces.token_within}
 
 abbrev pub InText : ℕ → Option Tag → Type 0
 InText total tag = IfSome tag (λ t. t.to_end ≤ total)

@@ -4,6 +4,7 @@ mod Cuts
 mod FaultPlaces
 mod FenVariants
 mod Gaps
+mod GameEnds
 mod GameReads
 mod LastTagReads
 mod LeftTokens
@@ -18,6 +19,8 @@ mod TagScans
 mod TagsLeft
 mod TokenPlaces
 mod Variations
+mod LinesRead
+mod PassedWords
 mod Walk
 mod ByteRuns
 mod VariationInsides

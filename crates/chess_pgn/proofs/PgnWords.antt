@@ -1,26 +1,15 @@
 -- Words of a game's text: where one is the next token, and their kinds.
-use Rattle.std.proofs.Common.{◌≡◌, ℕ, ◌<◌, ◌≤◌, Bool, true, false, cond, ◌&&◌, ◌||◌, eqb, List, [], ◌∷◌, length, get_or, take, drop, Option, None, refl, sym, ap, subst, ◌-◌, ◌∙◌, inl, inr, arith}
-use Rattle.std.proofs.lemmas.Bool.{and_parts, or_cases}
-use Rattle.std.proofs.lemmas.Bool.Decides.{nat_tests}
-use Rattle.std.proofs.lemmas.List.{take_rest}
-use Rattle.std.proofs.lemmas.Slice.Eq.{bytes_eq-Decides}
-use Rattle.std.specs.List.{list_all, prefix_len, take_while}
-use Rattle.std.specs.Option.{option_map_or}
-use Rattle.std.specs.Prelude.{nat_le, not, if◌then◌else◌, Some}
-use Rattle.std.specs.Str.{bytes_eq}
-use Rattle.chess_game.specs.Results.{outcome_text}
-use Rattle.chess_game.specs.declared.results.Outcome.{Outcome}
+use Rattle.std.proofs.Common.{◌≡◌, ℕ, ◌<◌, ◌≤◌, Bool, true, false, cond, ◌&&◌, ◌||◌, eqb, List, [], ◌∷◌, length, get_or, take, drop, Option, None, refl, sym, ap, subst, ◌-◌, ◌∙◌, inl, inr, arith, bytes_eq, nat_le, not, if◌then◌else◌, Some}
+use Rattle.std.proofs.{lemmas.Bool.and_parts, lemmas.Bool.or_cases, lemmas.Bool.Decides.nat_tests, lemmas.List.take_rest, lemmas.Slice.Eq.bytes_eq-Decides}
+use Rattle.std.specs.{List.list_all, List.prefix_len, List.take_while, Option.option_map_or}
+use Rattle.chess_game.specs.{Results.outcome_text, declared.results.Outcome.Outcome}
 use Rattle.chess_game.specs.declared.results.Outcome.TheVariants.{WhiteWins, BlackWins, Draw, Unfinished}
-use Rattle.chess_pgn.specs.declared.word_kind.WordKind.{WordKind}
+use Rattle.chess_pgn.specs.{declared.word_kind.WordKind.WordKind, shared.Begins.begins_as_move, Words.is_marks, laws.WordKinds.word_kind}
 use Rattle.chess_pgn.specs.declared.word_kind.WordKind.TheVariants.{End, Number, Marks, Move}
 use Rattle.chess_pgn.specs.Tokens.{Word, is_word_byte, token_at, begins_line}
-use Rattle.chess_pgn.specs.shared.Begins.{begins_as_move}
 use Rattle.byte_devices.specs.Bytes.{is_digit}
 use Rattle.pgn_writer.specs.Outcomes.{outcome_of}
-use Rattle.chess_pgn.specs.Words.{is_marks}
-use Rattle.chess_pgn.specs.laws.WordKinds.{word_kind}
-use Rattle.chess_pgn.proofs.TokenKinds.{begins_word}
-use Rattle.chess_pgn.proofs.Walk.{NextToken, next_token}
+use Rattle.chess_pgn.proofs.{TokenKinds.begins_word, Walk.NextToken, Walk.next_token}
 
 -- ---- a word
 

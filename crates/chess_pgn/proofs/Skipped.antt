@@ -1,12 +1,8 @@
 -- Lines and comments that are skipped.
-use Rattle.std.proofs.Common.{◌≡◌, ℕ, suc, ◌+◌, ◌-◌, ◌<◌, ◌≤◌, Bool, true, false, not, cond, eqb, List, [], ◌∷◌, length, get_or, take, drop, add-one, Option, Some, None, refl, sym, ap, ◌∙◌, arith}
-use Rattle.std.specs.Prelude.{◌==◌}
+use Rattle.std.proofs.Common.{◌≡◌, ℕ, suc, ◌+◌, ◌-◌, ◌<◌, ◌≤◌, Bool, true, false, not, cond, eqb, List, [], ◌∷◌, length, get_or, take, drop, add-one, Option, Some, None, refl, sym, ap, ◌∙◌, arith, ◌==◌, drop-cons}
 use Rattle.std.specs.List.{position_or_len}
-use Rattle.std.proofs.Math.Seq.{drop-cons}
-use Rattle.std.proofs.lemmas.Bool.Decides.{nat_tests}
-use Rattle.std.proofs.lemmas.List.{drop_all, take_rest}
-use Rattle.chess_pgn.specs.Tokens.{line_end, is_white_space, after_brace}
-use Rattle.chess_pgn.specs.shared.Gaps.{gap_left}
+use Rattle.std.proofs.{lemmas.Bool.Decides.nat_tests, lemmas.List.drop_all, lemmas.List.take_rest}
+use Rattle.chess_pgn.specs.{Tokens.line_end, Tokens.is_white_space, Tokens.after_brace, shared.Gaps.gap_left}
 
 -- the end of a line whose first byte is not 10
 pub line_end-more : (c : ℕ) (rest : List ℕ) → eqb c 10 ≡ false → line_end (c ∷ rest) ≡ line_end rest

@@ -1,15 +1,10 @@
 -- Tokens that are skipped, at which nothing counts.
-use Rattle.std.proofs.Common.{◌≡◌, ℕ, suc, ◌+◌, ◌-◌, ◌<◌, ◌||◌, ◌==◌, eqb, Bool, true, false, List, [], ◌∷◌, ◌++◌, map, length, get_or, drop, Option, refl, sym, ap, ◌∙◌, arith}
-use Rattle.std.proofs.Math.Seq.{drop-cons}
+use Rattle.std.proofs.Common.{◌≡◌, ℕ, suc, ◌+◌, ◌-◌, ◌<◌, ◌||◌, ◌==◌, eqb, Bool, true, false, List, [], ◌∷◌, ◌++◌, map, length, get_or, drop, Option, refl, sym, ap, ◌∙◌, arith, drop-cons, length-drop}
 use Rattle.std.proofs.lemmas.Bool.Decides.{nat_tests}
-use Rattle.std.proofs.lemmas.List.{length-drop}
 use Rattle.chess_base.specs.declared.man.Variant.{Variant}
-use Rattle.chess_pgn.specs.laws.TokenByToken.{SoFar, game_of}
+use Rattle.chess_pgn.specs.{laws.TokenByToken.SoFar, laws.TokenByToken.game_of, ties.GameSteps.ReadsAlike, ties.Seen.SkipsTo}
 use Rattle.chess_pgn.specs.Tokens.{Token, Skip, is_white_space, token_at, begins_line, tokens_from}
-use Rattle.chess_pgn.specs.ties.GameSteps.{ReadsAlike}
-use Rattle.chess_pgn.specs.ties.Seen.{SkipsTo}
-use Rattle.chess_pgn.proofs.TagScans.{last_from, last_step, variant_from}
-use Rattle.chess_pgn.proofs.Walk.{token_more}
+use Rattle.chess_pgn.proofs.{TagScans.last_from, TagScans.last_step, TagScans.variant_from, Walk.token_more}
 
 abbrev skipped : List ℕ → List (ℕ × Token)
 skipped lefts = map (λ left. (left, Skip)) lefts

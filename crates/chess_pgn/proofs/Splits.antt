@@ -5,9 +5,7 @@ use Rattle.chess_pgn.specs.Tokens.{Token, Skip, Tag, Word, Bad_tag, Unclosed_com
 use Rattle.chess_pgn.specs.Split.{lacks, HasOpenComment, IsToken, blank, line, comment, glyph, variation, tag, asterisk, word, IsFaultOf, inner_comment, other, IsSplit, ended, token, stopped}
 use Rattle.chess_pgn.specs.shared.Kinds as kinds
 use Rattle.chess_pgn.specs.shared.Kinds.{Kind, Blank, Line, Comment, Nag, Variation, Tag_pair, Asterisk, Symbol, IsOf, IsLongest, token_of, HasNoToken, HasUnclosedComment, IsFault, IsSplitByKinds}
-use Rattle.chess_pgn.proofs.ByteRuns.{BraceSays, brace_says}
-use Rattle.chess_pgn.proofs.TokenKinds.{longest_of_all}
-use Rattle.chess_pgn.proofs.TokenSplits.{read_kinds, kinds_read}
+use Rattle.chess_pgn.proofs.{ByteRuns.BraceSays, ByteRuns.brace_says, TokenKinds.longest_of_all, TokenSplits.read_kinds, TokenSplits.kinds_read}
 
 -- ---- a token, and one of its kind
 

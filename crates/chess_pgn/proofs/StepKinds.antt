@@ -1,28 +1,18 @@
 -- What a step of reading may do, and where it stops.
-use Rattle.std.proofs.Common.{◌≡◌, ℕ, ◌+◌, ◌-◌, ◌≤◌, ◌<◌, Bool, true, false, List, [], ◌∷◌, length, Option, Result, Ok, Err, refl, sym, subst, arith, rules}
-use Rattle.std.specs.Prelude.{codes, is_some, nat_lt, if◌then◌else◌}
-use Rattle.std.specs.Str.{bytes_eq}
-use Rattle.chess_base.specs.declared.fen_fault.FenFault.{FenFault}
-use Rattle.chess_base.specs.declared.man.Move.{Move as Played}
-use Rattle.chess_base.specs.declared.setup.Setup.{Setup}
+use Rattle.std.proofs.Common.{◌≡◌, ℕ, ◌+◌, ◌-◌, ◌≤◌, ◌<◌, Bool, true, false, List, [], ◌∷◌, length, Option, Result, Ok, Err, refl, sym, subst, arith, rules, bytes_eq, codes, is_some, nat_lt, if◌then◌else◌}
+use Rattle.chess_base.specs.{declared.fen_fault.FenFault.FenFault, declared.man.Move.Move as Played, declared.setup.Setup.Setup}
 use Rattle.chess_fen.specs.Reading.{fen_reading_as}
 use Rattle.chess_game.specs.Game.{from_start, played, current, verdict_now}
 use Rattle.chess_game.specs.declared.results.Outcome.{Outcome}
-use Rattle.chess_text.specs.declared.reading.Reading.{Reading}
+use Rattle.chess_text.specs.{declared.reading.Reading.Reading, Moves.reading}
 use Rattle.chess_text.specs.declared.reading.Reading.TheVariants as reads
-use Rattle.chess_text.specs.Moves.{reading}
-use Rattle.chess_pgn.specs.declared.read.PgnFaultKind.{PgnFaultKind}
+use Rattle.chess_pgn.specs.{declared.read.PgnFaultKind.PgnFaultKind, declared.word_kind.WordKind.WordKind, LastTags.may_precede_tags, ties.GameSteps.IsWithin, laws.WordKinds.word_kind}
 use Rattle.chess_pgn.specs.declared.read.PgnFaultKind.TheVariants.{BadTag, BadFen, BadToken, IllegalMove, AmbiguousMove, AfterEnd, TooLong, UnclosedComment, UnclosedVariation, NoResult}
 use Rattle.pgn_writer.specs.declared.termination.Termination.{Termination}
-use Rattle.chess_pgn.specs.declared.word_kind.WordKind.{WordKind}
 use Rattle.chess_pgn.specs.declared.word_kind.WordKind.TheVariants.{End, Number, Marks, Move}
-use Rattle.chess_pgn.specs.LastTags.{may_precede_tags}
 use Rattle.chess_pgn.specs.laws.TokenByToken.{SoFar, Step, On, fails, ends, unless_full, move_step, word_step, fen_step, tag_step, termination_after, step}
-use Rattle.chess_pgn.specs.ties.GameSteps.{IsWithin}
 use Rattle.chess_pgn.specs.Tokens.{Token, Skip, Tag, Word, Bad_tag, Unclosed_comment, Unclosed_variation, Bad}
-use Rattle.chess_pgn.specs.laws.WordKinds.{word_kind}
-use Rattle.chess_pgn.proofs.ByteRuns.{pick}
-use Rattle.chess_pgn.proofs.PgnWords.{are_marks, marks_by_kind}
+use Rattle.chess_pgn.proofs.{ByteRuns.pick, PgnWords.are_marks, PgnWords.marks_by_kind}
 
 -- a step from the game `g` on, at a token from which `left` of `total` bytes are left: it leaves the game, plays a move,
 -- sets the start, stops at a fault, whose offset is not before the token, or ends the game after `len` bytes of it

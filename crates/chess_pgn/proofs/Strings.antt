@@ -1,8 +1,6 @@
 -- A tag's string, byte by byte.
-use Rattle.std.proofs.Common.{◌≡◌, ◌≢◌, ℕ, ◌+◌, ◌-◌, ◌<◌, Bool, true, false, cond, eqb, List, [], ◌∷◌, ◌++◌, length, get_or, take, drop, Option, Some, None, refl, sym, ap, ◌∙◌, append_assoc, append-nil, add-one, arith}
-use Rattle.std.proofs.Math.Seq.{take-suc}
-use Rattle.std.proofs.lemmas.Bool.Decides.{nat_tests}
-use Rattle.std.proofs.lemmas.List.{at_drop_more, take_rest}
+use Rattle.std.proofs.Common.{◌≡◌, ◌≢◌, ℕ, ◌+◌, ◌-◌, ◌<◌, Bool, true, false, cond, eqb, List, [], ◌∷◌, ◌++◌, length, get_or, take, drop, Option, Some, None, refl, sym, ap, ◌∙◌, append_assoc, append-nil, add-one, arith, take-suc}
+use Rattle.std.proofs.{lemmas.Bool.Decides.nat_tests, lemmas.List.at_drop_more, lemmas.List.take_rest}
 use Rattle.std.specs.List.{prefix_len, take_while}
 use Rattle.chess_pgn.specs.Tokens.{Bad_tag, after_gap, onto, string_at, after_next}
 use Rattle.byte_devices.specs.Bytes.{is_name_byte}

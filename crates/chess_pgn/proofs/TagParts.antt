@@ -1,10 +1,7 @@
 -- A tag by its parts is the one of the definition.
-use Rattle.std.proofs.Common.{◌≡◌, ℕ, false, cond, eqb, List, [], ◌∷◌, length, drop, Option, Some, None, refl, ap, ◌∙◌, arith}
-use Rattle.std.proofs.lemmas.Bool.Decides.{nat_tests}
-use Rattle.std.proofs.lemmas.List.{length-take-le}
-use Rattle.std.proofs.lemmas.List.Sums.{prefix_len-le-length}
+use Rattle.std.proofs.Common.{◌≡◌, ℕ, false, cond, eqb, List, [], ◌∷◌, length, drop, Option, Some, None, refl, ap, ◌∙◌, arith, length-take-le, option_and_then, unwrap_or}
+use Rattle.std.proofs.{lemmas.Bool.Decides.nat_tests, lemmas.List.Sums.prefix_len-le-length}
 use Rattle.std.specs.List.{prefix_len, take_while}
-use Rattle.std.specs.Option.{option_and_then, unwrap_or}
 use Rattle.chess_pgn.specs.Tokens.{Token, Tag, Bad_tag, after_gap, after_next, string_at, tag_at}
 use Rattle.byte_devices.specs.Bytes.{is_name_byte}
 use Rattle.chess_pgn.specs.shared.TagParts.{closed, with_text, with_string, with_tag_name, tag_by_parts}

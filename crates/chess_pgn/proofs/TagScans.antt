@@ -1,13 +1,9 @@
 -- The last tags, token by token, are those that the definitions give.
-use Rattle.std.proofs.Common.{◌≡◌, ℕ, suc, ◌+◌, Bool, true, false, cond, List, [], ◌∷◌, take, Option, Some, None, refl, sym, ap, ◌∙◌, arith}
+use Rattle.std.proofs.Common.{◌≡◌, ℕ, suc, ◌+◌, Bool, true, false, cond, List, [], ◌∷◌, take, Option, Some, None, refl, sym, ap, ◌∙◌, arith, if◌then◌else◌, codes}
 use Rattle.std.specs.List.{cons_option, filter_map, last_or, prefix_len, take_while}
 use Rattle.std.specs.Option.{option_map_or, option_or}
-use Rattle.std.specs.Prelude.{if◌then◌else◌, codes}
-use Rattle.chess_base.specs.declared.man.Variant.{Variant}
-use Rattle.chess_base.specs.declared.man.Variant.TheVariants.{Normal}
-use Rattle.chess_pgn.specs.GameRead.{variant_named, tagged_variant}
-use Rattle.chess_pgn.specs.LastTags.{may_precede_tags, named_tag, tag_section}
-use Rattle.chess_pgn.specs.Tokens.{Token}
+use Rattle.chess_base.specs.{declared.man.Variant.Variant, declared.man.Variant.TheVariants.Normal}
+use Rattle.chess_pgn.specs.{GameRead.variant_named, GameRead.tagged_variant, LastTags.may_precede_tags, LastTags.named_tag, LastTags.tag_section, Tokens.Token}
 
 -- the last tag of a name among tokens, or the one before them
 abbrev pub last_from : List ℕ → Option (List ℕ × ℕ) → List (ℕ × Token) → Option (List ℕ × ℕ)

@@ -1,20 +1,14 @@
 -- Gaps, strings and tags: the relation and the reader agree.
-use Rattle.std.proofs.Common.{◌≡◌, ℕ, zero, suc, ◌+◌, ◌<◌, ◌≤◌, Bool, true, false, cond, eqb, List, [], ◌∷◌, ◌++◌, length, drop, Option, Some, None, IfSome, refl, sym, ap, subst, ◌∙◌, inl, inr, ◌⊎◌, arith}
-use Rattle.std.specs.Prelude.{◌&&◌}
+use Rattle.std.proofs.Common.{◌≡◌, ℕ, zero, suc, ◌+◌, ◌<◌, ◌≤◌, Bool, true, false, cond, eqb, List, [], ◌∷◌, ◌++◌, length, drop, Option, Some, None, IfSome, refl, sym, ap, subst, ◌∙◌, inl, inr, ◌⊎◌, arith, ◌&&◌, take-append-drop, append_assoc, length-append}
 use Rattle.std.specs.List.{list_all, list_any, prefix_len, take_while}
 use Rattle.std.proofs.lemmas.Bool.{and_parts, or_parts, or_cases, eqb-true}
-use Rattle.std.proofs.lemmas.List.{take-append-drop, append_assoc, length-append}
 use Rattle.chess_pgn.specs.Tokens.{Token, Tag, Bad_tag, is_white_space, line_end, after_gap, string_at, onto, after_byte, after_next}
 use Rattle.byte_devices.specs.Bytes.{is_name_byte}
-use Rattle.chess_pgn.specs.shared.Gaps.{gap_left}
+use Rattle.chess_pgn.specs.{shared.Gaps.gap_left, shared.Kinds.IsTag}
 use Rattle.chess_pgn.specs.shared.TagParts.{closed, with_text, with_string, with_tag_name, tag_by_parts}
-use Rattle.chess_pgn.proofs.Skipped.{gap_line}
-use Rattle.chess_pgn.proofs.Strings.{string_after, string_quote, string_other}
-use Rattle.chess_pgn.proofs.Gaps.{gap_same}
+use Rattle.chess_pgn.proofs.{Skipped.gap_line, Strings.string_after, Strings.string_quote, Strings.string_other, Gaps.gap_same, VariationInsides.line_end_is}
 use Rattle.chess_pgn.specs.Split.{IsGap, nothing, blank, line, OpensTag, opens, IsString, kept, other}
-use Rattle.chess_pgn.specs.shared.Kinds.{IsTag}
 use Rattle.chess_pgn.proofs.ByteRuns.{differs, pick, run_drop, run_take, run_passes, LineSays, unended, line_then, line_says}
-use Rattle.chess_pgn.proofs.VariationInsides.{line_end_is}
 
 -- ---- gaps
 

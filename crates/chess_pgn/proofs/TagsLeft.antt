@@ -1,13 +1,7 @@
 -- The tags that are left, token by token.
-use Rattle.std.proofs.Common.{◌≡◌, ◌≤◌, ℕ, suc, ◌+◌, ◌-◌, Bool, true, false, cond, List, [], ◌∷◌, ◌++◌, length, map, take, Option, Some, None, refl, sym, ap, ◌∙◌, arith}
+use Rattle.std.proofs.Common.{◌≡◌, ◌≤◌, ℕ, suc, ◌+◌, ◌-◌, Bool, true, false, cond, List, [], ◌∷◌, ◌++◌, length, map, take, Option, Some, None, refl, sym, ap, ◌∙◌, arith, option_map}
 use Rattle.std.specs.List.{cons_option, filter_map, prefix_len}
-use Rattle.std.specs.Option.{option_map}
-use Rattle.chess_pgn.specs.declared.tag_list.PgnTag.{PgnTag}
-use Rattle.chess_pgn.specs.GameTags.{tag_pair, pair_of, game_tags_of}
-use Rattle.chess_pgn.specs.LastTags.{may_precede_tags}
-use Rattle.chess_pgn.specs.Tokens.{Token, Skip, tokens_from}
-use Rattle.chess_pgn.specs.ties.Seen.{SkipsTo}
-use Rattle.chess_pgn.specs.ties.TagsLeft.{tags_left}
+use Rattle.chess_pgn.specs.{declared.tag_list.PgnTag.PgnTag, GameTags.tag_pair, GameTags.pair_of, GameTags.game_tags_of, LastTags.may_precede_tags, Tokens.Token, Tokens.Skip, Tokens.tokens_from, ties.Seen.SkipsTo, ties.TagsLeft.tags_left}
 
 -- one token more
 tags_step : (total : ℕ) (t : ℕ × Token) (ts : List (ℕ × Token))

@@ -1,15 +1,13 @@
 -- A token: the relation and the reader agree.
-use Rattle.std.proofs.Common.{◌≡◌, ℕ, suc, ◌+◌, ◌<◌, ◌≤◌, Bool, true, false, cond, not, eqb, List, [], ◌∷◌, ◌++◌, length, take, drop, Option, Some, None, refl, sym, ap, subst, ◌∙◌, inl, inr, arith}
-use Rattle.std.specs.Prelude.{◌&&◌, ◌||◌}
+use Rattle.std.proofs.Common.{◌≡◌, ℕ, suc, ◌+◌, ◌<◌, ◌≤◌, Bool, true, false, cond, not, eqb, List, [], ◌∷◌, ◌++◌, length, take, drop, Option, Some, None, refl, sym, ap, subst, ◌∙◌, inl, inr, arith, ◌&&◌, ◌||◌}
 use Rattle.std.specs.List.{list_all, list_any, prefix_len, take_while}
 use Rattle.std.proofs.lemmas.Bool.{and_parts, or_parts, or_cases, eqb-true}
 use Rattle.std.proofs.lemmas.List.{take-append-drop, append-nil, append_assoc, length-append, length-drop, nil_from_length}
 use Rattle.std.proofs.lemmas.List.Folds.{list_all-append}
 use Rattle.byte_devices.specs.Bytes.{is_digit}
 use Rattle.chess_pgn.specs.Tokens.{Token, Skip, Tag, Word, Bad_tag, Unclosed_comment, Unclosed_variation, Bad, is_white_space, is_word_byte, line_end, after_brace, comment_at, variation_at, token_at}
-use Rattle.chess_pgn.specs.shared.TagParts.{tag_by_parts}
+use Rattle.chess_pgn.specs.{shared.TagParts.tag_by_parts, Split.lacks, Split.skips_line, Split.HasOpenComment}
 use Rattle.chess_pgn.proofs.TagParts.{parts_are}
-use Rattle.chess_pgn.specs.Split.{lacks, skips_line, HasOpenComment}
 use Rattle.chess_pgn.specs.shared.Kinds.{Kind, Blank, Line, Comment, Nag, Variation, Tag_pair, Asterisk, Symbol, IsOf, IsLongest, token_of, HasNoToken, HasUnclosedComment, IsFault}
 use Rattle.chess_pgn.proofs.ByteRuns.{differs, pick, run_drop, run_take, run_passes, run_stops, longest_run, stops_run, brace_found, brace_missing, BraceSays, brace_says}
 use Rattle.chess_pgn.proofs.VariationInsides.{Leaves, closed, commented, unclosed, leaves, inside_read, open_read, open_comment}

@@ -1,10 +1,8 @@
 -- The offsets that a token gives are in the text.
-use Rattle.std.proofs.Common.{◌≡◌, ℕ, suc, ◌-◌, ◌≤◌, Bool, List, [], ◌∷◌, ◌++◌, length, drop, refl, sym, ap, subst, ◌∙◌, inl, inr, arith}
-use Rattle.std.proofs.lemmas.List.{length-append, length-drop}
+use Rattle.std.proofs.Common.{◌≡◌, ℕ, suc, ◌-◌, ◌≤◌, Bool, List, [], ◌∷◌, ◌++◌, length, drop, refl, sym, ap, subst, ◌∙◌, inl, inr, arith, length-append, length-drop}
 use Rattle.chess_pgn.specs.Tokens.{Token, Skip, Tag, Word, Bad_tag, Unclosed_comment, Unclosed_variation, Bad, token_at, begins_line, tokens_from}
-use Rattle.chess_pgn.specs.Split.{HasOpenComment, here, deeper}
+use Rattle.chess_pgn.specs.{Split.HasOpenComment, Split.here, Split.deeper, ties.GameSteps.IsWithin}
 use Rattle.chess_pgn.specs.shared.Kinds.{Kind, Blank, Line, Comment, Nag, Variation, Tag_pair, Asterisk, Symbol, IsOf, token_of, IsFault}
-use Rattle.chess_pgn.specs.ties.GameSteps.{IsWithin}
 use Rattle.chess_pgn.proofs.TokenKinds.{TokenSays, known, faulty, token_says}
 use Rattle.chess_pgn.proofs.Walk.{no_token, token_more}
 

@@ -1,13 +1,11 @@
 -- Tokens: the relation and the reader agree; a text has one split by kinds.
 use Rattle.std.proofs.Common.{◌≡◌, ℕ, zero, suc, ◌+◌, ◌-◌, ◌<◌, ◌≤◌, Bool, true, false, cond, eqb, List, [], ◌∷◌, ◌++◌, length, drop, refl, sym, ap, subst, ◌∙◌, inl, inr, arith}
 use Rattle.std.specs.List.{list_any}
-use Rattle.std.proofs.lemmas.Bool.{or_parts}
-use Rattle.std.proofs.lemmas.List.{length-append, length-drop, nil_from_length}
+use Rattle.std.proofs.{lemmas.Bool.or_parts, lemmas.List.length-append, lemmas.List.length-drop, lemmas.List.nil_from_length}
 use Rattle.chess_pgn.specs.Tokens.{Token, Skip, Tag, Word, Bad_tag, Unclosed_comment, Unclosed_variation, Bad, token_at, begins_line, tokens_from}
-use Rattle.chess_pgn.proofs.Walk.{no_token, token_more, token_nearer}
+use Rattle.chess_pgn.proofs.{Walk.no_token, Walk.token_more, Walk.token_nearer, Cuts.same_first}
 use Rattle.chess_pgn.proofs.TokenKinds.{not_empty, token_read, is_fault, no_token_of, TokenSays, known, faulty, token_says, comment_fault}
 use Rattle.chess_pgn.specs.shared.Kinds.{IsOf, IsLongest, token_of, HasNoToken, HasUnclosedComment, IsFault, IsSplitByKinds, ended, token, stopped}
-use Rattle.chess_pgn.proofs.Cuts.{same_first}
 
 -- ---- faults
 

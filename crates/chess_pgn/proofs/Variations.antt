@@ -1,9 +1,6 @@
 -- A variation, part by part.
-use Rattle.std.proofs.Common.{◌≡◌, ℕ, zero, suc, ◌+◌, ◌-◌, ◌≤◌, Bool, true, false, cond, eqb, List, [], ◌∷◌, length, get_or, take, drop, Option, Some, None, refl, sym, ap, ◌∙◌, inl, inr, add-one, arith}
-use Rattle.std.specs.Prelude.{◌&&◌, ◌||◌}
-use Rattle.std.proofs.lemmas.Bool.Decides.{nat_tests}
-use Rattle.std.proofs.lemmas.Bool.{and_parts, or_cases}
-use Rattle.std.proofs.lemmas.List.{take_rest}
+use Rattle.std.proofs.Common.{◌≡◌, ℕ, zero, suc, ◌+◌, ◌-◌, ◌≤◌, Bool, true, false, cond, eqb, List, [], ◌∷◌, length, get_or, take, drop, Option, Some, None, refl, sym, ap, ◌∙◌, inl, inr, add-one, arith, ◌&&◌, ◌||◌}
+use Rattle.std.proofs.{lemmas.Bool.Decides.nat_tests, lemmas.Bool.and_parts, lemmas.Bool.or_cases, lemmas.List.take_rest}
 use Rattle.chess_pgn.specs.Tokens.{Token, Unclosed_comment, Unclosed_variation, Skip, line_end, after_brace, variation_at}
 use Rattle.chess_pgn.specs.ties.VariationParts.{after_part, one_fewer, depth_after}
 use Rattle.chess_pgn.proofs.Skipped.{line_end-more}

@@ -34,16 +34,15 @@ use Rattle.chess_pgn.specs.Words.{is_marks}
 
 -- ---- what is read in the end
 
--- what is read of a game's text. `state`: the game as far as it was read. After a fault that is the moves before it,
--- and after a bad FEN the start by the FENs before it; where there is no game it is the initial position. `answer`:
--- `Ok (Some end)` with the outcome of the game's termination marker, what its last tag Termination names, and the
--- offset after the marker; `Ok None` if the text has no more games; `Err` with the first fault
+-- what is read of a game's text. `state`: the game as far as it was read, after a bad FEN the start by the FENs before
+-- it. `answer`: `Ok (Some end)` with the game's end, `Ok None` if the text has no more games, or `Err` with the first
+-- fault
 pub record GameRead : Type 0 where
   pub state : State
   pub answer : Result (Option PgnEnd) PgnFault
 
--- what a game's termination marker declares: its outcome, without a comment; but nothing if the marker is `*`, or if
--- the board has a verdict (`is_decided`), since that gives the game's outcome, whatever the marker is
+-- what a game's termination marker declares: its outcome; but nothing if that is `*`, or if the board has a verdict
+-- (`is_decided`), since the outcome is then the verdict's
 abbrev pub declared_after : Bool → Outcome → Option Declared
 declared_after is_decided o =
     if is_decided || same_outcome o Unfinished then None else Some (record { outcome = o; comment = [] })
@@ -54,84 +53,78 @@ failed s fault = record { state = s; answer = Err fault }
 
 -- ---- after the tags: a row for each kind of token
 
--- what a token does: the game goes on as `next`; the outcome, a word of `len` bytes, ends it; or the token can't be
--- taken, and the fault is where `left` bytes of the text are left
+-- what a token does: the game goes on as `next`; an outcome ends it, before the offset `end`; or there is this fault at
+-- the offset `at`
 pub data Row : Type 0 where
   Goes_on : (next : State) → Row
-  Ends : (o : Outcome) (len : ℕ) → Row
-  Fails : (kind : PgnFaultKind) (left : ℕ) → Row
+  Ends : (o : Outcome) (end : ℕ) → Row
+  Fails : (kind : PgnFaultKind) (at : ℕ) → Row
 
--- what a move does in the game `s` of at most `limit` half-moves: a fault if the board has a verdict (a move after the
--- end) or if the game already has `limit` half-moves (too long); otherwise what `allowed` says. `left` bytes are left
--- at the move
+-- what a move at the offset `at` does in the game `s` of at most `limit` half-moves: a fault if the board has a verdict
+-- (a move after the end) or if the game is full (too long); otherwise what `allowed` says
 abbrev pub unless_over : ℕ → State → ℕ → Row → Row
-unless_over limit s left allowed =
-    if is_some (verdict_now s) then Fails AfterEnd left
+unless_over limit s at allowed = if is_some (verdict_now s) then Fails AfterEnd at
     else if nat_lt (length s.moves) limit then allowed
-    else Fails TooLong left
+    else Fails TooLong at
 
--- what a word does that is taken as a move, by what it denotes in the current position of the game `s` of at most
--- `limit` half-moves. Without a move's shape it is a bad token, also where the game is over or full. `left` bytes are
--- left at the word
+-- what a word at the offset `at` does that is taken as a move, by what it denotes in the game `s`. Without a move's
+-- shape it is a bad token, also where the game is over or full
 abbrev pub move_row : ℕ → State → ℕ → Reading → Row
-move_row limit s left reads.NotAMove = Fails BadToken left
-move_row limit s left (reads.Move m) = unless_over limit s left (Goes_on (played s m))
-move_row limit s left reads.Ambiguous = unless_over limit s left (Fails AmbiguousMove left)
-move_row limit s left reads.NoSuch = unless_over limit s left (Fails IllegalMove left)
+move_row limit s at reads.NotAMove = Fails BadToken at
+move_row limit s at (reads.Move m) = unless_over limit s at (Goes_on (played s m))
+move_row limit s at reads.Ambiguous = unless_over limit s at (Fails AmbiguousMove at)
+move_row limit s at reads.NoSuch = unless_over limit s at (Fails IllegalMove at)
 
--- what a token does after the tags, in the game `s` of at most `limit` half-moves; `left` bytes are left at the token
-abbrev pub row : ℕ → State → ℕ × Token → Row
-row limit s (left, Skip) = Goes_on s
+-- what a token after the tags does in the game `s`. The text has `total` bytes, and `left` are left at the token, so
+-- its offset is `total - left`
+abbrev pub row : ℕ → ℕ → State → ℕ × Token → Row
+row limit total s (left, Skip) = Goes_on s
 -- an outcome such as `1-0` ends the game; a number (digits alone) and marks such as `!?` are passed over; any other
 -- word is taken as a move
-row limit s (left, Word word) = option_map_or (λ o. Ends o (length word)) (outcome_of word)
-    (if list_all is_digit word || is_marks word then Goes_on s else move_row limit s left (reading (current s) word))
+row limit total s (left, Word word) = option_map_or (λ o. Ends o (total - left + length word)) (outcome_of word)
+    (if list_all is_digit word || is_marks word then Goes_on s
+    else move_row limit s (total - left) (reading (current s) word))
 -- the fault is at the comment's `{`, which may be inside a variation
-row limit s (left, Unclosed_comment brace) = Fails UnclosedComment brace
-row limit s (left, Unclosed_variation) = Fails UnclosedVariation left
-row limit s (left, Bad) = Fails BadToken left
+row limit total s (left, Unclosed_comment brace) = Fails UnclosedComment (total - brace)
+row limit total s (left, Unclosed_variation) = Fails UnclosedVariation (total - left)
+row limit total s (left, Bad) = Fails BadToken (total - left)
 -- a tag, even a bad one, is the next game's, so this game has no outcome, which is a fault
-row limit s (left, _) = Fails NoResult left
+row limit total s (left, _) = Fails NoResult (total - left)
 
--- what is read from a token on, which does what the row says; `later` gives what is read of the tokens after it from
--- the game as it is then. `left` bytes are left at the token, of a text of `total` bytes; `termination` is what the tag
--- Termination names
-abbrev pub after_row : ℕ → Option Termination → State → ℕ → Row → (State → GameRead) → GameRead
-after_row total termination s left (Goes_on next) later = later next
-after_row total termination s left (Ends o len) later = record {
+-- what is read of the game `s` from a token on that does this; `later` is for the tokens after it, and `termination` is
+-- what the tag Termination names
+abbrev pub after_row : Option Termination → State → Row → (State → GameRead) → GameRead
+after_row termination s (Goes_on next) later = later next
+after_row termination s (Ends o end) later = record {
   state = record s { declared = declared_after (is_some (verdict_now s)) o };
-  answer = Ok (Some (record { outcome = o; termination = termination; offset = total - left + len }));
+  answer = Ok (Some (record { outcome = o; termination = termination; offset = end }));
 }
-after_row total termination s left (Fails kind place) later = failed s (record { kind = kind; offset = total - place })
+after_row termination s (Fails kind at) later = failed s (record { kind = kind; offset = at })
 
--- what is read of the tokens after the tags, in a text of `total` bytes, from the game `s` of at most `limit`
--- half-moves on; `termination` is what the tag Termination names. If the tokens end without a termination marker, that
--- is a fault at the text's end
+-- what is read of the game `s` from the tokens after the tags; without a termination marker there is a fault at the
+-- text's end
 abbrev pub moves_read : ℕ → ℕ → Option Termination → State → List (ℕ × Token) → GameRead
 moves_read limit total termination s [] = failed s (record { kind = NoResult; offset = total })
 moves_read limit total termination s (t ∷ ts) =
-    after_row total termination s t.0 (row limit s t) (λ next. moves_read limit total termination next ts)
+    after_row termination s (row limit total s t) (λ next. moves_read limit total termination next ts)
 
 -- ---- the tags: the tokens before the first number, move, outcome or fault
 
--- what a tag FEN gives in the variant `v`, in a text of `total` bytes: the position that it denotes, or the fault, at
--- the FEN's first byte. The tag comes as its text and how many bytes are left where that begins
+-- the position that a tag FEN (given as in `tags_named`) denotes in the variant `v`, or the fault, at the FEN's first
+-- byte
 abbrev pub fen_read : ℕ → Variant → List ℕ × ℕ → Result Setup PgnFault
 fen_read total v tag = result_map_both (λ start. start)
     (λ fault. record { kind = BadFen fault; offset = total - tag.1 }) (fen_reading_as v tag.0)
 
--- the position that the last of these FENs denotes (see `fen_read`); only those before the first that denotes none are
--- looked at. `start` if there are none of these
+-- the position of the last FEN before the first that denotes none, or `start` without one
 abbrev pub last_start : Setup → List (Result Setup PgnFault) → Setup
 last_start start fens = unwrap_or (last_or None (filter_map result_ok (take_while is_ok fens))) start
 
 -- ---- the variant
 
--- the variant that the text of a tag Variant names, in capital or small letters: `fischerandom`, `fischerrandom` and
--- `chess960` are Chess960; any other text means normal chess, even if it names another variant
+-- the variant that the text of a tag Variant names, in capital or small letters; any text but three is normal chess
 abbrev pub variant_named : List ℕ → Variant
-variant_named text =
-    if list_any (λ name. str_eq_ignore_ascii_case text name)
+variant_named text = if list_any (λ name. str_eq_ignore_ascii_case text name)
     (codes "fischerandom" ∷ codes "fischerrandom" ∷ codes "chess960" ∷ []) then Fischerandom else Normal
 
 -- the variant that the last tag Variant names; normal chess if there is no such tag
@@ -140,10 +133,8 @@ tagged_variant tags = option_map_or (λ tag. variant_named tag.0) (last_tag (cod
 
 -- ---- the game
 
--- what is read of a game of at most `limit` half-moves after `tags`, the tokens before its first number, move, outcome
--- or fault, if each of their FENs denotes a position; the last argument is the tokens after `tags`. If the first of
--- these is a bad tag, its fault; otherwise the moves are read. `s` is the game at its start, and the text has `total`
--- bytes. The last tag Termination counts, even if its text is none of the standard's values and an earlier one's is
+-- what is read of the game `s`, which is at its start, from the tokens after its tag section `tags`: if they begin with
+-- a bad tag, its fault; otherwise the moves. The last tag Termination counts, even if it names no value of the standard
 abbrev pub read_after_tags : ℕ → ℕ → State → List (ℕ × Token) → List (ℕ × Token) → GameRead
 read_after_tags limit total s tags ((to_end, Bad_tag) ∷ rest) =
     failed s (record { kind = BadTag; offset = total - to_end })
@@ -151,13 +142,9 @@ read_after_tags limit total s tags rest = moves_read limit total
     (option_and_then (λ tag. termination_named tag.0) (last_tag (codes "Termination") tags)) s rest
 
 -- what is read of the game at the front of these tokens, of at most `limit` half-moves, in a text of `total` bytes.
--- `tags` are the tokens before its first number, move, outcome or fault; its tags, which are all among them, give the
--- variant and the start. There is no game if no token says anything of one. Otherwise the fault of the first FEN that
--- has one is the game's; without one see `read_after_tags`
+-- There is no game if no token says anything of one; the first FEN that denotes no position is the game's fault
 abbrev pub read_of_split : ℕ → ℕ → List (ℕ × Token) → GameRead
-read_of_split limit total tokens =
-    let tags = tag_section tokens in
-    let v = tagged_variant tags in
+read_of_split limit total tokens = let tags = tag_section tokens in let v = tagged_variant tags in
     let fens = map (fen_read total v) (tags_named (codes "FEN") tags) in
     let s = from_start (last_start (initial_setup_of v) fens) in
     if list_all (λ t. says_nothing t.1) tokens then record { state = s; answer = Ok None }

@@ -1,5 +1,4 @@
--- The last tag of a name among a game's tags, which come before its first number, move, outcome or fault; and its tag
--- Result.
+-- The last tag of a name among a game's tags, and its tag Result.
 use Rattle.std.specs.Prelude.{ℕ, ◌-◌, Bool, true, false, if◌then◌else◌, List, length, codes, Option, Some, None}
 use Rattle.std.specs.List.{filter_map, last_or, take_while}
 use Rattle.std.specs.Option.{option_map}
@@ -15,20 +14,17 @@ says_nothing Skip = true
 says_nothing (Word word) = is_marks word
 says_nothing _ = false
 
--- after this token more tags of the same game may come: it is a tag, or says nothing of the game
+-- after this token more tags of the same game may come
 abbrev pub may_precede_tags : Token → Bool
 may_precede_tags (Tag name text to_end) = true
 may_precede_tags token = says_nothing token
 
--- the text of a token that is a tag with the given name, and how many bytes are left, to the end of the whole text,
--- where that begins; none for any other token
+-- the text of a tag with this name, and how many bytes are left where that begins; none for any other token
 abbrev pub named_tag : List ℕ → Token → Option (List ℕ × ℕ)
 named_tag name (Tag other text to_end) = if bytes_eq other name then Some (text, to_end) else None
 named_tag name _ = None
 
--- the tokens of a game's tag section: those before its first number, move, outcome or fault. All tags of the game are
--- among them, and with them what is skipped and marks such as `!?`. Each token is paired with the number of bytes left
--- where it begins
+-- the tokens of a game's tag section: those before its first number, move, outcome or fault, with all its tags
 abbrev pub tag_section : List (ℕ × Token) → List (ℕ × Token)
 tag_section tokens = take_while (λ t. may_precede_tags t.1) tokens
 
@@ -41,7 +37,7 @@ abbrev pub last_tag : List ℕ → List (ℕ × Token) → Option (List ℕ × �
 last_tag name tags = last_or None (tags_named name tags)
 
 -- the last tag Result of a game with these tokens, in a text of `total` bytes: the outcome that it names, if any, and
--- the offset and the length of its string; none if the game has no tag Result
+-- the offset and the length of its string
 abbrev pub result_tag_of : ℕ → List (ℕ × Token) → Option ResultTag
 result_tag_of total tokens =
     option_map (λ tag. record { outcome = outcome_of tag.0; offset = total - tag.1; len = length tag.0 })

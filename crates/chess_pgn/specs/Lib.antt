@@ -2,8 +2,11 @@ pub mod Tokens
 pub mod Split
 pub mod Words
 pub mod LastTags
+pub mod UnknownVariants
 pub mod GameTags
 pub mod GameRead
+pub mod GameEnds
+pub mod Variations
 pub mod laws
 pub mod shared
 pub mod ties

@@ -14,8 +14,8 @@ use Rattle.chess_pgn.specs.Tokens.{Token, Skip, Tag, Word, Bad_tag, Unclosed_com
 abbrev pub lacks : ℕ → List ℕ → Bool
 lacks b text = list_all (λ c. not (c == b)) text
 
--- whether the byte c begins what is skipped up to the end of its line: `;` anywhere (section 5), or `%` as the line's
--- first byte (section 6), which `line_begins` says that c is
+-- whether the byte c begins what is skipped up to the end of its line: `;` (section 5), or `%` where a line begins
+-- (section 6)
 abbrev pub skips_line : Bool → ℕ → Bool
 skips_line line_begins c = line_begins && c == byte "%" || c == byte ";"
 
@@ -52,8 +52,8 @@ pub data OpensTag (name : List ℕ) : List ℕ → Type 0 where
   opens : {before after : List ℕ} → IsGap false before → 0 < length name → list_all is_name_byte name ≡ true
       → IsGap false after → OpensTag name (byte "[" ∷ (before ++ (name ++ (after ++ codes "\""))))
 
--- the bytes between a string's quotes (section 7): any but `\n`. A backslash keeps the byte after it, even a quote or a
--- backslash, from ending the string; each quote has such a backslash before it
+-- the bytes between a string's quotes (section 7): any but `\n`, and each quote and backslash after a backslash, which
+-- keeps it from ending the string
 pub data IsString : List ℕ → Type 0 where
   nothing : IsString []
   -- a backslash and the byte that it keeps
@@ -92,17 +92,16 @@ IsTokenAt text at front t =
 
 -- ---- what can't be read
 
--- the text, which begins inside a variation, has a comment that isn't closed: after whole parts comes the comment's
--- `{`, or the `(` of a variation for whose inside the same holds. `b`: the text's first byte is its line's first. The
--- number says how many bytes are left at that `{`
+-- the text, which begins inside a variation, has a comment that isn't closed: after whole parts comes its `{`, where so
+-- many bytes are left, or the `(` of a variation in which it is. `b`: the text's first byte is its line's first
 pub data HasOpenComment : Bool → List ℕ → ℕ → Type 0 where
   here : {b : Bool} {parts : List ℕ} (text : List ℕ) → IsInside b parts → lacks (byte "}") text ≡ true
       → HasOpenComment b (parts ++ byte "{" ∷ text) (length (byte "{" ∷ text))
   deeper : {b : Bool} {parts inner : List ℕ} {to_end : ℕ} → IsInside b parts → HasOpenComment false inner to_end
       → HasOpenComment b (parts ++ byte "(" ∷ inner) to_end
 
--- this token is the fault of the text, told by its first byte and, after `(`, by whether a comment inside isn't closed.
--- That no token begins the text is not claimed here; where this is used (`IsSplit`), it is
+-- this token is the fault of a text that begins with no token (`IsSplit` says that), by its first byte and, after `(`,
+-- by whether a comment inside isn't closed
 pub data IsFaultOf : List ℕ → Token → Type 0 where
   -- a comment isn't closed; the number is how many bytes are left at its `{`
   comment : {text : List ℕ} → IsFaultOf (byte "{" ∷ text) (Unclosed_comment (length (byte "{" ∷ text)))

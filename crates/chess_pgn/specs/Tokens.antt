@@ -1,8 +1,6 @@
 -- The tokens of a game's text as it is read (PGN standard of 1994, sections 5 to 7 and 8.2): white space, dots,
 -- comments, `%` lines, `$` glyphs and variations are skipped; tags and words are kept; the first token that can't be
--- read is the last. This project's own: the bytes of a word; that `$` may have no digits; that a `%` line is skipped
--- also in a tag and in a variation; that a string may have tabs and more than 255 bytes, and a backslash in it may keep
--- any byte; and that the bytes EF BB BF at offset 0 are skipped.
+-- read is the last. This project's own is what Split names, and that the bytes EF BB BF at offset 0 are skipped.
 use Rattle.std.specs.Prelude.{ℕ, zero, suc, ◌-◌, Bool, false, not, ◌&&◌, ◌||◌, List, [], ◌∷◌, ◌++◌, length, take, drop, slice_index, Option, Some, None, codes, ◌==◌, if◌then◌else◌}
 use Rattle.chess_base.specs.Options.{◌>>=◌}
 use Rattle.byte_devices.specs.Bytes.{is_digit, byte, carriage_return, new_line, space, tab, is_name_byte}

@@ -2,4 +2,6 @@
 pub mod Seen
 pub mod VariationParts
 pub mod GameSteps
+pub mod LineSteps
 pub mod TagsLeft
+pub mod TagsPassed

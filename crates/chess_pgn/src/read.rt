@@ -6,7 +6,7 @@
 //! Contracts here compare results with the definitions of TokenByToken, such as `word_step`. `so_far` and `step_seen`
 //! give the code's values in the form of these definitions.
 
-ghost use Rattle.std.specs.Prelude.{◌≡◌, ℕ, ◌+◌, ◌-◌, ◌^◌, ◌≤◌, ◌<◌, false, length, None, IfOk, Err, is_some, IsNone, OnErr};
+ghost use Rattle.std.specs.Prelude.{◌≡◌, ℕ, ◌+◌, ◌-◌, ◌^◌, ◌≤◌, ◌<◌, false, length, None, IfOk, IfErr, Err, is_some, IsNone, OnErr};
 ghost use Rattle.std.specs.Option.{IfSome, option_map_or};
 ghost use Rattle.chess_game.specs.Game.{State, with_state, current, verdict_now, refusal_now};
 ghost use Rattle.chess_base.specs.declared.man.Variant.TheVariants.{Normal};
@@ -341,41 +341,48 @@ fn tagged_variant(text: &[u8], at: usize) -> Variant
 // it the tags of each game would be read twice: first for the variant (`tagged_variant`), then by `read_pgn`. Returns
 // what is known after the tags, and the offset after them: that of the first number or termination marker, or of any
 // other word but marks, be it a legal move or not; or that of the text's end. Reading on from there gives the same as
-// reading from `at` (`IsReadOn`). Returns `None` if a tag names Chess960, if a FEN is bad, or if a token before that
-// word can't be read: `begin_game` then restarts the game. The loop is not that of `read_pgn`: it stops before the
-// first number or move, and leaves tags with a fault to be read anew, where that one reports the fault.
+// reading from `at` (`IsReadOn`).
+//
+// Returns the offset of a token as `Err` if it is a tag that names Chess960 or a bad FEN, or can't be read:
+// `begin_game` then restarts the game, in the variant that the tags from there on name. The loop is not that of
+// `read_pgn`: it stops before the first number or move, and leaves tags with a fault to be read anew, where that one
+// reports the fault.
+#[tactic(auto, using(crate::proofs::GameReads::same_variant))]
 fn read_normal_tags<B: Board>(
     text: &[u8],
     at: usize,
     game: &mut Game<B>,
-) -> Option<(Progress, usize)>
+) -> Result<(Progress, usize), usize>
     requires { at ≤ length text.now }
     ensures limit { game.new.limit ≡ game.old.limit }
-    ensures read { IfSome result (λ r. IsReadOn game.old.limit text.now at game.new r.0 r.1) }
+    ensures read { IfOk result (λ r. IsReadOn game.old.limit text.now at game.new r.0 r.1) }
+    ensures within { IfErr result (λ here. here ≤ length text.now) }
+    ensures variant { IfErr result (λ here. tagged_variant (tag_section (tokens_from text.now here))
+        ≡ tagged_variant (tag_section (tokens_from text.now at))) }
 {
     game.restart(&Position::initial());
     let mut progress = Progress::none();
     let mut offset = at;
     loop {
         let Ok(next) = next_token(text, offset) else {
-            return None;
+            return Err(offset);
         };
         let Some((token, token_end)) = next else {
-            return Some((progress, offset));
+            return Ok((progress, offset));
         };
         if !may_precede_tags(&token) {
-            return Some((progress, offset));
+            return Ok((progress, offset));
         }
         // It is `Normal` also for any token that is no tag `Variant`.
         match variant_of(named_tag(b"Variant", &token)) {
             Variant::Normal => {}
-            Variant::Fischerandom => return None,
+            Variant::Fischerandom => return Err(offset),
         }
         match apply_token(game, progress, text.len(), offset, &token) {
             Ok(Step::On(further)) => progress = further,
             // Never reached: only a termination marker ends a game, and before one the function has returned above.
-            Ok(Step::Ended(_)) => return None,
-            Err(_) => return None,
+            Ok(Step::Ended(_)) => return Err(offset),
+            Err(_) => return Err(offset),
         }
         offset = after_blanks(text, token_end);
     }
@@ -385,20 +392,22 @@ fn read_normal_tags<B: Board>(
 // there gives the same as reading from `at` (`IsReadOn`).
 //
 // The variant must be known before a FEN is read, and the tag `Variant` may come after the tag `FEN`. Most games are
-// of normal chess, so the tags are first read as such; the offset is then after them. If that gives `None` (a tag names
-// Chess960, or the tags can't be read to their end), the game is set to the initial position of its variant, and the
-// offset is `at`: the caller then reads the tags.
+// of normal chess, so the tags are first read as such; the offset is then after them. If a tag names Chess960, or the
+// tags can't be read to their end, the tags from there on say which variant it is. The game is set to its initial
+// position, and the offset is `at`: the caller then reads the tags. So no tag is read more than twice.
 #[tactic(auto, using(crate::proofs::GameReads::first))]
 fn begin_game<B: Board>(text: &[u8], at: usize, game: &mut Game<B>) -> (Progress, usize)
     requires { at ≤ length text.now }
     ensures limit { game.new.limit ≡ game.old.limit }
     ensures read { IsReadOn game.old.limit text.now at game.new result.0 result.1 }
 {
-    if let Some(read) = read_normal_tags(text, at, game) {
-        return read;
+    match read_normal_tags(text, at, game) {
+        Ok(read) => read,
+        Err(tag_at) => {
+            game.restart(&Position::initial_of(tagged_variant(text, tag_at)));
+            (Progress::none(), at)
+        }
     }
-    game.restart(&Position::initial_of(tagged_variant(text, at)));
-    (Progress::none(), at)
 }
 
 /// Reads the first game of a text from the offset `at` on, up to its termination marker such as `1-0` (PGN standard of

@@ -1,18 +1,9 @@
 -- Tokens in lines that are as full as they can be, and games that are laid out so.
-use Rattle.std.proofs.Common.{◌≡◌, ℕ, ◌<◌, ◌≤◌, Bool, true, false, cond, leb, List, [], ◌∷◌, ◌++◌, length, map, refl, sym, ap, subst, ◌∙◌, append_assoc, arith}
-use Rattle.std.specs.List.{flat_map}
-use Rattle.std.proofs.lemmas.Bool.{leb-true}
+use Rattle.std.proofs.Common.{◌≡◌, ℕ, ◌<◌, ◌≤◌, Bool, true, false, cond, leb, List, [], ◌∷◌, ◌++◌, length, map, refl, sym, ap, subst, ◌∙◌, append_assoc, arith, flat_map, leb-true, length-append}
 use Rattle.std.proofs.lemmas.Bool.Decides.{nat_tests}
-use Rattle.std.proofs.lemmas.List.{length-append}
 use Rattle.chess_game.specs.Game.{State, IsPlayable}
-use Rattle.pgn_writer.specs.declared.tags.Tags.{Tags}
-use Rattle.pgn_writer.specs.GameText.{tag_lines, game_tokens, pgn}
-use Rattle.pgn_writer.specs.Written.{ended, lines_of}
-use Rattle.pgn_writer.specs.PgnText.{line_text, AreFullLines, IsPgn}
-use Rattle.pgn_writer.specs.laws.Layout.{AreShort, AreFilled}
-use Rattle.pgn_writer.specs.shared.Lines.{lines_from}
-use Rattle.pgn_writer.proofs.shared.Lines.{line_text-push, lines_are, only_lines}
-use Rattle.pgn_writer.proofs.shared.GameTexts.{game_is_short}
+use Rattle.pgn_writer.specs.{declared.tags.Tags.Tags, GameText.tag_lines, GameText.game_tokens, GameText.pgn, Written.ended, Written.lines_of, PgnText.line_text, PgnText.AreFullLines, PgnText.IsPgn, laws.Layout.AreShort, laws.Layout.AreFilled, shared.Lines.lines_from}
+use Rattle.pgn_writer.proofs.{shared.Lines.line_text-push, shared.Lines.lines_are, shared.Lines.only_lines, shared.GameTexts.game_is_short}
 
 -- ---- the lines as lists of tokens
 

@@ -1,7 +1,6 @@
 -- The text of the last tag of a name, token by token.
-use Rattle.std.proofs.Common.{◌≡◌, ℕ, Bool, true, false, cond, List, [], ◌∷◌, Option, Some, None, refl, sym, ap, ◌∙◌}
+use Rattle.std.proofs.Common.{◌≡◌, ℕ, Bool, true, false, cond, List, [], ◌∷◌, Option, Some, None, refl, sym, ap, ◌∙◌, if◌then◌else◌}
 use Rattle.std.specs.Option.{option_map, option_or}
-use Rattle.std.specs.Prelude.{if◌then◌else◌}
 use Rattle.chess_pgn.specs.LastTags.{may_precede_tags, named_tag, tag_section, last_tag}
 use Rattle.chess_pgn.specs.Tokens.{Token}
 use Rattle.chess_pgn.proofs.shared.Tags.{last_from, last_step}

@@ -1,6 +1,7 @@
 pub mod shared
 mod FullLines
 mod LastTexts
+mod LegalVariations
 mod NormalGames
 mod OfTokens
 mod PgnFen

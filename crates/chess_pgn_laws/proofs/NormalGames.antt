@@ -1,21 +1,13 @@
 -- On starts of normal chess, and in texts that name no variant, games are written and read as in normal chess.
-use Rattle.std.proofs.Common.{◌≡◌, ℕ, cond, List, ◌++◌, length, drop, Option, None, Ok, refl, ap, ◌∙◌}
-use Rattle.std.specs.Prelude.{codes, slice_get}
-use Rattle.std.specs.List.{filter_map, list_all}
-use Rattle.std.specs.Option.{option_map_or}
-use Rattle.std.specs.Result.{result_err}
-use Rattle.chess_base.specs.declared.man.Variant.{Variant}
-use Rattle.chess_base.specs.declared.man.Variant.TheVariants.{Normal}
-use Rattle.chess_base.specs.declared.setup.Setup.{Setup}
-use Rattle.chess_base.specs.Initial.{initial_setup, initial_setup_of}
+use Rattle.std.proofs.Common.{◌≡◌, ℕ, cond, List, ◌++◌, length, drop, Option, None, Ok, refl, ap, ◌∙◌, codes, slice_get}
+use Rattle.std.specs.{List.filter_map, List.list_all, Option.option_map_or, Result.result_err}
+use Rattle.chess_base.specs.{declared.man.Variant.Variant, declared.man.Variant.TheVariants.Normal, declared.setup.Setup.Setup, Initial.initial_setup, Initial.initial_setup_of}
 use Rattle.chess_game.specs.Game.{from_start, outcome_now}
 use Rattle.chess_pgn.specs.GameRead.{GameRead, failed, last_start, variant_named, read_after_tags, pgn_read}
-use Rattle.pgn_writer.specs.shared.TagGroups.{roster_lines, start_lines_in, last_lines}
-use Rattle.chess_pgn.specs.LastTags.{says_nothing, tag_section, last_tag}
+use Rattle.pgn_writer.specs.{shared.TagGroups.roster_lines, shared.TagGroups.start_lines_in, shared.TagGroups.last_lines, Terminations.termination_of}
+use Rattle.chess_pgn.specs.{LastTags.says_nothing, LastTags.tag_section, LastTags.last_tag, Tokens.Token, Tokens.tokens_from}
 use Rattle.chess_pgn_laws.specs.Normal.{normal_read, NormalIsKept}
-use Rattle.pgn_writer.specs.Terminations.{termination_of}
 use Rattle.chess_pgn.proofs.shared.Games.{fens}
-use Rattle.chess_pgn.specs.Tokens.{Token, tokens_from}
 use Rattle.byte_devices.specs.Bytes.{after_byte_order_mark}
 
 initial_is : initial_setup_of Normal ≡ initial_setup

@@ -1,10 +1,8 @@
 -- The bytes of a FEN that is written: none of them ends a line or has to be escaped in a string.
 use Rattle.std.proofs.Common.{◌≡◌, ◌≢◌, ℕ, ◌≤◌, true, false, eqb, List, [], ◌∷◌, refl, arith}
 use Rattle.std.specs.List.{list_all}
-use Rattle.std.proofs.lemmas.Bool.{and_from}
-use Rattle.std.proofs.lemmas.Bool.Decides.{nat_tests}
-use Rattle.chess_base.specs.declared.setup.Setup.{Setup}
-use Rattle.chess_base.specs.Sound.{IsSound}
+use Rattle.std.proofs.{lemmas.Bool.and_from, lemmas.Bool.Decides.nat_tests}
+use Rattle.chess_base.specs.{declared.setup.Setup.Setup, Sound.IsSound}
 use Rattle.chess_fen.proofs.shared.Plain.{IsPlain, Plain, fen_plain}
 use Rattle.chess_fen.specs.Writing.{fen}
 use Rattle.chess_pgn_laws.proofs.PgnTags.{is_bare}

@@ -1,28 +1,12 @@
 -- Reading the moves of a game's text, which are in filled lines.
-use Rattle.std.proofs.Common.{◌≡◌, ℕ, suc, ◌+◌, ◌-◌, ◌<◌, ◌≤◌, Bool, true, false, not, ◌&&◌, cond, eqb, leb, List, [], ◌∷◌, ◌++◌, length, take, Option, None, refl, sym, ap, ◌∙◌, append_assoc, append-nil, arith}
-use Rattle.std.specs.Prelude.{codes, decimal}
-use Rattle.std.proofs.Math.Seq.{take-append_seam}
-use Rattle.std.proofs.lemmas.Bool.{leb-true}
-use Rattle.std.proofs.lemmas.Bool.Decides.{nat_tests}
-use Rattle.std.proofs.lemmas.List.{length-append}
-use Rattle.chess_base.specs.declared.man.Colour.{Colour}
-use Rattle.chess_base.specs.declared.man.Colour.TheVariants.{White, Black}
-use Rattle.chess_base.specs.declared.man.Move.{Move}
-use Rattle.chess_base.specs.declared.setup.Setup.{Setup}
-use Rattle.chess_base.specs.laws.Laws.{AfterIsSound}
-use Rattle.chess_base.specs.Moves.{after}
-use Rattle.chess_base.specs.Sound.{IsSound}
-use Rattle.chess_game.specs.Ends.{verdict}
-use Rattle.chess_game.specs.Line.{position_after, IsLine}
-use Rattle.chess_game.specs.Results.{outcome_text}
-use Rattle.chess_game.specs.declared.results.Outcome.{Outcome}
+use Rattle.std.proofs.Common.{◌≡◌, ℕ, suc, ◌+◌, ◌-◌, ◌<◌, ◌≤◌, Bool, true, false, not, ◌&&◌, cond, eqb, leb, List, [], ◌∷◌, ◌++◌, length, take, Option, None, refl, sym, ap, ◌∙◌, append_assoc, append-nil, arith, leb-true, length-append, codes, decimal}
+use Rattle.std.proofs.{Math.Seq.take-append_seam, lemmas.Bool.Decides.nat_tests}
+use Rattle.chess_base.specs.{declared.man.Colour.Colour, declared.man.Colour.TheVariants.White, declared.man.Colour.TheVariants.Black, declared.man.Move.Move, declared.setup.Setup.Setup, laws.Laws.AfterIsSound, Moves.after, Sound.IsSound}
+use Rattle.chess_game.specs.{Ends.verdict, Line.position_after, Line.IsLine, Results.outcome_text, declared.results.Outcome.Outcome}
 use Rattle.chess_game.specs.declared.results.Outcome.TheVariants.{WhiteWins, BlackWins, Draw, Unfinished}
-use Rattle.pgn_writer.specs.declared.termination.Termination.{Termination}
-use Rattle.chess_pgn.specs.GameRead.{GameRead}
-use Rattle.chess_pgn.specs.laws.TokenByToken.{SoFar}
-use Rattle.pgn_writer.specs.shared.NumberedMoves.{number_if_due, numbered_moves}
+use Rattle.pgn_writer.specs.{declared.termination.Termination.Termination, shared.NumberedMoves.number_if_due, shared.NumberedMoves.numbered_moves}
+use Rattle.chess_pgn.specs.{GameRead.GameRead, laws.TokenByToken.SoFar, Tokens.is_word_byte}
 use Rattle.chess_text.specs.San.{san}
-use Rattle.chess_pgn.specs.Tokens.{is_word_byte}
 use Rattle.pgn_writer.specs.shared.Lines.{fits_line, wrapped_token, next_column, line_close}
 use Rattle.pgn_writer.proofs.shared.Lines.{filled_from}
 use Rattle.chess_pgn_laws.proofs.PgnPieces.{read_on, Takes, begun, white_number, black_number, san_takes, skip_space, skip_line_end, ended_game, outcome_ends}

@@ -1,38 +1,23 @@
 -- What reading does with each piece of a game's text as it is written.
-use Rattle.std.proofs.Common.{◌≡◌, ℕ, suc, ◌+◌, ◌-◌, ◌<◌, ◌≤◌, Bool, true, false, eqb, List, [], ◌∷◌, ◌++◌, length, Option, Some, None, refl, ap, subst, ◌∙◌, append_assoc, arith}
+use Rattle.std.proofs.Common.{◌≡◌, ℕ, suc, ◌+◌, ◌-◌, ◌<◌, ◌≤◌, Bool, true, false, eqb, List, [], ◌∷◌, ◌++◌, length, Option, Some, None, refl, ap, subst, ◌∙◌, append_assoc, arith, bytes_eq, Ok, is_some, codes, decimal, IsTrue, nat_lt}
 use Rattle.std.specs.List.{list_all}
-use Rattle.std.specs.Prelude.{Ok, is_some, codes, decimal, IsTrue, nat_lt}
-use Rattle.std.specs.Str.{bytes_eq}
-use Rattle.std.proofs.lemmas.Bool.{and_parts}
-use Rattle.std.proofs.lemmas.Bool.Decides.{nat_tests}
-use Rattle.chess_base.specs.declared.man.Move.{Move}
-use Rattle.chess_base.specs.declared.setup.Setup.{Setup}
-use Rattle.chess_fen.specs.Reading.{fen_reading_as}
-use Rattle.chess_fen.specs.Writing.{fen}
-use Rattle.chess_base.specs.Sound.{IsSound}
-use Rattle.chess_base.specs.Moves.{is_legal}
-use Rattle.chess_fen.specs.laws.Laws.{WrittenIsReadBack}
+use Rattle.std.proofs.{lemmas.Bool.and_parts, lemmas.Bool.Decides.nat_tests}
+use Rattle.chess_base.specs.{declared.man.Move.Move, declared.setup.Setup.Setup, Sound.IsSound, Moves.is_legal}
+use Rattle.chess_fen.specs.{Reading.fen_reading_as, Writing.fen, laws.Laws.WrittenIsReadBack}
 use Rattle.chess_game.specs.Game.{State, from_start, played, current, verdict_now}
-use Rattle.chess_game.specs.Results.{outcome_text}
-use Rattle.chess_game.specs.declared.results.Outcome.{Outcome}
+use Rattle.chess_game.specs.{Results.outcome_text, declared.results.Outcome.Outcome}
 use Rattle.chess_game.specs.declared.results.Outcome.TheVariants.{WhiteWins, BlackWins, Draw, Unfinished}
-use Rattle.pgn_writer.specs.declared.termination.Termination.{Termination}
+use Rattle.pgn_writer.specs.{declared.termination.Termination.Termination, Terminations.termination_text, Terminations.termination_named, Written.escaped, Written.tag_line}
 use Rattle.pgn_writer.specs.declared.termination.Termination.TheVariants as ending
-use Rattle.pgn_writer.specs.Terminations.{termination_text, termination_named}
-use Rattle.chess_pgn.specs.GameRead.{GameRead, declared_after}
+use Rattle.chess_pgn.specs.{GameRead.GameRead, GameRead.declared_after, laws.WordKinds.word_kind}
 use Rattle.chess_pgn.specs.laws.TokenByToken.{SoFar, On, Stop, move_step, word_step, fen_step, step, read_rest_with, game_of}
-use Rattle.chess_text.specs.Moves.{reading}
-use Rattle.chess_text.specs.San.{san}
+use Rattle.chess_text.specs.{Moves.reading, San.san}
 use Rattle.chess_pgn.specs.Tokens.{Token, Skip, Tag, Word, is_word_byte, token_at, tokens_of}
-use Rattle.chess_pgn.specs.laws.WordKinds.{word_kind}
-use Rattle.pgn_writer.specs.Written.{escaped, tag_line}
 use Rattle.chess_pgn_laws.proofs.PgnFen.{fen_bare}
 use Rattle.chess_pgn_laws.proofs.PgnTags.{is_in_line, is_bare, bare_escaped, bare_in_line, is_tag_name, tag_token, tag_line_bytes}
-use Rattle.chess_pgn.proofs.shared.Bytes.{differs}
+use Rattle.chess_pgn.proofs.{shared.Bytes.differs, shared.Words.number_kind, shared.Tokens.enough, shared.Tokens.shorter}
 use Rattle.chess_pgn_laws.proofs.WrittenWords.{word_token, move_kind, decimal_digits, decimal_some, number_bytes, san_bytes_in_word}
-use Rattle.chess_pgn.proofs.shared.Words.{number_kind}
 use Rattle.chess_text.proofs.shared.San.{san_read, san_short, san_bytes, san_letter}
-use Rattle.chess_pgn.proofs.shared.Tokens.{enough, shorter}
 
 -- reading goes on with a text, where a line begins or not
 abbrev pub read_on : ℕ → ℕ → SoFar → Bool → List ℕ → GameRead

@@ -1,56 +1,26 @@
 -- The whole text of a game: what is written is read back.
-use Rattle.std.proofs.Common.{◌≡◌, ℕ, suc, ◌+◌, ◌-◌, ◌<◌, ◌≤◌, Bool, true, false, eqb, List, [], ◌∷◌, ◌++◌, length, drop, Option, Some, None, refl, sym, ap, subst, ◌∙◌, append_assoc, arith}
-use Rattle.std.specs.Prelude.{codes, not, Ok, is_some, option_and_then}
-use Rattle.std.proofs.lemmas.Bool.Decides.{nat_tests}
-use Rattle.std.proofs.lemmas.List.{length-append, drop_at}
-use Rattle.std.proofs.lemmas.Slice.Eq.{bytes_eq-Decides}
-use Rattle.chess_base.specs.declared.man.Variant.{Variant}
-use Rattle.chess_base.specs.declared.man.Variant.TheVariants.{Normal, Fischerandom}
-use Rattle.chess_base.specs.declared.setup.Setup.{Setup}
-use Rattle.chess_base.specs.Initial.{initial_setup, initial_setup_of}
-use Rattle.chess_base.specs.Options.{list_if}
-use Rattle.chess_base.specs.laws.Laws.{AfterIsSound}
-use Rattle.chess_fen.specs.laws.Laws.{WrittenIsReadBack}
-use Rattle.chess_fen.specs.Reading.{fen_reading_as}
-use Rattle.chess_base.specs.Sound.{IsSound}
-use Rattle.chess_fen.specs.Writing.{fen, is_initial}
-use Rattle.chess_game.specs.declared.verdicts.Verdict.{Verdict}
+use Rattle.std.proofs.Common.{◌≡◌, ℕ, suc, ◌+◌, ◌-◌, ◌<◌, ◌≤◌, Bool, true, false, eqb, List, [], ◌∷◌, ◌++◌, length, drop, Option, Some, None, refl, sym, ap, subst, ◌∙◌, append_assoc, arith, length-append, drop_at, codes, not, Ok, is_some, if◌then◌else◌, option_and_then}
+use Rattle.std.proofs.{lemmas.Bool.Decides.nat_tests, lemmas.Slice.Eq.bytes_eq-Decides}
+use Rattle.chess_base.specs.{declared.man.Variant.Variant, declared.man.Variant.TheVariants.Normal, declared.man.Variant.TheVariants.Fischerandom, declared.setup.Setup.Setup, Initial.initial_setup, Initial.initial_setup_of, Options.list_if, laws.Laws.AfterIsSound, Sound.IsSound}
+use Rattle.chess_fen.specs.{laws.Laws.WrittenIsReadBack, Reading.fen_reading_as, Writing.fen, Writing.is_initial}
+use Rattle.chess_game.specs.{declared.verdicts.Verdict.Verdict, Ends.verdict_result, Results.outcome_text, declared.results.Declared.Declared, declared.results.Outcome.Outcome}
 use Rattle.chess_game.specs.Game.{State, from_start, outcome_now, verdict_now, IsPlayable}
 use Rattle.std.specs.Option.{option_map, option_map_or, option_or}
-use Rattle.chess_game.specs.Ends.{verdict_result}
-use Rattle.chess_game.specs.Results.{outcome_text}
-use Rattle.chess_game.specs.declared.results.Declared.{Declared}
-use Rattle.chess_game.specs.declared.results.Outcome.{Outcome}
 use Rattle.chess_game.specs.declared.results.Outcome.TheVariants.{WhiteWins, BlackWins, Draw, Unfinished}
-use Rattle.pgn_writer.specs.declared.tags.Tags.{Tags}
-use Rattle.pgn_writer.specs.declared.termination.Termination.{Termination}
-use Rattle.pgn_writer.specs.Terminations.{termination_text, termination_of}
+use Rattle.pgn_writer.specs.{declared.tags.Tags.Tags, declared.termination.Termination.Termination, Terminations.termination_text, Terminations.termination_of, Outcomes.outcome_of, GameText.tag_lines, GameText.game_tokens, GameText.pgn, shared.NumberedMoves.numbered_moves, Written.escaped, Written.tag_line, Written.ended, laws.Layout.AreShort}
 use Rattle.chess_pgn.specs.GameRead.{GameRead, declared_after, variant_named, tagged_variant, pgn_read}
-use Rattle.chess_pgn.specs.LastTags.{tag_section, last_tag}
-use Rattle.pgn_writer.specs.Outcomes.{outcome_of}
+use Rattle.chess_pgn.specs.{LastTags.tag_section, LastTags.last_tag, declared.tagged_result.ResultTag.ResultTag, UnknownVariants.is_known_variant}
 use Rattle.chess_pgn.specs.laws.TokenByToken.{SoFar, game_of, nothing_read, tokens_read}
-use Rattle.pgn_writer.specs.GameText.{tag_lines, game_tokens, pgn}
 use Rattle.pgn_writer.specs.shared.TagGroups.{fen_lines, start_lines_in, last_lines, further_lines}
-use Rattle.pgn_writer.specs.shared.NumberedMoves.{numbered_moves}
-use Rattle.chess_pgn_laws.specs.PgnLaw.{AreTagTexts, IsReadBack, PgnIsReadBack, ResultIsWritten}
+use Rattle.chess_pgn_laws.specs.PgnLaw.{AreTagTexts, IsReadBack, PgnIsReadBack, ResultIsWritten, VariantIsWritten}
 use Rattle.chess_pgn.specs.Tokens.{Token, begins_line, tokens_of, tokens_from}
 use Rattle.byte_devices.specs.Bytes.{after_byte_order_mark}
-use Rattle.chess_pgn.specs.declared.tagged_result.ResultTag.{ResultTag}
-use Rattle.pgn_writer.specs.Written.{escaped, tag_line, ended}
-use Rattle.pgn_writer.proofs.shared.Lines.{filled_from}
-use Rattle.pgn_writer.specs.laws.Layout.{AreShort}
-use Rattle.pgn_writer.proofs.shared.GameTexts.{pgn_filled}
-use Rattle.pgn_writer.proofs.shared.GameTexts.{game_numbered}
-use Rattle.pgn_writer.proofs.shared.GameTexts.{game_is_short}
-use Rattle.chess_pgn.proofs.shared.Games.{reads_alike}
+use Rattle.pgn_writer.proofs.{shared.Lines.filled_from, shared.GameTexts.pgn_filled, shared.GameTexts.game_numbered, shared.GameTexts.game_is_short}
+use Rattle.chess_pgn.proofs.{shared.Games.reads_alike, shared.Games.initial_variant, shared.Tokens.split_read, shared.Tokens.enough}
 use Rattle.chess_pgn_laws.proofs.PgnMoves.{outcome_some, filled_long, outcome_read, read_so_far, moves_read}
 use Rattle.chess_pgn_laws.proofs.PgnPieces.{read_on, TakesLine, empty_line, tagged, ended_game, plain_tag, termination_tag, fen_tag}
-use Rattle.chess_pgn_laws.proofs.PgnTags.{tag_text_in_line}
-use Rattle.chess_pgn_laws.proofs.LastTexts.{text_from, text_is}
+use Rattle.chess_pgn_laws.proofs.{PgnTags.tag_text_in_line, LastTexts.text_from, LastTexts.text_is}
 use Rattle.chess_pgn_laws.proofs.TagTexts.{string_of, tags_of, result_string, variant_string_of, variant_string, said_on, text_says, outcome_in_line}
-use Rattle.chess_pgn.proofs.shared.Tokens.{split_read}
-use Rattle.chess_pgn.proofs.shared.Tokens.{enough}
-use Rattle.chess_pgn.proofs.shared.Games.{initial_variant}
 
 -- ---- the tags
 
@@ -385,3 +355,36 @@ result_law limit tags s before rest texts h tokens split =
     ∙ written_says (codes "Result") tags texts s h.start short (begins_line whole (length before)) rest
     ∙ result_string tags s)
     ∙ outcome_again (outcome_now s)
+
+abbrev if_unknown : ℕ → Bool → Option ℕ
+if_unknown offset b = if b then None else Some offset
+
+-- a variant that is known, by the string of its tag
+known_by_string : (total : ℕ) (o : Option (List ℕ × ℕ))
+    → option_map_or is_known_variant (option_map (λ (tag : List ℕ × ℕ). tag.0) o) true ≡ true
+    → option_and_then (λ (tag : List ℕ × ℕ). if_unknown (total - tag.1) (is_known_variant tag.0)) o ≡ None
+known_by_string total None known = refl
+known_by_string total (Some tag) known = rw known refl
+
+known_again : (v : Variant) → option_map_or is_known_variant (variant_string_of v) true ≡ true
+known_again Normal = refl
+known_again Fischerandom = refl
+
+pub variant_law : VariantIsWritten
+variant_law limit tags s before rest texts h tokens split =
+    let text : List ℕ = pgn [] tags s ++ rest in
+    let whole : List ℕ = before ++ text in
+    let grouping : before ++ pgn [] tags s ++ rest ≡ whole = append_assoc before (pgn [] tags s) rest in
+    let offset : after_byte_order_mark whole (length before) ≡ length before =
+    rw (first_bytes tags s) (no_mark before 91 (drop 1 (pgn [] tags s) ++ rest) refl) in
+    let short = game_is_short (record { limit = limit; state = s }) h in
+    let are : tokens ≡ tokens_of (length text) (begins_line whole (length before)) text =
+    split_read (before ++ pgn [] tags s ++ rest) split
+    ∙ ap (λ xs. tokens_from xs (after_byte_order_mark xs (length before))) grouping
+    ∙ ap (tokens_from whole) offset ∙ tokens_after before text in
+    known_by_string (length (before ++ pgn [] tags s ++ rest)) (last_tag (codes "Variant") (tag_section tokens))
+    (ap (λ o. option_map_or is_known_variant o true) (sym (text_is (codes "Variant") tokens)
+    ∙ ap (text_from (codes "Variant") None) are
+    ∙ written_says (codes "Variant") tags texts s h.start short (begins_line whole (length before)) rest
+    ∙ variant_string tags s)
+    ∙ known_again s.start.variant)

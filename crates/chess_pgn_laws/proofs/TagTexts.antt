@@ -1,47 +1,20 @@
 -- What the tags of a written game's text say: the text of the last tag of each name.
-use Rattle.std.proofs.Common.{◌≡◌, ℕ, ◌<◌, ◌≤◌, Bool, true, false, cond, eqb, List, [], ◌∷◌, ◌++◌, length, map, Option, Some, None, refl, ap, subst, ◌∙◌, append_assoc, arith}
-use Rattle.std.specs.List.{list_all, AllByRecursion}
-use Rattle.std.specs.Option.{option_map, option_or}
-use Rattle.std.specs.Prelude.{codes, decimal, not}
-use Rattle.std.specs.Str.{bytes_eq}
-use Rattle.std.proofs.lemmas.Bool.{leb-true}
-use Rattle.chess_base.specs.declared.man.Colour.{Colour}
-use Rattle.chess_base.specs.declared.man.Colour.TheVariants.{White, Black}
-use Rattle.chess_base.specs.declared.man.Move.{Move}
-use Rattle.chess_base.specs.declared.man.Variant.{Variant}
-use Rattle.chess_base.specs.declared.man.Variant.TheVariants.{Normal, Fischerandom}
-use Rattle.chess_base.specs.declared.setup.Setup.{Setup}
-use Rattle.chess_base.specs.Moves.{after}
-use Rattle.chess_base.specs.Options.{list_if}
-use Rattle.chess_base.specs.Sound.{IsSound}
+use Rattle.std.proofs.Common.{◌≡◌, ℕ, ◌<◌, ◌≤◌, Bool, true, false, cond, eqb, List, [], ◌∷◌, ◌++◌, length, map, Option, Some, None, refl, ap, subst, ◌∙◌, append_assoc, arith, bytes_eq, leb-true, codes, decimal, not}
+use Rattle.std.specs.{List.list_all, List.AllByRecursion, Option.option_map, Option.option_or}
+use Rattle.chess_base.specs.{declared.man.Colour.Colour, declared.man.Colour.TheVariants.White, declared.man.Colour.TheVariants.Black, declared.man.Move.Move, declared.man.Variant.Variant, declared.man.Variant.TheVariants.Normal, declared.man.Variant.TheVariants.Fischerandom, declared.setup.Setup.Setup, Moves.after, Options.list_if, Sound.IsSound}
 use Rattle.chess_fen.specs.Writing.{fen, is_initial}
-use Rattle.chess_game.specs.Game.{State, outcome_now}
-use Rattle.chess_game.specs.Results.{outcome_text}
-use Rattle.chess_game.specs.declared.results.Outcome.{Outcome}
+use Rattle.chess_game.specs.{Game.State, Game.outcome_now, Results.outcome_text, declared.results.Outcome.Outcome}
 use Rattle.chess_game.specs.declared.results.Outcome.TheVariants.{WhiteWins, BlackWins, Draw, Unfinished}
-use Rattle.pgn_writer.specs.declared.tags.Tags.{Tags}
-use Rattle.pgn_writer.specs.declared.termination.Termination.{Termination}
-use Rattle.chess_pgn.specs.declared.word_kind.WordKind.TheVariants.{Number}
-use Rattle.pgn_writer.specs.GameText.{tag_lines, game_tokens}
-use Rattle.pgn_writer.specs.shared.TagGroups.{fen_lines, start_lines_in, last_lines}
-use Rattle.pgn_writer.specs.shared.NumberedMoves.{number_if_due, numbered_moves}
-use Rattle.chess_pgn.specs.LastTags.{may_precede_tags, named_tag}
+use Rattle.pgn_writer.specs.{declared.tags.Tags.Tags, declared.termination.Termination.Termination, GameText.tag_lines, GameText.game_tokens, shared.TagGroups.fen_lines, shared.TagGroups.start_lines_in, shared.TagGroups.last_lines, shared.NumberedMoves.number_if_due, shared.NumberedMoves.numbered_moves, Terminations.termination_text, Terminations.termination_of, shared.Lines.next_column, Written.escaped, Written.tag_line, Written.ended}
+use Rattle.chess_pgn.specs.{declared.word_kind.WordKind.TheVariants.Number, LastTags.may_precede_tags, LastTags.named_tag, laws.WordKinds.word_kind}
 use Rattle.chess_pgn_laws.specs.PgnLaw.{AreTagTexts}
-use Rattle.pgn_writer.specs.Terminations.{termination_text, termination_of}
-use Rattle.pgn_writer.specs.shared.Lines.{next_column}
 use Rattle.chess_pgn.specs.Tokens.{Token, Skip, Tag, Word, is_word_byte, token_at, tokens_of}
-use Rattle.chess_pgn.specs.laws.WordKinds.{word_kind}
-use Rattle.pgn_writer.specs.Written.{escaped, tag_line, ended}
 use Rattle.chess_text.specs.San.{san}
-use Rattle.pgn_writer.proofs.shared.GameTexts.{game_numbered}
-use Rattle.pgn_writer.proofs.shared.Lines.{filled_from}
-use Rattle.chess_pgn_laws.proofs.PgnFen.{fen_bare}
-use Rattle.chess_pgn_laws.proofs.PgnPieces.{termination_bare}
+use Rattle.pgn_writer.proofs.{shared.GameTexts.game_numbered, shared.Lines.filled_from}
+use Rattle.chess_pgn_laws.proofs.{PgnFen.fen_bare, PgnPieces.termination_bare, LastTexts.text_from}
 use Rattle.chess_pgn_laws.proofs.PgnTags.{is_in_line, bare_in_line, is_tag_name, tag_token, tag_line_bytes, tag_text_in_line}
-use Rattle.chess_pgn.proofs.shared.Words.{are_marks, marks_by_kind, number_kind}
+use Rattle.chess_pgn.proofs.{shared.Words.are_marks, shared.Words.marks_by_kind, shared.Words.number_kind, shared.Tokens.enough, shared.Tokens.shorter}
 use Rattle.chess_pgn_laws.proofs.WrittenWords.{word_token, decimal_digits, decimal_some, number_bytes}
-use Rattle.chess_pgn_laws.proofs.LastTexts.{text_from}
-use Rattle.chess_pgn.proofs.shared.Tokens.{enough, shorter}
 
 -- ---- tags by their names and texts
 

@@ -1,27 +1,17 @@
 -- Small texts worked out: how they are split, read and laid out.
-use Rattle.std.proofs.Common.{◌≡◌, ℕ, true, cond, List, [], ◌∷◌, ◌++◌, length, Option, None, refl, sym, ap, ◌∙◌, append_assoc, arith}
-use Rattle.std.specs.Prelude.{codes, is_some, nat_lt}
-use Rattle.std.proofs.lemmas.List.{length-append}
+use Rattle.std.proofs.Common.{◌≡◌, ℕ, true, cond, List, [], ◌∷◌, ◌++◌, length, Option, None, refl, sym, ap, ◌∙◌, append_assoc, arith, length-append, codes, is_some, nat_lt}
 use Rattle.std.proofs.lemmas.List.Concat.{flat_map-append}
-use Rattle.chess_base.specs.declared.man.Move.{Move}
-use Rattle.chess_base.specs.declared.man.Variant.TheVariants.{Normal}
-use Rattle.chess_base.specs.Initial.{initial_setup_of}
-use Rattle.chess_game.specs.declared.verdicts.Verdict.{Verdict}
+use Rattle.chess_base.specs.{declared.man.Move.Move, declared.man.Variant.TheVariants.Normal, Initial.initial_setup_of}
+use Rattle.chess_game.specs.{declared.verdicts.Verdict.Verdict, declared.results.Outcome.TheVariants.Unfinished}
 use Rattle.chess_game.specs.Game.{State, from_start, played, current, verdict_now}
-use Rattle.chess_game.specs.declared.results.Outcome.TheVariants.{Unfinished}
-use Rattle.chess_text.specs.declared.reading.Reading.{Reading}
+use Rattle.chess_text.specs.{declared.reading.Reading.Reading, Moves.reading}
 use Rattle.chess_text.specs.declared.reading.Reading.TheVariants as reads
-use Rattle.chess_text.specs.Moves.{reading}
 use Rattle.chess_pgn.specs.declared.read.PgnFaultKind.TheVariants.{AfterEnd, TooLong}
-use Rattle.pgn_writer.specs.declared.tags.Tags.{Tags}
-use Rattle.chess_pgn.specs.GameRead.{GameRead, Row, Goes_on, Fails, move_row, after_row, moves_read, read_of_split}
-use Rattle.chess_pgn.specs.GameRead.{IsRead}
-use Rattle.pgn_writer.specs.GameText.{tag_lines, game_tokens}
+use Rattle.pgn_writer.specs.{declared.tags.Tags.Tags, GameText.tag_lines, GameText.game_tokens, Written.ended, PgnText.IsPgn}
+use Rattle.chess_pgn.specs.GameRead.{GameRead, Row, Goes_on, Fails, move_row, after_row, moves_read, read_of_split, IsRead}
 use Rattle.chess_pgn.specs.Tokens.{Token, Skip, Tag, Word, token_at, tokens_of, tokens_from}
 use Rattle.byte_devices.specs.Bytes.{after_byte_order_mark}
-use Rattle.pgn_writer.specs.Written.{ended}
 use Rattle.chess_pgn_laws.specs.Examples.{finished, TextsAreSplit, TextsAreRead, TextsAreLaidOut}
-use Rattle.pgn_writer.specs.PgnText.{IsPgn}
 use Rattle.chess_pgn_laws.proofs.FullLines.{full_cons, grouped_full}
 use Rattle.chess_pgn.proofs.shared.Tokens.{read_split}
 
@@ -64,9 +54,9 @@ unfolding token_at tokens_of tokens_from
 game_is_read m over says = record {
   tokens = tokens;
   split = read_split text 0;
-  is = sym (ap (λ (r : Row). after_row 19 None start 4 r
+  is = sym (ap (λ (r : Row). after_row None start r
       (λ next. moves_read 1 19 None next ((2, Skip) ∷ (1, Word (codes "*")) ∷ [])))
-      (move_plays 1 start 4 m (reading (current start) (codes "e4")) says over refl));
+      (move_plays 1 start 15 m (reading (current start) (codes "e4")) says over refl));
 }
 
 -- a text is read as its tokens say

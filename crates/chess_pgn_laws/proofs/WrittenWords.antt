@@ -1,21 +1,11 @@
 -- Words as they are written in a game: each is one token where a byte of no word follows, and of its own kind.
-use Rattle.std.proofs.Common.{◌≡◌, ℕ, ◌<◌, ◌≤◌, Bool, true, false, ◌&&◌, ◌||◌, eqb, List, [], ◌∷◌, ◌++◌, length, drop, refl, ap, ◌∙◌, inl, inr, arith}
-use Rattle.std.proofs.lemmas.Bool.{and_parts, and_from, or_cases}
-use Rattle.std.proofs.lemmas.Bool.Decides.{nat_tests}
-use Rattle.std.proofs.lemmas.Fmt.{decimal_is_IsNumeral}
-use Rattle.std.proofs.lemmas.Str.Parse.{digit_from_value}
-use Rattle.std.specs.Fmt.{decimal}
-use Rattle.std.specs.List.{list_all, prefix_len, take_while}
-use Rattle.std.specs.Prelude.{nat_le}
-use Rattle.std.specs.Str.Parse.{AllDigits}
+use Rattle.std.proofs.Common.{◌≡◌, ℕ, ◌<◌, ◌≤◌, Bool, true, false, ◌&&◌, ◌||◌, eqb, List, [], ◌∷◌, ◌++◌, length, drop, refl, ap, ◌∙◌, inl, inr, arith, decimal, nat_le}
+use Rattle.std.proofs.{lemmas.Bool.and_parts, lemmas.Bool.and_from, lemmas.Bool.or_cases, lemmas.Bool.Decides.nat_tests, lemmas.Fmt.decimal_is_IsNumeral, lemmas.Str.Parse.digit_from_value}
+use Rattle.std.specs.{List.list_all, List.prefix_len, List.take_while, Str.Parse.AllDigits}
 use Rattle.byte_devices.specs.Bytes.{is_digit, is_letter}
-use Rattle.chess_pgn.specs.declared.word_kind.WordKind.TheVariants.{Move}
-use Rattle.chess_pgn.specs.Tokens.{Word, is_word_byte, token_at}
-use Rattle.chess_pgn.specs.laws.WordKinds.{word_kind}
+use Rattle.chess_pgn.specs.{declared.word_kind.WordKind.TheVariants.Move, Tokens.Word, Tokens.is_word_byte, Tokens.token_at, laws.WordKinds.word_kind}
 use Rattle.chess_text.specs.laws.Laws.{is_san_byte, begins_with_letter}
-use Rattle.chess_pgn.proofs.shared.Bytes.{run_drop, run_take}
-use Rattle.chess_pgn.proofs.shared.Tokens.{begins_word}
-use Rattle.chess_pgn.proofs.shared.Words.{begins_as_move_kind}
+use Rattle.chess_pgn.proofs.{shared.Bytes.run_drop, shared.Bytes.run_take, shared.Tokens.begins_word, shared.Words.begins_as_move_kind}
 
 -- ---- a run of bytes that pass
 

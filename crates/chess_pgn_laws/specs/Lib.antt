@@ -1,4 +1,5 @@
 pub mod PgnLaw
 pub mod GameOfTokens
+pub mod LegalVariations
 pub mod Normal
 pub mod Examples

@@ -1,5 +1,5 @@
 -- The law of games' texts: what is written is read back.
-use Rattle.std.specs.Prelude.{◌≡◌, ℕ, ◌+◌, List, [], ◌++◌, length, Some, Ok, option_and_then}
+use Rattle.std.specs.Prelude.{◌≡◌, ℕ, ◌+◌, List, [], ◌++◌, length, Some, None, Ok, option_and_then}
 use Rattle.chess_game.specs.Game.{State, outcome_now, IsPlayable}
 use Rattle.pgn_writer.specs.declared.tags.Tags.{Tags}
 use Rattle.pgn_writer.specs.declared.termination.Termination.{Termination}
@@ -7,6 +7,7 @@ use Rattle.pgn_writer.specs.Terminations.{termination_of}
 use Rattle.chess_pgn.specs.GameRead.{GameRead, pgn_read}
 use Rattle.pgn_writer.specs.GameText.{pgn}
 use Rattle.chess_pgn.specs.LastTags.{result_tag_of}
+use Rattle.chess_pgn.specs.UnknownVariants.{unknown_variant_in}
 use Rattle.chess_pgn.specs.Split.{IsSplit}
 use Rattle.chess_pgn.specs.Tokens.{Token}
 use Rattle.byte_devices.specs.Bytes.{after_byte_order_mark}
@@ -50,3 +51,12 @@ ResultIsWritten =
     → IsPlayable (record { limit = limit; state = s }) → let text = before ++ pgn [] tags s ++ after in
     (tokens : List (ℕ × Token)) → IsSplit text (after_byte_order_mark text (length before)) tokens
     → option_and_then (λ tag. tag.outcome) (result_tag_of (length text) tokens) ≡ Some (outcome_now s)
+
+-- the last tag Variant of a playable game's text, as it is written, names a variant that is known, if there is such a
+-- tag, whatever text comes before and after it
+abbrev pub VariantIsWritten : Type 0
+VariantIsWritten =
+    (limit : ℕ) → (tags : Tags) → (s : State) → (before after : List ℕ) → AreTagTexts tags
+    → IsPlayable (record { limit = limit; state = s }) → let text = before ++ pgn [] tags s ++ after in
+    (tokens : List (ℕ × Token)) → IsSplit text (after_byte_order_mark text (length before)) tokens
+    → unknown_variant_in (length text) tokens ≡ None

@@ -13,13 +13,15 @@ ghost use Rattle.byte_devices.specs.Bytes.{after_byte_order_mark};
 ghost use Rattle.chess_pgn_laws.specs.Examples.{TextsAreLaidOut, TextsAreRead, TextsAreSplit};
 ghost use Rattle.chess_pgn_laws.specs.GameOfTokens.{GamesAreOfTokens};
 ghost use Rattle.pgn_writer.specs.laws.Layout.{AreFilled, AreShort};
+ghost use Rattle.chess_pgn_laws.specs.LegalVariations.{VariationsAreLegal};
 ghost use Rattle.chess_pgn_laws.specs.Normal.{NormalIsKept};
-ghost use Rattle.chess_pgn_laws.specs.PgnLaw.{PgnIsReadBack, ResultIsWritten};
+ghost use Rattle.chess_pgn_laws.specs.PgnLaw.{PgnIsReadBack, ResultIsWritten, VariantIsWritten};
 ghost use Rattle.pgn_writer.specs.PgnText.{IsPgn};
 ghost use Rattle.chess_pgn.specs.Split.{IsSplit};
 
 use chess_base::{Position, Variant, after_is_sound};
 use chess_fen::written_is_denoted;
+use chess_text::read_moves_are_legal;
 
 /// States a law and does nothing: if a game is written without a prefix, and its text is read where it begins, the
 /// start, the moves, the outcome and the termination that are read are the written ones, whatever text comes before and
@@ -27,10 +29,12 @@ use chess_fen::written_is_denoted;
 /// the game has.
 ///
 /// A result that was declared is read without its comment, since the text doesn't contain the comment. Tags such as
-/// `White` are not kept. The last tag `Result` of the text names the game's outcome (`result`).
+/// `White` are not kept. The last tag `Result` of the text names the game's outcome (`result`), and the last tag
+/// `Variant`, if there is one, a variant that is known (`variant`).
 pub fn pgn_is_read_back()
     ensures read { PgnIsReadBack }
     ensures result { ResultIsWritten }
+    ensures variant { VariantIsWritten }
 {
     // The prover wants these laws: each position of a game is sound, and a FEN that was written is read back.
     after_is_sound();
@@ -74,6 +78,16 @@ pub fn a_game_is_tags_and_moves()
 pub fn games_are_of_tokens()
     ensures { GamesAreOfTokens }
 {}
+
+/// States a law and does nothing: if a game has no fault in its variations, then its own moves and those of each
+/// variation are legal where they are made. A variation begins in the position before the last move of the line (the
+/// game, or another variation) that it is in.
+pub fn variations_are_legal()
+    ensures { VariationsAreLegal }
+{
+    // The prover wants this law: moves that are read are legal.
+    read_moves_are_legal();
+}
 
 /// States a law and does nothing: tokens of 1 to 79 bytes are put into lines (`lines_of`) that are as full as they can
 /// be. A line has at most 79 bytes, and with a space and the first token of the next line it would have more. There are

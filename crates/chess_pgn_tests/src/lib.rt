@@ -7,4 +7,8 @@ mod equal;
 #[cfg(test)]
 mod reading;
 #[cfg(test)]
+mod unknown_variants;
+#[cfg(test)]
+mod variations;
+#[cfg(test)]
 mod writing;

@@ -5,7 +5,7 @@ use chess_fen::write_fen;
 use chess_game::{Game, Outcome, Verdict};
 use chess_moves::{Board, Plain};
 use chess_pgn::{
-    PgnEnd, PgnFault, PgnFaultKind, PgnTag, ResultTag, Termination, game_tags, read_pgn,
+    PgnEnd, PgnFault, PgnFaultKind, PgnTag, ResultTag, Termination, game_end, game_tags, read_pgn,
     result_tag, tag_text,
 };
 use std::alloc::Global;
@@ -1085,4 +1085,28 @@ fn tags_are_listed(rt: HostRuntime) {
     }
     is_equal(&rt, &tag_text(TAGGED, 0, b"Event"), &Some(b"c".as_slice()));
     is_equal(&rt, &tag_text(TAGGED, 0, b"White"), &None);
+}
+
+// Where the first game of a text ends; `None` if what can't be read, or the text's end, comes before its end.
+const ENDS: [(&[u8], Option<usize>); 11] = [
+    (b"1. e4 e5 1-0 *", Some(12)),
+    (b"[Event \"a\"] 1. e4 [White \"w\"] *", Some(18)),
+    (b"1. e9 Ke7 {*} (1-0) 0-1", Some(23)),
+    (b"1. e4 1-0x [", None),
+    (b"1. e4 & 1-0", None),
+    (b"1. e4 {1-0", None),
+    (b"1. e4 (1-0", None),
+    (b"[Event \"a\" *", None),
+    (b"", None),
+    (b"[Event \"a\"] ", None),
+    (b"\xEF\xBB\xBF*", Some(4)),
+];
+
+// A game ends after its termination marker, or before a tag that comes after its moves, also if a move is illegal.
+#[test]
+fn games_end(rt: HostRuntime) {
+    for (text, end) in &ENDS {
+        is_equal(&rt, &game_end(text, 0), end);
+    }
+    is_equal(&rt, &game_end(b"1. e4 * 1. d4 0-1".as_slice(), 7), &Some(17));
 }

@@ -9,6 +9,7 @@ use chess_pgn::{faults_have_offsets, half_moves_have_bytes};
 use chess_pgn_laws::{
     a_game_is_tags_and_moves, a_text_has_one_split, games_are_laid_out, games_are_of_tokens,
     lines_are_filled, normal_is_kept, pgn_is_read_back, texts_are_worked_out,
+    variations_are_legal,
 };
 use chess_text::{Reading, read_move};
 use pgn_writer::{HowEnded, TagText, Tags, write_pgn};
@@ -481,6 +482,7 @@ fn laws_are_called() {
     faults_have_offsets();
     games_are_laid_out();
     games_are_of_tokens();
+    variations_are_legal();
     half_moves_have_bytes();
     lines_are_filled();
     normal_is_kept();

@@ -1,22 +1,13 @@
 -- A legal move is in the list of all moves, once.
-use Rattle.std.proofs.Common.{◌≡◌, ◌≢◌, ℕ, zero, suc, ◌<◌, ◌≤◌, inl, inr, Bool, true, false, ◌&&◌, cond, Option, Some, None, List, [], ◌∷◌, map, refl, sym, ap, ◌∙◌, arith}
-use Rattle.std.specs.Prelude.{IfSome}
+use Rattle.std.proofs.Common.{◌≡◌, ◌≢◌, ℕ, zero, suc, ◌<◌, ◌≤◌, inl, inr, Bool, true, false, ◌&&◌, cond, Option, Some, None, List, [], ◌∷◌, map, refl, sym, ap, ◌∙◌, arith, IfSome, append-nil}
 use Rattle.std.proofs.lemmas.Bool.{cases_Bool, cases_lt, and_parts, and_from, false_from_ne_true}
-use Rattle.std.proofs.lemmas.List.{append-nil}
 use Rattle.std.specs.List.{filter, flat_map, list_any}
-use Rattle.chess_base.specs.declared.man.Kind.{Kind}
+use Rattle.chess_base.specs.{declared.man.Kind.Kind, declared.man.Move.Move, declared.setup.Setup.Setup, Moves.is_legal, Squares.squares, shared.Below.from_below}
 use Rattle.chess_base.specs.declared.man.Kind.TheVariants.{King, Queen, Rook, Bishop, Knight, Pawn}
-use Rattle.chess_base.specs.declared.man.Move.{Move}
-use Rattle.chess_base.specs.declared.setup.Setup.{Setup}
-use Rattle.chess_base.specs.Moves.{is_legal}
 use Rattle.chess_base.specs.MoveList.{promotions, move_of, all_moves, moves}
-use Rattle.chess_base.specs.Squares.{squares}
-use Rattle.chess_base.specs.shared.Below.{from_below}
-use Rattle.chess_moves.proofs.shared.MovesBySquares.{filter-flat_map}
-use Rattle.chess_moves.proofs.shared.AnyMove.{any-filter, any-flat_map, any-square}
+use Rattle.chess_moves.proofs.{shared.MovesBySquares.filter-flat_map, shared.AnyMove.any-filter, shared.AnyMove.any-flat_map, shared.AnyMove.any-square}
 use Rattle.chess_text.specs.laws.Laws.{CanPromote}
-use Rattle.chess_text.proofs.Legal.{legal_move}
-use Rattle.chess_text.proofs.Lists.{any-map, promotion_in}
+use Rattle.chess_text.proofs.{Legal.legal_move, Lists.any-map, Lists.promotion_in}
 
 -- ---- over lists
 

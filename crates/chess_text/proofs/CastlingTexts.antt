@@ -1,14 +1,9 @@
 -- The texts of castling.
-use Rattle.std.proofs.Common.{◌≡◌, ℕ, inl, inr, Bool, true, false, List, [], ◌∷◌, None, refl, codes}
-use Rattle.std.proofs.lemmas.Bool.{or_cases}
-use Rattle.std.proofs.lemmas.Slice.Eq.{bytes_eq-Decides}
+use Rattle.std.proofs.Common.{◌≡◌, ℕ, inl, inr, Bool, true, false, List, [], ◌∷◌, None, refl, codes, bytes_eq}
+use Rattle.std.proofs.{lemmas.Bool.or_cases, lemmas.Slice.Eq.bytes_eq-Decides}
 use Rattle.std.specs.List.{list_any}
-use Rattle.std.specs.Str.{bytes_eq}
-use Rattle.chess_base.specs.declared.man.CastlingSide.{CastlingSide}
-use Rattle.chess_base.specs.declared.man.CastlingSide.TheVariants.{KingSide, QueenSide}
-use Rattle.chess_text.specs.ties.Reader.{parts_at}
-use Rattle.chess_text.specs.Moves.{castling_texts}
-use Rattle.chess_text.specs.ties.Forms.{same_side}
+use Rattle.chess_base.specs.{declared.man.CastlingSide.CastlingSide, declared.man.CastlingSide.TheVariants.KingSide, declared.man.CastlingSide.TheVariants.QueenSide}
+use Rattle.chess_text.specs.{ties.Reader.parts_at, Moves.castling_texts, ties.Forms.same_side}
 
 abbrev pub names_side : List ℕ → CastlingSide → Bool
 names_side text w = list_any (bytes_eq text) (castling_texts w)

@@ -1,29 +1,13 @@
 -- The coordinate text of a legal move denotes it alone; that of a move that is not legal denotes none.
-use Rattle.std.proofs.Common.{◌≡◌, ◌+◌, ◌<◌, true, false, not, List, [], ◌∷◌, Option, Some, None, refl, sym, ap, ◌∙◌, arith}
-use Rattle.std.specs.Prelude.{IsTrue}
-use Rattle.std.proofs.lemmas.Bool.Decides.{nat_tests}
-use Rattle.std.proofs.lemmas.Bool.{eq-eqb, both_ways, false_from_ne_true}
-use Rattle.std.specs.List.{filter}
-use Rattle.chess_base.specs.declared.man.Kind.{Kind}
-use Rattle.chess_base.specs.declared.man.Move.{Move}
-use Rattle.chess_base.specs.declared.setup.Setup.{Setup}
-use Rattle.chess_base.specs.Coordinates.{small_letter_text, coordinate}
-use Rattle.chess_base.specs.shared.Parts.{optional}
-use Rattle.chess_base.specs.Moves.{is_legal}
-use Rattle.chess_base.specs.MoveList.{moves}
-use Rattle.chess_base.specs.Squares.{file, rank}
-use Rattle.chess_text.specs.declared.parts.Parts.{Parts}
+use Rattle.std.proofs.Common.{◌≡◌, ◌+◌, ◌<◌, true, false, not, List, [], ◌∷◌, Option, Some, None, refl, sym, ap, ◌∙◌, arith, IsTrue, filter}
+use Rattle.std.proofs.{lemmas.Bool.Decides.nat_tests, lemmas.Bool.eq-eqb, lemmas.Bool.both_ways, lemmas.Bool.false_from_ne_true}
+use Rattle.chess_base.specs.{declared.man.Kind.Kind, declared.man.Move.Move, declared.setup.Setup.Setup, Coordinates.small_letter_text, Coordinates.coordinate, shared.Parts.optional, Moves.is_legal, MoveList.moves, Squares.file, Squares.rank}
+use Rattle.chess_text.specs.{declared.parts.Parts.Parts, laws.Laws.DenotesAlone, laws.Laws.AreParts, Parts.unmarked}
 use Rattle.chess_text.specs.declared.reading.Reading.TheVariants as reads
-use Rattle.chess_text.specs.laws.Laws.{DenotesAlone, AreParts}
-use Rattle.chess_text.specs.Parts.{unmarked}
-use Rattle.chess_text.specs.ties.Fitting.{promotion_text, parts_text}
+use Rattle.chess_text.specs.ties.Fitting.{promotion_text, parts_text, has_equals, is_form, parts_fit, is_by_squares, is_by_letter, is_straight, is_by_file}
 use Rattle.chess_text.specs.Moves.{shape, reading, denotes, one_of}
-use Rattle.chess_text.proofs.FormFacts.{legal_agree}
-use Rattle.chess_text.specs.ties.Fitting.{has_equals, is_form, parts_fit, is_by_squares, is_by_letter, is_straight, is_by_file}
+use Rattle.chess_text.proofs.{FormFacts.legal_agree, Legal.IsMove, Legal.legal_move, Legal.described_as, Solid.bare_parts, WrittenStarts.same_square}
 use Rattle.chess_text.proofs.OneMoveFits.{read_alone, denoted_parts, shape_parts, denotes_move, move_is, written, promotion_part, promotes-self, promotes-same}
-use Rattle.chess_text.proofs.Legal.{IsMove, legal_move, described_as}
-use Rattle.chess_text.proofs.Solid.{bare_parts}
-use Rattle.chess_text.proofs.WrittenStarts.{same_square}
 
 abbrev squares_named : Move → Parts
 squares_named m = record {

@@ -1,25 +1,11 @@
 -- All moves that a form denotes end on one square, so that none needs be looked at that ends elsewhere.
 use mathlib.Core.Bool.{and_comm}
-use Rattle.std.proofs.Common.{◌≡◌, ◌≢◌, ℕ, ◌≤◌, Bool, true, false, ◌&&◌, Option, Some, None, map, refl, sym, ap, ◌∙◌, arith}
-use Rattle.std.proofs.lemmas.Bool.{and_parts, false_from_ne_true}
-use Rattle.std.proofs.lemmas.List.Elements.{filter_agree}
-use Rattle.std.proofs.Math.Path.{fun_ext}
-use Rattle.std.specs.List.{filter, flat_map}
-use Rattle.chess_base.specs.declared.man.CastlingSide.{CastlingSide}
-use Rattle.chess_base.specs.declared.man.CastlingSide.TheVariants.{KingSide, QueenSide}
-use Rattle.chess_base.specs.declared.man.Man.{Man}
-use Rattle.chess_base.specs.declared.man.Move.{Move}
-use Rattle.chess_base.specs.declared.setup.Setup.{Setup}
-use Rattle.chess_base.specs.Men.{man_at}
-use Rattle.chess_base.specs.Moves.{is_legal}
-use Rattle.chess_base.specs.Castling.{right_of}
+use Rattle.std.proofs.Common.{◌≡◌, ◌≢◌, ℕ, ◌≤◌, Bool, true, false, ◌&&◌, Option, Some, None, map, refl, sym, ap, ◌∙◌, arith, filter, flat_map}
+use Rattle.std.proofs.{lemmas.Bool.and_parts, lemmas.Bool.false_from_ne_true, lemmas.List.Elements.filter_agree, Math.Path.fun_ext}
+use Rattle.chess_base.specs.{declared.man.CastlingSide.CastlingSide, declared.man.CastlingSide.TheVariants.KingSide, declared.man.CastlingSide.TheVariants.QueenSide, declared.man.Man.Man, declared.man.Move.Move, declared.setup.Setup.Setup, Men.man_at, Moves.is_legal, Castling.right_of, Squares.squares}
 use Rattle.chess_base.specs.MoveList.{promotions, move_of, all_moves, moves}
-use Rattle.chess_base.specs.Squares.{squares}
 use Rattle.chess_moves.proofs.shared.MovesBySquares.{filter-flat_map}
-use Rattle.chess_text.specs.ties.Fitting.{passes}
-use Rattle.chess_text.specs.declared.form.Form.{Form}
-use Rattle.chess_text.specs.declared.form.Form.TheVariants.{Castling, Piece}
-use Rattle.chess_text.specs.Moves.{described}
+use Rattle.chess_text.specs.{ties.Fitting.passes, declared.form.Form.Form, declared.form.Form.TheVariants.Castling, declared.form.Form.TheVariants.Piece, Moves.described}
 use Rattle.chess_text.specs.ties.Forms.{same_side, form_fits, is_denoted, castling_end, end_square, denoted_with}
 use Rattle.chess_text.proofs.Denotations.{facts, passing}
 use Rattle.chess_text.proofs.AllMoves.{filter-both, none-kept, kept, alone-square}

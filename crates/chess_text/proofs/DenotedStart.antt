@@ -1,25 +1,12 @@
 -- What the parts denote of the legal moves of one kind of piece.
 use mathlib.Core.Bool.{and-false}
-use Rattle.std.proofs.Common.{◌≡◌, ℕ, ◌<◌, true, false, not, ◌&&◌, cond, Option, Some, None, is_none, refl, sym, ap, ◌∙◌, arith}
-use Rattle.std.specs.Prelude.{is_some}
-use Rattle.std.proofs.lemmas.Bool.Decides.{nat_tests}
-use Rattle.std.proofs.lemmas.Bool.{and_parts, eq-eqb, false_from_ne_true}
-use Rattle.chess_base.specs.declared.man.CastlingSide.{CastlingSide}
-use Rattle.chess_base.specs.declared.man.Colour.{Colour}
-use Rattle.chess_base.specs.declared.man.Kind.{Kind}
+use Rattle.std.proofs.Common.{◌≡◌, ℕ, ◌<◌, true, false, not, ◌&&◌, cond, Option, Some, None, is_none, refl, sym, ap, ◌∙◌, arith, is_some}
+use Rattle.std.proofs.{lemmas.Bool.Decides.nat_tests, lemmas.Bool.and_parts, lemmas.Bool.eq-eqb, lemmas.Bool.false_from_ne_true}
+use Rattle.chess_base.specs.{declared.man.CastlingSide.CastlingSide, declared.man.Colour.Colour, declared.man.Kind.Kind, declared.man.Man.Man, declared.man.Move.Move, declared.setup.Setup.Setup, Moves.is_legal, Castling.castling}
 use Rattle.chess_base.specs.declared.man.Kind.TheVariants.{King, Queen, Rook, Bishop, Knight, Pawn}
-use Rattle.chess_base.specs.declared.man.Man.{Man}
-use Rattle.chess_base.specs.declared.man.Move.{Move}
-use Rattle.chess_base.specs.declared.setup.Setup.{Setup}
 use Rattle.chess_base.specs.Men.{man_at, is_man, same_colour, same_kind}
-use Rattle.chess_base.specs.Moves.{is_legal}
-use Rattle.chess_base.specs.Castling.{castling}
 use Rattle.chess_base.proofs.shared.Men.{same_kind-true, same_kind-self}
-use Rattle.chess_text.specs.declared.described.Described.{Described}
-use Rattle.chess_text.specs.declared.form.Form.TheVariants.{Piece}
-use Rattle.chess_text.specs.declared.parts.Parts.{Parts}
-use Rattle.chess_text.specs.declared.parts.Promotion.{Promotion}
-use Rattle.chess_text.specs.laws.Laws.{HasLetter}
+use Rattle.chess_text.specs.{declared.described.Described.Described, declared.form.Form.TheVariants.Piece, declared.parts.Parts.Parts, declared.parts.Promotion.Promotion, laws.Laws.HasLetter}
 use Rattle.chess_text.specs.ties.Fitting.{is_by_squares, is_by_letter, is_straight, is_by_file, parts_fit}
 use Rattle.chess_text.specs.ties.Forms.{is_denoted, is_denoted_by_letter, is_denoted_by_pawn, is_denoted_of, kind_by, named_square, one_kind}
 use Rattle.chess_text.proofs.Legal.{castling_says, legal_move, IsMove, described_as, described_is}

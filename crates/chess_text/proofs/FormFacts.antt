@@ -1,34 +1,15 @@
 -- What a text is read as fixes its shape and what it denotes.
-use Rattle.std.proofs.Common.{◌≡◌, ℕ, inl, inr, Bool, true, false, ◌&&◌, ◌||◌, cond, List, [], ◌∷◌, Option, Some, None, is_some, refl, sym, ap, ◌∙◌, arith}
-use Rattle.std.proofs.lemmas.Bool.{and_parts, cases_Bool}
-use Rattle.std.proofs.lemmas.List.Elements.{filter_agree}
-use Rattle.std.specs.List.{list_any, filter}
-use Rattle.std.specs.Option.{option_map_or}
-use Rattle.std.specs.Str.{bytes_eq}
-use Rattle.chess_base.specs.declared.man.CastlingSide.{CastlingSide}
-use Rattle.chess_base.specs.declared.man.CastlingSide.TheVariants.{KingSide, QueenSide}
-use Rattle.chess_base.specs.declared.man.Move.{Move}
-use Rattle.chess_base.specs.declared.setup.Setup.{Setup}
-use Rattle.chess_base.specs.Moves.{is_legal}
-use Rattle.chess_base.specs.MoveList.{all_moves, moves}
-use Rattle.chess_text.specs.declared.described.Described.{Described}
-use Rattle.chess_text.specs.declared.form.Form.{Form}
-use Rattle.chess_text.specs.declared.form.Form.TheVariants.{Piece}
-use Rattle.chess_text.specs.declared.parts.Parts.{Parts}
-use Rattle.chess_text.specs.declared.reading.Reading.{Reading}
+use Rattle.std.proofs.Common.{◌≡◌, ℕ, inl, inr, Bool, true, false, ◌&&◌, ◌||◌, cond, List, [], ◌∷◌, Option, Some, None, is_some, refl, sym, ap, ◌∙◌, arith, bytes_eq}
+use Rattle.std.proofs.{lemmas.Bool.and_parts, lemmas.Bool.cases_Bool, lemmas.List.Elements.filter_agree}
+use Rattle.std.specs.{List.list_any, List.filter, Option.option_map_or}
+use Rattle.chess_base.specs.{declared.man.CastlingSide.CastlingSide, declared.man.CastlingSide.TheVariants.KingSide, declared.man.CastlingSide.TheVariants.QueenSide, declared.man.Move.Move, declared.setup.Setup.Setup, Moves.is_legal, MoveList.all_moves, MoveList.moves}
+use Rattle.chess_text.specs.{declared.described.Described.Described, declared.form.Form.Form, declared.form.Form.TheVariants.Piece, declared.parts.Parts.Parts, declared.reading.Reading.Reading, Parts.unmarked, ties.Reader.parts_at, laws.CastlingTexts.is_castling_text}
 use Rattle.chess_text.specs.declared.reading.Reading.TheVariants as reads
 use mathlib.Core.Bool.{or-false}
-use Rattle.chess_text.specs.Parts.{unmarked}
-use Rattle.chess_text.specs.ties.Reader.{parts_at}
 use Rattle.chess_text.specs.Moves.{castling_texts, described, shape, denotes_described, denotes, one_of, reading, IsLegalReading}
 use Rattle.chess_text.specs.ties.Fitting.{passes, is_form, parts_fit, has_parts, has_form, fits_text}
-use Rattle.chess_text.specs.laws.CastlingTexts.{is_castling_text}
 use Rattle.chess_text.specs.ties.Forms.{form_of_parts, form_at, form_of, same_side, form_fits, is_denoted}
-use Rattle.chess_text.proofs.AllMoves.{filter-both}
-use Rattle.chess_text.proofs.Legal.{legal_move, described_as, described_is}
-use Rattle.chess_text.proofs.ShapeByForm.{no_form, shape_is}
-use Rattle.chess_text.proofs.Denotations.{denotes_is}
-use Rattle.chess_text.proofs.CastlingTexts.{IsCastling, castling_from_name}
+use Rattle.chess_text.proofs.{AllMoves.filter-both, Legal.legal_move, Legal.described_as, Legal.described_is, ShapeByForm.no_form, ShapeByForm.shape_is, Denotations.denotes_is, CastlingTexts.IsCastling, CastlingTexts.castling_from_name}
 
 pub has-read : (test : Parts → Bool) (text : List ℕ) → has_parts test text ≡ passes test (parts_at (unmarked text))
 unfolding has_parts

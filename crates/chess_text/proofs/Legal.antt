@@ -1,31 +1,13 @@
 -- What each legal move has.
-use Rattle.std.proofs.Common.{◌≡◌, ℕ, ◌<◌, Bool, true, false, ◌&&◌, ◌||◌, not, cond, Option, Some, None, is_none, refl, sym, ap, ◌∙◌, ◌==◌, nat_lt}
-use Rattle.std.specs.Prelude.{IfSome}
-use Rattle.std.specs.Option.{option_map}
+use Rattle.std.proofs.Common.{◌≡◌, ℕ, ◌<◌, Bool, true, false, ◌&&◌, ◌||◌, not, cond, Option, Some, None, is_none, refl, sym, ap, ◌∙◌, ◌==◌, nat_lt, IfSome, option_map}
 use Rattle.std.proofs.lemmas.Bool.{and_parts, ltb-true, eqb-true}
-use Rattle.chess_base.specs.declared.man.CastlingSide.{CastlingSide}
-use Rattle.chess_base.specs.declared.man.Colour.{Colour}
-use Rattle.chess_base.specs.declared.man.Kind.{Kind}
+use Rattle.chess_base.specs.{declared.man.CastlingSide.CastlingSide, declared.man.Colour.Colour, declared.man.Kind.Kind, declared.man.Variant.Variant, declared.man.Variant.TheVariants.Normal, declared.man.Variant.TheVariants.Fischerandom, declared.man.Man.Man, declared.man.Move.Move, declared.setup.Setup.Setup, Attacks.attacks, Attacks.is_in_check, shared.Splits.castles_or_moves, shared.Splits.names_castling, declared.castling.Castle.Castle, Squares.rank}
 use Rattle.chess_base.specs.declared.man.Kind.TheVariants.{King, Queen, Rook, Bishop, Knight, Pawn}
-use Rattle.chess_base.specs.declared.man.Variant.{Variant}
-use Rattle.chess_base.specs.declared.man.Variant.TheVariants.{Normal, Fischerandom}
-use Rattle.chess_base.specs.declared.man.Man.{Man}
-use Rattle.chess_base.specs.declared.man.Move.{Move}
-use Rattle.chess_base.specs.declared.setup.Setup.{Setup}
-use Rattle.chess_base.specs.Attacks.{attacks, is_in_check}
 use Rattle.chess_base.specs.Men.{is_of, man_at, other, same_colour, same_kind, is_man, first_rank}
 use Rattle.chess_base.specs.Moves.{is_legal, is_pseudo_legal, after, moves_as, man_moves, pawn_moves, pawn_advances, pawn_captures, promotion_fits}
-use Rattle.chess_base.specs.shared.Splits.{castles_or_moves, names_castling}
-use Rattle.chess_base.specs.declared.castling.Castle.{Castle}
 use Rattle.chess_base.specs.Castling.{castling, is_castling_to, castled_king_file, castle_of, home_square, king_home_file, right_of}
-use Rattle.chess_base.specs.Squares.{rank}
-use Rattle.chess_base.proofs.shared.Men.{same_colour-true, is_none-None}
-use Rattle.chess_base.proofs.shared.Castling.{says_from_castling}
-use Rattle.chess_base.proofs.shared.MoveKinds.{castles_unpromoted}
-use Rattle.chess_text.specs.declared.described.Described.{Described}
-use Rattle.chess_text.specs.laws.Laws.{HasLetter, CanPromote}
-use Rattle.chess_text.specs.ties.Forms.{captures, castling_end}
-use Rattle.chess_text.specs.Moves.{described}
+use Rattle.chess_base.proofs.{shared.Men.same_colour-true, shared.Men.is_none-None, shared.Castling.says_from_castling, shared.MoveKinds.castles_unpromoted}
+use Rattle.chess_text.specs.{declared.described.Described.Described, laws.Laws.HasLetter, laws.Laws.CanPromote, ties.Forms.captures, ties.Forms.castling_end, Moves.described}
 
 -- what a text can say of a move of that piece
 abbrev pub described_as : Setup → Move → Kind → Described

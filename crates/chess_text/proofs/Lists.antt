@@ -1,12 +1,8 @@
 -- What is in a list, and what each of its elements has.
-use Rattle.std.proofs.Common.{◌≡◌, ℕ, zero, suc, ◌<◌, inl, inr, Bool, true, ◌||◌, List, [], ◌∷◌, ◌++◌, map, Option, refl, ap, ◌∙◌, arith}
+use Rattle.std.proofs.Common.{◌≡◌, ℕ, zero, suc, ◌<◌, inl, inr, Bool, true, ◌||◌, List, [], ◌∷◌, ◌++◌, map, Option, refl, ap, ◌∙◌, arith, IfSome}
 use Rattle.std.specs.List.{AllByRecursion, list_any, flat_map}
-use Rattle.std.proofs.lemmas.Bool.{or_cases, or_left, or_right}
-use Rattle.std.proofs.lemmas.List.Folds.{list_any-append}
-use Rattle.std.specs.Prelude.{IfSome}
-use Rattle.chess_base.specs.declared.man.Kind.{Kind}
-use Rattle.chess_base.specs.MoveList.{promotions}
-use Rattle.chess_base.specs.shared.Below.{from_below}
+use Rattle.std.proofs.{lemmas.Bool.or_cases, lemmas.Bool.or_left, lemmas.Bool.or_right, lemmas.List.Folds.list_any-append}
+use Rattle.chess_base.specs.{declared.man.Kind.Kind, MoveList.promotions, shared.Below.from_below}
 use Rattle.chess_text.specs.laws.Laws.{CanPromote}
 use Rattle.chess_moves.proofs.shared.AnyMove.{any-flat_map}
 

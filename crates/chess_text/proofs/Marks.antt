@@ -1,8 +1,6 @@
 -- Marks at the end of a text.
 use Rattle.std.proofs.Common.{◌≡◌, ℕ, ◌+◌, ◌-◌, ◌≤◌, true, false, List, [], ◌∷◌, ◌++◌, length, get_or, take, refl, sym, ap, ◌∙◌, arith, length-append}
-use Rattle.std.proofs.Math.Seq.{take-length, take-append_seam}
-use Rattle.std.proofs.lemmas.List.{take-append-le}
-use Rattle.std.proofs.lemmas.List.Sums.{suffix_len-take_yes, suffix_len-take_no, suffix_len-le-length}
+use Rattle.std.proofs.{Math.Seq.take-length, Math.Seq.take-append_seam, lemmas.List.take-append-le, lemmas.List.Sums.suffix_len-take_yes, lemmas.List.Sums.suffix_len-take_no, lemmas.List.Sums.suffix_len-le-length}
 use Rattle.std.specs.List.{suffix_len}
 use Rattle.chess_text.specs.Parts.{is_mark, unmarked}
 

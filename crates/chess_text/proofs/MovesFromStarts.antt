@@ -1,33 +1,20 @@
 -- Where the parts denote moves of one kind of piece alone, none of which promotes, these are the moves from the squares
 -- where a piece of that kind has the legal move to the end square.
-use Rattle.std.proofs.Common.{◌≡◌, ℕ, zero, suc, ◌+◌, ◌<◌, inl, inr, Bool, true, false, ◌&&◌, cond, Option, Some, None, List, [], ◌∷◌, refl, sym, ap, subst, ◌∙◌, arith}
-use Rattle.std.specs.Prelude.{is_some}
+use Rattle.std.proofs.Common.{◌≡◌, ℕ, zero, suc, ◌+◌, ◌<◌, inl, inr, Bool, true, false, ◌&&◌, cond, Option, Some, None, List, [], ◌∷◌, refl, sym, ap, subst, ◌∙◌, arith, is_some}
 use Rattle.std.specs.List.{filter, flat_map, range_with_len}
 use Rattle.std.proofs.lemmas.Bool.Decides.{nat_tests}
 use Rattle.std.proofs.lemmas.Bool.{cases_Bool, and_parts, and_from, false_from_ne_true}
-use Rattle.chess_base.specs.declared.man.Kind.{Kind}
+use Rattle.chess_base.specs.{declared.man.Kind.Kind, declared.man.Move.Move, declared.setup.Setup.Setup, Men.man_at, Men.is_man, Men.same_kind, Moves.is_legal, MoveList.promotions, MoveList.move_of, MoveList.moves}
 use Rattle.chess_base.specs.declared.man.Kind.TheVariants.{Queen, Rook, Bishop, Knight, Pawn}
-use Rattle.chess_base.specs.declared.man.Move.{Move}
-use Rattle.chess_base.specs.declared.setup.Setup.{Setup}
-use Rattle.chess_base.specs.Men.{man_at, is_man, same_kind}
-use Rattle.chess_base.specs.Moves.{is_legal}
-use Rattle.chess_base.specs.MoveList.{promotions, move_of, moves}
 use Rattle.chess_moves.specs.Sets.{contains, members, HasLegalStarts}
 use Rattle.chess_moves.proofs.shared.Members.{of_range}
-use Rattle.chess_text.specs.declared.described.Described.{Described}
-use Rattle.chess_text.specs.declared.form.Form.TheVariants.{Piece}
-use Rattle.chess_text.specs.declared.parts.Parts.{Parts}
-use Rattle.chess_text.specs.declared.parts.Promotion.{Promotion}
-use Rattle.chess_text.specs.declared.reading.Reading.{Reading}
-use Rattle.chess_text.specs.Moves.{one_of}
+use Rattle.chess_text.specs.{declared.described.Described.Described, declared.form.Form.TheVariants.Piece, declared.parts.Parts.Parts, declared.parts.Promotion.Promotion, declared.reading.Reading.Reading, Moves.one_of, laws.Laws.HasLetter}
 use Rattle.chess_text.specs.ties.Fitting.{promotes_so, is_by_squares, is_by_letter, is_straight, is_by_file, parts_fit}
 use Rattle.chess_text.specs.ties.Forms.{is_denoted, denoted_with, named_square, kind_by, one_kind, is_denoted_of, denoted_start, IsStart}
 use Rattle.chess_text.proofs.Legal.{legal_move, unpromoted, MovesAs, described_as}
-use Rattle.chess_text.specs.laws.Laws.{HasLetter}
 use Rattle.chess_base.proofs.shared.Men.{same_kind-true}
 use Rattle.chess_text.proofs.Origins.{man_is, fits_told, letter_fits, pawn_named, denoted_from}
-use Rattle.chess_text.proofs.DenotedMoves.{denoted_ends}
-use Rattle.chess_text.proofs.DenotedStart.{denoted_of, kind_lettered}
+use Rattle.chess_text.proofs.{DenotedMoves.denoted_ends, DenotedStart.denoted_of, DenotedStart.kind_lettered}
 
 -- ---- no promotion
 

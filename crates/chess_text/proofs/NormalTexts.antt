@@ -2,27 +2,10 @@
 use Rattle.std.proofs.Common.{◌≡◌, ℕ, Bool, not, ◌&&◌, ◌==◌, List, ◌++◌, length, map, filter, codes, Option, Some, None, refl, ap, ◌∙◌, if◌then◌else◌}
 use Rattle.std.proofs.Math.Path.{fun_ext}
 use Rattle.std.specs.Option.{option_map, option_map_or}
-use Rattle.chess_base.specs.declared.man.CastlingSide.{CastlingSide}
-use Rattle.chess_base.specs.declared.man.Man.{Man}
-use Rattle.chess_base.specs.declared.man.Move.{Move}
-use Rattle.chess_base.specs.declared.man.Variant.TheVariants.{Normal}
-use Rattle.chess_base.specs.declared.setup.Setup.{Setup}
-use Rattle.chess_base.specs.Attacks.{is_in_check}
-use Rattle.chess_base.specs.Coordinates.{coordinate}
-use Rattle.chess_base.specs.shared.Parts.{optional}
-use Rattle.chess_base.specs.Castling.{castling}
-use Rattle.chess_base.specs.Men.{man_at, same_kind}
-use Rattle.chess_base.specs.Moves.{after}
-use Rattle.chess_base.specs.MoveList.{all_moves, moves}
-use Rattle.chess_base.specs.laws.Normal.{normal_after}
-use Rattle.chess_base.proofs.shared.Normal.{normal_kept as rules_kept, castling_kept}
-use Rattle.chess_text.specs.ties.SanParts.{unmarked_san}
-use Rattle.chess_text.specs.ties.Forms.{captures}
-use Rattle.chess_text.specs.ties.Fitting.{passes}
-use Rattle.chess_text.specs.declared.described.Described.{Described}
-use Rattle.chess_text.specs.declared.reading.Reading.TheVariants.{NotAMove}
+use Rattle.chess_base.specs.{declared.man.CastlingSide.CastlingSide, declared.man.Man.Man, declared.man.Move.Move, declared.man.Variant.TheVariants.Normal, declared.setup.Setup.Setup, Attacks.is_in_check, Coordinates.coordinate, shared.Parts.optional, Castling.castling, Men.man_at, Men.same_kind, Moves.after, MoveList.all_moves, MoveList.moves, laws.Normal.normal_after, Options.list_if}
+use Rattle.chess_base.proofs.{shared.Normal.normal_kept as rules_kept, shared.Normal.castling_kept, shared.After.variant-after}
+use Rattle.chess_text.specs.{ties.SanParts.unmarked_san, ties.Forms.captures, ties.Fitting.passes, declared.described.Described.Described, declared.reading.Reading.TheVariants.NotAMove}
 use Rattle.chess_text.specs.Moves.{described, shape, denotes, denotes_described, one_of, reading}
-use Rattle.chess_base.specs.Options.{list_if}
 use Rattle.chess_text.specs.San.{rival_starts, check_mark, san, castling_text, is_fischerandom, shown_move}
 use Rattle.chess_text.specs.laws.Normal.{NormalIsKept, normal_moves, normal_described, normal_denotes, normal_reading, normal_rival_starts, normal_check_mark, normal_san}
 
@@ -81,14 +64,9 @@ mark_kept p e =
     ap (λ (ms : List Move). list_if (is_in_check p.men p.side) (if length ms == 0 then codes "#" else codes "+"))
     (moves_kept p e)
 
--- what a move leaves is of the variant of the position before it
-stays : (p : Setup) (m : Move) → (after p m).variant ≡ p.variant
-unfolding after
-stays p m = refl
-
 mark_after : (p : Setup) → p.variant ≡ Normal → (m : Move)
     → check_mark (after p m) ≡ normal_check_mark (normal_after p m)
-mark_after p e m = mark_kept (after p m) (stays p m ∙ e) ∙ ap normal_check_mark ((rules_kept p e).after m)
+mark_after p e m = mark_kept (after p m) (variant-after p m ∙ e) ∙ ap normal_check_mark ((rules_kept p e).after m)
 
 san_by : (p : Setup) → p.variant ≡ Normal → (m : Move) (o : Option Described)
     → optional (λ d. unmarked_san (rival_starts p (moves p) d) d ++ check_mark (after p m)) o

@@ -1,34 +1,14 @@
 -- A text whose parts one move alone fits is read as this move.
-use Rattle.std.proofs.Common.{◌≡◌, ℕ, inl, inr, IsTrue, ◌↔◌, Bool, true, false, ◌||◌, List, Option, Some, None, refl, sym, ap, ◌∙◌}
-use Rattle.std.specs.Prelude.{IfSome}
-use Rattle.std.specs.Option.{option_map}
+use Rattle.std.proofs.Common.{◌≡◌, ℕ, inl, inr, IsTrue, ◌↔◌, Bool, true, false, ◌||◌, List, Option, Some, None, refl, sym, ap, ◌∙◌, IfSome, option_map}
 use Rattle.std.proofs.lemmas.Bool.{false_from_ne_true, or_cases}
-use Rattle.chess_base.specs.declared.man.CastlingSide.{CastlingSide}
-use Rattle.chess_base.specs.declared.man.CastlingSide.TheVariants.{KingSide, QueenSide}
-use Rattle.chess_base.specs.declared.man.Kind.{Kind}
-use Rattle.chess_base.specs.declared.man.Move.{Move}
-use Rattle.chess_base.specs.declared.setup.Setup.{Setup}
-use Rattle.chess_base.specs.Moves.{is_legal}
-use Rattle.chess_text.specs.declared.described.Described.{Described}
-use Rattle.chess_text.specs.declared.parts.Parts.{Parts}
-use Rattle.chess_text.specs.declared.parts.Promotion.{Promotion}
+use Rattle.chess_base.specs.{declared.man.CastlingSide.CastlingSide, declared.man.CastlingSide.TheVariants.KingSide, declared.man.CastlingSide.TheVariants.QueenSide, declared.man.Kind.Kind, declared.man.Move.Move, declared.setup.Setup.Setup, Moves.is_legal}
+use Rattle.chess_text.specs.{declared.described.Described.Described, declared.parts.Parts.Parts, declared.parts.Promotion.Promotion, Parts.unmarked, laws.CastlingTexts.is_castling_text, ties.Reader.parts_at, ties.Forms.same_side}
 use Rattle.chess_text.specs.declared.reading.Reading.TheVariants as reads
 use Rattle.chess_text.specs.laws.Laws.{DenotesAlone, IsShaped, AreParts, CanPromote}
-use Rattle.chess_text.specs.Parts.{unmarked}
-use Rattle.chess_text.specs.ties.Fitting.{passes, parts_text, has_parts}
-use Rattle.chess_text.specs.laws.CastlingTexts.{is_castling_text}
-use Rattle.chess_text.specs.ties.Reader.{parts_at}
+use Rattle.chess_text.specs.ties.Fitting.{passes, parts_text, has_parts, is_form, parts_fit, promotes_so, has_form, fits_text}
 use Rattle.chess_text.specs.Moves.{shape, denotes_described, denotes, one_of, reading}
-use Rattle.chess_text.specs.ties.Fitting.{is_form, parts_fit, promotes_so, has_form, fits_text}
-use Rattle.chess_text.specs.ties.Forms.{same_side}
-use Rattle.chess_text.proofs.AllMoves.{only-move}
-use Rattle.chess_text.proofs.CastlingTexts.{IsCastling, names_side, castling_from_name}
-use Rattle.chess_text.proofs.FormFacts.{has-read, denoted_castling as castling_denoted}
+use Rattle.chess_text.proofs.{AllMoves.only-move, CastlingTexts.IsCastling, CastlingTexts.names_side, CastlingTexts.castling_from_name, FormFacts.has-read, FormFacts.denoted_castling as castling_denoted, ShapeByForm.castling_has, ShapeByForm.shape_is, Denotations.denotes_is, Denotations.passing, Grammar.denoted-parts, Grammar.parts-denoted, Legal.IsMove, Legal.described_as, Legal.described_is}
 use Rattle.chess_base.proofs.shared.Men.{same_kind-self, same_kind-true}
-use Rattle.chess_text.proofs.ShapeByForm.{castling_has, shape_is}
-use Rattle.chess_text.proofs.Denotations.{denotes_is, passing}
-use Rattle.chess_text.proofs.Grammar.{denoted-parts, parts-denoted}
-use Rattle.chess_text.proofs.Legal.{IsMove, described_as, described_is}
 
 -- ---- what is read
 

@@ -1,35 +1,18 @@
 -- Where the moves begin that a form denotes.
-use Rattle.std.proofs.Common.{◌≡◌, ℕ, ◌+◌, ◌*◌, ◌/◌, ◌%◌, ◌<◌, true, false, ◌&&◌, ◌==◌, nat_lt, Option, Some, None, List, [], ◌∷◌, ◌++◌, refl, sym, ap, ◌∙◌, arith}
-use Rattle.std.specs.List.{filter, flat_map}
+use Rattle.std.proofs.Common.{◌≡◌, ℕ, ◌+◌, ◌*◌, ◌/◌, ◌%◌, ◌<◌, true, false, ◌&&◌, ◌==◌, nat_lt, Option, Some, None, List, [], ◌∷◌, ◌++◌, refl, sym, ap, ◌∙◌, arith, filter, flat_map}
 use Rattle.std.proofs.lemmas.Bool.Decides.{nat_tests}
 use Rattle.std.proofs.lemmas.Bool.{and_parts, false_from_ne_true, eq-eqb, eqb-true}
-use Rattle.chess_base.specs.declared.man.CastlingSide.{CastlingSide}
-use Rattle.chess_base.specs.declared.man.Kind.{Kind}
-use Rattle.chess_base.specs.declared.man.Kind.TheVariants.{King, Pawn}
-use Rattle.chess_base.specs.declared.man.Colour.{Colour}
-use Rattle.chess_base.specs.declared.man.Colour.TheVariants.{White, Black}
-use Rattle.chess_base.specs.declared.man.Man.{Man}
-use Rattle.chess_base.specs.declared.man.Move.{Move}
-use Rattle.chess_base.specs.declared.setup.Setup.{Setup}
-use Rattle.chess_base.specs.Squares.{file, rank}
+use Rattle.chess_base.specs.{declared.man.CastlingSide.CastlingSide, declared.man.Kind.Kind, declared.man.Kind.TheVariants.King, declared.man.Kind.TheVariants.Pawn, declared.man.Colour.Colour, declared.man.Colour.TheVariants.White, declared.man.Colour.TheVariants.Black, declared.man.Man.Man, declared.man.Move.Move, declared.setup.Setup.Setup, Squares.file, Squares.rank, Moves.is_legal, MoveList.promotions, MoveList.move_of, MoveList.moves}
 use Rattle.chess_base.specs.Men.{man_at, is_man, same_kind, same_colour}
-use Rattle.chess_base.specs.Moves.{is_legal}
-use Rattle.chess_base.specs.MoveList.{promotions, move_of, moves}
 use Rattle.chess_moves.specs.Sets.{contains, members, HasOrigins}
 use Rattle.chess_moves.proofs.shared.Members.{flat_map_members}
-use Rattle.chess_text.specs.declared.described.Described.{Described}
-use Rattle.chess_text.specs.declared.form.Form.{Form}
-use Rattle.chess_text.specs.declared.form.Form.TheVariants.{Castling, Piece}
-use Rattle.chess_text.specs.declared.parts.Parts.{Parts}
-use Rattle.chess_text.specs.declared.reading.Reading.{Reading}
+use Rattle.chess_text.specs.{declared.described.Described.Described, declared.form.Form.Form, declared.form.Form.TheVariants.Castling, declared.form.Form.TheVariants.Piece, declared.parts.Parts.Parts, declared.reading.Reading.Reading, Moves.one_of, Moves.described}
 use Rattle.chess_text.specs.declared.reading.Reading.TheVariants as reads
-use Rattle.chess_text.specs.Moves.{one_of, described}
 use Rattle.chess_text.specs.ties.Fitting.{passes, names, admits, is_by_squares, is_by_letter, is_straight, is_by_file, parts_fit}
 use Rattle.chess_text.specs.ties.Forms.{same_side, form_fits, is_denoted, end_square, denoted_with, with_move, with_moves, named_square, IsStart}
 use Rattle.chess_text.proofs.Denotations.{FitsBy, FitSquares, FitLetter, FitStraight, FitFile, form_of_fit, passing}
-use Rattle.chess_text.proofs.AllMoves.{none-kept}
+use Rattle.chess_text.proofs.{AllMoves.none-kept, DenotedMoves.denoted_ends, DenotedMoves.all_denoted}
 use Rattle.chess_text.proofs.Legal.{described_by, castling_says, legal_move, IsMove, described_as, described_is}
-use Rattle.chess_text.proofs.DenotedMoves.{denoted_ends, all_denoted}
 
 -- the piece of a legal move, as a test
 pub man_is : (p : Setup) (m : Move) (h : IsMove p m) (k : Kind) → same_kind k h.man ≡ true

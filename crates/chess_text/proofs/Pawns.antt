@@ -1,25 +1,12 @@
 -- A pawn's move is fixed by where it ends and by its file.
 use Rattle.std.proofs.Common.{◌≡◌, ◌≢◌, ℕ, ◌<◌, ◌≤◌, inl, inr, Bool, true, false, ◌||◌, Option, Some, None, is_none, refl, sym, ap, ◌∙◌, arith, ◌==◌}
-use Rattle.std.proofs.lemmas.Bool.Decides.{nat_tests}
-use Rattle.std.proofs.lemmas.Bool.{or_cases, both_ways, eqb-true}
+use Rattle.std.proofs.{lemmas.Bool.Decides.nat_tests, lemmas.Bool.or_cases, lemmas.Bool.both_ways, lemmas.Bool.eqb-true}
 use Rattle.std.specs.Int.{abs_diff}
 use Rattle.chess_text.specs.ties.Forms.{captures}
-use Rattle.chess_base.specs.declared.man.Colour.{Colour}
-use Rattle.chess_base.specs.declared.man.Colour.TheVariants.{White, Black}
-use Rattle.chess_base.specs.declared.man.Kind.TheVariants.{Pawn}
-use Rattle.chess_base.specs.declared.man.Man.{Man}
-use Rattle.chess_base.specs.declared.man.Move.{Move}
-use Rattle.chess_base.specs.declared.setup.Setup.{Setup}
-use Rattle.chess_base.specs.Attacks.{attacks, could_capture}
+use Rattle.chess_base.specs.{declared.man.Colour.Colour, declared.man.Colour.TheVariants.White, declared.man.Colour.TheVariants.Black, declared.man.Kind.TheVariants.Pawn, declared.man.Man.Man, declared.man.Move.Move, declared.setup.Setup.Setup, Attacks.attacks, Attacks.could_capture, Squares.file, Squares.rank, Sound.IsSound, Sound.no_pawn_on_end_ranks, shared.Parts.is_rank_ahead, shared.Parts.pawn_is_allowed}
 use Rattle.chess_base.specs.Men.{Men, man_at, other, is_of, is_man, forward, pawn_rank}
 use Rattle.chess_base.specs.Moves.{is_double_advance, is_en_passant, pawn_advances, pawn_captures, pawn_moves}
-use Rattle.chess_base.specs.Squares.{file, rank}
-use Rattle.chess_base.specs.Sound.{IsSound, no_pawn_on_end_ranks}
-use Rattle.chess_base.specs.shared.Parts.{is_rank_ahead, pawn_is_allowed}
-use Rattle.chess_base.proofs.shared.Squares.{each_square-at}
-use Rattle.chess_base.proofs.shared.Men.{same_colour-self, is_none-None}
-use Rattle.chess_base.proofs.shared.Captures.{captures_is}
-use Rattle.chess_base.proofs.shared.Changes.{advance_to_empty}
+use Rattle.chess_base.proofs.{shared.Squares.each_square-at, shared.Men.same_colour-self, shared.Men.is_none-None, shared.Captures.captures_is, shared.Changes.advance_to_empty}
 
 abbrev pub pawn_of : Colour → Man
 pawn_of c = record { colour = c; kind = Pawn }

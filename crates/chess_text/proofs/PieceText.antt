@@ -1,21 +1,8 @@
 -- The text of a move that is not castling is the text of its parts.
-use Rattle.std.proofs.Common.{◌≡◌, ℕ, Bool, true, false, not, cond, List, [], ◌∷◌, ◌++◌, Option, Some, None, refl, ap, ◌∙◌}
-use Rattle.std.specs.Prelude.{if◌then◌else◌}
-use Rattle.std.specs.Option.{option_map}
-use Rattle.chess_base.specs.declared.man.Kind.{Kind}
-use Rattle.chess_base.specs.declared.man.Kind.TheVariants.{Pawn}
-use Rattle.chess_base.specs.shared.Parts.{optional}
-use Rattle.chess_base.specs.Letters.{square_text}
+use Rattle.std.proofs.Common.{◌≡◌, ℕ, Bool, true, false, not, cond, List, [], ◌∷◌, ◌++◌, Option, Some, None, refl, ap, ◌∙◌, if◌then◌else◌, option_map}
+use Rattle.chess_base.specs.{declared.man.Kind.Kind, declared.man.Kind.TheVariants.Pawn, shared.Parts.optional, Letters.square_text, Men.same_kind, Squares.file, Squares.rank, Options.list_if}
 use Rattle.byte_devices.specs.Bytes.{byte}
-use Rattle.chess_base.specs.Men.{same_kind}
-use Rattle.chess_base.specs.Squares.{file, rank}
-use Rattle.chess_text.specs.declared.described.Described.{Described}
-use Rattle.chess_text.specs.declared.parts.Promotion.{Promotion}
-use Rattle.chess_text.specs.declared.writing.Disambiguation.{Disambiguation}
-use Rattle.chess_base.specs.Options.{list_if}
-use Rattle.chess_text.specs.Parts.{kind_text, file_text, rank_text}
-use Rattle.chess_text.specs.ties.Fitting.{promotion_text, parts_text}
-use Rattle.chess_text.specs.San.{start_text, piece_text}
+use Rattle.chess_text.specs.{declared.described.Described.Described, declared.parts.Promotion.Promotion, declared.writing.Disambiguation.Disambiguation, Parts.kind_text, Parts.file_text, Parts.rank_text, ties.Fitting.promotion_text, ties.Fitting.parts_text, San.start_text, San.piece_text}
 use Rattle.chess_text.specs.ties.SanParts.{some_on_file, some_on_rank, distinction, disambiguate, if_written, pawn_parts, lettered_parts, piece_parts}
 
 -- `=` and the capital letter

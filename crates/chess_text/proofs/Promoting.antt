@@ -1,16 +1,10 @@
 -- Promotions need be looked at only where a pawn promotes, and there nothing else.
-use Rattle.std.proofs.Common.{◌≡◌, ℕ, true, false, ◌&&◌, Option, Some, None, List, [], ◌∷◌, map, sym, ap, ◌∙◌}
-use Rattle.std.specs.List.{filter}
-use Rattle.chess_base.specs.declared.man.Kind.{Kind}
+use Rattle.std.proofs.Common.{◌≡◌, ℕ, true, false, ◌&&◌, Option, Some, None, List, [], ◌∷◌, map, sym, ap, ◌∙◌, filter}
+use Rattle.chess_base.specs.{declared.man.Kind.Kind, declared.setup.Setup.Setup, Moves.is_legal, MoveList.promotions, MoveList.move_of}
 use Rattle.chess_base.specs.declared.man.Kind.TheVariants.{Queen, Rook, Bishop, Knight}
-use Rattle.chess_base.specs.declared.setup.Setup.{Setup}
-use Rattle.chess_base.specs.Moves.{is_legal}
-use Rattle.chess_base.specs.MoveList.{promotions, move_of}
-use Rattle.chess_moves.specs.shared.MovesBySquares.{moves_with, moves_between}
-use Rattle.chess_moves.specs.Promoting.{would_promote}
+use Rattle.chess_moves.specs.{shared.MovesBySquares.moves_with, shared.MovesBySquares.moves_between, Promoting.would_promote}
 use Rattle.chess_moves.proofs.shared.MovesBySquares as parts
-use Rattle.chess_text.specs.declared.form.Form.{Form}
-use Rattle.chess_text.specs.ties.Forms.{is_denoted, denoted_with}
+use Rattle.chess_text.specs.{declared.form.Form.Form, ties.Forms.is_denoted, ties.Forms.denoted_with}
 use mathlib.Core.Bool.{and_comm}
 use Rattle.std.proofs.lemmas.List.Elements.{filter_agree}
 use Rattle.chess_text.proofs.AllMoves.{filter-both}

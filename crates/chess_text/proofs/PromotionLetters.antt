@@ -1,15 +1,9 @@
 -- The letter of a promotion is that of a piece in FEN: a capital letter is White's, a small one Black's.
-use Rattle.std.proofs.Common.{◌≡◌, ℕ, Bool, true, false, cond, eqb, List, [], ◌∷◌, Option, Some, None, refl, sym, ap, ◌∙◌, arith}
-use Rattle.std.specs.Prelude.{find, ◌==◌}
+use Rattle.std.proofs.Common.{◌≡◌, ℕ, Bool, true, false, cond, eqb, List, [], ◌∷◌, Option, Some, None, refl, sym, ap, ◌∙◌, arith, find, ◌==◌}
 use Rattle.std.proofs.lemmas.Bool.Decides.{nat_tests}
-use Rattle.chess_base.specs.declared.man.Colour.{Colour}
-use Rattle.chess_base.specs.declared.man.Kind.{Kind}
-use Rattle.chess_base.specs.declared.man.Man.{Man}
+use Rattle.chess_base.specs.{declared.man.Colour.Colour, declared.man.Kind.Kind, declared.man.Man.Man}
 use Rattle.chess_base.specs.Letters.{letter, letter_by, all_men, man_with_letter}
-use Rattle.chess_text.specs.declared.parts.Promotion.{Promotion}
-use Rattle.chess_text.specs.laws.Laws.{CanPromote}
-use Rattle.chess_text.specs.ties.Fitting.{promotion_letter}
-use Rattle.chess_text.specs.ties.Reader.{promotion_by, promotion_to}
+use Rattle.chess_text.specs.{declared.parts.Promotion.Promotion, laws.Laws.CanPromote, ties.Fitting.promotion_letter, ties.Reader.promotion_by, ties.Reader.promotion_to}
 use Rattle.chess_text.proofs.Grammar.{promotion_is}
 
 abbrev man_from : List Man → ℕ → Option Man

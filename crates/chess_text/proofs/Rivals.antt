@@ -5,29 +5,18 @@ use Rattle.std.proofs.Common.{◌≡◌, ◌≢◌, ℕ, zero, suc, ◌<◌, ◌
 use Rattle.std.proofs.lemmas.Bool.{cases_Bool, and_parts, false_from_ne_true, eqb-true, eq-eqb}
 use Rattle.std.proofs.lemmas.List.{map-append}
 use Rattle.std.specs.List.{filter, flat_map, list_any, range_with_len}
-use Rattle.chess_base.specs.declared.man.Kind.{Kind}
+use Rattle.chess_base.specs.{declared.man.Kind.Kind, declared.man.Move.Move, declared.setup.Setup.Setup, Men.man_at, Men.is_man, Men.same_kind, Moves.is_legal}
 use Rattle.chess_base.specs.declared.man.Kind.TheVariants.{Queen, Rook, Bishop, Knight, Pawn}
-use Rattle.chess_base.specs.declared.man.Move.{Move}
-use Rattle.chess_base.specs.declared.setup.Setup.{Setup}
 use Rattle.chess_base.specs.Squares.{file, rank, some_square, squares}
-use Rattle.chess_base.proofs.shared.Squares.{some_square_same}
-use Rattle.chess_base.specs.Men.{man_at, is_man, same_kind}
-use Rattle.chess_base.specs.Moves.{is_legal}
+use Rattle.chess_base.proofs.{shared.Squares.some_square_same, shared.Men.same_kind-true, shared.Men.same_colour-self}
 use Rattle.chess_base.specs.MoveList.{promotions, move_of, all_moves, moves}
 use Rattle.chess_moves.specs.Sets.{contains, members, HasLegalStarts}
-use Rattle.chess_moves.proofs.shared.Members.{by_range, members_none, of_range}
-use Rattle.chess_moves.proofs.shared.MovesBySquares.{filter-flat_map}
-use Rattle.chess_moves.proofs.shared.AnyMove.{any-filter}
-use Rattle.chess_text.specs.ties.Fitting.{passes}
-use Rattle.chess_text.specs.declared.described.Described.{Described}
-use Rattle.chess_text.specs.Moves.{described}
-use Rattle.chess_text.specs.San.{rival_starts}
+use Rattle.chess_moves.proofs.{shared.Members.by_range, shared.Members.members_none, shared.Members.of_range, shared.MovesBySquares.filter-flat_map, shared.AnyMove.any-filter}
+use Rattle.chess_text.specs.{ties.Fitting.passes, declared.described.Described.Described, Moves.described, San.rival_starts}
 use Rattle.chess_text.specs.ties.SanParts.{is_rival, distinction, some_on_file, some_on_rank, disambiguate}
-use Rattle.chess_base.proofs.shared.Men.{same_kind-true, same_colour-self}
 use Rattle.chess_text.proofs.AllMoves.{filter-both, none-kept, kept, alone-square}
 use Rattle.chess_text.proofs.Legal.{IsMove, MovesAs, unpromoted, legal_move, described_is}
-use Rattle.chess_text.proofs.Denotations.{has_letter}
-use Rattle.chess_text.proofs.MovesFromStarts.{one_kept}
+use Rattle.chess_text.proofs.{Denotations.has_letter, MovesFromStarts.one_kept}
 
 -- ---- one rival
 

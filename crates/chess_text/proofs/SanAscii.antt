@@ -1,16 +1,9 @@
 -- The SAN of a legal move is ASCII, and so it is text.
-use Rattle.std.proofs.Common.{◌≡◌, ℕ, zero, suc, ◌<◌, true, List, [], ◌∷◌, arith}
-use Rattle.std.specs.Prelude.{IsTrue}
+use Rattle.std.proofs.Common.{◌≡◌, ℕ, zero, suc, ◌<◌, true, List, [], ◌∷◌, arith, IsTrue, IsAscii}
 use Rattle.std.specs.List.{list_all}
-use Rattle.std.specs.Str.{IsAscii}
-use Rattle.std.proofs.lemmas.Bool.{and_parts}
-use Rattle.std.proofs.lemmas.Bool.Decides.{nat_tests}
-use Rattle.chess_base.specs.declared.man.Move.{Move}
-use Rattle.chess_base.specs.declared.setup.Setup.{Setup}
-use Rattle.chess_base.specs.Moves.{is_legal}
-use Rattle.chess_base.specs.Sound.{IsSound}
-use Rattle.chess_text.specs.laws.Laws.{is_san_byte}
-use Rattle.chess_text.specs.San.{san}
+use Rattle.std.proofs.{lemmas.Bool.and_parts, lemmas.Bool.Decides.nat_tests}
+use Rattle.chess_base.specs.{declared.man.Move.Move, declared.setup.Setup.Setup, Moves.is_legal, Sound.IsSound}
+use Rattle.chess_text.specs.{laws.Laws.is_san_byte, San.san}
 use Rattle.chess_text.proofs.SanLaw.{san_bytes}
 
 byte_low : (c : ℕ) → is_san_byte c ≡ true → c < 128

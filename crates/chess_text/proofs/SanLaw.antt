@@ -1,50 +1,24 @@
 -- The SAN of a legal move denotes it alone.
-use Rattle.std.proofs.Common.{◌≡◌, ℕ, ◌<◌, ◌≤◌, Bool, true, false, ◌&&◌, List, ◌++◌, length, Option, Some, None, refl, sym, ap, subst, ◌∙◌, arith, ◌==◌}
-use Rattle.std.specs.Prelude.{IfSome, IsTrue}
-use Rattle.std.specs.Option.{option_map, option_map_or}
+use Rattle.std.proofs.Common.{◌≡◌, ℕ, ◌<◌, ◌≤◌, Bool, true, false, ◌&&◌, List, ◌++◌, length, Option, Some, None, refl, sym, ap, subst, ◌∙◌, arith, ◌==◌, IfSome, IsTrue}
+use Rattle.std.specs.{Option.option_map, Option.option_map_or, List.list_any, List.list_all, List.filter}
 use Rattle.std.proofs.lemmas.Bool.Decides.{nat_tests}
 use Rattle.std.proofs.lemmas.Bool.{and_from, eqb-true, eq-eqb, both_ways}
-use Rattle.std.specs.List.{list_any, list_all, filter}
-use Rattle.chess_base.specs.declared.man.CastlingSide.{CastlingSide}
-use Rattle.chess_base.specs.declared.man.CastlingSide.TheVariants.{KingSide, QueenSide}
-use Rattle.chess_base.specs.declared.man.Kind.{Kind}
+use Rattle.chess_base.specs.{declared.man.CastlingSide.CastlingSide, declared.man.CastlingSide.TheVariants.KingSide, declared.man.CastlingSide.TheVariants.QueenSide, declared.man.Kind.Kind, declared.man.Man.Man, declared.man.Move.Move, declared.setup.Setup.Setup, shared.Parts.is_rank_ahead, shared.Parts.optional, Men.man_at, Men.same_kind, Moves.is_legal, Moves.after, Moves.pawn_moves, Castling.castling, Castling.right_of, MoveList.moves, Sound.IsSound, Squares.file, Squares.rank}
 use Rattle.chess_base.specs.declared.man.Kind.TheVariants.{King, Queen, Rook, Bishop, Knight, Pawn}
-use Rattle.chess_base.specs.declared.man.Man.{Man}
-use Rattle.chess_base.specs.declared.man.Move.{Move}
-use Rattle.chess_base.specs.declared.setup.Setup.{Setup}
-use Rattle.chess_base.specs.shared.Parts.{is_rank_ahead, optional}
-use Rattle.chess_base.specs.Men.{man_at, same_kind}
-use Rattle.chess_base.specs.Moves.{is_legal, after, pawn_moves}
-use Rattle.chess_base.specs.Castling.{castling, right_of}
-use Rattle.chess_base.specs.MoveList.{moves}
-use Rattle.chess_base.specs.Sound.{IsSound}
-use Rattle.chess_base.proofs.shared.Kings.{one_king, one_king_of}
-use Rattle.chess_base.specs.Squares.{file, rank}
-use Rattle.chess_text.specs.declared.parts.Parts.{Parts}
-use Rattle.chess_text.specs.declared.parts.Promotion.{Promotion}
+use Rattle.chess_base.proofs.{shared.Kings.one_king, shared.Kings.one_king_of, shared.Men.is_none-None, shared.Men.same_kind-self, shared.Men.same_kind-true}
+use Rattle.chess_text.specs.{declared.parts.Parts.Parts, declared.parts.Promotion.Promotion, declared.writing.Disambiguation.Disambiguation, Parts.unmarked, Moves.shape, Moves.reading, ties.Forms.captures, ties.Forms.same_side}
 use Rattle.chess_text.specs.declared.reading.Reading.TheVariants as reads
 use mathlib.Core.Bool.{not-or_self}
-use Rattle.chess_base.proofs.shared.Men.{is_none-None, same_kind-self, same_kind-true}
 use Rattle.chess_moves.proofs.shared.AnyMove.{any-filter}
-use Rattle.chess_text.specs.declared.writing.Disambiguation.{Disambiguation}
 use Rattle.chess_text.specs.laws.Laws.{DenotesAlone, is_san_byte, begins_with_letter, AreParts, HasLetter, CanPromote}
-use Rattle.chess_text.specs.Parts.{unmarked}
 use Rattle.chess_text.specs.ties.Fitting.{passes, parts_text, admits, is_form, parts_fit, is_by_squares, is_by_letter, is_straight, is_by_file}
-use Rattle.chess_text.specs.Moves.{shape, reading}
-use Rattle.chess_text.specs.ties.Forms.{captures, same_side}
 use Rattle.chess_text.specs.San.{castling_text, rival_starts, piece_text, check_mark, san}
 use Rattle.chess_text.specs.ties.SanParts.{is_rival, unmarked_san, disambiguate, if_written, lettered_parts, piece_parts}
 use Rattle.chess_text.proofs.OneMoveFits.{read_alone, denoted_parts, shape_parts, denoted_castling, shape_castling, denotes_move, move_is, written, promotion_part, promotes-self, promotes-same}
-use Rattle.chess_text.proofs.DenotedMoves.{same_side-true}
-use Rattle.chess_text.proofs.AllMoves.{any-move}
-use Rattle.chess_text.proofs.Lists.{any-map}
-use Rattle.chess_text.proofs.CastlingTexts.{IsCastling, letters_kingside, letters_queenside}
+use Rattle.chess_text.proofs.{DenotedMoves.same_side-true, AllMoves.any-move, Lists.any-map, CastlingTexts.IsCastling, CastlingTexts.letters_kingside, CastlingTexts.letters_queenside, Solid.bare_parts, Solid.bare_castling, Solid.bare_marked, PieceText.piece_written, WrittenStarts.written_admits, WrittenStarts.start_is_apart}
 use Rattle.chess_text.proofs.Legal.{MovesAs, IsMove, unpromoted, legal_move, described_as, described_is, castling_says, names_end}
 use Rattle.chess_text.proofs.Pawns.{pawn_of, pawn_stands, advances_on_file, same_advance, advances_without, advances_straight, captures_ahead, same_ahead}
-use Rattle.chess_text.proofs.Solid.{bare_parts, bare_castling, bare_marked}
-use Rattle.chess_text.proofs.PieceText.{piece_written}
 use Rattle.chess_text.proofs.WrittenBytes.{IsWord, Word, file_letter, man_letter, parts_bytes, castling_word, castling_bytes, marked_word}
-use Rattle.chess_text.proofs.WrittenStarts.{written_admits, start_is_apart}
 
 -- ---- castling
 

@@ -1,18 +1,8 @@
 -- What the writer of SAN puts together is the text of the definition.
-use Rattle.std.proofs.Common.{◌≡◌, ℕ, List, ◌++◌, Some, None, refl, ap, ◌∙◌}
-use Rattle.std.specs.Prelude.{IsTrue}
-use Rattle.chess_base.specs.declared.man.Kind.{Kind}
+use Rattle.std.proofs.Common.{◌≡◌, ℕ, List, ◌++◌, Some, None, refl, ap, ◌∙◌, IsTrue}
+use Rattle.chess_base.specs.{declared.man.Kind.Kind, declared.man.Move.Move, declared.setup.Setup.Setup, Moves.is_legal, Moves.after, shared.Parts.optional, MoveList.moves}
 use Rattle.chess_base.specs.declared.man.Kind.TheVariants.{King, Queen, Rook, Bishop, Knight, Pawn}
-use Rattle.chess_base.specs.declared.man.Move.{Move}
-use Rattle.chess_base.specs.declared.setup.Setup.{Setup}
-use Rattle.chess_base.specs.Moves.{is_legal, after}
-use Rattle.chess_base.specs.shared.Parts.{optional}
-use Rattle.chess_base.specs.MoveList.{moves}
-use Rattle.chess_text.specs.ties.SanParts.{unmarked_san}
-use Rattle.chess_text.specs.declared.described.Described.{Described}
-use Rattle.chess_text.specs.Moves.{described}
-use Rattle.chess_text.specs.San.{rival_starts, check_mark, san}
-use Rattle.chess_text.specs.ties.Forms.{promotes_as_a_pawn}
+use Rattle.chess_text.specs.{ties.SanParts.unmarked_san, declared.described.Described.Described, Moves.described, San.rival_starts, San.check_mark, San.san, ties.Forms.promotes_as_a_pawn}
 use Rattle.chess_text.proofs.Legal.{MovesAs, legal_move, described_is, described_as}
 
 by_kind : (p : Setup) (m : Move) (k : Kind) → MovesAs p m k → promotes_as_a_pawn (described_as p m k)

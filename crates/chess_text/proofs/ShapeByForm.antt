@@ -1,25 +1,11 @@
 -- A text has a move's shape where it names castling, or where its parts are those of a form.
-use Rattle.std.proofs.Common.{◌≡◌, ℕ, ◌+◌, ◌*◌, ◌<◌, inl, inr, Bool, true, false, not, ◌||◌, Option, Some, None, List, [], ◌∷◌, map, refl, sym, ap, ◌∙◌, arith}
-use Rattle.std.specs.Prelude.{IfSome, unwrap_or}
-use Rattle.std.specs.Option.{option_map}
+use Rattle.std.proofs.Common.{◌≡◌, ℕ, ◌+◌, ◌*◌, ◌<◌, inl, inr, Bool, true, false, not, ◌||◌, Option, Some, None, List, [], ◌∷◌, map, refl, sym, ap, ◌∙◌, arith, option_map, IfSome, unwrap_or}
 use Rattle.std.specs.List.{AllByRecursion, flat_map}
 use Rattle.std.proofs.lemmas.Bool.{and_right, or_cases, or_right, eq-eqb, both_ways}
-use Rattle.chess_base.specs.declared.man.CastlingSide.{CastlingSide}
-use Rattle.chess_base.specs.declared.man.CastlingSide.TheVariants.{KingSide, QueenSide}
-use Rattle.chess_base.specs.declared.man.Kind.{Kind}
+use Rattle.chess_base.specs.{declared.man.CastlingSide.CastlingSide, declared.man.CastlingSide.TheVariants.KingSide, declared.man.CastlingSide.TheVariants.QueenSide, declared.man.Kind.Kind, MoveList.promotions, MoveList.move_of, MoveList.all_moves, Squares.file, Squares.rank, Squares.squares, declared.man.Move.Move}
 use Rattle.chess_base.specs.declared.man.Kind.TheVariants.{King, Queen, Rook, Bishop, Knight, Pawn}
-use Rattle.chess_base.specs.MoveList.{promotions, move_of, all_moves}
-use Rattle.chess_base.specs.Squares.{file, rank, squares}
-use Rattle.chess_base.specs.declared.man.Move.{Move}
-use Rattle.chess_text.specs.declared.described.Described.{Described}
-use Rattle.chess_text.specs.declared.parts.Parts.{Parts}
-use Rattle.chess_text.specs.declared.parts.Promotion.{Promotion}
-use Rattle.chess_text.specs.Parts.{unmarked}
-use Rattle.chess_text.specs.Moves.{denotes_described, all_described, shape}
+use Rattle.chess_text.specs.{declared.described.Described.Described, declared.parts.Parts.Parts, declared.parts.Promotion.Promotion, Parts.unmarked, Moves.denotes_described, Moves.all_described, Moves.shape, laws.CastlingTexts.is_castling_text, ties.Reader.parts_at, laws.Laws.CanPromote, laws.Laws.AreParts, laws.Laws.IsDenoted}
 use Rattle.chess_text.specs.ties.Fitting.{passes, parts_text, admits, promotes_so, is_by_squares, is_by_letter, is_straight, is_by_file, parts_fit, is_form, has_parts, has_form, fits_text}
-use Rattle.chess_text.specs.laws.CastlingTexts.{is_castling_text}
-use Rattle.chess_text.specs.ties.Reader.{parts_at}
-use Rattle.chess_text.specs.laws.Laws.{CanPromote, AreParts, IsDenoted}
 use Rattle.chess_text.proofs.Grammar.{denoted-parts, parts-denoted}
 use Rattle.chess_base.proofs.shared.Men.{same_kind-self}
 use Rattle.chess_text.proofs.Lists.{IsIn, promotion_in, in-flat_map, in-map, each-flat_map, each-below, found}

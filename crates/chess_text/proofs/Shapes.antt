@@ -1,9 +1,6 @@
 -- What is read decides whether the text has a move's shape.
-use Rattle.std.proofs.Common.{◌≡◌, ℕ, Bool, true, false, List, [], ◌∷◌, refl, if◌then◌else◌}
-use Rattle.std.specs.List.{filter}
-use Rattle.chess_base.specs.declared.man.Move.{Move}
-use Rattle.chess_base.specs.declared.setup.Setup.{Setup}
-use Rattle.chess_base.specs.MoveList.{moves}
+use Rattle.std.proofs.Common.{◌≡◌, ℕ, Bool, true, false, List, [], ◌∷◌, refl, if◌then◌else◌, filter}
+use Rattle.chess_base.specs.{declared.man.Move.Move, declared.setup.Setup.Setup, MoveList.moves}
 use Rattle.chess_text.specs.Moves.{one_of, reading, has_shape, shape, denotes}
 use Rattle.chess_text.specs.declared.reading.Reading.TheVariants as reads
 

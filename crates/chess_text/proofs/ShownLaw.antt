@@ -1,25 +1,10 @@
 -- The text of a legal move as lists and lines of moves show it denotes it alone.
-use Rattle.std.proofs.Common.{◌≡◌, Option, Some, None, refl}
-use Rattle.std.specs.Prelude.{IsTrue, if◌then◌else◌}
+use Rattle.std.proofs.Common.{◌≡◌, Option, Some, None, refl, IsTrue, if◌then◌else◌}
 use Rattle.std.specs.Option.{option_map_or}
-use Rattle.chess_base.specs.declared.man.CastlingSide.{CastlingSide}
-use Rattle.chess_base.specs.declared.man.Move.{Move}
-use Rattle.chess_base.specs.declared.man.Variant.{Variant}
-use Rattle.chess_base.specs.declared.man.Variant.TheVariants.{Normal, Fischerandom}
-use Rattle.chess_base.specs.declared.setup.Setup.{Setup}
-use Rattle.chess_base.specs.Coordinates.{coordinate}
-use Rattle.chess_base.specs.Castling.{castling}
-use Rattle.chess_base.specs.Moves.{is_legal}
-use Rattle.chess_base.specs.Sound.{IsSound}
+use Rattle.chess_base.specs.{declared.man.CastlingSide.CastlingSide, declared.man.Move.Move, declared.man.Variant.Variant, declared.man.Variant.TheVariants.Normal, declared.man.Variant.TheVariants.Fischerandom, declared.setup.Setup.Setup, Coordinates.coordinate, Castling.castling, Moves.is_legal, Sound.IsSound}
 use Rattle.chess_text.specs.declared.reading.Reading.TheVariants as reads
-use Rattle.chess_text.specs.laws.Laws.{DenotesAlone}
-use Rattle.chess_text.specs.Moves.{shape, reading}
-use Rattle.chess_text.specs.San.{castling_text, is_fischerandom, shown_move}
-use Rattle.chess_text.proofs.OneMoveFits.{read_alone}
-use Rattle.chess_text.proofs.CoordinateLaw.{coordinate_alone, coordinate_shape}
-use Rattle.chess_text.proofs.Legal.{legal_move}
-use Rattle.chess_text.proofs.SanLaw.{Law, castling_law}
-use Rattle.chess_text.proofs.Solid.{bare_castling}
+use Rattle.chess_text.specs.{laws.Laws.DenotesAlone, Moves.shape, Moves.reading, San.castling_text, San.is_fischerandom, San.shown_move}
+use Rattle.chess_text.proofs.{OneMoveFits.read_alone, CoordinateLaw.coordinate_alone, CoordinateLaw.coordinate_shape, Legal.legal_move, SanLaw.Law, SanLaw.castling_law, Solid.bare_castling}
 
 by_squares : (p : Setup) (m : Move) → IsTrue (is_legal p m) → Law p m (coordinate m)
 by_squares p m legal = record { has_shape = coordinate_shape p m legal; alone = coordinate_alone p m legal }

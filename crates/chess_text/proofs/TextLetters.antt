@@ -1,8 +1,7 @@
 -- A letter in a move's text names the kind of piece with that capital letter, but never the pawn.
 use Rattle.std.proofs.Common.{◌≡◌, ℕ, Bool, true, false, cond, eqb, Option, Some, None, refl, sym, ap, ◌∙◌}
-use Rattle.chess_base.specs.declared.man.Kind.{Kind}
+use Rattle.chess_base.specs.{declared.man.Kind.Kind, Letters.kind_with_letter}
 use Rattle.chess_base.specs.declared.man.Kind.TheVariants.{King, Queen, Rook, Bishop, Knight, Pawn}
-use Rattle.chess_base.specs.Letters.{kind_with_letter}
 use Rattle.chess_text.specs.ties.Reader.{kind_from, lettered_kinds}
 
 -- the same kind, but none for the pawn

@@ -1,27 +1,14 @@
 -- A text of a usual shape is the text of the parts that are read at once, so it is read as these.
-use Rattle.std.proofs.Common.{◌≡◌, ℕ, suc, ◌+◌, ◌-◌, ◌*◌, ◌<◌, ◌≤◌, Bool, true, false, cond, eqb, List, [], ◌∷◌, ◌++◌, length, take, get_or, Option, Some, None, refl, sym, ap, subst, ◌∙◌, arith}
-use Rattle.std.specs.Prelude.{IfSome}
-use Rattle.std.proofs.Math.Seq.{take-suc, take-length}
-use Rattle.std.proofs.lemmas.Bool.Decides.{nat_tests}
-use Rattle.chess_base.specs.shared.Parts.{optional}
-use Rattle.chess_base.specs.declared.man.CastlingSide.TheVariants.{KingSide, QueenSide}
-use Rattle.chess_base.specs.declared.man.Kind.{Kind}
-use Rattle.std.specs.Option.{option_map}
+use Rattle.std.proofs.Common.{◌≡◌, ℕ, suc, ◌+◌, ◌-◌, ◌*◌, ◌<◌, ◌≤◌, Bool, true, false, cond, eqb, List, [], ◌∷◌, ◌++◌, length, take, get_or, Option, Some, None, refl, sym, ap, subst, ◌∙◌, arith, IfSome, option_map}
+use Rattle.std.proofs.{Math.Seq.take-suc, Math.Seq.take-length, lemmas.Bool.Decides.nat_tests}
+use Rattle.chess_base.specs.{shared.Parts.optional, declared.man.CastlingSide.TheVariants.KingSide, declared.man.CastlingSide.TheVariants.QueenSide, declared.man.Kind.Kind, Options.list_if, Letters.is_file_letter}
 use Rattle.chess_base.proofs.shared.Choices.{chosen}
-use Rattle.chess_text.specs.declared.form.Form.TheVariants.{Piece}
-use Rattle.chess_text.specs.declared.parts.Parts.{Parts}
-use Rattle.chess_text.specs.laws.Laws.{HasLetter, AreParts}
-use Rattle.chess_base.specs.Options.{list_if}
+use Rattle.chess_text.specs.{declared.form.Form.TheVariants.Piece, declared.parts.Parts.Parts, laws.Laws.HasLetter, laws.Laws.AreParts, ties.Fitting.parts_text, ties.Fitting.is_form, ties.Reader.kind_from, ties.Reader.lettered_kinds, ties.Reader.parts_at}
 use Rattle.chess_text.specs.Parts.{is_mark, unmarked, kind_text, file_text}
-use Rattle.chess_text.specs.ties.Fitting.{parts_text, is_form}
 use Rattle.chess_text.specs.ties.Forms.{castling_named, form_of_parts, form_at, form_of, one_kind}
-use Rattle.chess_text.specs.ties.Reader.{kind_from, lettered_kinds, parts_at}
-use Rattle.chess_base.specs.Letters.{is_file_letter}
 use Rattle.chess_text.specs.ties.Usual.{names_square, parts_to, lettered_to, four_at, usual_at, usual_kind}
-use Rattle.chess_text.proofs.OneMoveFits.{no_name}
+use Rattle.chess_text.proofs.{OneMoveFits.no_name, Marks.unmarked-marked, Solid.bare_parts}
 use Rattle.chess_text.proofs.Grammar.{found, lettered_is, denoted-end, parts-denoted}
-use Rattle.chess_text.proofs.Marks.{unmarked-marked}
-use Rattle.chess_text.proofs.Solid.{bare_parts}
 
 -- ---- one mark
 

@@ -1,26 +1,10 @@
 -- The bytes of the texts that are written.
-use Rattle.std.proofs.Common.{◌≡◌, ℕ, ◌+◌, ◌<◌, ◌≤◌, Bool, true, false, List, [], ◌∷◌, ◌++◌, length, Option, Some, None, refl, arith, length-append, ◌==◌}
-use Rattle.std.specs.Prelude.{IfSome, if◌then◌else◌}
-use Rattle.std.proofs.lemmas.List.Folds.{list_all-append}
-use Rattle.std.proofs.lemmas.Bool.Decides.{nat_tests}
+use Rattle.std.proofs.Common.{◌≡◌, ℕ, ◌+◌, ◌<◌, ◌≤◌, Bool, true, false, List, [], ◌∷◌, ◌++◌, length, Option, Some, None, refl, arith, length-append, ◌==◌, IfSome, if◌then◌else◌}
+use Rattle.std.proofs.{lemmas.List.Folds.list_all-append, lemmas.Bool.Decides.nat_tests}
 use Rattle.std.specs.List.{list_all}
-use Rattle.chess_base.specs.declared.man.CastlingSide.{CastlingSide}
-use Rattle.chess_base.specs.declared.man.CastlingSide.TheVariants.{KingSide, QueenSide}
-use Rattle.chess_base.specs.declared.man.Kind.{Kind}
-use Rattle.chess_base.specs.declared.setup.Setup.{Setup}
-use Rattle.chess_base.specs.Attacks.{is_in_check}
-use Rattle.chess_base.specs.shared.Parts.{optional}
-use Rattle.chess_base.specs.Letters.{white_letter, square_text}
+use Rattle.chess_base.specs.{declared.man.CastlingSide.CastlingSide, declared.man.CastlingSide.TheVariants.KingSide, declared.man.CastlingSide.TheVariants.QueenSide, declared.man.Kind.Kind, declared.setup.Setup.Setup, Attacks.is_in_check, shared.Parts.optional, Letters.white_letter, Letters.square_text, MoveList.moves, Squares.file, Squares.rank, Options.list_if}
 use Rattle.byte_devices.specs.Bytes.{is_letter}
-use Rattle.chess_base.specs.MoveList.{moves}
-use Rattle.chess_base.specs.Squares.{file, rank}
-use Rattle.chess_text.specs.declared.parts.Parts.{Parts}
-use Rattle.chess_text.specs.declared.parts.Promotion.{Promotion}
-use Rattle.chess_text.specs.laws.Laws.{is_san_byte, begins_with_letter, AreParts}
-use Rattle.chess_base.specs.Options.{list_if}
-use Rattle.chess_text.specs.Parts.{kind_text, file_text, rank_text}
-use Rattle.chess_text.specs.ties.Fitting.{promotion_letter, promotion_text, parts_text}
-use Rattle.chess_text.specs.San.{castling_text, check_mark}
+use Rattle.chess_text.specs.{declared.parts.Parts.Parts, declared.parts.Promotion.Promotion, laws.Laws.is_san_byte, laws.Laws.begins_with_letter, laws.Laws.AreParts, Parts.kind_text, Parts.file_text, Parts.rank_text, ties.Fitting.promotion_letter, ties.Fitting.promotion_text, ties.Fitting.parts_text, San.castling_text, San.check_mark}
 
 -- a text before its mark; with it
 pub record IsWord (text : List ℕ) : Type 0 where

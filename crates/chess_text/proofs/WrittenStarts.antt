@@ -1,6 +1,5 @@
 -- What is written of a start square.
-use Rattle.std.proofs.Common.{◌≡◌, ◌≢◌, ℕ, Bool, true, false, not, cond, List, [], ◌∷◌, refl, ap, arith}
-use Rattle.std.proofs.lemmas.Bool.{eqb-true, eq-eqb}
+use Rattle.std.proofs.Common.{◌≡◌, ◌≢◌, ℕ, Bool, true, false, not, cond, List, [], ◌∷◌, refl, ap, arith, eqb-true, eq-eqb}
 use Rattle.chess_base.specs.Squares.{file, rank}
 use Rattle.chess_text.specs.ties.Fitting.{admits}
 use Rattle.chess_text.specs.ties.SanParts.{some_on_file, some_on_rank, distinction, disambiguate, if_written}

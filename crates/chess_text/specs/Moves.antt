@@ -26,9 +26,7 @@ use Rattle.chess_text.specs.Parts.{unmarked, kind_text, file_text, rank_text, �
 
 -- ---- what a text can say of a move
 
--- move m of position p, legal or not, as far as a text can describe it: the kind of its piece, both squares, the
--- promotion, whether it captures a piece, on its end square or en passant, and to which side it castles; none if no
--- piece is on its start square
+-- move m of position p, legal or not, as far as a text can describe it; none if no piece is on its start square
 unfoldable pub described : Setup → Move → Option Described
 described p m =
     option_map (λ x. record {
@@ -46,12 +44,11 @@ described p m =
 abbrev pub start_texts : ℕ → List (List ℕ)
 start_texts from = [] ∷ file_text (file from) ∷ rank_text (rank from) ∷ square_text from ∷ []
 
--- what may be written before the end square: nothing, or `x`, the latter only if the move captures
+-- what may be written before the end square: nothing, or for a capture `x`
 abbrev pub capture_texts : Bool → List (List ℕ)
 capture_texts captures = [] ∷ list_if captures (codes "x" ∷ [])
 
--- the texts of a promotion to kind k: each element of `signs` ("" or "=") followed by the letter of k, capital or
--- small; without a promotion (`None`) only the empty text
+-- the texts of a promotion: one of `signs` ("" or "=") and its letter, capital or small; without a promotion no byte
 abbrev pub promotion_texts : List (List ℕ) → Option Kind → List (List ℕ)
 promotion_texts signs None = [] ∷ []
 promotion_texts signs (Some k) = signs · (kind_text k ∷ small_letter_text k ∷ [])
@@ -63,20 +60,16 @@ texts_by_squares d = (square_text d.from ∷ []) · (square_text d.to ∷ []) ·
 
 -- the texts of the described move by its piece's letter, as Nf3, Ng1f3 or Nxf3; none for a pawn's move or castling
 abbrev pub texts_by_letter : Described → List (List ℕ)
-texts_by_letter d =
-    if same_kind d.man Pawn || is_some d.castles then []
+texts_by_letter d = if same_kind d.man Pawn || is_some d.castles then []
     else (kind_text d.man ∷ []) · start_texts d.from · capture_texts d.captures · (square_text d.to ∷ [])
 
 -- what may come before the end square of a pawn's move: the file or the square where it starts, for a capture also with
--- `x` after it; if the pawn stays on its file, also nothing. So e2e4 may be written e4, ee4 or e2e4, and the capture
--- e4d5 as ed5, exd5, e4d5 or e4xd5
+-- `x`; and nothing, if the pawn stays on its file. So e2e4 may be e4, ee4 or e2e4, and e4d5 ed5, exd5, e4d5 or e4xd5
 abbrev pub pawn_starts : Described → List (List ℕ)
-pawn_starts d =
-    list_if (file d.from == file d.to) ([] ∷ [])
+pawn_starts d = list_if (file d.from == file d.to) ([] ∷ [])
     ++ (file_text (file d.from) ∷ square_text d.from ∷ []) · capture_texts d.captures
 
--- the texts of the described move as a pawn's, such as e4, exd5, e7e8Q or e8=q; none if another piece makes it. A
--- promotion is written with or without `=`, its letter capital or small
+-- the texts of the described move as a pawn's, such as e4, exd5, e7e8Q or e8=q; none if another piece makes it
 abbrev pub texts_of_pawn : Described → List (List ℕ)
 texts_of_pawn d = list_if (same_kind Pawn d.man)
     (pawn_starts d · (square_text d.to ∷ []) · promotion_texts ([] ∷ codes "=" ∷ []) d.promotion)
@@ -91,11 +84,10 @@ unfoldable pub denotes_described : List ℕ → Described → Bool
 denotes_described text d = list_any (bytes_eq (unmarked text))
     (option_map_or castling_texts d.castles [] ++ (texts_by_squares d ++ (texts_by_letter d ++ texts_of_pawn d)))
 
--- all combinations of a kind of piece, a move (a start and an end square, and a promotion or none), capture or not, and
--- castling to one side or none, whether or not there is such a move
+-- all combinations of a kind of piece, a move, capture or not, and castling to a side or none, even if there is no such
+-- move
 unfoldable pub all_described : List Described
-all_described =
-    flat_map (λ man. flat_map (λ m. flat_map (λ takes. map (λ castles.
+all_described = flat_map (λ man. flat_map (λ m. flat_map (λ takes. map (λ castles.
     record { man = man; from = m.from; to = m.to; promotion = m.promotion; captures = takes; castles = castles })
     (None ∷ Some KingSide ∷ Some QueenSide ∷ [])) (false ∷ true ∷ [])) all_moves) kinds
 
@@ -111,8 +103,7 @@ denotes p text m = option_map_or (denotes_described text) (described p m) false
 
 -- ---- reading
 
--- what a text is read as, from the list of all legal moves that it denotes: the move if it is the only one, `NoSuch` if
--- the list is empty, `Ambiguous` if it has several
+-- what a text is read as that denotes just these legal moves
 abbrev pub one_of : List Move → Reading
 one_of [] = reads.NoSuch
 one_of (m ∷ []) = reads.Move m

@@ -1,7 +1,4 @@
--- The text that is written for a move (PGN standard of 1994, section 8.2.3). Castling is `O-O` or `O-O-O`. A pawn's
--- move is for a capture its file and `x`, the end square, and for a promotion `=` and a letter; another piece's its
--- letter, what distinguishes its start square from those of its rivals, `x` for a capture, and the end square. Last
--- comes `#` for mate, otherwise `+` for check.
+-- The text that is written for a move (PGN standard of 1994, section 8.2.3).
 use Rattle.std.specs.Prelude.{ℕ, Bool, true, false, not, ◌&&◌, ◌==◌, if◌then◌else◌, List, [], ◌∷◌, ◌++◌, length, map, codes}
 use Rattle.std.specs.List.{list_any, filter}
 use Rattle.std.specs.Option.{option_map_or}
@@ -29,9 +26,8 @@ use Rattle.chess_text.specs.Moves.{described}
 abbrev pub castling_text : CastlingSide → List ℕ
 castling_text = by_side (codes "O-O") (codes "O-O-O")
 
--- the start squares of the rivals of the described move d among the moves `ms` of position p: those that go to d's end
--- square with a piece of d's kind, but from another square, so that SAN must distinguish d from them. For SAN, `ms` are
--- all legal moves of p
+-- the start squares of the rivals of the described move d among the moves `ms` of position p, for SAN all legal ones:
+-- those to d's end square by a piece of d's kind from another square
 unfoldable pub rival_starts : Setup → List Move → Described → List ℕ
 rival_starts p ms d = map (λ m. m.from) (filter (λ m. (m.to == d.to) && not (m.from == d.from)
     && option_map_or (λ e. same_kind e.man d.man) (described p m) false) ms)
@@ -60,11 +56,9 @@ piece_text rivals d =
 unfoldable pub check_mark : Setup → List ℕ
 check_mark p = list_if (is_in_check p.men p.side) (if length (moves p) == 0 then codes "#" else codes "+")
 
--- the SAN of legal move m in position p, with `+` or `#` at its end if it gives check or mate: Nf3, exd5, Qh4#. For a
--- move from an empty square, which is not legal, the empty text
+-- the SAN of legal move m in position p, with `+` or `#` at its end if it gives check or mate: Nf3, exd5, Qh4#
 unfoldable pub san : Setup → Move → List ℕ
-san p m =
-    option_map_or (λ d. option_map_or castling_text d.castles (piece_text (rival_starts p (moves p) d) d)
+san p m = option_map_or (λ d. option_map_or castling_text d.castles (piece_text (rival_starts p (moves p) d) d)
     ++ check_mark (after p m)) (described p m) []
 
 -- whether a variant is Chess960

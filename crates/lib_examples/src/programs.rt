@@ -12,7 +12,7 @@ use chess_match::{Draws, Ends, Moments, Patience, Setup, run_match};
 use chess_moves::Plain;
 use chess_pgn::Tags;
 use match_runner::{GamesPlan, Log, SinceStart, play_games};
-use pgn_verifier::{Verified, VerifyOptions, verify};
+use pgn_verifier::{LENIENT, Verified, VerifyOptions, verify};
 use std::alloc::Global;
 use stub_engine::Stub;
 
@@ -115,7 +115,7 @@ fn verified(rt: &HostRuntime, alloc: Global) -> Result<()> {
     let mut output = Counted::writing(Vec::<u8>::new(alloc));
     let options = VerifyOptions {
         quiet: false,
-        strict: false,
+        strict: LENIENT,
         spans: false,
         names: false,
         explain: false,

@@ -1,31 +1,17 @@
 -- What is known of a game of a match: its text is that of a legal game with the outcome that was reported.
-use Rattle.std.proofs.Common.{◌≡◌, ℕ, ◌≤◌, ◌+◌, true, List, [], ◌∷◌, ◌++◌, length, length-append, map, take, None, Some, Option, Ok, Err, Result, sym, ap, subst, inl, inr, arith}
-use Rattle.std.specs.Prelude.{codes, decimal}
+use Rattle.std.proofs.Common.{◌≡◌, ℕ, ◌≤◌, ◌+◌, true, List, [], ◌∷◌, ◌++◌, length, length-append, map, take, None, Some, Option, Ok, Err, Result, sym, ap, subst, inl, inr, arith, is_ok, codes, decimal}
 use Rattle.std.specs.List.{AllByRecursion, enumerate_from}
-use Rattle.std.specs.Result.{is_ok}
-use Rattle.std.proofs.lemmas.Bool.Decides.{nat_tests}
-use Rattle.std.proofs.lemmas.List.{length-map, length-take}
-use Rattle.byte_devices.specs.Transfers.{OutputTook, ToOutput, all_of}
-use Rattle.chess_base.specs.ByColour.{of_colour}
-use Rattle.chess_base.specs.Sound.{IsSound}
-use Rattle.chess_base.specs.declared.man.Colour.{Colour}
-use Rattle.chess_game.specs.Game.{Seen, outcome_now}
-use Rattle.chess_game.specs.Line.{IsLine}
-use Rattle.chess_game.specs.Results.{IsTagText, cut_tag}
-use Rattle.byte_devices.specs.Bytes.{shown_byte}
-use Rattle.chess_game.specs.declared.game.TheConstants.{MOST_MOVES}
-use Rattle.chess_match.specs.Acts.{Act, IsMatch}
-use Rattle.chess_match.specs.Effects.{Match}
-use Rattle.chess_match.specs.Rules.{Rules, rules_of}
-use Rattle.chess_match.specs.declared.reason.MatchFault.{MatchFault}
+use Rattle.std.proofs.{lemmas.Bool.Decides.nat_tests, lemmas.List.length-map, lemmas.List.length-take}
+use Rattle.byte_devices.specs.{Transfers.OutputTook, Transfers.ToOutput, Transfers.all_of, Bytes.shown_byte}
+use Rattle.chess_base.specs.{ByColour.of_colour, Sound.IsSound, declared.man.Colour.Colour}
+use Rattle.chess_game.specs.{Game.Seen, Game.outcome_now, Line.IsLine, Results.IsTagText, Results.cut_tag, declared.game.TheConstants.MOST_MOVES}
+use Rattle.chess_match.specs.{Acts.Act, Acts.IsMatch, Effects.Match, Rules.Rules, Rules.rules_of, declared.reason.MatchFault.MatchFault, declared.run.MatchEnd.MatchEnd}
 use Rattle.chess_match_laws.specs.OfActs.{GamesAreLines, OutcomesAreOfTheGame}
 use Rattle.chess_pgn_laws.specs.PgnLaw.{AreTagTexts}
 use Rattle.match_runner.specs.Games.{AreAllGames, GameRecord, IsOfPlan, WritesGames, game_texts, score_line, setup_of, tags_of}
 use Rattle.match_runner.specs.GamesTable.{GamesStep, HostStep, OpensClock, Outputs, PlaysBy, PlaysGamesWith, at_host}
-use Rattle.match_runner.specs.declared.fault.GamesFault.{GamesFault}
+use Rattle.match_runner.specs.{declared.fault.GamesFault.GamesFault, declared.plan.GamesPlan.GamesPlan}
 use Rattle.match_runner.specs.declared.fault.GamesFault.TheVariants.{WriteFailed, NoMemory, CanNotStart, Game}
-use Rattle.match_runner.specs.declared.plan.GamesPlan.{GamesPlan}
-use Rattle.chess_match.specs.declared.run.MatchEnd.{MatchEnd}
 use Rattle.match_pgn_laws.specs.Scores.{HasScore}
 
 -- ---- tags

@@ -1,45 +1,21 @@
 -- Which lines of a game's text begin with `[Result `: the line of its tag, and no other.
-use Rattle.std.proofs.Common.{◌≡◌, ◌∙◌, ℕ, ◌≤◌, Bool, true, false, ◌&&◌, ◌||◌, cond, eqb, List, [], ◌∷◌, ◌++◌, length, take, refl, sym, ap, subst, append_assoc, append-nil, arith}
-use Rattle.std.specs.Prelude.{codes, decimal, not, nat_le}
+use Rattle.std.proofs.Common.{◌≡◌, ◌∙◌, ℕ, ◌≤◌, Bool, true, false, ◌&&◌, ◌||◌, cond, eqb, List, [], ◌∷◌, ◌++◌, length, take, refl, sym, ap, subst, append_assoc, append-nil, arith, bytes_eq, codes, decimal, not, nat_le}
 use Rattle.std.specs.List.{AllByRecursion, filter, list_all, onto_first, slice_split}
-use Rattle.std.specs.Str.{bytes_eq}
 use Rattle.std.specs.Str.Parse.{AllDigits}
-use Rattle.std.proofs.lemmas.Bool.{and_from, and_parts}
-use Rattle.std.proofs.lemmas.Bool.Decides.{nat_tests}
-use Rattle.std.proofs.lemmas.Fmt.{decimal_is_IsNumeral}
-use Rattle.std.proofs.lemmas.List.Elements.{filter-append}
-use Rattle.std.proofs.lemmas.List.Folds.{list_all-append}
-use Rattle.std.proofs.lemmas.Str.Parse.{digit_from_value}
-use Rattle.std.proofs.lemmas.Bool.{leb-true}
-use Rattle.chess_base.specs.Moves.{after}
-use Rattle.chess_base.specs.Options.{list_if}
-use Rattle.chess_base.specs.Sound.{IsSound}
-use Rattle.chess_base.specs.declared.man.Colour.{Colour}
-use Rattle.chess_base.specs.declared.man.Colour.TheVariants.{White, Black}
-use Rattle.chess_base.specs.declared.man.Move.{Move}
-use Rattle.chess_base.specs.declared.setup.Setup.{Setup}
+use Rattle.std.proofs.{lemmas.Bool.and_from, lemmas.Bool.and_parts, lemmas.Bool.leb-true, lemmas.Bool.Decides.nat_tests, lemmas.Fmt.decimal_is_IsNumeral, lemmas.List.Elements.filter-append, lemmas.List.Folds.list_all-append, lemmas.Str.Parse.digit_from_value}
+use Rattle.chess_base.specs.{Moves.after, Options.list_if, Sound.IsSound, declared.man.Colour.Colour, declared.man.Colour.TheVariants.White, declared.man.Colour.TheVariants.Black, declared.man.Move.Move, declared.setup.Setup.Setup}
 use Rattle.chess_base.proofs.shared.LegalMoves.{IsSound-after}
 use Rattle.chess_fen.specs.Writing.{fen, is_initial}
 use Rattle.chess_fen.proofs.shared.Plain.{Plain, fen_plain}
-use Rattle.chess_game.specs.Game.{State, outcome_now}
-use Rattle.chess_game.specs.Line.{IsLine}
-use Rattle.chess_game.specs.Results.{outcome_text}
-use Rattle.chess_game.specs.declared.results.Outcome.{Outcome}
+use Rattle.chess_game.specs.{Game.State, Game.outcome_now, Line.IsLine, Results.outcome_text, declared.results.Outcome.Outcome}
 use Rattle.chess_game.specs.declared.results.Outcome.TheVariants.{WhiteWins, BlackWins, Draw, Unfinished}
-use Rattle.chess_text.specs.San.{is_fischerandom, san}
-use Rattle.chess_text.specs.laws.Laws.{is_san_byte}
+use Rattle.chess_text.specs.{San.is_fischerandom, San.san, laws.Laws.is_san_byte}
 use Rattle.chess_text.proofs.shared.San.{san_bytes}
 use Rattle.chess_pgn_laws.specs.PgnLaw.{AreTagTexts}
-use Rattle.pgn_writer.specs.GameText.{game_tokens, pgn, tag_lines}
-use Rattle.pgn_writer.specs.Terminations.{termination_of, termination_text}
+use Rattle.pgn_writer.specs.{GameText.game_tokens, GameText.pgn, GameText.tag_lines, Terminations.termination_of, Terminations.termination_text, declared.tags.Tags.Tags, declared.termination.Termination.Termination, shared.Lines.lines_begun, shared.Lines.lines_from, shared.NumberedMoves.number_if_due, shared.NumberedMoves.numbered_moves}
 use Rattle.pgn_writer.specs.Written.{ended, escaped, lines_of, tag_line}
-use Rattle.pgn_writer.specs.declared.tags.Tags.{Tags}
-use Rattle.pgn_writer.specs.declared.termination.Termination.{Termination}
 use Rattle.pgn_writer.specs.declared.termination.Termination.TheVariants as ending
-use Rattle.pgn_writer.specs.shared.Lines.{lines_begun, lines_from}
-use Rattle.pgn_writer.specs.shared.NumberedMoves.{number_if_due, numbered_moves}
-use Rattle.pgn_writer.proofs.shared.GameTexts.{game_numbered}
-use Rattle.pgn_writer.proofs.shared.Lines.{lines_are}
+use Rattle.pgn_writer.proofs.{shared.GameTexts.game_numbered, shared.Lines.lines_are}
 use Rattle.match_pgn_laws.specs.Scores.{result_lines}
 use Rattle.chess_pgn_laws.proofs.shared.Bytes.{list_all-weaker}
 

@@ -1,17 +1,10 @@
 -- The score is the sum of the lines `[Result ..]` above it.
-use Rattle.std.proofs.Common.{◌≡◌, ◌∙◌, ℕ, ◌+◌, ◌%◌, Bool, List, [], ◌∷◌, ◌++◌, length, map, cond, refl, sym, ap, subst, arith}
-use Rattle.std.specs.Prelude.{codes, decimal, flat_map, ◌==◌}
+use Rattle.std.proofs.Common.{◌≡◌, ◌∙◌, ℕ, ◌+◌, ◌%◌, Bool, List, [], ◌∷◌, ◌++◌, length, map, cond, refl, sym, ap, subst, arith, bytes_eq, codes, decimal, flat_map, ◌==◌}
 use Rattle.std.specs.List.{count_by, enumerate_from}
-use Rattle.std.specs.Str.{bytes_eq}
-use Rattle.std.proofs.lemmas.List.{length-map}
-use Rattle.std.proofs.lemmas.List.Sums.{sum_by-cons}
-use Rattle.byte_devices.specs.Transfers.{OutputTook, all_of}
-use Rattle.byte_devices.specs.Bytes.{new_line}
-use Rattle.chess_base.specs.Men.{other}
-use Rattle.chess_base.specs.Sound.{IsSound}
-use Rattle.chess_base.specs.declared.man.Colour.TheVariants.{White, Black}
-use Rattle.chess_game.specs.Results.{same_outcome}
-use Rattle.chess_game.specs.declared.results.Outcome.{Outcome}
+use Rattle.std.proofs.{lemmas.List.length-map, lemmas.List.Sums.sum_by-cons}
+use Rattle.byte_devices.specs.{Transfers.OutputTook, Transfers.all_of, Bytes.new_line}
+use Rattle.chess_base.specs.{Men.other, Sound.IsSound, declared.man.Colour.TheVariants.White, declared.man.Colour.TheVariants.Black}
+use Rattle.chess_game.specs.{Results.same_outcome, declared.results.Outcome.Outcome}
 use Rattle.chess_game.specs.declared.results.Outcome.TheVariants.{WhiteWins, BlackWins, Draw, Unfinished}
 use Rattle.chess_match.specs.Reasons.{win_of}
 use Rattle.chess_match_laws.specs.OfActs.{GamesAreLines, OutcomesAreOfTheGame}

@@ -1,28 +1,18 @@
 -- The games that a match writes are verified without a fault.
-use Rattle.std.proofs.Common.{◌≡◌, ◌∙◌, ℕ, ◌+◌, ◌≤◌, ◌<◌, Bool, List, [], ◌∷◌, ◌++◌, length, map, take, None, refl, sym, ap, subst}
-use Rattle.std.specs.Prelude.{codes, flat_map}
+use Rattle.std.proofs.Common.{◌≡◌, ◌∙◌, ℕ, ◌+◌, ◌≤◌, ◌<◌, List, [], ◌∷◌, ◌++◌, length, map, take, None, refl, sym, ap, subst, codes, flat_map}
 use Rattle.std.specs.List.{enumerate_from}
 use Rattle.byte_devices.specs.Transfers.{OutputTook, all_of}
-use Rattle.chess_base.specs.Sound.{IsSound}
-use Rattle.chess_base.specs.declared.man.Move.{Move}
-use Rattle.chess_base.specs.declared.setup.Setup.{Setup}
-use Rattle.chess_game.specs.Ends.{verdict}
-use Rattle.chess_game.specs.Game.{IsPlayable, outcome_now}
-use Rattle.chess_game.specs.Results.{outcome_text}
-use Rattle.chess_game.specs.declared.game.TheConstants.{MOST_MOVES}
-use Rattle.chess_game.specs.declared.results.Outcome.{Outcome}
+use Rattle.chess_base.specs.{Sound.IsSound, declared.man.Move.Move, declared.setup.Setup.Setup}
+use Rattle.chess_game.specs.{Ends.verdict, Game.IsPlayable, Game.outcome_now, Results.outcome_text, declared.game.TheConstants.MOST_MOVES, declared.results.Outcome.Outcome}
 use Rattle.chess_game.specs.declared.results.Outcome.TheVariants.{WhiteWins, BlackWins, Draw, Unfinished}
 use Rattle.chess_match_laws.specs.OfActs.{EndsAtVerdicts, GamesAreLines, InEachMatch, OutcomesAreOfTheGame}
 use Rattle.match_runner.specs.Games.{GameRecord, game_text, game_texts, tags_of}
 use Rattle.match_runner.specs.declared.plan.GamesPlan.{GamesPlan}
-use Rattle.pgn_verifier.specs.Reports.{AreReports, Report, without_spans}
-use Rattle.pgn_verifier.specs.laws.Reported.{placed_on, reports_on}
+use Rattle.pgn_verifier.specs.{declared.options.Strictness.Strictness, Reports.AreReports, Reports.Report, Reports.without_spans, laws.Reported.placed_on, laws.Reported.reports_on}
 use Rattle.pgn_verifier_laws.specs.WrittenGames.{AreWritable, TaggedGame, WrittenTextsHaveNoFault, report_of, written_text}
-use Rattle.match_pgn_laws.specs.Scores.{result_lines, sum_of}
-use Rattle.match_pgn_laws.specs.Verified.{MatchesPassVerify, result_reported}
+use Rattle.match_pgn_laws.specs.{Scores.result_lines, Scores.sum_of, Verified.MatchesPassVerify, Verified.result_reported}
 use Rattle.match_pgn_laws.proofs.Games.{AreOfPlan, IsGame, is_game, is_line, is_sound, tag_texts, wrote}
-use Rattle.match_pgn_laws.proofs.ResultLines.{result_tag}
-use Rattle.match_pgn_laws.proofs.Summed.{score_is, tag_of, tags_found}
+use Rattle.match_pgn_laws.proofs.{ResultLines.result_tag, Summed.score_is, Summed.tag_of, Summed.tags_found}
 
 -- ---- a game
 
@@ -84,24 +74,24 @@ same_results outcomes plan n (g ∷ games) h =
 
 -- the reports on a text are those that are made one after another
 abbrev pub ReportsAreMade : Type 0
-ReportsAreMade = (strict : Bool) (start : ℕ) (text : List ℕ)
+ReportsAreMade = (strict : Strictness) (start : ℕ) (text : List ℕ)
     → AreReports strict start text 0 (placed_on strict start text)
 
 -- and so they are without their spans
 abbrev pub PlainReportsAreMade : Type 0
-PlainReportsAreMade = (strict : Bool) (start : ℕ) (text : List ℕ)
+PlainReportsAreMade = (strict : Strictness) (start : ℕ) (text : List ℕ)
     → without_spans (placed_on strict start text) ≡ reports_on strict start text
 
 pub matches_pass_verify : GamesAreLines → InEachMatch EndsAtVerdicts → OutcomesAreOfTheGame → ReportsAreMade
     → PlainReportsAreMade → WrittenTextsHaveNoFault → MatchesPassVerify
-matches_pass_verify lines ends outcomes made plain faultless strict plan result steps d d' sound scored played =
+matches_pass_verify lines ends outcomes made plain faultless strict none plan result steps d d' sound scored played =
     let w = wrote plan result steps d d' scored played in
     let text : List ℕ = game_texts plan w.games in
     let found : result_lines text ≡ map tag_of w.games = tags_found outcomes lines plan 1 w.games sound w.of_plan in
     let reports : List Report = map report_of (tagged plan 1 w.games) in
     let are : without_spans (placed_on strict 0 text) ≡ reports =
     plain strict 0 text ∙ ap (reports_on strict 0) (sym (same_text plan 1 w.games))
-    ∙ faultless strict 0 (tagged plan 1 w.games) (writable lines ends outcomes plan 1 w.games sound w.of_plan) in (
+    ∙ faultless strict none 0 (tagged plan 1 w.games) (writable lines ends outcomes plan 1 w.games sound w.of_plan) in (
       text,
       subst (λ score. OutputTook d.output d'.output (all_of (text ++ score)))
           (score_is w.games ∙ ap sum_of (sym found)) w.written,

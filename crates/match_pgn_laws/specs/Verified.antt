@@ -1,11 +1,12 @@
 -- What `verify` says of the games that a match writes.
-use Rattle.std.specs.Prelude.{◌≡◌, ℕ, Bool, List, [], ◌++◌, map, codes, Result}
+use Rattle.std.specs.Prelude.{◌≡◌, ℕ, false, List, [], ◌++◌, map, codes, Result}
 use Rattle.byte_devices.specs.Transfers.{OutputTook, all_of}
 use Rattle.chess_base.specs.Sound.{IsSound}
 use Rattle.chess_game.specs.Results.{outcome_text}
 use Rattle.match_runner.specs.GamesTable.{HostStep, Outputs, PlaysGamesWith}
 use Rattle.match_runner.specs.declared.fault.GamesFault.{GamesFault}
 use Rattle.match_runner.specs.declared.plan.GamesPlan.{GamesPlan}
+use Rattle.pgn_verifier.specs.declared.options.Strictness.{Strictness}
 use Rattle.pgn_verifier.specs.Reports.{AreReports, Placed, Report, Game, without_spans}
 use Rattle.match_pgn_laws.specs.Scores.{HasScore, result_lines, sum_of}
 
@@ -14,9 +15,9 @@ abbrev pub result_reported : Report → List ℕ
 result_reported (Game plies outcome termination) = codes "[Result \"" ++ outcome_text outcome ++ codes "\"]"
 result_reported _ = []
 
--- the reports on this text, with `--strict` or without, are on games without a fault: one for each of its lines
--- `[Result ..]`, in order, with the outcome that the line names
-pub record IsVerified (strict : Bool) (text : List ℕ) : Type 0 where
+-- the reports on this text, with `--strict` or without, but without `--variations`, are on games without a fault: one
+-- for each of its lines `[Result ..]`, in order, with the outcome that the line names
+pub record IsVerified (strict : Strictness) (text : List ℕ) : Type 0 where
   pub reports : List Placed
   pub are : AreReports strict 0 text 0 reports
   pub results : map result_reported (without_spans reports) ≡ result_lines text
@@ -24,7 +25,8 @@ pub record IsVerified (strict : Bool) (text : List ℕ) : Type 0 where
 -- in every match by a plan that starts from a sound position, whose score was written: the games' text above the score
 -- is verified
 abbrev pub MatchesPassVerify : Type 0
-MatchesPassVerify = (strict : Bool) (plan : GamesPlan) (result : Result (Unit {0}) GamesFault) (steps : List HostStep)
-    (d d' : Outputs) → IsSound plan.start → HasScore result → PlaysGamesWith plan result steps d d'
+MatchesPassVerify = (strict : Strictness) → strict.variations ≡ false → (plan : GamesPlan)
+    (result : Result (Unit {0}) GamesFault) (steps : List HostStep) (d d' : Outputs) → IsSound plan.start
+    → HasScore result → PlaysGamesWith plan result steps d d'
     → (games : List ℕ) × OutputTook d.output d'.output (all_of (games ++ sum_of (result_lines games)))
     × IsVerified strict games

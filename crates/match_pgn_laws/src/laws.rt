@@ -19,9 +19,9 @@ pub fn scores_are_sums()
     verdicts_end_matches();
 }
 
-/// States a law: what a match writes above its score, `verify` accepts, with `--strict` or without: it reports each
-/// game, without a fault and with the outcome of its tag `Result`. (Without `--keep-going`, `verify` takes at most
-/// 16,777,216 bytes.)
+/// States a law: what a match writes above its score, `verify` accepts, with `--strict` or without (but without
+/// `--variations`): it reports each game, without a fault and with the outcome of its tag `Result`. (Without
+/// `--keep-going`, `verify` takes at most 16,777,216 bytes.)
 pub fn matches_pass_verify()
     ensures { MatchesPassVerify }
 {

@@ -1,19 +1,9 @@
 -- The report of an engine's fault is ASCII, so it is a text.
-use Rattle.std.proofs.Common.{◌≡◌, ◌<◌, ℕ, true, List, refl, subst, sym}
-use Rattle.std.specs.Char.{is_ascii}
-use Rattle.std.specs.List.{list_all}
-use Rattle.std.specs.Str.{IsUtf8}
-use Rattle.std.proofs.lemmas.Bool.{ltb-true}
-use Rattle.std.proofs.lemmas.List.Elements.{All-weaker}
-use Rattle.std.proofs.lemmas.List.Sums.{AllPass-from_list_all}
-use Rattle.std.proofs.lemmas.Str.{IsUtf8-from_ascii}
-use Rattle.std.proofs.lemmas.Str.Ascii.{IsAscii-from_all}
-use Rattle.chess_base.specs.declared.man.Colour.{Colour}
-use Rattle.chess_base.specs.declared.man.Colour.TheVariants.{White, Black}
-use Rattle.chess_match.specs.Reasons.{comment_of}
-use Rattle.chess_match.specs.declared.reason.MatchFault.{MatchFault}
-use Rattle.chess_match.specs.declared.reason.MatchFault.TheVariants.{Ended}
-use Rattle.chess_match.specs.declared.reason.Reason.TheVariants.{Faulted}
+use Rattle.std.proofs.Common.{◌≡◌, ◌<◌, ℕ, true, List, refl, subst, sym, IsUtf8, ltb-true}
+use Rattle.std.specs.{Char.is_ascii, List.list_all}
+use Rattle.std.proofs.{lemmas.List.Elements.All-weaker, lemmas.List.Sums.AllPass-from_list_all, lemmas.Str.IsUtf8-from_ascii, lemmas.Str.Ascii.IsAscii-from_all}
+use Rattle.chess_base.specs.{declared.man.Colour.Colour, declared.man.Colour.TheVariants.White, declared.man.Colour.TheVariants.Black}
+use Rattle.chess_match.specs.{Reasons.comment_of, declared.reason.MatchFault.MatchFault, declared.reason.MatchFault.TheVariants.Ended, declared.reason.Reason.TheVariants.Faulted}
 
 is_text : (bytes : List ℕ) → list_all is_ascii bytes ≡ true → IsUtf8 bytes
 is_text bytes h = IsUtf8-from_ascii bytes (IsAscii-from_all bytes

@@ -1,6 +1,5 @@
 -- A write of the first bytes of a text is a write of the text.
-use Rattle.std.proofs.Common.{◌≡◌, ◌≤◌, ◌<◌, ◌∙◌, ℕ, List, ap, length, take, min, Result, Ok, Err, subst, arith}
-use Rattle.std.proofs.lemmas.List.{length-take, take-take}
+use Rattle.std.proofs.Common.{◌≡◌, ◌≤◌, ◌<◌, ◌∙◌, ℕ, List, ap, length, take, min, Result, Ok, Err, subst, arith, length-take, take-take}
 use Rattle.byte_devices.specs.Devices.{OutputState, Took, WriteStep}
 
 -- `first` are at most `most` bytes of `text`, from its first on

@@ -1,40 +1,20 @@
 -- The games of a match, one after another.
-use Rattle.std.proofs.Common.{◌≡◌, ◌∙◌, ◌<◌, ◌≤◌, ◌+◌, ◌⊎◌, ℕ, Bool, true, false, List, [], ◌∷◌, ◌++◌, length, Bor, Option, Some, None, Ok, Err, Result, refl, sym, ap, subst, append-nil, append_assoc, length-append, arith, inl, inr}
-use Rattle.std.specs.Prelude.{IfErr, cond, count_by, flat_map, if◌then◌else◌}
+use Rattle.std.proofs.Common.{◌≡◌, ◌∙◌, ◌<◌, ◌≤◌, ◌+◌, ◌⊎◌, ℕ, Bool, true, false, List, [], ◌∷◌, ◌++◌, length, Bor, Option, Some, None, Ok, Err, Result, refl, sym, ap, subst, append-nil, append_assoc, length-append, arith, inl, inr, IfErr, cond, count_by, flat_map, if◌then◌else◌}
 use Rattle.std.specs.List.{AllByRecursion, enumerate_from}
-use Rattle.std.proofs.lemmas.List.Concat.{flat_map-append}
-use Rattle.std.proofs.lemmas.List.FromFn.{length-enumerate_from}
-use Rattle.std.proofs.lemmas.List.Sums.{count_by-le-length, sum_by_push}
-use Rattle.match_runner.specs.declared.plan.GamesPlan.{GamesPlan}
-use Rattle.chess_base.specs.Men.{other, same_colour}
-use Rattle.chess_base.specs.Options.{list_if}
-use Rattle.chess_base.specs.declared.man.Colour.{Colour}
-use Rattle.chess_base.specs.declared.man.Colour.TheVariants.{White, Black}
+use Rattle.std.proofs.{lemmas.List.Concat.flat_map-append, lemmas.List.FromFn.length-enumerate_from, lemmas.List.Sums.count_by-le-length, lemmas.List.Sums.sum_by_push}
+use Rattle.match_runner.specs.{declared.plan.GamesPlan.GamesPlan, Log.LogSeen, Log.Logged, Log.log_from, declared.fault.GamesFault.GamesFault, declared.games.GamesPlayed.GamesPlayed, declared.score.Score.Score}
+use Rattle.chess_base.specs.{Men.other, Men.same_colour, Options.list_if, declared.man.Colour.Colour, declared.man.Colour.TheVariants.White, declared.man.Colour.TheVariants.Black}
 use Rattle.byte_devices.specs.Devices.{OutputState, Begins, CutShort, Sent}
-use Rattle.byte_devices.specs.Transfers.{ToOutput, OutputTook, all_of, all_for}
-use Rattle.byte_devices.proofs.shared.Transfers.{broke, took_last, took_nothing, took_one_more, took_some_more}
-use Rattle.chess_game.specs.Game.{Seen}
-use Rattle.chess_game.specs.Results.{same_outcome}
-use Rattle.chess_game.specs.declared.results.Outcome.{Outcome}
-use Rattle.chess_game.specs.declared.results.Outcome.TheVariants.{Draw, Unfinished}
-use Rattle.chess_match.specs.Reasons.{comment_of, win_of}
-use Rattle.chess_match.specs.Notes.{Note}
-use Rattle.chess_match.specs.Played.{World, PlayedNoting}
-use Rattle.chess_match.specs.declared.run.Setup.{Setup}
-use Rattle.chess_match.specs.declared.reason.MatchFault.{MatchFault}
-use Rattle.chess_match.specs.declared.reason.Reason.TheVariants.{Faulted}
-use Rattle.chess_match.specs.declared.run.MatchEnd.{MatchEnd}
-use Rattle.pgn_writer.specs.GameText.{pgn}
-use Rattle.pgn_writer.specs.declared.tags.Tags.{Tags}
+use Rattle.byte_devices.specs.Transfers.{ToOutput, OutputTook, all_of}
+use Rattle.byte_devices.proofs.shared.Transfers.{broke, all_for, took_last, took_nothing, took_one_more, took_some_more}
+use Rattle.chess_game.specs.{Game.Seen, Results.same_outcome, declared.results.Outcome.Outcome, declared.results.Outcome.TheVariants.Draw, declared.results.Outcome.TheVariants.Unfinished}
+use Rattle.chess_match.specs.{Reasons.comment_of, Reasons.win_of, Notes.Note, Played.World, Played.PlayedNoting, declared.run.Setup.Setup, declared.reason.MatchFault.MatchFault, declared.reason.Reason.TheVariants.Faulted, declared.run.MatchEnd.MatchEnd}
+use Rattle.pgn_writer.specs.{GameText.pgn, declared.tags.Tags.Tags}
 use Rattle.match_runner.specs.Games.{AreAllGames, GameRecord, IsOfPlan, IsStartFault, LogsGame, LogsGames, PlaysGames, FaultlessGames, count_of, engine_command, first_side, game_log, game_text, game_texts, killed_lines, none_killed, score_line, tags_of}
 use Rattle.match_runner.specs.GamesTable.{AreFresh, AtHost, BeginsAt, ComeInTurn, Finishes, GamesFuture, GamesStep, HostStep, Outputs, Plays, StartFails, Starts, StepsPass, PlaysGamesAt, PlaysGamesWith, WriteFails, Writes, games_steps, steps_by, unstarted_steps}
 use Rattle.match_runner.specs.ties.Playing.{FailsToStart, HasPlayed, PlayedGame, clock_after, logged_side, no_score, plus, score_after, score_of, score_text}
-use Rattle.match_runner.specs.Log.{LogSeen, Logged, log_from}
 use Rattle.match_runner.proofs.Logged.{logged_more, logs_none}
-use Rattle.match_runner.specs.declared.fault.GamesFault.{GamesFault}
 use Rattle.match_runner.specs.declared.fault.GamesFault.TheVariants.{WriteFailed, NoMemory, CanNotStart, Game}
-use Rattle.match_runner.specs.declared.games.GamesPlayed.{GamesPlayed}
-use Rattle.match_runner.specs.declared.score.Score.{Score}
 
 -- the outputs of a match
 abbrev pub outputs : OutputState → LogSeen → Outputs

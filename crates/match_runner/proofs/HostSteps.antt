@@ -1,14 +1,9 @@
 -- The steps of a table, and those of its host.
-use Rattle.std.proofs.Common.{◌≡◌, ◌∙◌, ℕ, Bool, true, false, List, [], ◌∷◌, ◌++◌, Option, Result, Err, refl, sym, ap, subst, append_assoc, inl, inr}
-use Rattle.std.specs.Prelude.{flat_map, map}
-use Rattle.std.proofs.lemmas.List.Concat.{flat_map-append}
-use Rattle.match_runner.specs.declared.plan.GamesPlan.{GamesPlan}
-use Rattle.match_runner.specs.declared.fault.GamesFault.{GamesFault}
-use Rattle.match_runner.specs.declared.fault.GamesFault.TheVariants.{NoMemory}
+use Rattle.std.proofs.Common.{◌≡◌, ◌∙◌, ℕ, Bool, true, false, List, [], ◌∷◌, ◌++◌, Option, Result, Err, refl, sym, ap, subst, append_assoc, inl, inr, flat_map, map}
+use Rattle.std.proofs.{lemmas.List.Concat.flat_map-append, lemmas.List.same_from_push}
+use Rattle.match_runner.specs.{declared.plan.GamesPlan.GamesPlan, declared.fault.GamesFault.GamesFault, declared.fault.GamesFault.TheVariants.NoMemory, ties.AtHost.MarkedBy}
 use Rattle.match_runner.specs.GamesTable.{AtHost, GamesStep, HostFuture, HostStep, OpensClock, Outputs, PlaysBy, PlaysGamesAt, PlaysGamesWith, StepsPass, WriteFails, Writes, at_host, of_host, writing}
-use Rattle.match_runner.specs.ties.AtHost.{MarkedBy}
 use Rattle.match_runner.proofs.GamesWritten.{steps_more, steps_none}
-use Rattle.std.proofs.lemmas.List.{same_from_push}
 
 -- a step of the host
 pub host_passes : (p p' : HostFuture) (name name' : ℕ) (step : HostStep) → name' ≡ name → StepsPass p p' (step ∷ [])

@@ -1,22 +1,16 @@
 -- What was logged, put together.
-use Rattle.std.proofs.Common.{◌≡◌, ℕ, suc, ◌+◌, ◌<◌, min, length, drop, take, get_or, not, Bool, true, false, List, [], ◌∷◌, ◌++◌, refl, ap, sym, ◌∙◌, subst, append_assoc, append-nil, Option, Some, None, Result, Ok, Err, arith}
+use Rattle.std.proofs.Common.{◌≡◌, ℕ, suc, ◌+◌, ◌<◌, min, length, drop, take, get_or, not, Bool, true, false, List, [], ◌∷◌, ◌++◌, refl, ap, sym, ◌∙◌, subst, append_assoc, append-nil, Option, Some, None, Result, Ok, Err, arith, is_err, ◌==◌, ◌||◌, nat_lt, flat_map, if◌then◌else◌}
 use native.Mathlib.Numerals.{unary_clauses}
-use Rattle.std.specs.Prelude.{◌==◌, ◌||◌, nat_lt, flat_map, if◌then◌else◌}
 use Rattle.std.specs.List.{onto_first, position_or_len}
-use Rattle.std.specs.Result.{is_err}
-use Rattle.std.proofs.lemmas.Bool.Decides.{nat_tests}
-use Rattle.std.proofs.lemmas.List.{drop_min, drop_more}
-use Rattle.byte_devices.specs.Bytes.{byte, new_line}
-use Rattle.chess_base.specs.declared.man.Colour.{Colour}
-use Rattle.chess_base.specs.declared.man.Colour.TheVariants.{White, Black}
-use Rattle.byte_devices.specs.Devices.{OutputState, Sends}
-use Rattle.byte_devices.specs.Transfers.{OutputTook, nothing, all_of, all_for}
-use Rattle.byte_devices.proofs.shared.Transfers.{broke, some_for, took_all, took_each, took_more, took_nothing, took_some}
+use Rattle.std.proofs.{lemmas.Bool.Decides.nat_tests, lemmas.List.drop_min, lemmas.List.drop_more}
+use Rattle.byte_devices.specs.{Bytes.byte, Bytes.new_line, Devices.OutputState, Devices.Sends}
+use Rattle.chess_base.specs.{declared.man.Colour.Colour, declared.man.Colour.TheVariants.White, declared.man.Colour.TheVariants.Black}
+use Rattle.byte_devices.specs.Transfers.{OutputTook, nothing, all_of}
+use Rattle.byte_devices.proofs.shared.Transfers.{broke, all_for, some_for, took_all, took_each, took_more, took_nothing, took_some}
 use Rattle.chess_match.specs.Notes.{Note, Gives, WasNoted}
-use Rattle.match_runner.specs.Log.{LogSeen, Logged, LogsNote, lines_in, log_from, log_line, log_seen, moment_after, note_text}
+use Rattle.match_runner.specs.Log.{LogSeen, Logged, LogsNote, engine_name, lines_in, log_from, log_line, log_seen, moment_after, note_text}
 use Rattle.match_runner.specs.ties.Logging.{Adds, IsLog, LogsPending, first_of_text, log_of_text, moment_from, noted_by, text_of_log}
-use Rattle.match_runner.specs.declared.log.Log.{Log}
-use Rattle.match_runner.specs.declared.log.Pending.{Pending}
+use Rattle.match_runner.specs.{declared.log.Log.Log, declared.log.Pending.Pending}
 
 -- ---- the output
 
@@ -218,16 +212,17 @@ line_split (c ∷ cs) len rest some is end =
 -- a line more of what an engine is sent
 pub given_more : (first side : Colour) (moment : ℕ) (text line rest all done : List ℕ)
     → lines_in text ≡ line ∷ lines_in rest
-    → done ++ note_text first moment (Gives side text) ≡ all
-    → (done ++ log_line first moment (byte ">") side line) ++ note_text first moment (Gives side rest) ≡ all
+    → done ++ note_text (engine_name first) moment (Gives side text) ≡ all
+    → (done ++ log_line moment (byte ">") (engine_name first side) line)
+    ++ note_text (engine_name first) moment (Gives side rest) ≡ all
 given_more first side moment text line rest all done is h =
-    let sent : List (List ℕ) → List ℕ = λ ls. flat_map (log_line first moment (byte ">") side) ls in
-    append_assoc done (log_line first moment (byte ">") side line) (sent (lines_in rest))
+    let sent : List (List ℕ) → List ℕ = λ ls. flat_map (log_line moment (byte ">") (engine_name first side)) ls in
+    append_assoc done (log_line moment (byte ">") (engine_name first side) line) (sent (lines_in rest))
     ∙ ap (λ ls. done ++ sent ls) (sym is) ∙ h
 
 -- nothing is left of what an engine is sent
 pub given_all : (first side : Colour) (moment : ℕ) (rest all done : List ℕ) → (length rest == 0) ≡ true
-    → done ++ note_text first moment (Gives side rest) ≡ all → done ≡ all
+    → done ++ note_text (engine_name first) moment (Gives side rest) ≡ all → done ≡ all
 given_all first side moment [] all done none h = sym (append-nil done) ∙ h
 given_all first side moment (x ∷ xs) all done none h = absurd (grind (arith, nat_tests))
 
@@ -235,12 +230,12 @@ given_all first side moment (x ∷ xs) all done none h = absurd (grind (arith, n
 
 log_more : (first : Colour) (moment : ℕ) (notes : List Note) (n : Note)
     → log_from first moment (notes ++ n ∷ [])
-    ≡ log_from first moment notes ++ note_text first (moment_from moment notes) n
-log_more first moment [] n = append-nil (note_text first moment n)
+    ≡ log_from first moment notes ++ note_text (engine_name first) (moment_from moment notes) n
+log_more first moment [] n = append-nil (note_text (engine_name first) moment n)
 log_more first moment (x ∷ notes) n =
-    ap (λ (l : List ℕ). note_text first moment x ++ l) (log_more first (moment_after moment x) notes n)
-    ∙ sym (append_assoc (note_text first moment x) (log_from first (moment_after moment x) notes)
-    (note_text first (moment_from (moment_after moment x) notes) n))
+    ap (λ (l : List ℕ). note_text (engine_name first) moment x ++ l) (log_more first (moment_after moment x) notes n)
+    ∙ sym (append_assoc (note_text (engine_name first) moment x) (log_from first (moment_after moment x) notes)
+    (note_text (engine_name first) (moment_from (moment_after moment x) notes) n))
 
 moment_more : (moment : ℕ) (notes : List Note) (n : Note) → moment_from moment (notes ++ n ∷ [])
     ≡ moment_after (moment_from moment notes) n
@@ -265,12 +260,12 @@ noted seen l l' n (logged, same, after) = record {
       let from = log_of_text before in
       let now = log_seen (seen l.output) l.broken in
       let after_it = log_seen (seen l'.output) l'.broken in
-      let text : List ℕ = note_text l.first l.moment n in
+      let text : List ℕ = note_text (engine_name l.first) l.moment n in
       record {
         sided = same ∙ was.sided;
         written = subst (λ (t : List ℕ). Logged from after_it t)
-            (ap (λ (c : Colour). log_from first 0 notes ++ note_text c l.moment n) was.sided
-            ∙ ap (λ (m : ℕ). log_from first 0 notes ++ note_text first m n) was.reached
+            (ap (λ (c : Colour). log_from first 0 notes ++ note_text (engine_name c) l.moment n) was.sided
+            ∙ ap (λ (m : ℕ). log_from first 0 notes ++ note_text (engine_name first) m n) was.reached
             ∙ sym (log_more first 0 notes n))
             (logged_more from now after_it (log_from first 0 notes) text was.written logged);
         reached = after ∙ ap (λ (m : ℕ). moment_after m n) was.reached ∙ sym (moment_more 0 notes n);

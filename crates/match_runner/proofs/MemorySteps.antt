@@ -1,21 +1,11 @@
 -- Steps at a host over memory.
-use Rattle.std.proofs.Common.{◌≡◌, ◌≢◌, ◌∙◌, ◌+◌, ◌≤◌, ◌⊎◌, ℕ, zero, suc, Bool, true, false, List, [], ◌∷◌, ◌++◌, Option, Some, Result, Ok, Err, refl, sym, ap, inl, inr, arith, append-nil, append_assoc, length}
-use Rattle.std.proofs.Math.ListN.{get_or, set}
-use Rattle.std.specs.Prelude.{IfErr, IfSome, cond, count_by}
-use Rattle.std.specs.Result.{IsErr}
-use Rattle.std.specs.Option.{option_map}
-use Rattle.std.specs.List.{slice_get}
-use Rattle.std.proofs.lemmas.List.Concat.{flat_map-append}
-use Rattle.std.proofs.lemmas.List.Sums.{sum_by-cons}
-use Rattle.std.proofs.lemmas.Option.{slice_get_past}
+use Rattle.std.proofs.Common.{◌≡◌, ◌≢◌, ◌∙◌, ◌+◌, ◌≤◌, ◌⊎◌, ℕ, zero, suc, Bool, true, false, List, [], ◌∷◌, ◌++◌, Option, Some, Result, Ok, Err, refl, sym, ap, inl, inr, arith, append-nil, append_assoc, length, IsErr, option_map, slice_get, get_or, set, IfErr, IfSome, cond, count_by}
+use Rattle.std.proofs.{lemmas.List.Concat.flat_map-append, lemmas.List.Sums.sum_by-cons, lemmas.Option.slice_get_past}
 use Rattle.byte_devices.specs.Transfers.{Devices}
-use Rattle.chess_base.specs.declared.man.Colour.{Colour}
-use Rattle.chess_base.specs.declared.man.Colour.TheVariants.{White, Black}
+use Rattle.chess_base.specs.{declared.man.Colour.Colour, declared.man.Colour.TheVariants.White, declared.man.Colour.TheVariants.Black}
 use Rattle.match_runner.specs.GamesTable.{HostStep, StartFails, Starts, StepsPass, starting}
 use Rattle.match_runner.specs.MemoryHost.{IsFaultOfStart, IsNext, MayCome, fresh_pipes, next_text, started_by, started_for, started_in}
-use Rattle.match_runner.specs.declared.fault.GamesFault.{GamesFault}
-use Rattle.match_runner.specs.declared.memory_host.MemoryGame.{MemoryGame}
-use Rattle.match_runner.specs.declared.memory_host.MemoryHost.{MemoryHost}
+use Rattle.match_runner.specs.{declared.fault.GamesFault.GamesFault, declared.memory_host.MemoryGame.MemoryGame, declared.memory_host.MemoryHost.MemoryHost}
 
 -- ---- what may come
 

@@ -1,6 +1,6 @@
 -- The games of a match: who plays which colour, how each is reported, and the score. A match is here all games of a
 -- plan between two engines; in chess_match it is one game.
-use Rattle.std.specs.Prelude.{◌≡◌, ◌⊎◌, ℕ, ◌+◌, ◌<◌, ◌≤◌, ◌%◌, ◌==◌, Bool, false, if◌then◌else◌, List, [], ◌∷◌, ◌++◌, length, count_by, flat_map, codes, decimal, Option, None, Some, Result, Ok, Err}
+use Rattle.std.specs.Prelude.{◌≡◌, ◌⊎◌, ℕ, ◌+◌, ◌<◌, ◌≤◌, ◌%◌, ◌==◌, nat_lt, Bool, false, if◌then◌else◌, List, [], ◌∷◌, ◌++◌, length, count_by, flat_map, codes, decimal, Option, None, Some, Result, Ok, Err}
 use Rattle.std.specs.Option.{option_to_list}
 use Rattle.std.specs.List.{AllByRecursion, enumerate_from}
 use Rattle.byte_devices.specs.Bytes.{new_line}
@@ -14,7 +14,7 @@ use Rattle.chess_base.specs.declared.by_colour.ByColour.{ByColour}
 use Rattle.chess_base.specs.declared.man.Colour.{Colour}
 use Rattle.chess_base.specs.declared.man.Colour.TheVariants.{White, Black}
 use Rattle.byte_devices.specs.Devices.{OutputState}
-use Rattle.byte_devices.specs.Transfers.{ToOutput, OutputTook, all_of, all_for, BreaksOffIn}
+use Rattle.byte_devices.specs.Transfers.{ToOutput, OutputTook, all_of, all_flushed, BreaksOffIn}
 use Rattle.chess_match.specs.Acts.{Act}
 use Rattle.chess_match.specs.ByDevice.{notes_of}
 use Rattle.chess_match.specs.Reasons.{colour_name, comment_of, win_of}
@@ -39,19 +39,15 @@ use Rattle.chess_game.specs.declared.game.TheConstants.{MOST_MOVES}
 abbrev pub first_side : ℕ → Colour
 first_side number = if number % 2 == 1 then White else Black
 
--- the command of the engine that has this side in the game of this number. `plan.white` is the command of the first
--- engine (that of `--white`: White in odd games, Black in even ones), `plan.black` that of the second
+-- the command of the engine that has this side in the game of this number; `plan.white` is that of the first engine
 abbrev pub engine_command : GamesPlan → ℕ → Colour → List ℕ
 engine_command plan number side = if same_colour side (first_side number) then plan.white.now else plan.black.now
 
--- the time control of the engine that has this side in the game of this number: that of `--white` has
--- `plan.white_level` in all games, that of `--black` `plan.black_level`
+-- the time control of the engine that has this side in the game of this number
 abbrev pub engine_level : GamesPlan → ℕ → Colour → LevelSeen
-engine_level plan number side =
-    if same_colour side (first_side number) then plan.white_level else plan.black_level
+engine_level plan number side = if same_colour side (first_side number) then plan.white_level else plan.black_level
 
--- what the game of this number begins from: start, patience and draws are the plan's, and each side has the time
--- control of its engine
+-- what the game of this number begins from: each side has the time control of its engine
 abbrev pub setup_of : GamesPlan → ℕ → Setup
 setup_of plan number = record {
   start = plan.start;
@@ -60,14 +56,12 @@ setup_of plan number = record {
   draws = plan.draws;
 }
 
--- an engine's name in the tags: `name`, which the engine gave itself by `myname`, or its command if `name` is empty;
--- cut to its first 60 bytes, with `?` for each that is no printable ASCII (`cut_tag`)
+-- an engine's name in the tags: `name`, which it gave itself by `myname`, or its command if `name` is empty
 abbrev pub player_name : List ℕ → List ℕ → List ℕ
 player_name name command = cut_tag (if length name == 0 then command else name)
 
--- the PGN tags of the game of this number, which ended as `end` says; the tag Site is `?`, as in any game of which
--- nothing is known. `ended` is for the tag Termination. `pgn` adds the tags that depend on the start and the outcome,
--- such as FEN and Result
+-- the PGN tags of the game of this number, which ended as `end` says; `pgn` adds those that depend on the start and the
+-- outcome, such as FEN and Result
 abbrev pub tags_of : GamesPlan → ℕ → MatchEnd → Tags
 tags_of plan number end = record default_tags {
   event = codes "CECP match";
@@ -87,8 +81,7 @@ fault_text NoMemory = codes "no memory"
 fault_text (CanNotStart command) = codes "can not start " ++ command.now
 fault_text (Game number text) = codes "game " ++ decimal number ++ codes ": " ++ text.now
 
--- what is reported of a match with this result: nothing if all went well, and otherwise a line such as
--- `arbiter: game 3: White has no ping`
+-- what is reported of a match with this result: nothing, or a line such as `arbiter: game 3: White has no ping`
 abbrev pub report_of : Result (Unit {0}) GamesFault → List ℕ
 report_of (Ok _) = []
 report_of (Err fault) = codes "arbiter: " ++ fault_text fault ++ new_line ∷ []
@@ -97,15 +90,15 @@ report_of (Err fault) = codes "arbiter: " ++ fault_text fault ++ new_line ∷ []
 
 -- a game that was played
 pub record GameRecord : Type 0 where
-  -- before it was played: the engines' pipes, the coming readings of the clock, and the game in which it will be
-  -- played; of what that game has before, only its limit of half-moves counts
+  -- before it was played: the engines' pipes, the coming readings of the clock, and a game of which only the limit
+  -- counts
   pub before : World
   -- the same after it was played: the game then has this game's start, moves and result
   pub after : World
   -- how it ended
   pub end : MatchEnd
-  -- the events, and the bytes of each block for an engine, even if sending it failed, in order (`notes_of`); the log
-  -- is made from these
+  -- the events, and the bytes of each block for an engine, even if sending it failed (`notes_of`); the log is made from
+  -- them
   pub notes : List Note
   -- which engines were killed, as they had not ended in time after their inputs were closed
   pub killed : ByColour Bool
@@ -114,22 +107,20 @@ pub record GameRecord : Type 0 where
 abbrev pub none_killed : ByColour Bool
 none_killed = record { white = false; black = false }
 
--- `played` is the record of the game of this number, which was played as `setup_of` says, with at most 20,000 half-moves
--- (`MOST_MOVES`): there are acts `H` and a reason why the game ended, by which `before` became `after`; `end` is what is
--- reported of them, and `notes` are their notes. No engine was killed if replies have
--- no limit. Which engines played it is said by the steps of a match (`steps_by` in GamesTable)
+-- `played` is the record of the game of this number, which was played as `setup_of` says, with at most 20,000
+-- half-moves (`MOST_MOVES`), by some acts `H` and for some reason, of which these are the notes. No engine was killed
+-- if replies have no limit. Which engines played it is said by the steps of a match (`steps_by` in GamesTable)
 abbrev pub IsOfPlan : GamesPlan → ℕ → GameRecord → Type 0
 IsOfPlan plan number played = (played.before.game.limit ≡ MOST_MOVES)
     × (plan.patience.reply ≡ None → played.killed ≡ none_killed)
     × ((H : List Act) × (reason : Reason) × (flat_map (notes_of reason) H ≡ played.notes)
     × PlayedBy H reason (setup_of plan number) played.end played.before played.after)
 
--- the PGN of the game `played`, which has this number: its tags, and its moves and result. `[]`: no line has a prefix
+-- the PGN of the game `played`, which has this number. `[]`: no line has a prefix
 abbrev pub game_text : GamesPlan → ℕ → GameRecord → List ℕ
 game_text plan number played = pgn [] (tags_of plan number played.end) played.after.game.state
 
--- the fault is one of starting the engines with the commands `first` and `second`: it says that an engine with one of
--- these commands could not be started, or that there was no memory
+-- the fault is that an engine with one of these commands could not be started, or that there was no memory
 abbrev pub IsStartFault : List ℕ → List ℕ → GamesFault → Type 0
 IsStartFault first second (CanNotStart command) = (command.now ≡ first) ⊎ (command.now ≡ second)
 IsStartFault first second fault = fault ≡ NoMemory
@@ -142,17 +133,20 @@ LogsGame (Some first) l l' notes = Logged l l' (log_from first 0 notes)
 
 -- ---- the games
 
--- each of these games, which are numbered from 1, was played as the plan says (`IsOfPlan`), and no engine had a fault in
--- it
+-- each of these games, which are numbered from 1, was played as the plan says, and no engine had a fault in it
 abbrev pub FaultlessGames : GamesPlan → List GameRecord → Type 0
 FaultlessGames plan games =
     AllByRecursion (λ g. IsOfPlan plan g.0 g.1 × (g.1.end.fault ≡ None)) (enumerate_from 1 games)
 
--- the PGN of these games one after another; they are numbered from 1
-abbrev pub game_texts : GamesPlan → List GameRecord → List ℕ
-game_texts plan games = flat_map (λ g. game_text plan g.0 g.1) (enumerate_from 1 games)
+-- what `f` gives for each of these games and its number, one after another; they are numbered from 1
+abbrev pub game_by_game : {A : Type 0} → (ℕ → GameRecord → List A) → List GameRecord → List A
+game_by_game f games = flat_map (λ g. f g.0 g.1) (enumerate_from 1 games)
 
--- the line that says that the engine of this side was killed after the game of this number, such as
+-- the PGN of these games
+abbrev pub game_texts : GamesPlan → List GameRecord → List ℕ
+game_texts plan games = game_by_game (game_text plan) games
+
+-- the line on the engine of this side that was killed after the game of this number, such as
 -- `arbiter: game 3: White did not exit, and was killed`
 abbrev pub killed_line : ℕ → Colour → List ℕ
 killed_line number side = codes "arbiter: game " ++ decimal number ++ codes ": " ++ colour_name side
@@ -163,72 +157,68 @@ abbrev pub killed_lines : ℕ → ByColour Bool → List ℕ
 killed_lines number killed =
     list_if killed.white (killed_line number White) ++ list_if killed.black (killed_line number Black)
 
--- what is logged of the game `played`, which has this number: its notes, if the plan asks for a log, where in odd games
--- the engine of `--white` has White; and in any case a line for each engine that was killed
+-- what is logged of the game `played`, which has this number: its notes, if the plan asks for a log, and in any case a
+-- line for each engine that was killed
 abbrev pub game_log : GamesPlan → ℕ → GameRecord → List ℕ
 game_log plan number played = list_if plan.log (log_from (first_side number) 0 played.notes)
     ++ killed_lines number played.killed
 
--- from the log's state `l` to `l'` what there is of these games was logged, one after another, though a write of the
--- log may have failed (`Logged`; if there is nothing, the log is as it was). The games are numbered from 1
+-- from the log's state `l` to `l'` what there is of these games was logged, though a write of it may have failed
+-- (`Logged`; if there is nothing, the log is as it was)
 abbrev pub LogsGames : GamesPlan → LogSeen → LogSeen → List GameRecord → Type 0
-LogsGames plan l l' games = Logged l l' (flat_map (λ g. game_log plan g.0 g.1) (enumerate_from 1 games))
+LogsGames plan l l' games = Logged l l' (game_by_game (game_log plan) games)
 
 -- how many of these games, numbered from 1, have the outcome that `wanted` gives for their number
 abbrev pub count_of : (ℕ → Outcome) → List GameRecord → ℕ
 count_of wanted games = count_by (λ g. same_outcome g.1.end.outcome (wanted g.0)) (enumerate_from 1 games)
 
--- the last line that a match of these games writes to the output, such as
--- `score first 1 second 0 drawn 2 unfinished 0`: the wins of each engine, the draws, and the games that are unfinished.
--- The games are numbered from 1: in the odd ones the first engine, that of `--white`, has White
+-- the last line that a match of these games writes to the output, such as `score first 1 second 0 drawn 2 unfinished 0`
 abbrev pub score_line : List GameRecord → List ℕ
-score_line games =
-    codes "score first " ++ decimal (count_of (λ number. win_of (first_side number)) games)
+score_line games = codes "score first " ++ decimal (count_of (λ number. win_of (first_side number)) games)
     ++ codes " second " ++ decimal (count_of (λ number. win_of (other (first_side number))) games)
     ++ codes " drawn " ++ decimal (count_of (λ number. Draw) games)
     ++ codes " unfinished " ++ decimal (count_of (λ number. Unfinished) games) ++ new_line ∷ []
 
--- `games` are all games of a match by this plan: as many as planned, or those up to and including the first in which an
--- engine had a fault. Each was played as the plan says (`IsOfPlan`). The last argument is that fault (the number of the
--- game, the engine's side, the fault), or `None` if no engine had one
+-- `games` are all games of a match by this plan: as many as planned, or those up to the first in which an engine had a
+-- fault. The last argument is that fault (the number of the game, the engine's side, the fault), or `None`
 abbrev pub AreAllGames : GamesPlan → List GameRecord → Option (ℕ × Colour × MatchFault) → Type 0
--- there are as many games as planned; each was played as the plan says, and no engine had a fault in it
+-- all planned games, without a fault
 AreAllGames plan games None = FaultlessGames plan games × (length games ≡ plan.games)
--- in the last game, which has this number, the engine of `side` had this fault; in the games before it no engine had
--- one. Each was played as the plan says, and there are at most as many games as planned
+-- in the last game, which has this number, the engine of `side` had this fault
 AreAllGames plan games (Some (number, side, fault)) =
     (before : List GameRecord) × (last : GameRecord) × (games ≡ before ++ last ∷ []) × FaultlessGames plan before
     × IsOfPlan plan number last × (last.end.fault ≡ Some (side, fault)) × (number ≡ length games) × (number ≤ plan.games)
 
 -- ---- what a match writes
 
--- what playing a match writes to the output (`o`), by its result. `games` are the games whose PGN was written and
--- flushed. `unwritten` is the game after them if it was played and its PGN could not be written, and otherwise `None`.
--- In each case all these games were played as the plan says (`IsOfPlan`)
+-- the PGN of these games was written and flushed, and nothing failed; with no games there was no flush
+abbrev pub games_flushed : GamesPlan → List GameRecord → ToOutput
+games_flushed plan games = all_flushed (nat_lt 0 (length games)) (game_texts plan games)
+
+-- what playing a match writes to the output (`o`), by its result. The PGN of `games` was written and flushed;
+-- `unwritten` is a game that was played after them, if its PGN could not be written. All were played as the plan says
+-- (`IsOfPlan`)
 abbrev pub WritesGames : GamesPlan → Result (Unit {0}) GamesFault → List GameRecord → Option GameRecord → ToOutput
     → Type 0
--- all planned games were played as the plan says and without a fault; their PGN and the score were written and flushed
+-- all planned games were played without a fault; their PGN and the score were written and flushed
 WritesGames plan (Ok _) games None o =
     AreAllGames plan games None × (o ≡ all_of (game_texts plan games ++ score_line games))
--- in the last game, which has this number, an engine had the fault that `text` names. All games up to it were played as
--- the plan says, those before it without a fault; the PGN of all and the score were written and flushed
+-- in the last game, which has this number, an engine had the fault that `text` names; the rest is as above
 WritesGames plan (Err (Game number text)) games None o = (side : Colour) × (fault : MatchFault)
     × AreAllGames plan games (Some (number, side, fault)) × (text.now ≡ comment_of (Faulted side fault))
     × (o ≡ all_of (game_texts plan games ++ score_line games))
--- a write or flush failed in the PGN of `unwritten`: a beginning of it, maybe nothing or all, was written. All these
--- games were played as the plan says, those of `games` without a fault; in `unwritten` an engine may have had one. No
--- score was written
+-- a write or flush failed in the PGN of `unwritten`: a beginning of it, maybe nothing or all, was written. In `games`
+-- there was no fault
 WritesGames plan (Err WriteFailed) games (Some unwritten) o =
     FaultlessGames plan games × (length games < plan.games) × IsOfPlan plan (length games + 1) unwritten
-    × BreaksOffIn (all_for games (game_texts plan games)) (game_text plan (length games + 1) unwritten) o
--- all games of the match were played as the plan says, and their PGN was written and flushed; then a write or flush
--- failed in the score. In the last game an engine may have had a fault (`fault`; `None` if it had none)
+    × BreaksOffIn (games_flushed plan games) (game_text plan (length games + 1) unwritten) o
+-- a write or flush failed in the score, after all games, the last of which may have a fault
 WritesGames plan (Err WriteFailed) games None o = (fault : Option (ℕ × Colour × MatchFault))
-    × AreAllGames plan games fault × BreaksOffIn (all_for games (game_texts plan games)) (score_line games) o
--- `CanNotStart` or `NoMemory`: the engines of the game after `games` could not be started. `games` are fewer than
--- planned, and were played as the plan says and without a fault; their PGN was written and flushed, but no score
+    × AreAllGames plan games fault × BreaksOffIn (games_flushed plan games) (score_line games) o
+-- `CanNotStart` or `NoMemory`: the engines of the game after `games`, in which there was no fault, could not be
+-- started; no score was written
 WritesGames plan (Err fault) games None o = FaultlessGames plan games × (length games < plan.games)
-    × IsStartFault plan.white.now plan.black.now fault × (o ≡ all_for games (game_texts plan games))
+    × IsStartFault plan.white.now plan.black.now fault × (o ≡ games_flushed plan games)
 -- no other result comes with a game that was played and could not be written
 WritesGames plan _ games (Some unwritten) o = ⊥
 

@@ -1,6 +1,5 @@
 -- What passes at the host of a match and at the table of its games, step by step.
 use Rattle.std.specs.Prelude.{◌≡◌, ⊤, ◌⊎◌, ℕ, ◌+◌, Bool, if◌then◌else◌, List, [], ◌∷◌, ◌++◌, length, flat_map, Option, None, Some, Result, Ok, Err}
-use Rattle.std.specs.List.{enumerate_from}
 use Rattle.std.specs.Option.{option_to_list}
 use Rattle.chess_base.specs.declared.man.Colour.{Colour}
 use Rattle.chess_base.specs.declared.man.Colour.TheVariants.{White, Black}
@@ -10,22 +9,22 @@ use Rattle.match_runner.specs.declared.fault.GamesFault.TheVariants.{NoMemory, C
 use Rattle.match_runner.specs.declared.plan.GamesPlan.{GamesPlan}
 use Rattle.byte_devices.specs.Devices.{OutputState}
 use Rattle.byte_devices.specs.Transfers.{Devices, ToOutput, OutputTook}
-use Rattle.match_runner.specs.Games.{GameRecord, LogsGames, WritesGames, engine_command, game_text, none_killed}
+use Rattle.match_runner.specs.Games.{GameRecord, LogsGames, WritesGames, engine_command, game_by_game, game_text, none_killed}
 use Rattle.match_runner.specs.Log.{LogSeen}
 
 -- ---- one call
 
 -- one step of a host: one call of a method of the trait `Host`. A host starts and ends engines, and has the clock
 pub data HostStep : Type 0 where
-  -- a clock was opened, which will show these moments: `coming n` is the one of reading n, as far as it is known
+  -- a clock was opened; `coming n` is the moment of its reading n, as far as it is known
   OpensClock : (coming : ℕ → Option ℕ) → HostStep
-  -- the engines with these commands, White's and Black's, were started, and `engines` are their pipes. If there is a
-  -- limit, a write to them waits for at most so many milliseconds
+  -- the engines with these commands, White's and Black's, were started, and `engines` are their pipes. A write to them
+  -- waits for at most so many milliseconds, if there is a limit
   Starts : (white : List ℕ) → (black : List ℕ) → (limit : Option ℕ) → (engines : Colour → Devices) → HostStep
-  -- one of them could not be started, for this reason, and neither runs
+  -- one of them could not be started, and neither runs
   StartFails : (white : List ℕ) → (black : List ℕ) → (limit : Option ℕ) → (fault : GamesFault) → HostStep
-  -- the inputs of the engines with these pipes were closed, and their ends were waited for. If there is a limit, those
-  -- that had not ended after so many milliseconds were killed
+  -- the inputs of the engines with these pipes were closed, and their ends were waited for. Those that had not ended
+  -- after so many milliseconds were killed, if there is a limit
   Finishes : (engines : Colour → Devices) → (limit : Option ℕ) → (killed : ByColour Bool) → HostStep
 
 -- the step of starting the engines with these commands, by its result; `engines` gives the pipes of two engines
@@ -34,8 +33,7 @@ abbrev pub starting : {E : Type 0} → (E → Colour → Devices) → List ℕ �
 starting engines white black limit (Ok started) = Starts white black limit (engines started)
 starting engines white black limit (Err fault) = StartFails white black limit fault
 
--- one step of playing a match's games: one call of a method of the trait `GamesTable`. A table starts and ends engines,
--- as a host does, and plays and writes their games
+-- one step of playing a match's games: one call of a method of the trait `GamesTable`
 pub data GamesStep : Type 0 where
   -- a step of the host
   AtHost : (step : HostStep) → GamesStep
@@ -73,16 +71,15 @@ anything steps = ⊤
 abbrev pub GamesFuture : Type 1
 GamesFuture = List GamesStep → Type 0
 
--- from the state `old` of a host or a table to `new` these steps passed, in this order: whatever steps may come from
--- `new` on, these steps and then those might come from `old` on
+-- from the state `old` of a host or a table to `new` these steps passed: whatever may come from `new` on, might come
+-- after them from `old` on
 pub record StepsPass {S : Type 0} (old new : List S → Type 0) (steps : List S) : Type 0 where
   pub extends : (after : List S) → new after → old (steps ++ after)
 
 -- ---- the steps of a match
 
--- the steps of the game `played`, which has this number; `write` is that of writing its text. Its engines are started,
--- it is played, its PGN is written, and then its engines are waited for. The plan's limit for replies is also that of
--- writes, and of waiting for the engines' ends
+-- the steps of the game `played`, which has this number; `write` is that of writing its text. The plan's limit for
+-- replies is also that of writes, and of waiting for the engines' ends
 abbrev pub steps_by : (List ℕ → GamesStep) → GamesPlan → ℕ → GameRecord → List GamesStep
 steps_by write plan number played =
     AtHost (Starts (engine_command plan number White) (engine_command plan number Black) plan.patience.reply
@@ -96,12 +93,12 @@ unstarted_steps plan number fault =
     AtHost (StartFails (engine_command plan number White) (engine_command plan number Black) plan.patience.reply fault)
     ∷ []
 
--- the steps of these games, one game after another, each of which was written and flushed; they are numbered from 1
+-- the steps of these games, each of which was written and flushed
 abbrev pub games_steps : GamesPlan → List GameRecord → List GamesStep
-games_steps plan games = flat_map (λ g. steps_by Writes plan g.0 g.1) (enumerate_from 1 games)
+games_steps plan games = game_by_game (steps_by Writes plan) games
 
--- the steps after the steps of all games that were written, by a match's result. `number` is the number of the next
--- game. Writing the score is no step at the table
+-- the steps after those of all games that were written, by a match's result. `number` is that of the next game. Writing
+-- the score is no step at the table
 abbrev pub last_steps : GamesPlan → ℕ → Result (Unit {0}) GamesFault → Option GameRecord → List GamesStep
 -- the next game was played, but its PGN could not be written
 last_steps plan number result (Some unwritten) = steps_by WriteFails plan number unwritten
@@ -111,9 +108,8 @@ last_steps plan number (Err (CanNotStart command)) None = unstarted_steps plan n
 -- any other result: no next game was begun
 last_steps plan number _ None = []
 
--- the pipes of an engine that was just started, by what they count: no read, write or flush failed, no end and no
--- silence came, and nothing is unflushed. That nothing was read or sent yet is said only of engines in memory
--- (`fresh_pipes`)
+-- the pipes of an engine that was just started, by what they count. That nothing was read or sent yet is said only of
+-- engines in memory (`fresh_pipes`)
 pub record AreFresh (pipes : Devices) : Type 0 where
   pub reads : pipes.input.failure_count ≡ 0
   pub ends : pipes.input.end_count ≡ 0
@@ -125,8 +121,8 @@ pub record AreFresh (pipes : Devices) : Type 0 where
 abbrev pub BeginsAt : (ℕ → Option ℕ) → GameRecord → Type 0
 BeginsAt coming played = ((S : Colour) → AreFresh (played.before.engines S)) × (played.before.coming ≡ coming)
 
--- these games came one after another, each with engines of its own, and all with one clock, which would show the moments
--- `coming` before the first: each began where the one before it left the clock
+-- these games came one after another, each with engines of its own, and all with one clock, which would show the
+-- moments `coming` before the first
 abbrev pub ComeInTurn : (ℕ → Option ℕ) → List GameRecord → Type 0
 ComeInTurn coming [] = ⊤
 ComeInTurn coming (played ∷ games) = BeginsAt coming played × ComeInTurn played.after.coming games
@@ -138,15 +134,12 @@ pub record Outputs : Type 0 where
   pub output : OutputState
   pub log : LogSeen
 
--- what playing a match does, by its result. Games were played, maybe none. The PGN of `games` was written; `unwritten`
--- was played after them, but its PGN could not be written (`None`: there is no such game). The output was written to as
--- `WritesGames` says, and all these games were logged, `unwritten` too, as `LogsGames` says. Each came in its turn by a
--- clock that would show the moments `coming`. Just their steps passed, and after them those of `last_steps`: `passes` is
--- the claim that these steps passed. `d` and `d'` are the output and the log before and after
+-- what playing a match does, by its result, to its output and its log, from `d` to `d'`. `games` were written, maybe
+-- none; `unwritten` was played after them, if there is one, and logged too. All came in turn by a clock that would show
+-- the moments `coming`. `passes` is the claim that just these steps passed
 abbrev pub PlaysBy : GamesPlan → Result (Unit {0}) GamesFault → (ℕ → Option ℕ) → (List GamesStep → Type 0) → Outputs
     → Outputs → Type 0
-PlaysBy plan result coming passes d d' =
-    (games : List GameRecord) × (unwritten : Option GameRecord)
+PlaysBy plan result coming passes d d' = (games : List GameRecord) × (unwritten : Option GameRecord)
     × ((o : ToOutput) × WritesGames plan result games unwritten o × OutputTook d.output d'.output o
     × LogsGames plan d.log d'.log (games ++ option_to_list unwritten))
     × ComeInTurn coming (games ++ option_to_list unwritten)
@@ -159,7 +152,7 @@ abbrev pub PlaysGamesAt : GamesPlan → Result (Unit {0}) GamesFault → (ℕ �
 PlaysGamesAt plan result coming p p' d d' = PlaysBy plan result coming (StepsPass p p') d d'
 
 -- what playing a match with a host does, where just these steps passed: a clock was opened, and then came the host's
--- steps of the match. Or memory ran out before, and no step passed, and nothing was written or logged
+-- steps of the match. Or memory ran out before, and nothing was done
 abbrev pub PlaysGamesWith : GamesPlan → Result (Unit {0}) GamesFault → List HostStep → Outputs → Outputs → Type 0
 PlaysGamesWith plan result steps d d' =
     ((c : ℕ → Option ℕ) × PlaysBy plan result c (λ at_table. steps ≡ OpensClock c ∷ at_host at_table) d d')

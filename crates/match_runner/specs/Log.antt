@@ -1,28 +1,27 @@
 -- What a log of a match holds: a line for each line that an engine sends or is sent, as XBoard's debug file has them,
 -- and one for each line that had not come or is too long, each end of an engine's output, and each failure to read or
 -- write.
-use Rattle.std.specs.Prelude.{◌≡◌, ℕ, ◌==◌, if◌then◌else◌, List, [], ◌∷◌, ◌++◌, flat_map, map, codes, decimal, Bool, true, false, Some, None}
+use Rattle.std.specs.Prelude.{◌≡◌, ℕ, ◌==◌, nat_lt, if◌then◌else◌, List, [], ◌∷◌, ◌++◌, length, flat_map, map, codes, decimal, Bool, true, false, Some, None}
 use Rattle.std.specs.List.{onto_first}
 use Rattle.byte_devices.specs.Bytes.{byte, new_line, shown_byte}
 use Rattle.chess_base.specs.declared.man.Colour.{Colour}
 use Rattle.chess_base.specs.Men.{same_colour}
 use Rattle.byte_devices.specs.Devices.{OutputState, Begins}
-use Rattle.byte_devices.specs.Transfers.{ToOutput, OutputTook, all_for}
+use Rattle.byte_devices.specs.Transfers.{ToOutput, OutputTook, all_flushed}
 use Rattle.chess_match.specs.Events.{Line, Opened, Silent, OutputEnds, FailsToRead, FailsToWrite}
 use Rattle.chess_match.specs.Notes.{Note, Happened, Gives}
 use Rattle.match_runner.specs.declared.log.Log.{Log}
 
 -- ---- one line
 
--- a line of a log as it is written, such as `312 <first : move e2e4`, with `\n` at its end: a moment, which is a
--- reading of the clock in milliseconds, or 0 if it was not yet read; a mark; the engine; and a text. The mark is the
--- byte `<` if the engine sent the text; `>` if it was sent the text, even if sending it failed; `!` if the text says
--- what happened. The engine has the side `side`. It is called `first` if it is that of `--white`, which has the side
--- given as `first`, and otherwise `second`. In the text, `?` stands for each byte that is no printable ASCII
-abbrev pub log_line : Colour → ℕ → ℕ → Colour → List ℕ → List ℕ
-log_line first moment mark side text =
-    decimal moment ++ (byte " " ∷ mark ∷ []) ++ (if same_colour side first then codes "first : " else codes "second: ")
-    ++ map shown_byte text ++ new_line ∷ []
+-- how a log names the engine of the side `side`: that of `--white`, which has the side `first_side`, is the first
+abbrev pub engine_name : Colour → Colour → List ℕ
+engine_name first_side side = if same_colour side first_side then codes "first : " else codes "second: "
+
+-- a line of a log, such as `312 <first : move e2e4`: a moment in milliseconds; a mark, `<` if the engine sent the text,
+-- `>` if it was sent it (even if that failed), `!` if the text says what happened; the engine's name, and the text
+abbrev pub log_line : ℕ → ℕ → List ℕ → List ℕ → List ℕ
+log_line now mark engine text = decimal now ++ (byte " " ∷ mark ∷ []) ++ engine ++ map shown_byte text ++ new_line ∷ []
 
 -- ---- the lines of notes
 
@@ -31,40 +30,37 @@ abbrev pub lines_in : List ℕ → List (List ℕ)
 lines_in [] = []
 lines_in (b ∷ bs) = if b == new_line then [] ∷ lines_in bs else onto_first b (lines_in bs)
 
--- what the log has for a note: one line, but for `Gives` one for each line that the engine is sent, and for `Opened`
--- none, as a `Gives` has the lines that open the turn. The line of a `Line` or a `Silent` has its own moment, `now`;
--- the others have `moment`, the clock's reading at the last `Line`, `Silent` or `Opened` before this note, or 0 if
--- there was none. `first` is the side of the engine of `--white`
-abbrev pub note_text : Colour → ℕ → Note → List ℕ
-note_text first moment (Happened (Line c (Some text) now)) = log_line first now (byte "<") c text
-note_text first moment (Happened (Line c None now)) = log_line first now (byte "!") c (codes "line too long")
-note_text first moment (Happened (Opened c now)) = []
-note_text first moment (Happened (Silent c now)) = log_line first now (byte "!") c (codes "no line")
-note_text first moment (Happened (OutputEnds c)) = log_line first moment (byte "!") c (codes "output ended")
-note_text first moment (Happened (FailsToRead c)) = log_line first moment (byte "!") c (codes "read failed")
-note_text first moment (Happened (FailsToWrite c)) = log_line first moment (byte "!") c (codes "write failed")
-note_text first moment (Gives c bytes) = flat_map (log_line first moment (byte ">") c) (lines_in bytes)
+-- what the log has for a note: one line, but for `Gives` one for each line that the engine is sent, and so for `Opened`
+-- none. `engine` gives the name of each side's engine. `moment` is the clock's reading at the last `Line`, `Silent` or
+-- `Opened` before this note, or 0 before any
+abbrev pub note_text : (Colour → List ℕ) → ℕ → Note → List ℕ
+note_text engine moment (Happened (Line c (Some text) now)) = log_line now (byte "<") (engine c) text
+note_text engine moment (Happened (Line c None now)) = log_line now (byte "!") (engine c) (codes "line too long")
+note_text engine moment (Happened (Opened c now)) = []
+note_text engine moment (Happened (Silent c now)) = log_line now (byte "!") (engine c) (codes "no line")
+note_text engine moment (Happened (OutputEnds c)) = log_line moment (byte "!") (engine c) (codes "output ended")
+note_text engine moment (Happened (FailsToRead c)) = log_line moment (byte "!") (engine c) (codes "read failed")
+note_text engine moment (Happened (FailsToWrite c)) = log_line moment (byte "!") (engine c) (codes "write failed")
+note_text engine moment (Gives c bytes) = flat_map (log_line moment (byte ">") (engine c)) (lines_in bytes)
 
--- the clock's reading at the last `Line`, `Silent` or `Opened` up to this note: its own (`now`) if it is one of these,
--- and otherwise that of the last one before it (`moment`)
+-- the clock's reading at the last `Line`, `Silent` or `Opened` up to this note; `moment` is that before it
 abbrev pub moment_after : ℕ → Note → ℕ
 moment_after moment (Happened (Line c text now)) = now
 moment_after moment (Happened (Opened c now)) = now
 moment_after moment (Happened (Silent c now)) = now
 moment_after moment _ = moment
 
--- what the log has for these notes, one after another. `first` is the side of the engine of `--white`; `moment` is the
--- clock's reading at the last `Line`, `Silent` or `Opened` before these notes, or 0 if there was none. With 0 and all
--- notes of a game it is the whole log of the game: the clock is first read in it after engines were sent their first
--- lines
+-- what the log has for these notes, one after another, in a game in which the first engine has the side `first_side`.
+-- `moment` is as for the first of the notes. With 0 and all notes of a game it is the whole log of the game
 abbrev pub log_from : Colour → ℕ → List Note → List ℕ
-log_from first moment [] = []
-log_from first moment (n ∷ notes) = note_text first moment n ++ log_from first (moment_after moment n) notes
+log_from first_side moment [] = []
+log_from first_side moment (n ∷ notes) =
+    note_text (engine_name first_side) moment n ++ log_from first_side (moment_after moment n) notes
 
 -- ---- the output
 
--- what contracts see of a log: the output that it writes to, and whether it is `broken`, as a write or flush failed. A
--- broken log writes nothing more
+-- what contracts see of a log: the output that it writes to, and whether it is `broken`: after a write or flush that
+-- failed it writes nothing more
 pub record LogSeen : Type 0 where
   pub output : OutputState
   pub broken : Bool
@@ -73,15 +69,14 @@ pub record LogSeen : Type 0 where
 abbrev pub log_seen : OutputState → Bool → LogSeen
 log_seen o broken = record { output = o; broken = broken }
 
--- what logging a text writes to the output (`o`), by whether the log is then broken. If it is not (false), all of the
--- text was written and flushed; for an empty text nothing was done. If it is (true), a beginning of the text, maybe
--- nothing or all, was written, some of which may be flushed, and then a write or flush failed
+-- what logging a text writes to the output (`o`), by whether the log is then broken: all of the text, flushed, or
+-- nothing for an empty text; or a beginning of it, maybe nothing or all, partly flushed, before a write or flush failed
 abbrev pub LogsText : Bool → List ℕ → ToOutput → Type 0
-LogsText false text o = o ≡ all_for text text
+LogsText false text o = o ≡ all_flushed (nat_lt 0 (length text)) text
 LogsText true text o = Begins (o.flushed ++ o.left) text × (o.failed ≡ true)
 
 -- from its state `l` to `l'` a log was given this text to write. A log that is broken in `l` stays as it is, and so
--- does one that is given no text; any other writes and flushes all of the text, or breaks while it does so (`LogsText`)
+-- does one that is given no text; any other writes the text, or breaks while it does so (`LogsText`)
 abbrev pub Logged : LogSeen → LogSeen → List ℕ → Type 0
 Logged l l' text = (l.broken ≡ true → l' ≡ l) × (text ≡ [] → l' ≡ l)
     × (l.broken ≡ false → (o : ToOutput) × OutputTook l.output l'.output o × LogsText l'.broken text o)
@@ -91,5 +86,5 @@ Logged l l' text = (l.broken ≡ true → l' ≡ l) × (text ≡ [] → l' ≡ l
 abbrev pub LogsNote : {E : Type 0} → (E → OutputState) → Log E → Log E → Note → Type 0
 LogsNote seen l l' note =
     Logged (log_seen (seen l.output) l.broken) (log_seen (seen l'.output) l'.broken)
-    (note_text l.first l.moment note)
+    (note_text (engine_name l.first) l.moment note)
     × (l'.first ≡ l.first) × (l'.moment ≡ moment_after l.moment note)

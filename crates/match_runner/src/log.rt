@@ -12,7 +12,7 @@ ghost use Rattle.chess_match.specs.Run.{engines_of};
 ghost use Rattle.chess_match.specs.Seen.{note_seen};
 ghost use Rattle.match_runner.specs.Games.{fault_text, killed_line, killed_lines, report_of};
 ghost use Rattle.match_runner.specs.Log.{Logged, LogsNote};
-ghost use Rattle.match_runner.specs.Log.{lines_in, log_line, log_seen, log_from};
+ghost use Rattle.match_runner.specs.Log.{engine_name, lines_in, log_line, log_seen, log_from};
 ghost use Rattle.match_runner.specs.ties.Logging.{Adds, IsLog, engine_text, line_head, noted_by};
 
 use crate::fault::GamesFault;
@@ -315,7 +315,7 @@ impl<E: Output> Log<E> {
     fn add_line(&mut self, side: Colour, mark: u8, text: &[u8])
         ensures logged { Logged (log_seen (E.seen self.old.output) self.old.broken)
             (log_seen (E.seen self.new.output) self.new.broken)
-            (log_line self.old.first self.old.moment mark side text.now) }
+            (log_line self.old.moment mark (engine_name self.old.first side) text.now) }
         ensures first { self.new.first ≡ self.old.first }
         ensures moment { self.new.moment ≡ self.old.moment }
     {

@@ -1,20 +1,12 @@
 -- The lines of a log are read back from its text.
-use Rattle.std.proofs.Common.{◌≡◌, ◌∙◌, ℕ, Bool, true, false, List, [], ◌∷◌, ◌++◌, map, refl, sym, ap, append_assoc, append-nil, Some, None, arith, rules}
-use Rattle.std.specs.Prelude.{◌==◌, codes, decimal, flat_map, if◌then◌else◌}
-use Rattle.std.proofs.lemmas.Bool.{and_parts}
-use Rattle.std.proofs.lemmas.Bool.Decides.{nat_tests}
-use Rattle.std.specs.Str.Parse.{digits_value}
-use Rattle.std.specs.List.{AllByRecursion, list_all}
-use Rattle.std.proofs.lemmas.List.{append_cancel_left}
-use Rattle.std.proofs.lemmas.List.Concat.{flat_map-append}
-use Rattle.std.proofs.lemmas.Fmt.{decimal_injective, digits_decimal}
-use Rattle.std.proofs.lemmas.Str.Parse.{IsNumeralModel, numerals_by_value}
+use Rattle.std.proofs.Common.{◌≡◌, ◌∙◌, ℕ, Bool, true, false, List, [], ◌∷◌, ◌++◌, map, refl, sym, ap, append_assoc, append-nil, Some, None, arith, rules, ◌==◌, codes, decimal, flat_map, if◌then◌else◌}
+use Rattle.std.proofs.{lemmas.Bool.and_parts, lemmas.Bool.Decides.nat_tests, lemmas.List.append_cancel_left, lemmas.List.Concat.flat_map-append, lemmas.Fmt.decimal_injective, lemmas.Fmt.digits_decimal, lemmas.Str.Parse.IsNumeralModel, lemmas.Str.Parse.numerals_by_value}
+use Rattle.std.specs.{Str.Parse.digits_value, List.AllByRecursion, List.list_all}
 use Rattle.byte_devices.specs.Bytes.{byte, is_digit, new_line, shown_byte}
-use Rattle.chess_base.specs.Men.{same_colour}
-use Rattle.chess_base.specs.declared.man.Colour.{Colour}
+use Rattle.chess_base.specs.{Men.same_colour, declared.man.Colour.Colour}
 use Rattle.chess_match.specs.Events.{Line, Opened, Silent, OutputEnds, FailsToRead, FailsToWrite}
 use Rattle.chess_match.specs.Notes.{Note, Happened, Gives}
-use Rattle.match_runner.specs.Log.{lines_in, log_from, log_line, moment_after, note_text}
+use Rattle.match_runner.specs.Log.{engine_name, lines_in, log_from, log_line, moment_after, note_text}
 use Rattle.match_runner_laws.specs.Entries.{Entry, IsShown, LogsHaveOneReading, entries_from, entries_text, is_printable, note_entries}
 
 -- how the log names an engine: that of `--white` (`is_first`) is `first`
@@ -63,7 +55,7 @@ shown_text (c ∷ cs) h =
 
 -- a line and what follows, from left to right
 spread : (first : Colour) (moment mark : ℕ) (side : Colour) (text shows rest : List ℕ) → map shown_byte text ≡ shows
-    → log_line first moment mark side text ++ rest
+    → log_line moment mark (engine_name first side) text ++ rest
     ≡ decimal moment ++ 32 ∷ mark ∷ (engine_text (same_colour side first) ++ (shows ++ new_line ∷ rest))
 spread first moment mark side text shows rest e =
     let number : List ℕ = decimal moment in
@@ -99,7 +91,8 @@ entry_is m n k l a b t u e f g h =
     ap (λ v. entry v k a t) e ∙ ap (λ v. entry n v a t) f ∙ ap (λ v. entry n l v t) g ∙ ap (λ v. entry n l b v) h
 
 line_cut : (first : Colour) (e f : Entry) (xs ys : List ℕ) → IsShown e → IsShown f
-    → log_line first e.moment e.mark e.side e.text ++ xs ≡ log_line first f.moment f.mark f.side f.text ++ ys
+    → log_line e.moment e.mark (engine_name first e.side) e.text ++ xs
+    ≡ log_line f.moment f.mark (engine_name first f.side) f.text ++ ys
     → (e ≡ f) × (xs ≡ ys)
 line_cut first e f xs ys (small, plain) (small', plain') same =
     let s = shown_text e.text plain in
@@ -123,7 +116,7 @@ never_empty [] y ys e = cc
 never_empty (x ∷ xs) y ys e = cc
 
 not_empty : (first : Colour) (e : Entry) (rest : List ℕ) → IsShown e
-    → log_line first e.moment e.mark e.side e.text ++ rest ≡ [] → ⊥
+    → log_line e.moment e.mark (engine_name first e.side) e.text ++ rest ≡ [] → ⊥
 not_empty first e rest (small, plain) h =
     never_empty (decimal e.moment) _ _
     (sym (spread first e.moment e.mark e.side e.text e.text rest (shown_text e.text plain).0) ∙ h)
@@ -140,25 +133,27 @@ logs_have_one_reading first (x ∷ xs) (y ∷ ys) (s, h) (t, k) e =
 -- ---- the lines of notes
 
 sent_are : (first : Colour) (moment : ℕ) (c : Colour) (texts : List (List ℕ))
-    → flat_map (log_line first moment (byte ">") c) texts
+    → flat_map (log_line moment (byte ">") (engine_name first c)) texts
     ≡ entries_text first (map (λ text. record { moment = moment; mark = byte ">"; side = c; text = text }) texts)
 sent_are first moment c [] = refl
 sent_are first moment c (t ∷ ts) =
-    ap (λ (l : List ℕ). log_line first moment (byte ">") c t ++ l) (sent_are first moment c ts)
+    ap (λ (l : List ℕ). log_line moment (byte ">") (engine_name first c) t ++ l) (sent_are first moment c ts)
 
 note_is : (first : Colour) (moment : ℕ) (n : Note)
-    → note_text first moment n ≡ entries_text first (note_entries moment n)
-note_is first moment (Happened (Line c (Some text) now)) = sym (append-nil (log_line first now (byte "<") c text))
+    → note_text (engine_name first) moment n ≡ entries_text first (note_entries moment n)
+note_is first moment (Happened (Line c (Some text) now)) =
+    sym (append-nil (log_line now (byte "<") (engine_name first c) text))
 note_is first moment (Happened (Line c None now)) =
-    sym (append-nil (log_line first now (byte "!") c (codes "line too long")))
+    sym (append-nil (log_line now (byte "!") (engine_name first c) (codes "line too long")))
 note_is first moment (Happened (Opened c now)) = refl
-note_is first moment (Happened (Silent c now)) = sym (append-nil (log_line first now (byte "!") c (codes "no line")))
+note_is first moment (Happened (Silent c now)) =
+    sym (append-nil (log_line now (byte "!") (engine_name first c) (codes "no line")))
 note_is first moment (Happened (OutputEnds c)) =
-    sym (append-nil (log_line first moment (byte "!") c (codes "output ended")))
+    sym (append-nil (log_line moment (byte "!") (engine_name first c) (codes "output ended")))
 note_is first moment (Happened (FailsToRead c)) =
-    sym (append-nil (log_line first moment (byte "!") c (codes "read failed")))
+    sym (append-nil (log_line moment (byte "!") (engine_name first c) (codes "read failed")))
 note_is first moment (Happened (FailsToWrite c)) =
-    sym (append-nil (log_line first moment (byte "!") c (codes "write failed")))
+    sym (append-nil (log_line moment (byte "!") (engine_name first c) (codes "write failed")))
 note_is first moment (Gives c bytes) = sent_are first moment c (lines_in bytes)
 
 -- a log is the text of its lines
@@ -169,5 +164,5 @@ log_is first moment (n ∷ notes) =
     ap (λ (l : List ℕ). l ++ log_from first (moment_after moment n) notes) (note_is first moment n)
     ∙ ap (λ (l : List ℕ). entries_text first (note_entries moment n) ++ l)
     (log_is first (moment_after moment n) notes)
-    ∙ sym (flat_map-append (λ (e : Entry). log_line first e.moment e.mark e.side e.text) (note_entries moment n)
-    (entries_from (moment_after moment n) notes))
+    ∙ sym (flat_map-append (λ (e : Entry). log_line e.moment e.mark (engine_name first e.side) e.text)
+    (note_entries moment n) (entries_from (moment_after moment n) notes))

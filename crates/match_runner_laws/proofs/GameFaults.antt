@@ -1,26 +1,12 @@
 -- Which games of a match have a fault.
 use Rattle.std.specs.List.{AllByRecursion, enumerate_from}
-use Rattle.std.proofs.Common.{◌≡◌, ◌∙◌, ◌<◌, ◌+◌, ℕ, Bool, true, false, List, [], ◌∷◌, length, Some, None, refl, ap, sym, arith, cond}
-use Rattle.std.specs.Prelude.{nat_lt, option_map}
+use Rattle.std.proofs.Common.{◌≡◌, ◌∙◌, ◌<◌, ◌+◌, ℕ, Bool, true, false, List, [], ◌∷◌, length, Some, None, refl, ap, sym, arith, cond, nat_lt, option_map}
 use Rattle.std.proofs.lemmas.Bool.Decides.{nat_tests}
-use Rattle.byte_devices.specs.Devices.{OutputState}
-use Rattle.byte_devices.specs.Transfers.{ToOutput, OutputTook}
+use Rattle.byte_devices.specs.{Devices.OutputState, Transfers.ToOutput, Transfers.OutputTook}
 use Rattle.byte_devices.proofs.shared.Transfers.{saturating_increment_if}
-use Rattle.chess_base.specs.declared.man.Colour.{Colour}
-use Rattle.chess_base.specs.declared.man.Colour.TheVariants.{White, Black}
-use Rattle.chess_match.specs.laws.Laws.{broken_blocks, is_broken, lines_sent}
-use Rattle.chess_match.specs.Lines.{SentLine}
-use Rattle.chess_match.specs.Notes.{Note}
-use Rattle.chess_match.specs.Played.{PlayedNoting, WasSent, World}
-use Rattle.chess_match.specs.Reasons.{reported_fault}
-use Rattle.chess_match.specs.declared.reason.MatchFault.{MatchFault}
-use Rattle.chess_match.specs.declared.reason.MatchFault.TheVariants.{Write}
-use Rattle.chess_match.specs.declared.reason.Reason.{Reason}
-use Rattle.chess_match.specs.declared.reason.Reason.TheVariants.{Faulted}
-use Rattle.chess_match.specs.declared.run.MatchEnd.{MatchEnd}
-use Rattle.chess_match.specs.declared.run.Setup.{Setup}
-use Rattle.match_runner.specs.Games.{GameRecord, IsOfPlan}
-use Rattle.match_runner.specs.declared.plan.GamesPlan.{GamesPlan}
+use Rattle.chess_base.specs.{declared.man.Colour.Colour, declared.man.Colour.TheVariants.White, declared.man.Colour.TheVariants.Black}
+use Rattle.chess_match.specs.{laws.Laws.broken_blocks, laws.Laws.is_broken, laws.Laws.lines_sent, Lines.SentLine, Notes.Note, Played.PlayedNoting, Played.WasSent, Played.World, Reasons.reported_fault, declared.reason.MatchFault.MatchFault, declared.reason.MatchFault.TheVariants.Write, declared.reason.Reason.Reason, declared.reason.Reason.TheVariants.Faulted, declared.run.MatchEnd.MatchEnd, declared.run.Setup.Setup}
+use Rattle.match_runner.specs.{Games.GameRecord, Games.IsOfPlan, declared.plan.GamesPlan.GamesPlan}
 use Rattle.match_runner_laws.specs.Faults.{KeepsFailureCounts, OnlyLastGamesHaveFailedWrites}
 
 -- ---- a match without a fault

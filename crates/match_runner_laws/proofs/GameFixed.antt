@@ -1,24 +1,15 @@
 -- A game is fixed by what its engines say and its clock shows, if nothing fails at its engines' pipes.
-use Rattle.std.proofs.Common.{◌≡◌, ◌≢◌, ◌∙◌, ◌+◌, ℕ, Bool, true, false, List, [], ◌∷◌, ◌++◌, length, Option, None, Some, refl, sym, ap, subst, append_assoc, append-nil, arith}
-use Rattle.std.specs.Prelude.{if◌then◌else◌, is_some, map, nat_eq, nat_lt, slice_get}
-use Rattle.std.specs.Option.{IfSome}
+use Rattle.std.proofs.Common.{◌≡◌, ◌≢◌, ◌∙◌, ◌+◌, ℕ, Bool, true, false, List, [], ◌∷◌, ◌++◌, length, Option, None, Some, refl, sym, ap, subst, append_assoc, append-nil, arith, IfSome, if◌then◌else◌, is_some, map, nat_eq, nat_lt, slice_get}
 use Rattle.std.specs.Io.KnownBytes.{Appends, Consumes, IsAtEnd}
 use Rattle.std.proofs.lemmas.List.{map-append}
 use Rattle.chess_base.specs.declared.man.Colour.{Colour}
-use Rattle.byte_devices.specs.Devices.{saturating_increment}
-use Rattle.byte_devices.specs.Transfers.{FromInput, ToOutput, all_for}
+use Rattle.byte_devices.specs.{Devices.saturating_increment, Transfers.FromInput, Transfers.ToOutput}
+use Rattle.byte_devices.proofs.shared.Transfers.{all_for}
 use Rattle.text_lines.specs.Lines.{LineSeen, line_of, lines_from}
 use Rattle.text_lines.proofs.shared.LineSteps.{byte_step, none_from, ten_step}
-use Rattle.chess_match.specs.Acts.{Act}
-use Rattle.chess_match.specs.Effects.{Match}
-use Rattle.chess_match.specs.Lines.{SentLine, bytes_of}
-use Rattle.chess_match.specs.Played.{Passed, WasSent, World}
-use Rattle.chess_match.specs.Rules.{Rules}
-use Rattle.chess_match.specs.Run.{engine_lines, text_read}
-use Rattle.chess_match.specs.declared.run.TheConstants.{ENGINE_LINE_LEN}
-use Rattle.chess_match_laws.specs.Streams.{Streams}
+use Rattle.chess_match.specs.{Acts.Act, Effects.Match, Lines.SentLine, Lines.bytes_of, Played.Passed, Played.WasSent, Played.World, Rules.Rules, Run.engine_lines, Run.text_read, declared.run.TheConstants.ENGINE_LINE_LEN}
+use Rattle.chess_match_laws.specs.{Streams.Streams, OfActs.AreOf, OfActs.AreSilent}
 use Rattle.chess_match.specs.laws.Laws.{has_ended, is_broken, lines_read, moments_shown, broken_blocks, lines_sent}
-use Rattle.chess_match_laws.specs.OfActs.{AreOf, AreSilent}
 
 -- ---- lines of the beginning of a text
 

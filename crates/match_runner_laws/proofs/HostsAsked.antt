@@ -1,7 +1,6 @@
 -- Steps at a host over memory might come there before.
 use Rattle.std.proofs.Common.{◌≡◌, List, [], ◌∷◌, ◌++◌, append-nil, subst}
-use Rattle.match_runner.specs.GamesTable.{HostStep}
-use Rattle.match_runner.specs.MemoryHost.{MayCome}
+use Rattle.match_runner.specs.{GamesTable.HostStep, MemoryHost.MayCome}
 use Rattle.match_runner_laws.specs.Hosts.{StepsMightCome}
 
 -- no list is empty that has an element after others

@@ -1,37 +1,19 @@
 -- What the lines of a log show of its match, and that a log gives the match back.
-use Rattle.std.proofs.Common.{◌≡◌, ◌⊎◌, ◌∙◌, ℕ, Bool, true, false, List, [], ◌∷◌, ◌++◌, map, refl, sym, ap, append_assoc, append-nil, inl, inr, Option, Some, None, arith}
-use Rattle.std.specs.Prelude.{◌==◌, codes, flat_map, if◌then◌else◌, not}
-use Rattle.std.proofs.lemmas.Bool.{and_parts}
+use Rattle.std.proofs.Common.{◌≡◌, ◌⊎◌, ◌∙◌, ℕ, Bool, true, false, List, [], ◌∷◌, ◌++◌, map, refl, sym, ap, append_assoc, append-nil, inl, inr, Option, Some, None, arith, ◌==◌, codes, flat_map, if◌then◌else◌, not}
+use Rattle.std.proofs.{lemmas.Bool.and_parts, lemmas.List.map-append, lemmas.List.Concat.flat_map-append, lemmas.Bool.Decides.nat_tests}
 use Rattle.std.specs.List.{list_all, onto_first}
-use Rattle.std.proofs.lemmas.List.{map-append}
-use Rattle.std.proofs.lemmas.List.Concat.{flat_map-append}
-use Rattle.std.proofs.lemmas.Bool.Decides.{nat_tests}
 use Rattle.byte_devices.specs.Bytes.{byte, new_line}
-use Rattle.chess_base.specs.Options.{list_if}
-use Rattle.chess_base.specs.declared.man.Colour.{Colour}
-use Rattle.chess_base.specs.Men.{same_colour}
+use Rattle.chess_base.specs.{Options.list_if, declared.man.Colour.Colour, Men.same_colour}
 use Rattle.chess_match.specs.Acts.{Act, Sends, SendFails, Happens, IsMatch}
-use Rattle.chess_match.specs.Effects.{Match, Over, beginning}
+use Rattle.chess_match.specs.{Effects.Match, Effects.Over, Effects.beginning, Lines.SentLine, Lines.bytes_of, Lines.text_of, Notes.Note, Notes.Happened, Notes.Gives, Reasons.is_write_fault_of, Reasons.reported_reason, laws.Laws.events_in, laws.Laws.notes_given, laws.Laws.lines_given, Rules.Rules, declared.reason.MatchFault.MatchFault, declared.reason.Reason.Reason, declared.reason.Reason.TheVariants.Decided, declared.reason.Reason.TheVariants.Faulted}
 use Rattle.chess_match.specs.Events.{Event, Line, Opened, Silent, FailsToWrite}
-use Rattle.chess_match.specs.Lines.{SentLine, bytes_of, text_of}
-use Rattle.chess_match.specs.Notes.{Note, Happened, Gives}
-use Rattle.chess_match.specs.Reasons.{is_write_fault_of, reported_reason}
-use Rattle.chess_match.specs.laws.Laws.{events_in, notes_given, lines_given}
-use Rattle.chess_game.specs.Ends.{verdict}
-use Rattle.chess_game.specs.declared.verdicts.Verdict.{Verdict}
-use Rattle.chess_match.proofs.shared.Verdicts.{verdicts_end_matches}
-use Rattle.chess_match.specs.Rules.{Rules}
-use Rattle.chess_match.specs.declared.reason.MatchFault.{MatchFault}
-use Rattle.chess_match.specs.declared.reason.Reason.{Reason}
-use Rattle.chess_match.specs.declared.reason.Reason.TheVariants.{Decided, Faulted}
+use Rattle.chess_game.specs.{Ends.verdict, declared.verdicts.Verdict.Verdict}
+use Rattle.chess_match.proofs.{shared.Verdicts.verdicts_end_matches, shared.Lines.bytes_of-append}
 use Rattle.match_runner.specs.Log.{lines_in, moment_after}
 use Rattle.match_runner_laws.specs.Entries.{Entry, entries_from, note_entries}
 use Rattle.match_runner_laws.specs.ReadBack.{LogsGiveTheGame, LogsShow, entry_event, entry_given, events_shown, result_line, text_of_result}
-use Rattle.match_runner_laws.proofs.EntriesRead.{log_is, logs_have_one_reading}
+use Rattle.match_runner_laws.proofs.{EntriesRead.log_is, EntriesRead.logs_have_one_reading, Replays.EndsAs, Replays.match_goes, Replays.replayed, ResultLines.reason_of, ResultLines.reason_read, ResultLines.result_plain}
 use Rattle.match_runner_laws.proofs.PlayedAgain.{again, ends_by_flag, last_lines, shown_reason}
-use Rattle.match_runner_laws.proofs.Replays.{EndsAs, match_goes, replayed}
-use Rattle.match_runner_laws.proofs.ResultLines.{reason_of, reason_read, result_plain}
-use Rattle.chess_match.proofs.shared.Lines.{bytes_of-append}
 
 -- ---- events
 

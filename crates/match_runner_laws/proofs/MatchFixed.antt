@@ -4,26 +4,16 @@ use Rattle.std.specs.Prelude.{⊤, codes, decimal, is_some}
 use Rattle.std.specs.List.{AllByRecursion, enumerate_from, flat_map, last_or, slice_get}
 use Rattle.std.specs.Option.{option_map, option_or, option_to_list}
 use Rattle.byte_devices.specs.Transfers.{Devices, ToOutput, OutputTook, all_of}
-use Rattle.chess_base.specs.ByColour.{by_colour}
+use Rattle.chess_base.specs.{ByColour.by_colour, declared.man.Colour.Colour, declared.man.Colour.TheVariants.White, declared.man.Colour.TheVariants.Black}
 use Rattle.byte_devices.specs.Bytes.{new_line}
-use Rattle.chess_base.specs.declared.man.Colour.{Colour}
-use Rattle.chess_base.specs.declared.man.Colour.TheVariants.{White, Black}
-use Rattle.chess_match.specs.Acts.{Act}
-use Rattle.chess_match.specs.Effects.{Match, Over}
-use Rattle.chess_match.specs.Lines.{bytes_of}
+use Rattle.chess_match.specs.{Acts.Act, Effects.Match, Effects.Over, Lines.bytes_of, declared.reason.MatchFault.MatchFault, declared.reason.Reason.Reason, declared.reason.Reason.TheVariants.Faulted}
 use Rattle.chess_match.specs.Reasons.{comment_of, ended_by, outcome_by_reason, reported_fault}
-use Rattle.chess_match.specs.declared.reason.MatchFault.{MatchFault}
-use Rattle.chess_match.specs.declared.reason.Reason.{Reason}
-use Rattle.chess_match.specs.declared.reason.Reason.TheVariants.{Faulted}
 use Rattle.chess_match.specs.laws.Laws.{is_broken, lines_sent, moments_shown, notes_given}
 use Rattle.chess_match_laws.specs.OfActs.{OnlyOneMatch, SilencesAreAskedFor, endless}
-use Rattle.match_runner.specs.declared.fault.GamesFault.{GamesFault}
+use Rattle.match_runner.specs.{declared.fault.GamesFault.GamesFault, declared.memory_host.MemoryEngine.MemoryEngine, declared.plan.GamesPlan.GamesPlan, Log.Logged}
 use Rattle.match_runner.specs.declared.fault.GamesFault.TheVariants.{CanNotStart, Game, NoMemory, WriteFailed}
-use Rattle.match_runner.specs.declared.memory_host.MemoryEngine.{MemoryEngine}
-use Rattle.match_runner.specs.declared.plan.GamesPlan.{GamesPlan}
 use Rattle.match_runner.specs.Games.{AreAllGames, GameRecord, IsOfPlan, LogsGames, WritesGames, game_log, game_text, game_texts, report_of, score_line}
 use Rattle.match_runner.specs.GamesTable.{ComeInTurn, GamesStep, HostStep, OpensClock, Outputs, PlaysGamesWith, Writes, at_host, games_steps, last_steps, steps_by}
-use Rattle.match_runner.specs.Log.{Logged}
 use Rattle.match_runner.specs.MemoryHost.{IsNext, fresh_pipes, started_by, started_for, started_in}
 use Rattle.match_runner_laws.specs.OneMatch.{FinishesWell, HasScore, OneMatchOfAHost, sent_in}
 use Rattle.match_runner_laws.proofs.GameFixed.{Fresh, Whole, are_of, clock_left, sent_all, streams}

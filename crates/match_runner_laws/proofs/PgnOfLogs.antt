@@ -3,34 +3,16 @@ use Rattle.std.proofs.Common.{◌≡◌, ◌∙◌, ◌+◌, ℕ, List, [], ◌�
 use Rattle.std.specs.Prelude.{⊤, codes, cond, decimal, flat_map, fold}
 use Rattle.std.specs.List.{AllByRecursion, enumerate_from}
 use Rattle.byte_devices.specs.Bytes.{new_line}
-use Rattle.chess_base.specs.ByColour.{of_colour}
-use Rattle.chess_base.specs.declared.man.Colour.{Colour}
-use Rattle.chess_base.specs.declared.man.Colour.TheVariants.{White, Black}
-use Rattle.chess_base.specs.declared.man.Move.{Move}
+use Rattle.chess_base.specs.{ByColour.of_colour, declared.man.Colour.Colour, declared.man.Colour.TheVariants.White, declared.man.Colour.TheVariants.Black, declared.man.Move.Move, Men.other}
 use Rattle.cecp_engine.specs.Items.{Item, last_said}
-use Rattle.chess_game.specs.Game.{Seen, State}
-use Rattle.chess_base.specs.Men.{other}
-use Rattle.chess_game.specs.Results.{cut_tag, same_outcome}
-use Rattle.chess_game.specs.declared.game.TheConstants.{MOST_MOVES}
-use Rattle.chess_game.specs.declared.results.Outcome.{Outcome}
-use Rattle.chess_game.specs.declared.results.Outcome.TheVariants.{Draw, Unfinished}
-use Rattle.chess_game.specs.declared.tags.HowEnded.{HowEnded}
-use Rattle.chess_match.specs.Acts.{Act}
-use Rattle.chess_match.specs.laws.Laws.{is_broken, notes_given}
-use Rattle.chess_match.specs.Effects.{Match, Over}
-use Rattle.chess_match.specs.Notes.{Note}
-use Rattle.chess_match.specs.Played.{Passed}
+use Rattle.chess_game.specs.{Game.Seen, Game.State, Results.cut_tag, Results.same_outcome, declared.game.TheConstants.MOST_MOVES, declared.results.Outcome.Outcome, declared.results.Outcome.TheVariants.Draw, declared.results.Outcome.TheVariants.Unfinished, declared.tags.HowEnded.HowEnded, Ends.verdict}
+use Rattle.chess_match.specs.{Acts.Act, laws.Laws.is_broken, laws.Laws.notes_given, Effects.Match, Effects.Over, Notes.Note, Played.Passed, Rules.Rules, Rules.rules_of, declared.reason.Reason.Reason}
 use Rattle.chess_match.specs.Reasons.{declared_at, ended_by, outcome_by_reason, reported_fault, reported_reason, win_of}
-use Rattle.chess_match.specs.Rules.{Rules, rules_of}
-use Rattle.chess_match.specs.declared.reason.Reason.{Reason}
 use Rattle.pgn_writer.specs.GameText.{pgn}
-use Rattle.match_runner.specs.declared.plan.GamesPlan.{GamesPlan}
+use Rattle.match_runner.specs.{declared.plan.GamesPlan.GamesPlan, Log.log_from}
 use Rattle.match_runner.specs.Games.{GameRecord, IsOfPlan, count_of, engine_command, first_side, game_text, game_texts, player_name, score_line, setup_of}
-use Rattle.match_runner.specs.Log.{log_from}
-use Rattle.match_runner_laws.specs.Entries.{IsShown, entries_from}
-use Rattle.match_runner_laws.specs.ReadBack.{AreAlike, LogsGiveTheOutput, LogsGiveThePgn}
+use Rattle.match_runner_laws.specs.{Entries.IsShown, Entries.entries_from, ReadBack.AreAlike, ReadBack.LogsGiveTheOutput, ReadBack.LogsGiveThePgn}
 use Rattle.match_runner_laws.proofs.LogsRead.{logs_give_the_game}
-use Rattle.chess_game.specs.Ends.{verdict}
 
 -- the line of a score, by its numbers
 unfoldable line_of : ℕ → ℕ → ℕ → ℕ → List ℕ

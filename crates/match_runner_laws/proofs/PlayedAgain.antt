@@ -1,39 +1,19 @@
 -- What a line or a silence does to a match in which no time is used; and what is sent when it ends the match.
-use Rattle.std.proofs.Common.{◌≡◌, ◌⊎◌, ℕ, ◌+◌, ◌-◌, Bool, true, false, List, [], ◌∷◌, ◌++◌, length, map, refl, ap, sym, ◌∙◌, subst, append_assoc, Option, None, Some, inl, inr, arith}
-use Rattle.std.specs.List.{list_any}
-use Rattle.std.specs.Option.{option_map_or}
-use Rattle.std.specs.Prelude.{if◌then◌else◌, nat_le, nat_lt, ◌==◌, codes, unwrap_or}
-use Rattle.std.proofs.lemmas.Bool.Decides.{nat_tests}
-use Rattle.std.proofs.Math.Path.{fun_ext}
-use Rattle.std.proofs.lemmas.List.{length-map, map-append}
-use Rattle.chess_base.specs.declared.man.Colour.{Colour}
-use Rattle.chess_base.specs.declared.man.Colour.TheVariants.{White, Black}
-use Rattle.chess_base.specs.declared.man.Move.{Move}
-use Rattle.chess_base.specs.Men.{other, same_colour}
-use Rattle.chess_base.specs.Options.{list_if}
-use Rattle.chess_game.specs.declared.verdicts.Verdict.{Verdict}
+use Rattle.std.proofs.Common.{◌≡◌, ◌⊎◌, ℕ, ◌+◌, ◌-◌, Bool, true, false, List, [], ◌∷◌, ◌++◌, length, map, refl, ap, sym, ◌∙◌, subst, append_assoc, Option, None, Some, inl, inr, arith, if◌then◌else◌, nat_le, nat_lt, ◌==◌, codes, unwrap_or}
+use Rattle.std.specs.{List.list_any, Option.option_map_or}
+use Rattle.std.proofs.{lemmas.Bool.Decides.nat_tests, Math.Path.fun_ext, lemmas.List.length-map, lemmas.List.map-append}
+use Rattle.chess_base.specs.{declared.man.Colour.Colour, declared.man.Colour.TheVariants.White, declared.man.Colour.TheVariants.Black, declared.man.Move.Move, Men.other, Men.same_colour, Options.list_if}
+use Rattle.chess_game.specs.{declared.verdicts.Verdict.Verdict, declared.verdicts.DrawClaim.DrawClaim, Ends.verdict, Ends.claims, Ends.draw_claim, Line.position_after}
 use Rattle.cecp_engine.specs.EngineLines.{LineKind, Features, Moves, Resigns, OffersDraw, ClaimsDraw, ClaimsWin, Rejects, Answers}
 use Rattle.cecp_engine.specs.Items.{Item, ends_handshake, items_of}
-use Rattle.chess_match.specs.Effects.{Match, Phase, Handshake, Setup, Opening, BeforeMove, AfterMove, Over, Effect, flag_row, before_move, clock, ends, handshake_done, handshake_row, ignores, is_owed_move, judged, awaited_since, line_row, reply_row, silence_row, missing, move_line, move_row, moved, offer_row, over_by_position, ping_number, sends_nothing, sends_to, setup_done, turn_row, with_seat}
-use Rattle.chess_match.specs.shared.Parts.{with_answers, farewell}
-use Rattle.chess_text.specs.declared.reading.Reading.{Reading}
+use Rattle.chess_match.specs.Effects.{Match, Phase, Handshake, Setup, Opening, BeforeMove, AfterMove, Over, Effect, flag_row, before_move, clock, ends, handshake_done, handshake_row, ignores, is_owed_move, judged, awaited_since, line_row, reply_row, silence_row, missing, move_line, move_row, moved, offer_row, over_by_position, ping_number, sends_nothing, sends_to, setup_done, turn_row, with_seat, with_answers, answers_to}
+use Rattle.chess_match.specs.{shared.Parts.farewell, Acts.awaits_line, Acts.is_over, Events.Seat, Rules.Rules, Rules.has_bare_king, declared.reason.MatchFault.MatchFault, declared.reason.Reason.Reason, Lines.SentLine, Lines.Says, Lines.ping, Reasons.is_write_fault_of, Reasons.reported_reason}
+use Rattle.chess_text.specs.{declared.reading.Reading.Reading, Moves.reading}
 use Rattle.chess_text.specs.declared.reading.Reading.TheVariants as reads
-use Rattle.chess_match.specs.Acts.{awaits_line, is_over}
-use Rattle.chess_match.specs.Events.{Seat}
-use Rattle.chess_match.specs.Rules.{Rules, has_bare_king}
-use Rattle.chess_game.specs.declared.verdicts.DrawClaim.{DrawClaim}
-use Rattle.chess_match.specs.declared.reason.MatchFault.{MatchFault}
 use Rattle.chess_match.specs.declared.reason.MatchFault.TheVariants.{Flood, NoAnswer, NoDone, NoHandshake}
-use Rattle.chess_match.specs.declared.reason.Reason.{Reason}
-use Rattle.chess_match.specs.Lines.{SentLine, Says, ping}
-use Rattle.chess_match.specs.shared.Parts.{answers_to}
-use Rattle.chess_match.specs.Reasons.{is_write_fault_of, reported_reason}
 use Rattle.chess_match.specs.declared.reason.Reason.TheVariants as over_by
 use Rattle.chess_match.proofs.shared.LineCases.{draw_by_itself, over_for}
 use Rattle.match_runner_laws.specs.ReadBack.{text_of_result}
-use Rattle.chess_game.specs.Ends.{verdict, claims, draw_claim}
-use Rattle.chess_game.specs.Line.{position_after}
-use Rattle.chess_text.specs.Moves.{reading}
 
 -- ---- how a match ends
 

@@ -1,25 +1,12 @@
 -- What the acts of a match lead to, by what a log shows of them: the moves, the items and the last lines.
-use Rattle.std.proofs.Common.{◌≡◌, ◌⊎◌, ℕ, Bool, true, false, List, [], ◌∷◌, ◌++◌, map, refl, ap, sym, ◌∙◌, subst, append_assoc, inl, inr, arith}
-use Rattle.std.specs.Prelude.{if◌then◌else◌, fold}
+use Rattle.std.proofs.Common.{◌≡◌, ◌⊎◌, ℕ, Bool, true, false, List, [], ◌∷◌, ◌++◌, map, refl, ap, sym, ◌∙◌, subst, append_assoc, inl, inr, arith, if◌then◌else◌, fold}
 use Rattle.std.specs.List.{AllByRecursion}
-use Rattle.std.proofs.lemmas.Bool.{and_parts}
-use Rattle.std.proofs.lemmas.List.{map-append}
-use Rattle.chess_base.specs.declared.man.Colour.{Colour}
-use Rattle.chess_base.specs.declared.man.Colour.TheVariants.{White, Black}
-use Rattle.chess_base.specs.Men.{other}
-use Rattle.chess_base.specs.Options.{list_if}
+use Rattle.std.proofs.{lemmas.Bool.and_parts, lemmas.List.map-append}
+use Rattle.chess_base.specs.{declared.man.Colour.Colour, declared.man.Colour.TheVariants.White, declared.man.Colour.TheVariants.Black, Men.other, Options.list_if}
 use Rattle.chess_match.specs.Acts.{Act, Block, Sends, SendFails, Happens, IsMatch, IsMatchFrom, awaits_line, block_of, blocks_from, is_limited, is_over}
-use Rattle.chess_match.specs.shared.Parts.{blocks_after}
+use Rattle.chess_match.specs.{shared.Parts.blocks_after, Lines.SentLine, Lines.bytes_of, Notes.Note, Notes.Happened, Notes.Gives, Reasons.is_write_fault_of, Rules.Rules, declared.reason.MatchFault.TheVariants.Ended, declared.reason.MatchFault.TheVariants.Read, declared.reason.MatchFault.TheVariants.Write, declared.reason.Reason.Reason, declared.reason.Reason.TheVariants.Faulted, laws.Laws.events_in, laws.Laws.line_kind, laws.Laws.notes_given}
 use Rattle.chess_match.specs.Effects.{Match, Phase, Opening, Over, beginning, effect, ends, is_owed_move, move_line}
 use Rattle.chess_match.specs.Events.{Event, Line, Opened, Silent, OutputEnds, FailsToRead, FailsToWrite}
-use Rattle.chess_match.specs.Lines.{SentLine, bytes_of}
-use Rattle.chess_match.specs.Notes.{Note, Happened, Gives}
-use Rattle.chess_match.specs.Reasons.{is_write_fault_of}
-use Rattle.chess_match.specs.Rules.{Rules}
-use Rattle.chess_match.specs.declared.reason.MatchFault.TheVariants.{Ended, Read, Write}
-use Rattle.chess_match.specs.declared.reason.Reason.{Reason}
-use Rattle.chess_match.specs.declared.reason.Reason.TheVariants.{Faulted}
-use Rattle.chess_match.specs.laws.Laws.{events_in, line_kind, notes_given}
 use Rattle.match_runner_laws.specs.ReadBack.{events_shown}
 use Rattle.match_runner_laws.proofs.PlayedAgain.{Again, Falls, Stops, again, anew, ends_by_flag, last_lines, line_again, opened, over_again, reopen, shown_reason, silence_again, waits}
 use Rattle.chess_match.proofs.shared.MatchCases.{on_when_read}

@@ -5,7 +5,7 @@ use Rattle.byte_devices.specs.Bytes.{byte}
 use Rattle.chess_base.specs.declared.man.Colour.{Colour}
 use Rattle.chess_match.specs.Events.{Line, Opened, Silent, OutputEnds, FailsToRead, FailsToWrite}
 use Rattle.chess_match.specs.Notes.{Note, Happened, Gives}
-use Rattle.match_runner.specs.Log.{lines_in, log_line, moment_after}
+use Rattle.match_runner.specs.Log.{engine_name, lines_in, log_line, moment_after}
 
 -- ---- the lines of a log as records
 
@@ -20,9 +20,10 @@ pub record Entry : Type 0 where
   -- the line that was sent, without its `\n`; with the mark `!` what happened, such as `read failed`
   pub text : List ℕ
 
--- these lines as they are written, one after another. `first` is the side of the engine of `--white`
+-- these lines as they are written, one after another. `first_side` is the side of the engine of `--white`
 abbrev pub entries_text : Colour → List Entry → List ℕ
-entries_text first entries = flat_map (λ e. log_line first e.moment e.mark e.side e.text) entries
+entries_text first_side entries =
+    flat_map (λ e. log_line e.moment e.mark (engine_name first_side e.side) e.text) entries
 
 -- the log's lines for a note: those of `note_text`
 abbrev pub note_entries : ℕ → Note → List Entry

@@ -1,13 +1,9 @@
 -- The lines of a text, and the pieces that they are cut into.
-use Rattle.std.proofs.Common.{◌≡◌, ◌<◌, ℕ, Bool, true, false, List, [], ◌∷◌, ◌++◌, length, map, reverse, refl, sym, ap, ◌∙◌, append_assoc, append-nil, length-append, arith}
-use Rattle.std.specs.Prelude.{if◌then◌else◌, ◌&&◌, ◌||◌}
+use Rattle.std.proofs.Common.{◌≡◌, ◌<◌, ℕ, Bool, true, false, List, [], ◌∷◌, ◌++◌, length, map, reverse, refl, sym, ap, ◌∙◌, append_assoc, append-nil, length-append, arith, if◌then◌else◌, ◌&&◌, ◌||◌}
 use Rattle.std.specs.List.{onto_first, concat, list_any, fold}
-use Rattle.std.proofs.lemmas.Bool.{and_parts, or_parts}
-use Rattle.std.proofs.lemmas.List.{reverse-append}
+use Rattle.std.proofs.{lemmas.Bool.and_parts, lemmas.Bool.or_parts, lemmas.List.reverse-append}
 use Rattle.pgn_pieces.specs.Pieces.{lines_of, begins_piece, is_tag_line, is_event_line, is_moves_line, with_line, cut}
-use Rattle.pgn_pieces.specs.Places.{breaks_line}
-use Rattle.pgn_pieces.specs.ties.Cutting.{piece_of, cut_lines}
-use Rattle.pgn_pieces.specs.ties.Held.{has_line_end, IsWhole}
+use Rattle.pgn_pieces.specs.{Places.breaks_line, ties.Cutting.piece_of, ties.Cutting.cut_lines, ties.Held.has_line_end, ties.Held.IsWhole}
 
 -- ---- lines
 

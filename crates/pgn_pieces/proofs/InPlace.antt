@@ -1,20 +1,10 @@
 -- Each piece of a text is in its place.
-use Rattle.std.proofs.Common.{◌≡◌, ℕ, ◌+◌, ◌-◌, Bool, true, false, List, [], ◌∷◌, ◌++◌, length, map, reverse, take, drop, Some, None, cond, refl, sym, ap, subst, ◌∙◌, append_assoc, append-nil, length-append, arith}
-use Rattle.std.specs.Prelude.{if◌then◌else◌, nat_le, not}
+use Rattle.std.proofs.Common.{◌≡◌, ℕ, ◌+◌, ◌-◌, Bool, true, false, List, [], ◌∷◌, ◌++◌, length, map, reverse, take, drop, Some, None, cond, refl, sym, ap, subst, ◌∙◌, append_assoc, append-nil, length-append, arith, ap₂, if◌then◌else◌, nat_le, not}
 use Rattle.std.specs.List.{onto_first, concat, sum_by, prefix_len, suffix_len}
-use Rattle.std.proofs.lemmas.List.{take-append-drop, reverse-append}
-use Rattle.std.proofs.lemmas.List.Sums.{sum_by_push}
-use Rattle.std.proofs.Math.Path.{ap₂}
-use Rattle.std.proofs.Math.Seq.{take-append_seam, drop-append_seam}
-use Rattle.std.proofs.lemmas.List.Folds.{concat-append}
-use Rattle.pgn_pieces.specs.declared.pieces.TheConstants.{PIECE_LEN}
-use Rattle.pgn_pieces.specs.Pieces.{lines_of, cut}
+use Rattle.std.proofs.{lemmas.List.take-append-drop, lemmas.List.reverse-append, lemmas.List.Sums.sum_by_push, Math.Seq.take-append_seam, Math.Seq.drop-append_seam, lemmas.List.Folds.concat-append}
+use Rattle.pgn_pieces.specs.{declared.pieces.TheConstants.PIECE_LEN, Pieces.lines_of, Pieces.cut, ties.Cutting.cut_lines, ties.Cutting.piece_of, Places.breaks_line, Places.line_ends, laws.Places.IsInPlace, laws.Places.PiecesAreInPlace}
 use Rattle.pgn_pieces.specs.Stream.{Piece, with_offsets, pieces, PieceSeen, piece_at}
-use Rattle.pgn_pieces.specs.ties.Cutting.{cut_lines, piece_of}
-use Rattle.pgn_pieces.specs.Places.{breaks_line, line_ends}
-use Rattle.pgn_pieces.specs.laws.Places.{IsInPlace, PiecesAreInPlace}
-use Rattle.pgn_pieces.proofs.LineEnds.{count_append}
-use Rattle.pgn_pieces.proofs.CutLines.{concat_more, cut_is}
+use Rattle.pgn_pieces.proofs.{LineEnds.count_append, CutLines.concat_more, CutLines.cut_is}
 use Rattle.pgn_pieces.proofs.WholePieces.{AreLines, no_texts, last_text, next_text, cut_ends}
 
 -- ---- texts one after another

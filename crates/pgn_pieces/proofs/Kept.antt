@@ -1,12 +1,8 @@
 -- Of bytes that were let go the first 40 are kept, and the others are counted.
-use Rattle.std.proofs.Common.{◌≡◌, ◌≤◌, ◌<◌, ◌⊎◌, ℕ, zero, suc, ◌+◌, ◌-◌, List, [], ◌∷◌, ◌++◌, length, take, drop, refl, sym, ap, ◌∙◌, inl, inr, append-nil, length-append, length-drop, arith}
-use Rattle.std.specs.Prelude.{replicate, min}
-use Rattle.std.proofs.Math.Path.{ap₂}
-use Rattle.std.proofs.lemmas.Bool.{cases_lt}
-use Rattle.std.proofs.lemmas.Grind.{common_steps}
+use Rattle.std.proofs.Common.{◌≡◌, ◌≤◌, ◌<◌, ◌⊎◌, ℕ, zero, suc, ◌+◌, ◌-◌, List, [], ◌∷◌, ◌++◌, length, take, drop, refl, sym, ap, ◌∙◌, inl, inr, append-nil, length-append, length-drop, arith, ap₂, replicate, min}
+use Rattle.std.proofs.{lemmas.Bool.cases_lt, lemmas.Grind.common_steps}
 use Rattle.std.proofs.lemmas.List.{take-append-drop, take-append-le, take_all, length-take-le, length-replicate, nil_from_length}
-use Rattle.pgn_pieces.specs.Places.{line_ends}
-use Rattle.pgn_pieces.specs.ties.Held.{SameCounts}
+use Rattle.pgn_pieces.specs.{Places.line_ends, ties.Held.SameCounts}
 use Rattle.pgn_pieces.proofs.LineEnds.{count_append, line_ends-le, take_append}
 
 -- the bytes as they are known: the first of them, and then how many are line ends and how many are not

@@ -1,17 +1,10 @@
 -- The kind of a line that may go on.
-use Rattle.std.proofs.Common.{◌≡◌, ◌≤◌, ◌<◌, ℕ, zero, suc, ◌+◌, eqb, leb, Bool, true, false, List, [], ◌∷◌, ◌++◌, length, take, drop, cond, refl, sym, ap, ◌∙◌, length-drop, append_assoc, arith}
-use Rattle.std.specs.Prelude.{if◌then◌else◌, ◌&&◌, ◌||◌, not, nat_lt, codes}
-use Rattle.std.specs.List.{prefix_len, take_while}
-use Rattle.std.specs.Str.{bytes_eq}
-use Rattle.std.proofs.lemmas.Bool.{and_parts, leb-true}
-use Rattle.std.proofs.lemmas.Bool.Decides.{nat_tests}
-use Rattle.std.proofs.lemmas.List.{take-append-le, drop-append-le, take_all}
-use Rattle.std.proofs.lemmas.List.Folds.{prefix_len-append, length-prefix_len}
-use Rattle.std.proofs.lemmas.List.Sums.{prefix_len-le-length}
-use Rattle.pgn_pieces.specs.Pieces.{without_blanks, front_of, tag_name, after_name, is_tag_line, is_event_line, is_moves_line}
+use Rattle.std.proofs.Common.{◌≡◌, ◌≤◌, ◌<◌, ℕ, zero, suc, ◌+◌, eqb, leb, Bool, true, false, List, [], ◌∷◌, ◌++◌, length, take, drop, cond, refl, sym, ap, ◌∙◌, length-drop, append_assoc, arith, bytes_eq, if◌then◌else◌, ◌&&◌, ◌||◌, not, nat_lt, codes}
+use Rattle.std.specs.List.{list_any, prefix_len, take_while}
+use Rattle.std.proofs.{lemmas.Bool.and_parts, lemmas.Bool.leb-true, lemmas.Bool.Decides.nat_tests, lemmas.List.take-append-le, lemmas.List.drop-append-le, lemmas.List.take_all, lemmas.List.Folds.prefix_len-append, lemmas.List.Folds.length-prefix_len, lemmas.List.Sums.prefix_len-le-length}
+use Rattle.pgn_pieces.specs.Pieces.{without_blanks, front_of, tag_name, after_name, after_tag, is_tag_line, is_event_line, is_moves_line}
 use Rattle.byte_devices.specs.Bytes.{is_blank, is_name_byte}
-use Rattle.pgn_pieces.specs.ties.Fronts.{begins_tag, is_empty_front}
-use Rattle.pgn_pieces.specs.ties.Held.{SameKind, IsDecided}
+use Rattle.pgn_pieces.specs.{ties.Fronts.begins_tag, ties.Fronts.is_empty_front, ties.Held.SameKind, ties.Held.SameTag, ties.Held.IsDecided}
 
 abbrev without_mark : List ℕ → List ℕ
 without_mark text = if bytes_eq (take 3 text) (239 ∷ 187 ∷ 191 ∷ []) then drop 3 text else text
@@ -22,8 +15,12 @@ same_front : (a b : List ℕ) → front_of a ≡ front_of b → SameKind a b
 same_front a b h = record {
   tag = ap begins_tag h;
   event = ap (λ f. begins_tag f && bytes_eq (tag_name f) (codes "Event")) h;
-  moves = ap (λ f. not (begins_tag f || is_empty_front f)) h;
+  moves = ap (λ f. if begins_tag f then list_any (λ c. is_name_byte c || eqb c 42) (take 1 (after_tag f))
+      else not (is_empty_front f)) h;
 }
+
+pub same_tag : (a b : List ℕ) → SameKind a b → SameTag a b
+same_tag a b h = record { tag = h.tag; event = h.event }
 
 pub decided_long : (line : List ℕ) → 256 ≤ length line → IsDecided line
 decided_long line h more =
@@ -133,7 +130,8 @@ taken n [] ys h = (take n ys, refl)
 taken zero (x ∷ xs) ys h = absurd (omega (arith, h))
 taken (suc n) (x ∷ xs) ys h = let w = taken n xs ys (omega (arith, h)) in (w.0, ap (λ zs. x ∷ zs) w.1)
 
-decided_short : (line : List ℕ) → length line ≤ 256 → is_tag_line line ≡ true → IsDecided line
+decided_short : (line : List ℕ) → length line ≤ 256 → is_tag_line line ≡ true → (more : List ℕ)
+    → SameTag (line ++ more) line
 decided_short line h tag more =
     let unmarked = without_mark line in
     let f = without_blanks unmarked in
@@ -154,16 +152,15 @@ decided_short line h tag more =
       tag = tags;
       event = ap (λ b. b && bytes_eq (tag_name (front_of (line ++ more))) (codes "Event")) tags
           ∙ ap (λ xs. is_tag_line line && bytes_eq xs (codes "Event")) names;
-      moves = ap (λ b. not (b || is_empty_front (front_of (line ++ more)))) (tags ∙ tag)
-          ∙ sym (ap (λ b. not (b || is_empty_front (front_of line))) tag);
     }
 
-pub decided_tag : (line : List ℕ) → is_tag_line line ≡ true → IsDecided line
-decided_tag line tag = by_test (leb 256 (length line)) refl
+-- a tag line remains one
+pub tag_stays : (line : List ℕ) → is_tag_line line ≡ true → (more : List ℕ) → SameTag (line ++ more) line
+tag_stays line tag more = by_test (leb 256 (length line)) refl
   where
-    by_test : (b : Bool) → leb 256 (length line) ≡ b → IsDecided line
-    by_test true e = decided_long line (leb-true 256 (length line) e)
-    by_test false e = decided_short line (grind (arith, nat_tests, e)) tag
+    by_test : (b : Bool) → leb 256 (length line) ≡ b → SameTag (line ++ more) line
+    by_test true e = same_tag (line ++ more) line (decided_long line (leb-true 256 (length line) e) more)
+    by_test false e = decided_short line (grind (arith, nat_tests, e)) tag more
 
 -- how a line of a known kind continues does not matter
 pub decided_on : (line more : List ℕ) → IsDecided line → IsDecided (line ++ more)

@@ -1,14 +1,8 @@
 -- How many bytes come before the first that ends a line, and the first line of a text.
-use Rattle.std.proofs.Common.{◌≡◌, ◌<◌, ℕ, ◌+◌, Bool, true, false, List, [], ◌∷◌, length, get_or, take, refl, sym, ap, subst, ◌∙◌, one-add}
-use Rattle.std.specs.Prelude.{cond, not, ◌||◌, ◌==◌}
+use Rattle.std.proofs.Common.{◌≡◌, ◌<◌, ℕ, ◌+◌, Bool, true, false, List, [], ◌∷◌, length, get_or, take, refl, sym, ap, subst, ◌∙◌, one-add, cond, not, ◌||◌, ◌==◌}
 use Rattle.std.specs.List.{position_or_len}
-use Rattle.std.proofs.Math.Path.{fun_ext}
-use Rattle.std.proofs.Math.Seq.{take-length}
-use Rattle.std.proofs.lemmas.Bool.{or_from}
-use Rattle.std.proofs.lemmas.List.{take_more}
-use Rattle.std.proofs.lemmas.List.Sums.{passes_at_first}
-use Rattle.pgn_pieces.specs.Places.{breaks_line}
-use Rattle.pgn_pieces.specs.ties.Held.{has_line_end, IsWhole}
+use Rattle.std.proofs.{Math.Path.fun_ext, Math.Seq.take-length, lemmas.Bool.or_from, lemmas.List.take_more, lemmas.List.Sums.passes_at_first}
+use Rattle.pgn_pieces.specs.{Places.breaks_line, ties.Held.has_line_end, ties.Held.IsWhole}
 
 abbrev pub plain_len : List ℕ → ℕ
 plain_len xs = position_or_len breaks_line xs

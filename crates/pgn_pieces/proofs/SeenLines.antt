@@ -1,19 +1,11 @@
 -- What is known of a piece's lines, as more of them come.
-use Rattle.std.proofs.Common.{◌≡◌, ◌≤◌, ◌<◌, ℕ, ◌+◌, Bool, true, false, List, [], ◌∷◌, ◌++◌, length, take, drop, refl, sym, ap, subst, ◌∙◌, inl, inr, append_assoc, append-nil, length-append, length-drop, arith}
-use Rattle.std.specs.Prelude.{◌&&◌, ◌||◌}
+use Rattle.std.proofs.Common.{◌≡◌, ◌≤◌, ◌<◌, ℕ, ◌+◌, Bool, true, false, List, [], ◌∷◌, ◌++◌, length, take, drop, refl, sym, ap, subst, ◌∙◌, inl, inr, append_assoc, append-nil, length-append, length-drop, arith, ◌&&◌, ◌||◌, take-append-drop, take_all}
 use Rattle.std.specs.List.{list_any, concat}
-use Rattle.std.proofs.Math.Seq.{take-length, take-add}
-use Rattle.std.proofs.lemmas.Bool.{and_parts, and_left, or_cases}
-use Rattle.std.proofs.lemmas.List.{take-append-drop, take_all}
-use Rattle.std.proofs.lemmas.List.Folds.{list_any-append}
-use Rattle.pgn_pieces.specs.declared.line_kinds.Kind.{Kind}
-use Rattle.pgn_pieces.specs.declared.piece_end.Seen.{Seen}
-use Rattle.pgn_pieces.specs.declared.piece_end.Step.TheVariants.{Begins, Waits, Belongs}
+use Rattle.std.proofs.{Math.Seq.take-length, Math.Seq.take-add, lemmas.Bool.and_parts, lemmas.Bool.or_cases, lemmas.List.Folds.list_any-append}
+use Rattle.pgn_pieces.specs.{declared.line_kinds.Kind.Kind, declared.piece_end.Seen.Seen, declared.piece_end.Step.TheVariants.Begins, declared.piece_end.Step.TheVariants.Waits, declared.piece_end.Step.TheVariants.Belongs, Places.breaks_line, ties.Cutting.cut_lines, ties.Cutting.piece_of}
 use Rattle.pgn_pieces.specs.Pieces.{lines_of, is_tag_line, is_event_line, is_moves_line, begins_piece, cut}
-use Rattle.pgn_pieces.specs.Places.{breaks_line}
-use Rattle.pgn_pieces.specs.ties.Cutting.{cut_lines, piece_of}
-use Rattle.pgn_pieces.specs.ties.Held.{AreSeen, HasSeen, MayGoOn, IsDecided, IsWhole, SameKind, Ends, Steps, Looks, has_line_end}
-use Rattle.pgn_pieces.proofs.LineKinds.{decided_on, decided_tag}
+use Rattle.pgn_pieces.specs.ties.Held.{AreSeen, HasSeen, MayGoOn, IsDecided, IsWhole, SameTag, Ends, Steps, Looks, has_line_end}
+use Rattle.pgn_pieces.proofs.LineKinds.{decided_on, same_tag, tag_stays}
 use Rattle.pgn_pieces.proofs.CutLines.{whole_line, first_line, concat_more, goes_on, ends_here, begun, last_line, some_bytes, cut_is}
 
 or_false : (b : Bool) → (b || false) ≡ b
@@ -21,7 +13,7 @@ or_false true = refl
 or_false false = refl
 
 -- lines of the same kind begin a piece alike
-same_begin : (before : List (List ℕ)) (a b : List ℕ) → SameKind a b → begins_piece before a ≡ begins_piece before b
+same_begin : (before : List (List ℕ)) (a b : List ℕ) → SameTag a b → begins_piece before a ≡ begins_piece before b
 same_begin before a b h =
     ap (λ t. t && (list_any is_moves_line before || (is_event_line a && list_any is_event_line before))) h.tag
     ∙ ap (λ e. is_tag_line b && (list_any is_moves_line before || (e && list_any is_event_line before))) h.event
@@ -164,7 +156,7 @@ module _ (seen : Seen) (inside : seen.inside ≡ true) (piece : List ℕ) (h : H
   still : (seen' : Seen) → seen'.moves ≡ seen.moves → seen'.event ≡ seen.event → (line : List ℕ)
       → AreSeen seen' h.before (h.line ++ line)
   still seen' moves event line = let same = told line in record {
-    belongs = same_begin h.before (h.line ++ line) h.line same ∙ h.are.belongs;
+    belongs = same_begin h.before (h.line ++ line) h.line (same_tag (h.line ++ line) h.line same) ∙ h.are.belongs;
     moves = moves ∙ h.are.moves ∙ ap (λ b. list_any is_moves_line h.before || b) (sym same.moves);
     event = event ∙ h.are.event ∙ ap (λ b. list_any is_event_line h.before || b) (sym same.event);
   }
@@ -215,18 +207,16 @@ module _ (seen : Seen) (out : seen.inside ≡ false) (kind : Kind) (line : List 
         line ++ f.0,
         f.1,
         f.2,
-        same_begin so.before (line ++ f.0) line (decided_tag line
+        same_begin so.before (line ++ f.0) line (tag_stays line
             (sym tag ∙ (and_parts kind.is_tag (seen.moves || (kind.is_event && seen.event)) begins).0) f.0)
             ∙ sym test_is ∙ begins,
       )))
 
-  pub open_waits : has_line_end line ≡ false → kind.is_tag ≡ false → cut (piece ++ line) ≡ piece_of (piece ++ line)
+  pub open_waits : has_line_end line ≡ false → (kind.is_tag && (seen.moves || (kind.is_event && seen.event))) ≡ false
+      → cut (piece ++ line) ≡ piece_of (piece ++ line)
   unfolding has_seen so
-  open_waits plain not_tag =
-      one_piece seen piece (has_seen seen piece so out) line plain
-      (and_left (is_tag_line line)
-      (list_any is_moves_line so.before || (is_event_line line && list_any is_event_line so.before))
-      (sym tag ∙ not_tag))
+  open_waits plain belongs =
+      one_piece seen piece (has_seen seen piece so out) line plain (sym test_is ∙ belongs)
 
   module _ (seen' : Seen) (moves : kind.is_moves ≡ is_moves_line line)
       (belongs : (kind.is_tag && (seen.moves || (kind.is_event && seen.event))) ≡ false)

@@ -1,15 +1,9 @@
 -- A text that is cut in two where a piece begins has the pieces of the one part and then those of the other.
-use Rattle.std.proofs.Common.{◌≡◌, ℕ, eqb, Bool, true, false, List, [], ◌∷◌, ◌++◌, length, take, refl, sym, ap, ap₂, ◌∙◌, arith}
-use Rattle.std.specs.Prelude.{if◌then◌else◌, ◌&&◌, ◌||◌, nat_lt, codes}
+use Rattle.std.proofs.Common.{◌≡◌, ℕ, eqb, Bool, true, false, List, [], ◌∷◌, ◌++◌, length, take, refl, sym, ap, ap₂, ◌∙◌, arith, bytes_eq, if◌then◌else◌, ◌&&◌, ◌||◌, nat_lt, codes}
 use Rattle.std.specs.List.{onto_first, concat, list_any, list_all}
-use Rattle.std.specs.Str.{bytes_eq}
-use Rattle.std.proofs.lemmas.Bool.{and_left, or_left, eqb-true}
-use Rattle.std.proofs.lemmas.List.Folds.{list_any-append}
+use Rattle.std.proofs.{lemmas.Bool.and_left, lemmas.Bool.or_left, lemmas.Bool.eqb-true, lemmas.List.Folds.list_any-append}
 use Rattle.pgn_pieces.specs.Pieces.{lines_of, front_of, tag_name, after_name, is_tag_line, is_event_line, is_empty_line, is_moves_line, begins_piece}
-use Rattle.pgn_pieces.specs.Places.{breaks_line}
-use Rattle.pgn_pieces.specs.ties.Cutting.{cut_lines, piece_of}
-use Rattle.pgn_pieces.specs.ties.Fronts.{begins_tag, is_empty_front}
-use Rattle.pgn_pieces.specs.laws.Shards.{ends_in_moves, begins_in_tag, ShardsAreCut}
+use Rattle.pgn_pieces.specs.{Places.breaks_line, ties.Cutting.cut_lines, ties.Cutting.piece_of, ties.Fronts.begins_tag, ties.Fronts.is_empty_front, laws.Shards.ends_in_moves, laws.Shards.begins_in_tag, laws.Shards.ShardsAreCut}
 use Rattle.pgn_pieces.proofs.CutLines.{some_line, ends_here, begun, some_bytes, piece_of_some, cut_is}
 
 -- ---- no line is of two kinds

@@ -1,24 +1,12 @@
 -- A call for the next piece: what was looked through, and what it comes to.
-use Rattle.std.proofs.Common.{◌≡◌, ◌≤◌, ◌<◌, ℕ, suc, ◌+◌, ◌-◌, ◌^◌, ◌==◌, nat_lt, Bool, true, false, List, [], ◌∷◌, ◌++◌, length, map, take, drop, Some, None, Ok, Err, refl, sym, ap, subst, ◌∙◌, append_assoc, append-nil, length-append, arith}
-use Rattle.std.specs.Prelude.{if◌then◌else◌, nat_le}
+use Rattle.std.proofs.Common.{◌≡◌, ◌≤◌, ◌<◌, ℕ, suc, ◌+◌, ◌-◌, ◌^◌, ◌==◌, nat_lt, Bool, true, false, List, [], ◌∷◌, ◌++◌, length, map, take, drop, Some, None, Ok, Err, refl, sym, ap, subst, ◌∙◌, append_assoc, append-nil, length-append, arith, ap₂, if◌then◌else◌, nat_le}
 use Rattle.std.specs.List.{concat}
-use Rattle.std.proofs.lemmas.Bool.Decides.{nat_tests}
-use Rattle.std.proofs.Math.Path.{ap₂}
-use Rattle.std.proofs.Math.Seq.{take-length, drop-length}
-use Rattle.pgn_pieces.proofs.LineEnds.{count_append, take_append}
-use Rattle.std.proofs.lemmas.List.{take-append-drop, nil_from_length}
+use Rattle.std.proofs.{lemmas.Bool.Decides.nat_tests, Math.Seq.take-length, Math.Seq.drop-length, lemmas.List.take-append-drop, lemmas.List.nil_from_length}
+use Rattle.pgn_pieces.proofs.{LineEnds.count_append, LineEnds.take_append, CutLines.piece_of_some, InPlace.cut_is_all, shared.Inputs.read_on, shared.Inputs.broke_off}
 use Rattle.byte_devices.specs.Devices.{InputState, GavePiece}
-use Rattle.pgn_pieces.specs.declared.piece_end.Seen.{Seen}
-use Rattle.pgn_pieces.specs.declared.pieces.PieceFault.{PieceFault}
-use Rattle.pgn_pieces.specs.declared.pieces.PieceFault.TheVariants.{ReadFailed, NoMemory, InputTooLong}
-use Rattle.pgn_pieces.specs.Pieces.{cut, HasRead, IsCause}
+use Rattle.pgn_pieces.specs.{declared.piece_end.Seen.Seen, declared.pieces.PieceFault.PieceFault, declared.pieces.PieceFault.TheVariants.ReadFailed, declared.pieces.PieceFault.TheVariants.NoMemory, declared.pieces.PieceFault.TheVariants.InputTooLong, Pieces.cut, Pieces.HasRead, Pieces.IsCause, Places.line_ends, ties.Cutting.piece_of}
 use Rattle.pgn_pieces.specs.Stream.{Piece, with_offsets, pieces, State, IsStateOf, Next, MayFollow, PieceSeen, piece_at, pieces_seen, past_piece, current, pieces_held}
-use Rattle.pgn_pieces.specs.Places.{line_ends}
-use Rattle.pgn_pieces.specs.ties.Cutting.{piece_of}
 use Rattle.pgn_pieces.specs.ties.Held.{HasSeen, Ends, FindsEnd, SameCounts, IsLike, LetGo, Adds, passed, with_more}
-use Rattle.pgn_pieces.proofs.CutLines.{piece_of_some}
-use Rattle.pgn_pieces.proofs.InPlace.{cut_is_all}
-use Rattle.pgn_pieces.proofs.shared.Inputs.{read_on, broke_off}
 
 -- ---- what is held of a piece
 

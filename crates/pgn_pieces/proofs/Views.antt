@@ -1,11 +1,7 @@
 -- What is held, as the bytes come to the piece.
-use Rattle.std.proofs.Common.{◌≡◌, ◌≤◌, ◌<◌, ℕ, ◌+◌, ◌-◌, Bool, List, ◌++◌, length, take, drop, refl, sym, ap, subst, ◌∙◌, append_assoc, append-nil, length-append, length-drop, arith}
-use Rattle.std.proofs.Math.Path.{ap₂}
-use Rattle.std.proofs.Math.Seq.{take-add}
+use Rattle.std.proofs.Common.{◌≡◌, ◌≤◌, ◌<◌, ℕ, ◌+◌, ◌-◌, Bool, List, ◌++◌, length, take, drop, refl, sym, ap, subst, ◌∙◌, append_assoc, append-nil, length-append, length-drop, arith, ap₂, take-add}
 use Rattle.std.proofs.lemmas.List.{drop-drop, length-take-le, take_rest}
-use Rattle.pgn_pieces.specs.Stream.{State}
-use Rattle.pgn_pieces.specs.declared.pieces.TheConstants.{PIECE_LEN}
-use Rattle.pgn_pieces.specs.ties.Held.{passed, SameCounts, LetGo}
+use Rattle.pgn_pieces.specs.{Stream.State, declared.pieces.TheConstants.PIECE_LEN, ties.Held.passed, ties.Held.SameCounts, ties.Held.LetGo}
 
 abbrev pub viewed : List ℕ → ℕ → ℕ → List ℕ → ℕ → Bool → State
 viewed held at len gone offset ended = record {

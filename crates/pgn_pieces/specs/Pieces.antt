@@ -3,7 +3,7 @@ use Rattle.std.specs.Prelude.{◌≡◌, ◌≤◌, ◌^◌, ℕ, ◌+◌, ◌-�
 use Rattle.std.specs.Io.KnownBytes.{Consumes, IsAtEnd}
 use Rattle.std.specs.List.{onto_first, take_while, prefix_len, list_any, list_all, concat, fold}
 use Rattle.std.specs.Str.{bytes_eq}
-use Rattle.byte_devices.specs.Bytes.{is_blank, is_name_byte}
+use Rattle.byte_devices.specs.Bytes.{byte, is_blank, is_name_byte}
 use Rattle.byte_devices.specs.Devices.{InputState, saturating_increment}
 use Rattle.pgn_pieces.specs.Places.{ends_line, breaks_line}
 use Rattle.pgn_pieces.specs.declared.pieces.PieceFault.{PieceFault}
@@ -11,8 +11,8 @@ use Rattle.pgn_pieces.specs.declared.pieces.PieceFault.TheVariants.{ReadFailed, 
 
 -- ---- the lines of a text
 
--- the lines of a text, each with the `\n` or `\r` that ends it; the last one may have none. So `\r\n` ends a line and
--- is followed by a line of `\n` alone, which counts as empty
+-- the lines of a text, each with the `\n` or `\r` that ends it, if one does. After `\r\n` there is a line of `\n`
+-- alone, which counts as empty
 abbrev pub lines_of : List ℕ → List (List ℕ)
 lines_of [] = []
 lines_of (c ∷ cs) = if breaks_line c then (c ∷ []) ∷ lines_of cs else onto_first c (lines_of cs)
@@ -21,18 +21,17 @@ lines_of (c ∷ cs) = if breaks_line c then (c ∷ []) ∷ lines_of cs else onto
 abbrev pub without_blanks : List ℕ → List ℕ
 without_blanks text = drop (prefix_len is_blank text) text
 
--- the front of a line, which decides the line's kind: its first 256 bytes, without the byte order mark of UTF-8 (the
--- bytes EF BB BF) at their beginning, if they have one there, and then without the spaces and tabs there
+-- the front of a line, which decides the line's kind: its first 256 bytes, without a byte order mark (EF BB BF) and
+-- then spaces and tabs at their beginning
 abbrev pub front_of : List ℕ → List ℕ
 front_of line = let first = take 256 line in
     without_blanks (if bytes_eq (take 3 first) (239 ∷ 187 ∷ 191 ∷ []) then drop 3 first else first)
 
--- the name of the tag with which the front of a line begins: the letters, digits and underscores after its first byte,
--- which is to be `[` but is not tested here
+-- the name after the `[` with which the front of a tag line begins
 abbrev pub tag_name : List ℕ → List ℕ
 tag_name front = take_while is_name_byte (drop 1 front)
 
--- what comes after the tag's name in the front of a line, and after any spaces and tabs that follow the name
+-- what comes after that name and any spaces and tabs
 abbrev pub after_name : List ℕ → List ℕ
 after_name front = without_blanks (drop (length (tag_name front)) (drop 1 front))
 
@@ -50,10 +49,19 @@ abbrev pub is_empty_line : List ℕ → Bool
 is_empty_line line = bytes_eq (take 1 (front_of line)) (codes "%") || bytes_eq (take 1 (front_of line)) (codes ";")
     || list_all (λ c. is_blank c || (c == 13) || ends_line c) (front_of line)
 
--- whether a line counts as one of moves: any line that is neither a tag line nor empty. That includes a tag that
--- `is_tag_line` does not take, and a line inside a `{` comment, unless it is empty or looks like a tag line
+-- what comes after the first tag in the front of a tag line and any spaces and tabs; nothing if no `"]` ends the tag.
+-- Its value goes to the next quote, even one after a backslash
+abbrev pub after_tag : List ℕ → List ℕ
+after_tag front = let value = drop 1 (after_name front) in
+    let close = drop (prefix_len (λ c. not (c == byte "\"")) value) value in
+    if bytes_eq (take 2 close) (codes "\"]") then without_blanks (drop 2 close) else []
+
+-- whether a line counts as one of moves, even if it is in a `{` comment: one that is neither a tag line nor empty, or a
+-- tag line with a letter, digit, `_` or `*` after its first tag
 abbrev pub is_moves_line : List ℕ → Bool
-is_moves_line line = not (is_tag_line line || is_empty_line line)
+is_moves_line line = if is_tag_line line
+    then list_any (λ c. is_name_byte c || c == byte "*") (take 1 (after_tag (front_of line)))
+    else not (is_empty_line line)
 
 -- ---- the pieces of a text
 
@@ -63,20 +71,20 @@ abbrev pub begins_piece : List (List ℕ) → List ℕ → Bool
 begins_piece piece line = is_tag_line line
     && (list_any is_moves_line piece || (is_event_line line && list_any is_event_line piece))
 
--- pieces with one line more: it begins a new piece (always, if there is none yet), or it goes to the end of the last
--- one. Each piece is given by its lines, and the last piece comes first
+-- these pieces, each as its lines and the last one first, with one line more: it begins a piece, or it goes to the last
+-- one
 abbrev pub with_line : List (List (List ℕ)) → List ℕ → List (List (List ℕ))
 with_line [] line = (line ∷ []) ∷ []
 with_line (last ∷ before) line =
     if begins_piece last line then (line ∷ []) ∷ last ∷ before else (last ++ line ∷ []) ∷ before
 
--- the pieces that a text is cut into, in order, each as its bytes: the text's lines go to them one after another
--- (`with_line`), so that a new piece begins at the first line, and at each line of which `begins_piece` says so
+-- the pieces that a text is cut into, each as its bytes: one begins at the first line, and at each for which
+-- `begins_piece` holds
 abbrev pub cut : List ℕ → List (List ℕ)
 cut text = reverse (map concat (fold with_line [] (lines_of text)))
 
--- the pieces of a text of an input that are known, each as its bytes: if the input ends after the text (`ended`), all
--- that the text is cut into; otherwise all but the last, which may go on
+-- the pieces that are known of an input that gave this text: if it ended, all; otherwise all but the last, which may go
+-- on
 abbrev pub known_pieces : Bool → List ℕ → List (List ℕ)
 known_pieces ended text = let all = cut text in if ended then all else take (length all - 1) all
 

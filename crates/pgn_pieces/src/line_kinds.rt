@@ -4,16 +4,17 @@
 //! - a tag line begins with `[`, a name, perhaps spaces and tabs, and `"`: `[White "Carlsen"]`
 //! - an Event line is a tag line of the tag Event: `[Event "Oslo"]`
 //! - an empty line has only white space, or begins with `%` or `;`
-//! - a line of moves is any other line: `1. e4 e5`, but also `{a comment}`
+//! - a line of moves is any other line: `1. e4 e5`, but also `{a comment}`; and a tag line with moves after its first
+//!   tag: `[Result "1-0"] 1. e4 1-0`
 //!
 //! The functions that `kind_of` calls are inlined, since `verify --keep-going` calls it for every line of a collection
 //! (the workload collections). What that gains was not measured apart.
 
 ghost use Rattle.std.specs.Prelude.{◌≡◌, ◌≤◌, true, false, ◌||◌, ◌==◌, if◌then◌else◌, [], ◌∷◌, length, take, drop, codes};
 ghost use Rattle.std.specs.Str.{bytes_eq};
-ghost use Rattle.std.specs.List.{list_all};
-ghost use Rattle.pgn_pieces.specs.Pieces.{without_blanks, front_of, after_name, tag_name, is_tag_line, is_event_line, is_moves_line};
-ghost use Rattle.byte_devices.specs.Bytes.{is_blank};
+ghost use Rattle.std.specs.List.{list_all, list_any};
+ghost use Rattle.pgn_pieces.specs.Pieces.{without_blanks, front_of, after_name, tag_name, after_tag, is_tag_line, is_event_line, is_moves_line};
+ghost use Rattle.byte_devices.specs.Bytes.{byte, is_blank, is_name_byte};
 ghost use Rattle.pgn_pieces.specs.Places.{ends_line, line_ends};
 ghost use Rattle.pgn_pieces.specs.ties.Fronts.{begins_tag, is_empty_front};
 
@@ -29,7 +30,7 @@ pub(crate) struct Kind {
     pub(crate) is_tag: bool,
     // Whether it is an Event line.
     pub(crate) is_event: bool,
-    // Whether it is a line of moves.
+    // Whether it is a line of moves; a tag line may be one too.
     pub(crate) is_moves: bool,
 }
 
@@ -56,7 +57,36 @@ pub(crate) fn kind_of(line: &[u8]) -> Kind
     Kind {
         is_tag,
         is_event: is_tag && name == b"Event".as_slice(),
-        is_moves: !(is_tag || is_empty_front(front)),
+        is_moves: if is_tag {
+            has_moves(front, name)
+        } else {
+            !is_empty_front(front)
+        },
+    }
+}
+
+// Whether moves come after the first tag of a tag line with this front: a letter, a digit, `_` or `*`, after any spaces
+// and tabs. `name` is what `tag_name` returned for this front.
+fn has_moves(front: &[u8], name: &[u8]) -> bool
+    requires { name.now ≡ tag_name front.now }
+    ensures { result ≡ list_any (λ c. is_name_byte c || c == byte "*") (take 1 (after_tag front.now)) }
+{
+    match after_tag(front, name) {
+        [first, ..] => is_name_byte(*first) || *first == b'*',
+        [] => false,
+    }
+}
+
+// What comes after the first tag in the front of a tag line, and after any spaces and tabs there; empty if no `"]` ends
+// the tag. `name` is what `tag_name` returned for this front.
+fn after_tag<'t>(front: &'t [u8], name: &[u8]) -> &'t [u8]
+    requires { name.now ≡ tag_name front.now }
+    ensures { result.now ≡ after_tag front.now }
+{
+    let value = without_first(after_name(front, name));
+    match split_while(value, |byte| byte != b'"').1 {
+        [b'"', b']', rest @ ..] => without_blanks(rest),
+        _ => &front[..0],
     }
 }
 

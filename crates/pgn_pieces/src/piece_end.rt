@@ -32,8 +32,8 @@ pub(crate) struct Seen {
 pub(crate) enum Step {
     // The next piece begins with the line.
     Begins,
-    // The line is left until more of it is read, or the input ends. It is no tag line so far, and neither its end nor
-    // 256 bytes of it were read.
+    // The line is left until more of it is read, or the input ends. No piece begins with it so far, and neither its end
+    // nor 256 bytes of it were read.
     Waits,
     // The line belongs to the piece. The number is how many bytes of it were read, its end included.
     Belongs(usize),
@@ -107,9 +107,10 @@ impl Seen {
 
     // Decides whether the next piece begins with `line`, which is the next bytes and has no end, since no more of the
     // line was read. Returns `Begins` if so; `Belongs` if `line` is more of the piece's last line (`inside`), or a new
-    // line of the piece, whose kind is then noted; and `Waits` if `line` is no tag line so far, and has fewer than the
-    // 256 bytes (`FRONT_LEN`) that decide its kind. With more bytes a line such as `[Eve` may become a tag line; one
-    // such as `1. e4` can't, and waits all the same. A line that is a tag line remains one.
+    // line of the piece, whose kind is then noted; and `Waits` if `line` begins no piece so far, and has fewer than the
+    // 256 bytes (`FRONT_LEN`) that decide its kind. With more bytes a line such as `[Eve` may become a tag line, and
+    // one such as `[Event "a"]` may get moves; one such as `1. e4` can't change, and waits all the same. A line that is
+    // a tag line remains one.
     #[inline(always)]
     fn see_open(&mut self, line: &[u8]) -> Step
         requires plain { (0 < length line.now) × (has_line_end line.now ≡ false) }
@@ -122,8 +123,9 @@ impl Seen {
         if self.ends_at(kind) {
             return Step::Begins;
         }
-        // With more bytes some such lines become tag lines, which may begin the next piece. The others wait too.
-        if !kind.is_tag && line.len() < FRONT_LEN {
+        // With more bytes some such lines become tag lines, which may begin the next piece, or lines of moves. The
+        // others wait too.
+        if line.len() < FRONT_LEN {
             return Step::Waits;
         }
         self.add(kind, true);

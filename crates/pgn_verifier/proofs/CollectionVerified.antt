@@ -1,36 +1,19 @@
 -- The games of a collection, piece by piece.
-use Rattle.std.proofs.Common.{◌≡◌, ℕ, ◌+◌, ◌*◌, ◌≤◌, ◌<◌, ◌^◌, Bool, true, false, not, List, [], ◌∷◌, ◌++◌, length, map, take, Some, None, Ok, Err, refl, sym, ap, subst, ◌∙◌, append_assoc, append-nil, arith}
-use Rattle.std.specs.Prelude.{if◌then◌else◌, nat_le}
-use Rattle.std.specs.List.{sum_by, flat_map, take_while}
+use Rattle.std.proofs.Common.{◌≡◌, ℕ, ◌+◌, ◌*◌, ◌≤◌, ◌<◌, ◌^◌, Bool, true, false, not, List, [], ◌∷◌, ◌++◌, length, map, take, Some, None, Ok, Err, refl, sym, ap, subst, ◌∙◌, append_assoc, append-nil, arith, ap₂, take-take, if◌then◌else◌, nat_le, sum_by, flat_map, take_while}
 use Rattle.std.specs.Option.{option_map_or}
-use Rattle.std.proofs.Math.Path.{ap₂}
-use Rattle.std.proofs.lemmas.List.{take-take}
-use Rattle.chess_pgn.specs.Tokens.{is_white_space}
-use Rattle.chess_pgn.specs.declared.read.PgnFaultKind.TheVariants.{TooLong}
-use Rattle.pgn_pieces.specs.declared.pieces.TheConstants.{PIECE_LEN}
-use Rattle.pgn_verifier.specs.Explanations.{shown, shown_word}
-use Rattle.pgn_verifier.specs.declared.game_fault.FaultKind.TheVariants.{Pgn}
-use Rattle.std.proofs.lemmas.List.Concat.{flat_map-append}
-use Rattle.std.proofs.lemmas.List.Sums.{sum_by_push}
-use Rattle.byte_devices.specs.declared.traits.WriteFault.{WriteFault}
+use Rattle.chess_pgn.specs.{Tokens.is_white_space, declared.read.PgnFaultKind.TheVariants.TooLong}
+use Rattle.pgn_pieces.specs.{declared.pieces.TheConstants.PIECE_LEN, declared.pieces.PieceFault.PieceFault, laws.HandedOut.PiecesAreCut, laws.Places.PiecesAreInPlace}
+use Rattle.pgn_verifier.specs.{declared.options.Strictness.Strictness, Explanations.shown, Explanations.shown_word, declared.game_fault.FaultKind.TheVariants.Pgn, declared.options.VerifyOptions.VerifyOptions, declared.tally.Tally.Tally, declared.fault.VerifyFault.TheVariants.WriteFailed, Collection.VerifiesCollection, Faults.of_piece}
+use Rattle.std.proofs.{lemmas.List.Concat.flat_map-append, lemmas.List.Sums.sum_by_push}
+use Rattle.byte_devices.specs.{declared.traits.WriteFault.WriteFault, Transfers.Ran}
 use Rattle.byte_devices.specs.Devices.{InputState, OutputState, Took, CutShort}
-use Rattle.byte_devices.specs.Transfers.{Ran}
 use Rattle.byte_devices.proofs.shared.Devices.{breaks_longer}
-use Rattle.pgn_pieces.specs.declared.pieces.PieceFault.{PieceFault}
 use Rattle.pgn_pieces.specs.Stream.{Piece, pieces, State, IsStateOf, Next, MayFollow, PieceSeen, piece_at, pieces_seen, past_piece, current, unread, pieces_after_part, pieces_held}
-use Rattle.pgn_pieces.specs.laws.HandedOut.{PiecesAreCut}
-use Rattle.pgn_pieces.specs.laws.Places.{PiecesAreInPlace}
 use Rattle.pgn_pieces.proofs.shared.Inputs.{nothing_read}
-use Rattle.pgn_verifier.specs.declared.options.VerifyOptions.{VerifyOptions}
-use Rattle.pgn_verifier.specs.declared.tally.Tally.{Tally}
-use Rattle.pgn_verifier.specs.declared.fault.VerifyFault.TheVariants.{WriteFailed}
 use Rattle.pgn_verifier.specs.Reports.{Faulty, Placed, report_lines, without_spans, counts_line, counts_of}
-use Rattle.pgn_verifier.specs.Collection.{VerifiesCollection}
-use Rattle.pgn_verifier.specs.laws.Reported.{placed_on, placed_in, collection_placed, too_long_placed}
+use Rattle.pgn_verifier.specs.laws.Reported.{placed_of, placed_in, collection_placed, too_long_placed}
 use Rattle.pgn_verifier.specs.ties.OnTheWay.{WritesCollection, Writes, PieceStandsIf, GrowsBy, reports_seen, reports_of, counted, collection_lines}
-use Rattle.pgn_verifier.specs.Faults.{of_piece}
-use Rattle.pgn_verifier.proofs.Placed.{piece_there}
-use Rattle.pgn_verifier.proofs.Verifying.{collection_broke_off, reading_stopped}
+use Rattle.pgn_verifier.proofs.{Placed.piece_there, Verifying.collection_broke_off, Verifying.reading_stopped}
 use Rattle.pgn_verifier.proofs.LinesWritten.{took_after, broke_after, lines_after, wrote_none, counted_after, all_counted}
 
 abbrev pub none : Tally
@@ -42,7 +25,7 @@ none = record { games = 0; half_moves = 0; faults = 0 }
 shown_beginning : (bytes : List ℕ) → shown (take 40 bytes) ≡ shown bytes
 shown_beginning bytes = ap (λ xs. shown_word (take_while (λ c. not (is_white_space c)) xs)) (take-take 40 40 bytes (omega arith))
 
-seen_alike : (strict : Bool) (piece : Piece)
+seen_alike : (strict : Strictness) (piece : Piece)
     → placed_in strict piece ≡ reports_seen strict (piece_at piece.offset piece.bytes)
 seen_alike strict piece = by_test (nat_le (length piece.bytes) PIECE_LEN)
   where
@@ -50,24 +33,26 @@ seen_alike strict piece = by_test (nat_le (length piece.bytes) PIECE_LEN)
     too_long_with text = record {
       begin = piece.offset;
       end = piece.offset + length piece.bytes;
+      first = [];
+      unread = Some piece.offset;
       names = None;
       report = Faulty (record { kind = Pgn TooLong; offset = piece.offset }) piece.offset text;
     }
 
-    by_test : (b : Bool) → (if b then placed_on strict piece.offset piece.bytes else too_long_placed piece ∷ [])
-        ≡ option_map_or (placed_on strict piece.offset) (if b then Some piece.bytes else None)
+    by_test : (b : Bool) → (if b then placed_of true strict piece.offset piece.bytes else too_long_placed piece ∷ [])
+        ≡ option_map_or (placed_of true strict piece.offset) (if b then Some piece.bytes else None)
         (too_long_with (shown (take 40 piece.bytes)) ∷ [])
     by_test true = refl
     by_test false = ap (λ t. too_long_with t ∷ []) (sym (shown_beginning piece.bytes))
 
-all_seen_alike : (strict : Bool) (all : List Piece)
+all_seen_alike : (strict : Strictness) (all : List Piece)
     → flat_map (placed_in strict) all
     ≡ reports_of strict (map (λ (piece : Piece). piece_at piece.offset piece.bytes) all)
 all_seen_alike strict [] = refl
 all_seen_alike strict (piece ∷ more) =
     ap₂ (λ xs ys. xs ++ ys) (seen_alike strict piece) (all_seen_alike strict more)
 
-as_seen : (strict ended : Bool) (text : List ℕ)
+as_seen : (strict : Strictness) (ended : Bool) (text : List ℕ)
     → collection_placed strict ended text ≡ reports_of strict (pieces_seen ended 0 text)
 as_seen strict ended text = all_seen_alike strict (pieces ended 0 text)
 

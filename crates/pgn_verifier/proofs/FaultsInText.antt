@@ -1,13 +1,12 @@
 -- The fault of a game whose end contradicts its tags or the board is in the text.
-use Rattle.std.proofs.Common.{◌≡◌, ℕ, ◌≤◌, Bool, true, false, Option, Some, None, sym, ap, subst, ◌∙◌, arith}
-use Rattle.std.specs.Prelude.{if◌then◌else◌, IfSome}
+use Rattle.std.proofs.Common.{◌≡◌, ℕ, zero, suc, ◌<◌, ◌≤◌, Bool, true, false, List, [], ◌∷◌, length, take, drop, Option, Some, None, Result, Ok, Err, IfErr, ap, arith, if◌then◌else◌, IfSome}
+use Rattle.std.proofs.lemmas.List.{length-append, length-drop, nil_from_length, take-append-drop}
+use Rattle.byte_devices.specs.Bytes.{after_byte_order_mark}
+use Rattle.chess_base.specs.declared.setup.Setup.{Setup}
+use Rattle.chess_pgn.specs.{Split.lacks, Tokens.tokens_from, Variations.line_fault, Variations.variation_fault, declared.variations.TheConstants.MOST_NESTED, declared.read.PgnEnd.PgnEnd, declared.read.PgnFault.PgnFault, declared.tagged_result.ResultTag.ResultTag}
 use Rattle.std.specs.Option.{option_eq, option_or}
-use Rattle.chess_game.specs.Game.{contradicts_verdict}
-use Rattle.chess_game.specs.declared.verdicts.Verdict.{Verdict}
-use Rattle.chess_game.specs.Results.{same_outcome}
-use Rattle.chess_pgn.specs.declared.read.PgnEnd.{PgnEnd}
-use Rattle.chess_pgn.specs.declared.tagged_result.ResultTag.{ResultTag}
-use Rattle.pgn_verifier.specs.GameFaults.{result_differs, board_says_otherwise}
+use Rattle.chess_game.specs.{Game.contradicts_verdict, declared.verdicts.Verdict.Verdict, Results.same_outcome}
+use Rattle.pgn_verifier.specs.GameFaults.{looked_for, result_differs, board_says_otherwise, variation_in}
 use Rattle.pgn_verifier.specs.declared.game_fault.GameFault.{GameFault}
 
 abbrev pub InText : ℕ → Option GameFault → Type 0
@@ -17,33 +16,51 @@ either : (P : Option GameFault → Type 0) (t : Bool) (x y : Option GameFault) �
 either P true x y p q = p
 either P false x y p q = q
 
-tag_within : (len : ℕ) (tag : Option ResultTag) (end : PgnEnd) → IfSome tag (λ t. t.offset ≤ len)
+pub tag_within : (len : ℕ) (tag : Option ResultTag) (end : PgnEnd) → IfSome tag (λ t. t.offset ≤ len)
     → InText len (result_differs tag end)
 tag_within len None end h = tt
 tag_within len (Some tag) end h = either (InText len) (option_eq same_outcome tag.outcome (Some end.outcome)) None _ tt
     h
 
-board_within : (len : ℕ) (verdict : Option Verdict) (end : PgnEnd) → end.offset ≤ len
+pub board_within : (len : ℕ) (verdict : Option Verdict) (end : PgnEnd) → end.offset ≤ len
     → InText len (board_says_otherwise verdict end)
 board_within len verdict end h = either (InText len) (contradicts_verdict verdict end.outcome) _ None
     (omega (arith, h)) tt
 
-first_within : (len : ℕ) (first second : Option GameFault) → InText len first → InText len second
+pub first_within : (len : ℕ) (first second : Option GameFault) → InText len first → InText len second
     → InText len (option_or first second)
 first_within len (Some fault) second h k = h
 first_within len None second h k = k
 
-pub within : (len : ℕ) (tag : Option ResultTag) (verdict : Option Verdict) (end : PgnEnd)
-    → IfSome tag (λ t. t.offset ≤ len) → end.offset ≤ len
-    → InText len (option_or (result_differs tag end) (board_says_otherwise verdict end))
-within len tag verdict end h k =
-    first_within len (result_differs tag end) (board_says_otherwise verdict end) (tag_within len tag end h)
-    (board_within len verdict end k)
+-- a fault that may not be looked for
+pub looked_within : (len : ℕ) (is_looked_for : Bool) (fault : Option GameFault) → InText len fault
+    → InText len (looked_for is_looked_for fault)
+looked_within len true fault h = h
+looked_within len false fault h = tt
 
--- the first of the two that were looked for
-pub first_found : (len : ℕ) (tag : Option ResultTag) (verdict : Option Verdict) (end : PgnEnd)
-    (one other found : Option GameFault) → one ≡ result_differs tag end → other ≡ board_says_otherwise verdict end
-    → found ≡ option_or one other → IfSome tag (λ t. t.offset ≤ len) → end.offset ≤ len → InText len found
-first_found len tag verdict end one other found p q h in_tag in_end =
-    subst (InText len) (sym (h ∙ ap (λ x. option_or x other) p ∙ ap (option_or (result_differs tag end)) q))
-    (within len tag verdict end in_tag in_end)
+-- a fault in a beginning of the text
+pub err_weaker : (len more : ℕ) (r : Result (Unit {0}) PgnFault) → len ≤ more → IfErr r (λ f. f.offset ≤ len)
+    → IfErr r (λ f. f.offset ≤ more)
+err_weaker len more (Ok u) h k = tt
+err_weaker len more (Err fault) h k = omega (arith, h, k)
+
+-- a beginning of a text has at most as many bytes as are taken, and as the text has
+take_short : (n : ℕ) (text : List ℕ) → length (take n text) ≤ n
+take_short zero text = omega arith
+take_short (suc n) [] = omega arith
+take_short (suc n) (c ∷ rest) = omega (arith, take_short n rest)
+
+pub take_few : (n : ℕ) (text : List ℕ) → length (take n text) ≤ length text
+take_few n text = omega (arith, ap length (take-append-drop n text), length-append (take n text) (drop n text))
+
+-- a game whose text ends before its first byte has no variation
+pub none_without_bytes : (text : List ℕ) (at : ℕ) (start : Setup) (end : PgnEnd)
+    → end.offset < after_byte_order_mark text at → variation_in tokens_from text at start end ≡ None
+none_without_bytes text at start end h =
+    let own : List ℕ = take end.offset text in
+    let first : ℕ = after_byte_order_mark text at in
+    let none : drop first own ≡ [] =
+    nil_from_length (drop first own) (omega (arith, length-drop first own, take_short end.offset text, h)) in
+    ap (λ xs. if lacks 40 xs then None
+    else line_fault own (λ p from. variation_fault tokens_from MOST_NESTED own p from) None start
+    (tokens_from own first)) none

@@ -5,18 +5,12 @@ use Rattle.byte_devices.specs.Devices.{InputState, OutputState, Took, Sent, CutS
 use Rattle.byte_devices.specs.Transfers.{Ran}
 use Rattle.byte_devices.proofs.shared.Devices.{appends_more, took_none, breaks_more, failed_more}
 use Rattle.pgn_pieces.specs.Stream.{pieces}
-use Rattle.pgn_verifier.specs.declared.options.VerifyOptions.{VerifyOptions}
-use Rattle.pgn_verifier.specs.declared.tally.Tally.{Tally}
-use Rattle.pgn_verifier.specs.declared.tally.Verified.{Verified}
+use Rattle.pgn_verifier.specs.{declared.options.Strictness.Strictness, declared.options.VerifyOptions.VerifyOptions, declared.tally.Tally.Tally, declared.tally.Verified.Verified, declared.fault.VerifyFault.TheVariants.WriteFailed, declared.fault.VerifyFault.TheVariants.NoMemory, Collection.VerifiesCollection, laws.Reported.placed_on, laws.Reported.collection_placed}
 use Rattle.pgn_pieces.specs.declared.pieces.PieceFault.TheVariants as piece
 use Rattle.pgn_pieces.proofs.shared.Inputs.{nothing_read}
-use Rattle.pgn_verifier.specs.declared.fault.VerifyFault.TheVariants.{WriteFailed, NoMemory}
 use Rattle.pgn_verifier.specs.Reports.{report_lines, without_spans, counts_line, counts_of, verified}
-use Rattle.pgn_verifier.specs.Collection.{VerifiesCollection}
-use Rattle.pgn_verifier.specs.laws.Reported.{placed_on, collection_placed}
 use Rattle.pgn_verifier.specs.ties.OnTheWay.{WritesCollection, StandsIf, next_number, counted, text_lines, collection_lines}
-use Rattle.pgn_verifier.proofs.LinesWritten.{all_counted}
-use Rattle.pgn_verifier.proofs.Verifying.{collection_verified, collection_broke_off, reading_stopped}
+use Rattle.pgn_verifier.proofs.{LinesWritten.all_counted, Verifying.collection_verified, Verifying.collection_broke_off, Verifying.reading_stopped}
 
 abbrev pub none : Tally
 none = record { games = 0; half_moves = 0; faults = 0 }
@@ -33,7 +27,8 @@ sent_more a b c x y h k = record {
 }
 
 -- a text that is read as a whole begins with the input
-pub whole_there : (explain : Bool) (text : List ℕ) → StandsIf explain (record { offset = 0; line = 1 }) text text
+pub whole_there : (explain : Bool) (text : List ℕ)
+    → StandsIf explain (record { offset = 0; line = 1; goes_on = false }) text text
 whole_there explain text h = record { bytes = take-length text; line = refl; column = refl }
 
 pub whole_lines : (options : VerifyOptions) (t : Tally) (text : List ℕ) → t ≡ none
@@ -41,7 +36,7 @@ pub whole_lines : (options : VerifyOptions) (t : Tally) (text : List ℕ) → t 
 whole_lines options t text is =
     ap (λ (u : Tally). report_lines options text (next_number u) (placed_on options.strict 0 text)) is
 
-pub whole_counted : (strict : Bool) (t u : Tally) (text : List ℕ) (v : Verified) → t ≡ none
+pub whole_counted : (strict : Strictness) (t u : Tally) (text : List ℕ) (v : Verified) → t ≡ none
     → u ≡ counted t (placed_on strict 0 text) → v ≡ verified u → v ≡ verified (counts_of (without_spans (placed_on strict 0 text)))
 whole_counted strict t u text v is h e =
     e ∙ ap verified (h ∙ ap (λ (x : Tally). counted x (placed_on strict 0 text)) is

@@ -1,12 +1,10 @@
 -- What was read of an input, piece by piece.
-use Rattle.std.proofs.Common.{◌≡◌, ◌≤◌, ◌<◌, ◌-◌, ◌==◌, nat_eq, length-append, ◌∙◌, ℕ, List, [], ◌++◌, length, take, false, if◌then◌else◌, refl, ap, subst, append-nil, arith}
-use Rattle.std.proofs.lemmas.List.{length-take-le}
+use Rattle.std.proofs.Common.{◌≡◌, ◌≤◌, ◌<◌, ◌-◌, ◌==◌, nat_eq, length-append, ◌∙◌, ℕ, List, [], ◌++◌, length, take, false, if◌then◌else◌, refl, ap, subst, append-nil, arith, length-take-le}
 use Rattle.std.specs.Io.KnownBytes.{Consumes}
 use Rattle.byte_devices.specs.Devices.{InputState, GavePiece, saturating_increment}
 use Rattle.byte_devices.proofs.shared.Devices.{consumes_more}
-use Rattle.pgn_verifier.specs.declared.fault.VerifyFault.TheVariants.{NoMemory, InputTooLong}
+use Rattle.pgn_verifier.specs.{declared.fault.VerifyFault.TheVariants.NoMemory, declared.fault.VerifyFault.TheVariants.InputTooLong, ties.OnTheWay.IsAll, ties.OnTheWay.IsNotAll}
 use Rattle.pgn_pieces.specs.Pieces.{HasRead}
-use Rattle.pgn_verifier.specs.ties.OnTheWay.{IsAll, IsNotAll}
 
 -- the end was reported
 pub all_read : (r r' r'' : InputState) (text buf : List ℕ) (n : ℕ) → HasRead false r r' text → length text ≤ 16777216

@@ -1,5 +1,6 @@
 pub mod shared
 mod CollectionVerified
+mod FaultLines
 mod FaultsInText
 mod Finished
 mod InputRead

@@ -1,21 +1,17 @@
 -- Reports that are written one after the other, and counted.
-use Rattle.std.proofs.Common.{◌≡◌, ℕ, ◌+◌, cond, Bool, not, List, [], ◌∷◌, ◌++◌, length, is_some, Result, Ok, Err, refl, sym, ap, subst, ◌∙◌, append_assoc, append-nil, arith}
-use Rattle.std.specs.List.{count_by, fold, sum_by}
-use Rattle.std.specs.Option.{unwrap_or}
+use Rattle.std.proofs.Common.{◌≡◌, ℕ, ◌+◌, cond, Bool, not, List, [], ◌∷◌, ◌++◌, length, is_some, Result, Ok, Err, refl, sym, ap, subst, ◌∙◌, append_assoc, append-nil, arith, unwrap_or, count_by, fold, sum_by}
 use Rattle.std.proofs.lemmas.List.Sums.{sum_by-cons}
 use Rattle.byte_devices.specs.Devices.{OutputState, Took, CutShort}
 use Rattle.byte_devices.proofs.shared.Devices.{took_none, took_more, breaks_more, breaks_longer}
-use Rattle.pgn_verifier.specs.declared.options.VerifyOptions.{VerifyOptions}
-use Rattle.pgn_verifier.specs.declared.tally.Tally.{Tally}
-use Rattle.pgn_verifier.specs.Reports.{Report, Game, Faulty, Placed, span_text, names_text, written_line, report_lines, half_moves_of, without_spans, counts_of}
+use Rattle.pgn_verifier.specs.{declared.options.VerifyOptions.VerifyOptions, declared.tally.Tally.Tally}
+use Rattle.pgn_verifier.specs.Reports.{Report, Game, Faulty, Placed, written_line, report_lines, half_moves_of, without_spans, counts_of}
 use Rattle.pgn_verifier.specs.ties.OnTheWay.{with_report, next_number, Writes, counted}
 
 -- ---- reports and those after them
 
 -- what is written of a report with its span
 abbrev pub placed_line : VerifyOptions → List ℕ → ℕ → Placed → List ℕ
-placed_line options input number r =
-    written_line options input number (span_text options r.begin r.end) (names_text options r.names) r.report
+placed_line options input number r = written_line options input number r r.report
 
 pub lines_after : (options : VerifyOptions) (input : List ℕ) (number : ℕ) (xs ys : List Placed)
     → report_lines options input number (xs ++ ys) ≡ report_lines options input number xs

@@ -1,14 +1,10 @@
 -- What is shown of a tag, from what is found of it.
-use Rattle.std.proofs.Common.{◌≡◌, ℕ, Bool, true, false, List, [], ◌++◌, map, take, Option, Some, None, refl, ap, ◌∙◌}
+use Rattle.std.proofs.Common.{◌≡◌, ℕ, Bool, true, false, List, [], ◌++◌, map, take, Option, Some, None, refl, ap, ◌∙◌, if◌then◌else◌, codes}
 use Rattle.std.specs.Option.{option_map, option_map_or}
-use Rattle.std.specs.Prelude.{if◌then◌else◌, codes}
 use Rattle.byte_devices.specs.Bytes.{shown_byte}
-use Rattle.chess_pgn.specs.LastTags.{last_tag, tag_section}
-use Rattle.chess_pgn.specs.Split.{IsSplit}
-use Rattle.chess_pgn.specs.Tokens.{Token, tokens_from}
+use Rattle.chess_pgn.specs.{LastTags.last_tag, LastTags.tag_section, Split.IsSplit, Tokens.Token, Tokens.tokens_from}
 use Rattle.chess_pgn.proofs.shared.Tokens.{split_read}
-use Rattle.pgn_verifier.specs.Reports.{names_text, shown_tag}
-use Rattle.pgn_verifier.specs.declared.options.VerifyOptions.{VerifyOptions}
+use Rattle.pgn_verifier.specs.{Reports.names_text, Reports.shown_tag, declared.options.VerifyOptions.VerifyOptions}
 
 abbrev pub shown_or : Option (List ℕ) → List ℕ
 shown_or text = option_map_or (λ t. map shown_byte (take 40 t)) text (codes "?")

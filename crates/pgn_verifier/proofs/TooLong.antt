@@ -1,26 +1,19 @@
 -- A piece that is too long is reported in one line, or two.
-use Rattle.std.proofs.Common.{◌≡◌, ℕ, ◌+◌, Bool, List, [], ◌∷◌, ◌++◌, None, Ok, Err, refl, sym, ap, subst, ◌∙◌, append-nil}
-use Rattle.std.specs.Prelude.{if◌then◌else◌}
+use Rattle.std.proofs.Common.{◌≡◌, ℕ, ◌+◌, Bool, true, List, [], ◌∷◌, ◌++◌, Some, None, Ok, Err, refl, sym, ap, subst, ◌∙◌, append-nil, if◌then◌else◌}
 use Rattle.std.specs.Option.{option_map_or}
 use Rattle.byte_devices.specs.Devices.{OutputState, Took, CutShort}
 use Rattle.chess_pgn.specs.declared.read.PgnFaultKind.TheVariants.{TooLong}
-use Rattle.pgn_pieces.specs.Places.{line_of, column_of}
-use Rattle.pgn_pieces.specs.Stream.{PieceSeen}
-use Rattle.pgn_verifier.specs.Explanations.{shown, explanation_line}
-use Rattle.pgn_verifier.specs.Reports.{names_text, report_lines, span_text}
-use Rattle.pgn_verifier.specs.declared.game_fault.FaultKind.TheVariants.{Pgn}
-use Rattle.pgn_verifier.specs.declared.options.VerifyOptions.{VerifyOptions}
-use Rattle.pgn_verifier.specs.declared.start.TextStart.{TextStart}
-use Rattle.pgn_verifier.specs.declared.tally.Tally.{Tally}
-use Rattle.pgn_verifier.specs.laws.Reported.{placed_on}
+use Rattle.pgn_pieces.specs.{Places.line_of, Places.column_of, Stream.PieceSeen}
+use Rattle.pgn_verifier.specs.{Explanations.shown, Explanations.explanation_line, declared.game_fault.FaultKind.TheVariants.Pgn, declared.options.VerifyOptions.VerifyOptions, declared.start.TextStart.TextStart, declared.tally.Tally.Tally, laws.Reported.placed_of}
+use Rattle.pgn_verifier.specs.Reports.{names_text, report_lines, span_text, unread_text}
 use Rattle.pgn_verifier.specs.ties.OnTheWay.{StandsIf, PieceStandsIf, Writes, counted, fault_line, next_number, reports_seen, too_long_seen}
 
 -- the lines on a piece that is too long, which begins at the offset `at` with these bytes; `span` and `names`: the end
--- of the first
-abbrev pub long_lines : Bool → List ℕ → ℕ → ℕ → List ℕ → List ℕ → List ℕ → List ℕ
-long_lines explain input number at span names beginning =
+-- of the first; `unread`: the end of the second
+abbrev pub long_lines : Bool → List ℕ → ℕ → ℕ → List ℕ → List ℕ → List ℕ → List ℕ → List ℕ
+long_lines explain input number at span names unread beginning =
     fault_line number (record { kind = Pgn TooLong; offset = at }) span names
-    ++ (if explain then explanation_line input at (shown beginning) else [])
+    ++ (if explain then explanation_line input at (shown beginning ++ unread) else [])
 
 pub stands_there : (explain : Bool) (start : TextStart) (line : ℕ) (input : List ℕ) (piece : PieceSeen)
     → start.offset ≡ piece.offset → start.line ≡ line → PieceStandsIf explain line input piece
@@ -33,10 +26,11 @@ stands_there explain start line input piece offset is stands e =
     }
 
 module _ (options : VerifyOptions) (input : List ℕ) (before : Tally) (w w' : OutputState) (piece : PieceSeen)
-    (none : piece.bytes ≡ None) (number at : ℕ) (span names beginning : List ℕ)
+    (none : piece.bytes ≡ None) (number at : ℕ) (span names unread beginning : List ℕ)
     (number_is : number ≡ next_number before)
     (at_is : at ≡ piece.offset) (span_is : span ≡ span_text options piece.offset piece.end)
-    (names_is : names ≡ names_text options None) (beginning_is : beginning ≡ piece.beginning)
+    (names_is : names ≡ names_text options None)
+    (unread_is : unread ≡ unread_text (Some piece.offset) piece.end) (beginning_is : beginning ≡ piece.beginning)
   where
     abbrev own : List ℕ
     own = span_text options piece.offset piece.end
@@ -44,30 +38,38 @@ module _ (options : VerifyOptions) (input : List ℕ) (before : Tally) (w w' : O
     abbrev unnamed : List ℕ
     unnamed = names_text options None
 
-    lines_are : long_lines options.explain input number at span names beginning
+    abbrev all : List ℕ
+    all = unread_text (Some piece.offset) piece.end
+
+    lines_are : long_lines options.explain input number at span names unread beginning
         ≡ report_lines options input (next_number before) (reports_seen options.strict piece)
     lines_are =
-        ap (λ n. long_lines options.explain input n at span names beginning) number_is
-        ∙ ap (λ o. long_lines options.explain input (next_number before) o span names beginning) at_is
-        ∙ ap (λ xs. long_lines options.explain input (next_number before) piece.offset xs names beginning) span_is
-        ∙ ap (λ xs. long_lines options.explain input (next_number before) piece.offset own xs beginning) names_is
-        ∙ ap (λ xs. long_lines options.explain input (next_number before) piece.offset own unnamed xs) beginning_is
+        ap (λ n. long_lines options.explain input n at span names unread beginning) number_is
+        ∙ ap (λ o. long_lines options.explain input (next_number before) o span names unread beginning) at_is
+        ∙ ap (λ xs. long_lines options.explain input (next_number before) piece.offset xs names unread beginning)
+        span_is
+        ∙ ap (λ xs. long_lines options.explain input (next_number before) piece.offset own xs unread beginning)
+        names_is
+        ∙ ap (λ xs. long_lines options.explain input (next_number before) piece.offset own unnamed xs beginning)
+        unread_is
+        ∙ ap (λ xs. long_lines options.explain input (next_number before) piece.offset own unnamed all xs)
+        beginning_is
         ∙ sym (append-nil
-        (long_lines options.explain input (next_number before) piece.offset own unnamed piece.beginning))
+        (long_lines options.explain input (next_number before) piece.offset own unnamed all piece.beginning))
         ∙ sym (ap (λ bytes. report_lines options input (next_number before)
-        (option_map_or (placed_on options.strict piece.offset) bytes (too_long_seen piece ∷ []))) none)
+        (option_map_or (placed_of true options.strict piece.offset) bytes (too_long_seen piece ∷ []))) none)
 
     pub too_long_written : (E : Type 0) (after : Tally)
         → after ≡ record { games = before.games; half_moves = before.half_moves; faults = before.faults + 1 }
-        → Took w w' (long_lines options.explain input number at span names beginning)
+        → Took w w' (long_lines options.explain input number at span names unread beginning)
         → Writes {E = E} options input before w w' (Ok after) (reports_seen options.strict piece)
     too_long_written E after is took = (
       subst (Took w w') lines_are took,
       is ∙ sym (ap (λ bytes. counted before
-          (option_map_or (placed_on options.strict piece.offset) bytes (too_long_seen piece ∷ []))) none),
+          (option_map_or (placed_of true options.strict piece.offset) bytes (too_long_seen piece ∷ []))) none),
     )
 
     pub too_long_broke : {E : Type 0} (e : E)
-        → CutShort w w' (long_lines options.explain input number at span names beginning)
+        → CutShort w w' (long_lines options.explain input number at span names unread beginning)
         → Writes options input before w w' (Err e) (reports_seen options.strict piece)
     too_long_broke e broke = subst (CutShort w w') lines_are broke

@@ -1,21 +1,14 @@
 -- What verifying reads and writes, from what its parts did to the devices.
-use Rattle.std.proofs.Common.{◌≡◌, ℕ, Bool, true, false, List, Result, Ok, Err, IsErr, refl, sym, subst, append-nil}
-use Rattle.std.specs.Prelude.{IfErr}
+use Rattle.std.proofs.Common.{◌≡◌, ℕ, Bool, true, false, List, Result, Ok, Err, IsErr, refl, sym, subst, append-nil, IfErr}
 use Rattle.byte_devices.specs.Devices.{InputState, OutputState, Took, Sent, CutShort}
 use Rattle.byte_devices.specs.Transfers.{InputGave, Ran, nothing, all_of, all_unflushed}
 use Rattle.byte_devices.proofs.shared.Transfers.{came, broke, took_nothing, took_all, took_unflushed, took_some}
 use Rattle.pgn_pieces.specs.Pieces.{known_pieces, HasRead, GaveThenFailed, IsCause}
 use Rattle.pgn_pieces.specs.declared.pieces.PieceFault.{PieceFault}
 use Rattle.pgn_pieces.specs.declared.pieces.PieceFault.TheVariants as piece
-use Rattle.pgn_verifier.specs.declared.fault.VerifyFault.{VerifyFault}
+use Rattle.pgn_verifier.specs.{declared.fault.VerifyFault.VerifyFault, declared.options.VerifyOptions.VerifyOptions, declared.tally.Verified.Verified, Verify.Verifies, Collection.AreCollectionReports, Collection.VerifiesCollection, laws.Reported.placed_on, laws.Reported.collection_placed, Faults.of_piece}
 use Rattle.pgn_verifier.specs.declared.fault.VerifyFault.TheVariants.{ReadFailed, WriteFailed, NoMemory, InputTooLong}
-use Rattle.pgn_verifier.specs.declared.options.VerifyOptions.{VerifyOptions}
-use Rattle.pgn_verifier.specs.declared.tally.Verified.{Verified}
 use Rattle.pgn_verifier.specs.Reports.{Placed, without_spans, counts_of, verified}
-use Rattle.pgn_verifier.specs.Verify.{Verifies}
-use Rattle.pgn_verifier.specs.Collection.{AreCollectionReports, VerifiesCollection}
-use Rattle.pgn_verifier.specs.laws.Reported.{placed_on, collection_placed}
-use Rattle.pgn_verifier.specs.Faults.{of_piece}
 use Rattle.pgn_verifier.proofs.shared.ReportsAre.{are_reports, are_collection_reports}
 use Rattle.pgn_verifier.specs.ties.OnTheWay.{IsAll, IsNotAll, WritesText, text_lines, collection_lines, collection_written}
 

@@ -1,30 +1,30 @@
 -- What verifying a collection reads and writes. The input is cut into pieces (`pieces`), each of which is verified as a
 -- text of its own; a piece that is too long is a fault. Nothing here depends on how the input is cut into reads.
-use Rattle.std.specs.Prelude.{◌≡◌, ◌≤◌, ◌^◌, ℕ, ◌+◌, Bool, true, false, if◌then◌else◌, List, [], ◌∷◌, ◌++◌, length, Result, Ok, Err}
+use Rattle.std.specs.Prelude.{◌≡◌, ◌≤◌, ◌^◌, ℕ, ◌+◌, true, false, if◌then◌else◌, List, [], ◌∷◌, ◌++◌, length, Result, Ok, Err}
 use Rattle.byte_devices.specs.Transfers.{FromInput, ToOutput, IsWhole, nothing, all_of, all_unflushed, BreaksOffIn}
 use Rattle.pgn_pieces.specs.Pieces.{known_pieces}
+use Rattle.pgn_verifier.specs.declared.options.Strictness.{Strictness}
 use Rattle.pgn_verifier.specs.declared.fault.VerifyFault.{VerifyFault}
 use Rattle.pgn_verifier.specs.declared.fault.VerifyFault.TheVariants.{ReadFailed, WriteFailed, NoMemory, InputTooLong}
 use Rattle.pgn_verifier.specs.declared.options.VerifyOptions.{VerifyOptions}
 use Rattle.pgn_verifier.specs.declared.tally.Verified.{Verified}
 use Rattle.pgn_verifier.specs.Reports.{Placed, AreReportsIn, report_lines, without_spans, counts_line, counts_of, verified}
 
--- these are the reports on the games of these pieces, piece after piece (`AreReportsIn`). Each piece is given by its
--- bytes; the first begins at the given offset of the input, and each other one where the one before it ends. `strict`:
--- a termination marker, such as `1-0`, that contradicts the tag Result or the board's verdict is a fault
-pub data AreCollectionReports (strict : Bool) : ℕ → List (List ℕ) → List Placed → Type 0 where
+-- these are the reports on these pieces, piece after piece (`AreReportsIn`). The first piece begins at this offset of
+-- the input, each other one where the one before it ends
+pub data AreCollectionReports (strict : Strictness) : ℕ → List (List ℕ) → List Placed → Type 0 where
   no_piece : {offset : ℕ} → AreCollectionReports strict offset [] []
   next_piece : {offset : ℕ} {piece : List ℕ} {pieces : List (List ℕ)} (reports : List Placed) {more : List Placed}
       → AreReportsIn strict offset piece reports → AreCollectionReports strict (offset + length piece) pieces more
       → AreCollectionReports strict offset (piece ∷ pieces) (reports ++ more)
 
--- how verifying a collection ends, by its result: what was read of the input (`i`), and what was written (`o`) of
--- `text`, which is all that is to be written for what was read. `expected` is the summary that the reports give
+-- what was read of the input (`i`) and written (`o`) in the end, by the result; `text` is all that is to be written for
+-- what was read, and `expected` the summary that the reports give
 abbrev pub CollectionEnds : List ℕ → Verified → Result Verified VerifyFault → FromInput → ToOutput → Type 0
 -- the whole input was read; all of `text` was written and flushed; the summary is `expected`
 CollectionEnds text expected (Ok summary) i o = IsWhole i × (o ≡ all_of text) × (summary ≡ expected)
--- no read failed, whether the input's end was reported or not; a beginning of `text` (it may be empty, or all of it)
--- was written, nothing was flushed, and then a write or the flush failed
+-- no read failed; a beginning of `text`, maybe nothing or all, was written, nothing was flushed, and then a write or
+-- the flush failed
 CollectionEnds text expected (Err WriteFailed) i o = (i.failed ≡ false) × BreaksOffIn nothing text o
 -- a read failed before the input's end was reported. Here and below, all of `text` was written, nothing was flushed,
 -- and no write or flush failed
@@ -35,16 +35,13 @@ CollectionEnds text expected (Err NoMemory) i o = (i.ended ≡ false) × (i.fail
 CollectionEnds text expected (Err InputTooLong) i o =
     (i.ended ≡ false) × (i.failed ≡ false) × (2 ^ 63 ≤ length i.text + 2 ^ 16) × (o ≡ all_unflushed text)
 
--- what is to be written for these reports: their lines, numbered from 1; then, if the input's end was reported, the
--- line of counts
+-- what is to be written for these reports: their lines, numbered from 1; then, at the input's end, the line of counts
 abbrev pub collection_text : VerifyOptions → List Placed → FromInput → List ℕ
 collection_text options reports i =
     report_lines options i.text 1 reports ++ (if i.ended then counts_line (counts_of (without_spans reports)) else [])
 
--- what verifying a collection reads (`i`) and writes (`o`), by its result (`CollectionEnds`): the reports on its
--- pieces, where a fault ends only its own piece. Before the input's end the last piece read is left out, since it may
--- go on (`known_pieces`). The summary is `FaultReported` if a fault was reported, otherwise `EachGame`. `options`: see
--- `Verifies` (Verify.antt); with `explain` each fault has a second line
+-- what verifying a collection reads (`i`) and writes (`o`), by its result: the reports on its pieces, also after
+-- faults. Before the input's end the last piece read is left out, since it may go on (`known_pieces`)
 abbrev pub VerifiesCollection : VerifyOptions → Result Verified VerifyFault → FromInput → ToOutput → Type 0
 VerifiesCollection options result i o = (reports : List Placed)
     × AreCollectionReports options.strict 0 (known_pieces i.ended i.text) reports

@@ -1,7 +1,6 @@
 -- What explains a fault: where it is, the text there, the position and the reason.
 use Rattle.std.specs.Prelude.{◌≡◌, ℕ, ◌-◌, ◌==◌, Bool, true, false, not, if◌then◌else◌, List, [], ◌∷◌, ◌++◌, length, take, take_while, map, codes, decimal, Option, Some, None}
 use Rattle.std.specs.Option.{option_map, option_map_or}
-use Rattle.chess_base.specs.Faults.{fen_fault_name}
 use Rattle.byte_devices.specs.Bytes.{byte, new_line, shown_byte}
 use Rattle.chess_fen.specs.Writing.{fen}
 use Rattle.chess_game.specs.Ends.{verdict_result, result_text}
@@ -9,34 +8,40 @@ use Rattle.chess_game.specs.Game.{State, current}
 use Rattle.chess_game.specs.Results.{outcome_text}
 use Rattle.chess_game.specs.declared.verdicts.Verdict.{Verdict}
 use Rattle.chess_pgn.specs.Tokens.{is_white_space}
-use Rattle.chess_pgn.specs.declared.read.PgnFaultKind.TheVariants.{BadTag, BadFen, BadToken, IllegalMove, AfterEnd}
+use Rattle.chess_pgn.specs.declared.read.PgnFaultKind.TheVariants.{BadTag, BadFen, BadToken, IllegalMove, AfterEnd, NoResult}
 use Rattle.pgn_pieces.specs.Places.{line_of, column_of}
 use Rattle.pgn_verifier.specs.declared.game_fault.FaultKind.{FaultKind}
-use Rattle.pgn_verifier.specs.declared.game_fault.FaultKind.TheVariants.{Pgn, ResultDiffers, BoardSaysOtherwise}
-use Rattle.pgn_verifier.specs.WrongParts.{from_field, field_at, field_number, IsTagReason, move_reason, token_reason}
+use Rattle.pgn_verifier.specs.declared.game_fault.FaultKind.TheVariants.{Pgn, InVariation, UnknownVariant, ResultDiffers, BoardSaysOtherwise}
+use Rattle.pgn_verifier.specs.WrongParts.{from_field, field_at, field_number, fen_reason, IsTagReason, move_reason, token_reason}
 
 -- ---- the text at a fault
 
--- a word as an explanation shows it, with `?` for each byte that is not printable ASCII; `(end)` in place of an empty
--- one, even if more text follows it
+-- a word as an explanation shows it, with `?` for each byte that is not printable ASCII; `(end)` for an empty one
 abbrev pub shown_word : List ℕ → List ℕ
 shown_word word = if length word == 0 then codes "(end)" else map shown_byte word
 
--- what an explanation shows of a text: its first word (its bytes before the first white space), but at most 40 bytes;
--- `(end)` if it is empty or begins with white space
+-- what an explanation shows of a text: its bytes before the first white space, but at most 40
 abbrev pub shown : List ℕ → List ℕ
 shown text = shown_word (take_while (λ c. not (is_white_space c)) (take 40 text))
 
 -- ---- the part that is wrong
 
--- the part that is wrong: how many bytes after the fault's byte it begins, and what an explanation shows of it. `text`
--- is the text from the fault's byte on
+-- whether such a fault is explained where its game begins, by the game's first word: a missing result, whose byte is
+-- the next game's, or the text's end
+abbrev pub is_at_begin : FaultKind → Bool
+is_at_begin (Pgn NoResult) = true
+is_at_begin _ = false
+
+-- the part that is wrong: how many bytes after the fault's byte it begins, and what is shown of it. `text` is the text
+-- from the fault's byte on
 abbrev pub wrong_part : FaultKind → List ℕ → ℕ × List ℕ
--- of a bad FEN it is the field that is shown for its fault, at most 80 bytes of it; only what comes before the next
--- quote is looked at, even where a backslash before the quote keeps it in the FEN
+-- of a bad FEN it is a field, at most 80 bytes of it; the FEN is looked at only up to its next quote, even one after a
+-- backslash
 wrong_part (Pgn (BadFen fault)) text =
     let all = take_while (λ c. not (c == byte "\"")) text in let number = field_number fault all in
     (length all - length (from_field number all), shown_word (take 80 (field_at number all)))
+-- of a missing result nothing is there (see `is_at_begin`)
+wrong_part (Pgn NoResult) text = (0, [])
 -- of any other fault it is the first word from the fault's byte on
 wrong_part _ text = (0, shown text)
 
@@ -47,12 +52,16 @@ wrong_part _ text = (0, shown text)
 abbrev pub IsReason : FaultKind → List ℕ → Option Verdict → Option (List ℕ) → Type 0
 -- what a bad tag lacks, and what is wrong with a bad FEN or token
 IsReason (Pgn BadTag) text verdict reason = IsTagReason text reason
-IsReason (Pgn (BadFen fault)) text verdict reason = reason ≡ Some (fen_fault_name fault)
+IsReason (Pgn (BadFen fault)) text verdict reason = reason ≡ Some (fen_reason fault)
 IsReason (Pgn BadToken) text verdict reason = reason ≡ Some (token_reason text)
 -- an illegal move that may have been meant as a result
 IsReason (Pgn IllegalMove) text verdict reason = reason ≡ move_reason text
 -- a move after the end: the verdict that ended the game
 IsReason (Pgn AfterEnd) text verdict reason = reason ≡ option_map (λ v. result_text (verdict_result v)) verdict
+IsReason (InVariation BadToken) text verdict reason = reason ≡ Some (token_reason text)
+-- `unknown variant`
+IsReason UnknownVariant text verdict reason =
+    reason ≡ Some (codes "neither normal chess nor Chess960, by a name that is known")
 -- `result differs`: the first word of the tag Result, which has `tag_len` bytes between its quotes, and the outcome of
 -- the game's termination marker, as in `Result 1-0, ended 0-1`
 IsReason (ResultDiffers tag_len outcome) text verdict reason =
@@ -64,22 +73,24 @@ IsReason _ text verdict reason = reason ≡ None
 
 -- ---- the explanation
 
--- whether the explanation of a fault in a game shows a position: not for a bad tag or a bad FEN
+-- whether the explanation of a fault in a game shows a position: not for a bad tag, a bad FEN or an unknown variant,
+-- and not in a variation
 abbrev pub has_position : FaultKind → Bool
 has_position (Pgn BadTag) = false
 has_position (Pgn (BadFen fault)) = false
+has_position (InVariation kind) = false
+has_position UnknownVariant = false
 has_position _ = true
 
--- the text that explains a fault of this kind: the wrong part as it is shown, the FEN of the position in which reading
--- stopped (unless `has_position` is false), and the reason, if there is one; with ` | ` between, such as `Ke3 | ` and a
--- FEN. `s` is the game as far as it was read, and `text` is the text from the fault's byte on
+-- the text that explains a fault: the wrong part, the FEN of the position in which reading stopped, and the reason,
+-- with ` | ` between. `s` is the game as far as it was read, and `text` the text from the fault's byte on
 abbrev pub explanation : State → List ℕ → FaultKind → Option (List ℕ) → List ℕ
 explanation s text kind reason = (wrong_part kind text).1
     ++ ((if has_position kind then codes " | " ++ fen (current s) else [])
     ++ option_map_or (λ why. codes " | " ++ why) reason [])
 
--- the line that explains a fault by this text (`explanation`), such as `# line 2 column 4 ` and the text. The line and
--- the column are those of the wrong part, which begins at the offset `begin` of the input; both are counted from 1
+-- the line that explains a fault by this text, such as `# line 2 column 4 ` and the text; the wrong part, which begins
+-- at the offset `begin` of the input, is there
 unfoldable pub explanation_line : List ℕ → ℕ → List ℕ → List ℕ
 explanation_line input begin text =
     codes "# line " ++ (decimal (line_of input begin) ++ (codes " column " ++ (decimal (column_of input begin)

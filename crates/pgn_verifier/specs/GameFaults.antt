@@ -1,78 +1,104 @@
 -- The faults of a game, and when its result contradicts its text or the board.
-use Rattle.std.specs.Prelude.{◌≡◌, ℕ, ◌-◌, Bool, if◌then◌else◌, List, length, codes, Option, Some, None, Result, Ok, Err}
-use Rattle.std.specs.Option.{option_eq, option_map_or, option_or}
+use Rattle.std.specs.Prelude.{◌≡◌, ℕ, ◌-◌, ◌++◌, Bool, if◌then◌else◌, List, length, take, codes, Option, Some, None, Result, Ok, Err}
+use Rattle.std.specs.Option.{option_eq, option_map, option_map_or, option_or}
 use Rattle.chess_game.specs.Game.{State, contradicts_verdict, verdict_now}
 use Rattle.chess_game.specs.Results.{outcome_text, same_outcome}
 use Rattle.chess_game.specs.declared.verdicts.Verdict.{Verdict}
 use Rattle.chess_game.specs.declared.game.TheConstants.{MOST_MOVES}
 use Rattle.chess_pgn.specs.GameRead.{read_of_split}
 use Rattle.chess_pgn.specs.LastTags.{result_tag_of}
+use Rattle.chess_pgn.specs.UnknownVariants.{unknown_variant_in}
+use Rattle.chess_pgn.specs.Variations.{variations_fault}
+use Rattle.chess_base.specs.declared.setup.Setup.{Setup}
+use Rattle.pgn_verifier.specs.declared.options.Strictness.{Strictness}
 use Rattle.chess_pgn.specs.Split.{IsSplit}
 use Rattle.chess_pgn.specs.Tokens.{Token}
 use Rattle.byte_devices.specs.Bytes.{after_byte_order_mark}
 use Rattle.chess_pgn.specs.declared.read.PgnEnd.{PgnEnd}
 use Rattle.chess_pgn.specs.declared.read.PgnFault.{PgnFault}
+use Rattle.chess_pgn.specs.declared.read.PgnFaultKind.{PgnFaultKind}
 use Rattle.chess_pgn.specs.declared.read.PgnFaultKind.TheVariants.{BadTag, BadFen, BadToken, IllegalMove, AmbiguousMove, AfterEnd, TooLong, UnclosedComment, UnclosedVariation, NoResult}
 use Rattle.chess_pgn.specs.declared.tagged_result.ResultTag.{ResultTag}
 use Rattle.pgn_verifier.specs.declared.game_fault.FaultKind.{FaultKind}
-use Rattle.pgn_verifier.specs.declared.game_fault.FaultKind.TheVariants.{Pgn, ResultDiffers, BoardSaysOtherwise}
+use Rattle.pgn_verifier.specs.declared.game_fault.FaultKind.TheVariants.{Pgn, InVariation, UnknownVariant, ResultDiffers, BoardSaysOtherwise}
 use Rattle.pgn_verifier.specs.declared.game_fault.GameFault.{GameFault}
 
--- ---- contradictions
+-- ---- at a game's end
 
--- the fault of a game whose last tag Result (`tag`) names another outcome than its termination marker (`end`), or has a
--- text that is no outcome; `None` if they agree, or if the game has no such tag. The fault's offset is that of the
--- first byte between the tag's quotes
+-- the fault of a game whose last tag Result (`tag`) names another outcome than its termination marker (`end`), or none.
+-- Its offset is that of the tag's string
 abbrev pub result_differs : Option ResultTag → PgnEnd → Option GameFault
 result_differs None end = None
 result_differs (Some tag) end = if option_eq same_outcome tag.outcome (Some end.outcome) then None
     else Some (record { kind = ResultDiffers tag.len end.outcome; offset = tag.offset })
 
--- the fault of a game whose termination marker (`end`) differs from the outcome of the board's verdict, such as mate;
--- `*` differs from that of any verdict. `None` if they agree, or without a verdict. The fault's offset is that of the
--- marker
+-- the fault of a game whose termination marker (`end`) differs from the outcome of the board's verdict, as `*` always
+-- does. Its offset is that of the marker
 abbrev pub board_says_otherwise : Option Verdict → PgnEnd → Option GameFault
 board_says_otherwise verdict end = if contradicts_verdict verdict end.outcome
     then Some (record { kind = BoardSaysOtherwise; offset = end.offset - length (outcome_text end.outcome) }) else None
 
 -- ---- a game
 
--- what is reported of a game, from how its text was read (the last argument): `Ok (Some end)` with its end, `Err` with
--- its fault, or `Ok None` if the text had no more games. With `strict` an end that contradicts the last tag Result
--- (`tag`), or if it does not, the board's verdict, is a fault too; otherwise nothing is compared
-abbrev pub judged : Bool → Option ResultTag → Option Verdict → Result (Option PgnEnd) PgnFault
-    → Result (Option PgnEnd) GameFault
-judged strict tag verdict (Ok None) = Ok None
-judged strict tag verdict (Ok (Some end)) = option_map_or Err
-    (if strict then option_or (result_differs tag end) (board_says_otherwise verdict end) else None) (Ok (Some end))
-judged strict tag verdict (Err fault) = Err (record { kind = Pgn fault.kind; offset = fault.offset })
+-- a fault, if faults of its kind are looked for
+abbrev pub looked_for : Bool → Option GameFault → Option GameFault
+looked_for is_looked_for fault = if is_looked_for then fault else None
 
--- `answer` is what is reported (see `judged`) of the first game from the offset `at` of the text on, and `s` is this
--- game as far as it was read: at most 20,000 half-moves. Both follow from `tokens`, the only split of the text from
--- `at` on into tokens; a byte order mark at offset 0 is skipped. `strict`: a termination marker that contradicts the
--- tag Result or the board's verdict is a fault
-pub record IsJudged (strict : Bool) (text : List ℕ) (at : ℕ) (s : State)
+-- what is reported of a game, from how its text was read (the last argument). In a game without a fault these are
+-- looked for as `strict` says, and the first is reported: a fault in its variations (`variation`, by the game's end); a
+-- tag Variant that names none that is known (`unknown`, the offset of its text); an end that contradicts the last tag
+-- Result (`tag`); one that contradicts the board's verdict
+abbrev pub judged : Strictness → (PgnEnd → Option PgnFault) → Option ℕ → Option ResultTag → Option Verdict
+    → Result (Option PgnEnd) PgnFault → Result (Option PgnEnd) GameFault
+judged strict variation unknown tag verdict (Ok None) = Ok None
+judged strict variation unknown tag verdict (Ok (Some end)) = option_map_or Err
+    (option_or (looked_for strict.variations
+    (option_map (λ fault. record { kind = InVariation fault.kind; offset = fault.offset }) (variation end)))
+    (option_or (looked_for strict.variant (option_map (λ at. record { kind = UnknownVariant; offset = at }) unknown))
+    (option_or (looked_for strict.result (result_differs tag end))
+    (looked_for strict.board (board_says_otherwise verdict end))))) (Ok (Some end))
+judged strict variation unknown tag verdict (Err fault) = Err (record { kind = Pgn fault.kind; offset = fault.offset })
+
+-- the first fault in the variations of a game of the text that is read from the offset `at` on, begins in the position
+-- `start` and ends with `end`. `split` gives the tokens of each text from an offset on
+abbrev pub variation_in : (List ℕ → ℕ → List (ℕ × Token)) → List ℕ → ℕ → Setup → PgnEnd → Option PgnFault
+variation_in split text at start end =
+    variations_fault split (take end.offset text) start (after_byte_order_mark text at)
+
+-- `answer` is what is reported (`judged`) of the first game from the offset `at` of the text on, and `s` is this game
+-- as far as it was read, at most 20,000 half-moves: by the only split of the text into tokens, and of its variations by
+-- the only splits (`split_of`) of the text that ends where the game does
+pub record IsJudged (strict : Strictness) (text : List ℕ) (at : ℕ) (s : State)
     (answer : Result (Option PgnEnd) GameFault) : Type 0 where
   pub tokens : List (ℕ × Token)
   pub split : IsSplit text (after_byte_order_mark text at) tokens
+  pub split_of : List ℕ → ℕ → List (ℕ × Token)
+  pub splits : (other : List ℕ) (from : ℕ) → IsSplit other from (split_of other from)
   -- how reading the game ended
   pub ended : Result (Option PgnEnd) PgnFault
   pub read : read_of_split MOST_MOVES (length text) tokens ≡ record { state = s; answer = ended }
-  pub is : answer ≡ judged strict (result_tag_of (length text) tokens) (verdict_now s) ended
+  pub is : answer ≡ judged strict (variation_in split_of text at s.start) (unknown_variant_in (length text) tokens)
+      (result_tag_of (length text) tokens) (verdict_now s) ended
 
 -- ---- names
 
+-- the words for a fault of reading
+abbrev pub pgn_fault_name : PgnFaultKind → List ℕ
+pgn_fault_name BadTag = codes "bad tag"
+pgn_fault_name (BadFen fault) = codes "bad FEN"
+pgn_fault_name BadToken = codes "bad token"
+pgn_fault_name IllegalMove = codes "illegal move"
+pgn_fault_name AmbiguousMove = codes "ambiguous move"
+pgn_fault_name AfterEnd = codes "move after the end"
+pgn_fault_name TooLong = codes "too long"
+pgn_fault_name UnclosedComment = codes "unclosed comment"
+pgn_fault_name UnclosedVariation = codes "unclosed variation"
+pgn_fault_name NoResult = codes "no result"
+
 -- the words by which a line names a game's fault, as in `game 2: illegal move at byte 39`
 abbrev pub fault_name : FaultKind → List ℕ
-fault_name (Pgn BadTag) = codes "bad tag"
-fault_name (Pgn (BadFen fault)) = codes "bad FEN"
-fault_name (Pgn BadToken) = codes "bad token"
-fault_name (Pgn IllegalMove) = codes "illegal move"
-fault_name (Pgn AmbiguousMove) = codes "ambiguous move"
-fault_name (Pgn AfterEnd) = codes "move after the end"
-fault_name (Pgn TooLong) = codes "too long"
-fault_name (Pgn UnclosedComment) = codes "unclosed comment"
-fault_name (Pgn UnclosedVariation) = codes "unclosed variation"
-fault_name (Pgn NoResult) = codes "no result"
+fault_name (Pgn kind) = pgn_fault_name kind
+fault_name (InVariation kind) = pgn_fault_name kind ++ codes " in a variation"
+fault_name UnknownVariant = codes "unknown variant"
 fault_name (ResultDiffers tag_len outcome) = codes "result differs"
 fault_name BoardSaysOtherwise = codes "board says otherwise"

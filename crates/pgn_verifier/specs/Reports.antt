@@ -1,12 +1,13 @@
 -- The reports on the games of a text and of pieces, their lines and their counts.
-use Rattle.std.specs.Prelude.{◌≡◌, ℕ, ◌+◌, ◌==◌, nat_le, Bool, not, if◌then◌else◌, List, [], ◌∷◌, ◌++◌, length, map, take, drop, codes, decimal, is_some, Option, Some, None, Ok, Err}
+use Rattle.std.specs.Prelude.{◌≡◌, ℕ, ◌+◌, ◌==◌, ◌&&◌, nat_le, nat_lt, Bool, true, false, not, if◌then◌else◌, List, [], ◌∷◌, ◌++◌, length, map, take, drop, codes, decimal, is_some, Option, Some, None, Ok, Err}
 use Rattle.std.specs.List.{count_by, prefix_len, sum_by}
 use Rattle.std.specs.Bool.{MatchBool}
-use Rattle.std.specs.Option.{unwrap_or, option_map_or}
+use Rattle.std.specs.Option.{unwrap_or, option_map, option_map_or}
 use Rattle.byte_devices.specs.Bytes.{new_line, shown_byte, after_byte_order_mark}
 use Rattle.chess_game.specs.Game.{State, verdict_now}
 use Rattle.chess_game.specs.Results.{outcome_text}
 use Rattle.chess_game.specs.declared.results.Outcome.{Outcome}
+use Rattle.chess_pgn.specs.GameEnds.{game_end}
 use Rattle.chess_pgn.specs.LastTags.{last_tag, tag_section}
 use Rattle.chess_pgn.specs.Tokens.{Token, is_white_space}
 use Rattle.chess_pgn.specs.declared.read.PgnEnd.{PgnEnd}
@@ -14,7 +15,8 @@ use Rattle.chess_pgn.specs.declared.read.PgnFaultKind.TheVariants.{TooLong}
 use Rattle.pgn_writer.specs.declared.termination.Termination.{Termination}
 use Rattle.pgn_writer.specs.Terminations.{termination_text}
 use Rattle.pgn_pieces.specs.declared.pieces.TheConstants.{PIECE_LEN}
-use Rattle.pgn_verifier.specs.Explanations.{IsReason, shown, wrong_part, explanation, explanation_line}
+use Rattle.pgn_verifier.specs.declared.options.Strictness.{Strictness}
+use Rattle.pgn_verifier.specs.Explanations.{IsReason, shown, is_at_begin, wrong_part, explanation, explanation_line}
 use Rattle.pgn_verifier.specs.GameFaults.{IsJudged, fault_name}
 use Rattle.pgn_verifier.specs.declared.game_fault.FaultKind.TheVariants.{Pgn}
 use Rattle.pgn_verifier.specs.declared.game_fault.GameFault.{GameFault}
@@ -27,26 +29,27 @@ use Rattle.pgn_verifier.specs.declared.tally.Verified.TheVariants.{EachGame, Fau
 
 -- a report on a game, or on a piece that is too long
 pub data Report : Type 0 where
-  -- a game without a fault: how many half-moves it has, the outcome of its termination marker, such as `1-0`, and what
-  -- its last tag Termination names; `None` if there is no such tag, or if it has none of the standard's values
+  -- a game without a fault: how many half-moves it has, the outcome of its termination marker, and what its last tag
+  -- Termination names, if that is one of the standard's values
   Game : (plies : ℕ) (outcome : Outcome) (termination : Option Termination) → Report
-  -- a fault, with its offset from the input's first byte; the offset there of the part that is wrong; and the text that
-  -- explains the fault
+  -- a fault, at its offset in the input; the offset there of the part that is wrong; and the text that explains the
+  -- fault
   Faulty : (fault : GameFault) (wrong_at : ℕ) (explanation : List ℕ) → Report
 
 -- a report with its span, the part of the input that it is on: from the byte at the offset `begin` to the last one
--- before the offset `end`; and with what names its game (`names_of`), or `None` of a piece that is too long
+-- before the offset `end`; with its game's first word; with the offset from which on the span isn't read, if that is to
+-- be said; and with what names its game (`names_of`), or `None` of a piece that is too long
 pub record Placed : Type 0 where
   pub begin : ℕ
   pub end : ℕ
+  pub first : List ℕ
+  pub unread : Option ℕ
   pub names : Option (List ℕ)
   pub report : Report
 
--- the offset in a text at which the game from the offset `at` on begins: its first byte that is no white space, after a
--- byte order mark at offset 0
+-- the offset in a text at which the game from the offset `at` on begins: its first byte that is no white space
 abbrev pub game_begin : List ℕ → ℕ → ℕ
-game_begin text at =
-    let first = after_byte_order_mark text at in first + prefix_len is_white_space (drop first text)
+game_begin text at = let first = after_byte_order_mark text at in first + prefix_len is_white_space (drop first text)
 
 -- the text of a game's last tag with this name as a line shows it: its first 40 bytes, with `?` for each that is not
 -- printable ASCII; `?` alone if there is no such tag
@@ -61,48 +64,73 @@ names_of tokens = shown_tag tokens (codes "White") ++ (codes " - " ++ (shown_tag
 
 -- ---- the reports on the games of a text
 
--- these are the reports on the games of `text` from its offset `at` on, up to and including the first game with a
--- fault; the last two arguments are `at` and the reports. The text begins at the offset `start` of the input. `strict`:
--- a termination marker that contradicts the tag Result or the board's verdict is a fault
-pub data AreReports (strict : Bool) (start : ℕ) (text : List ℕ) : ℕ → List Placed → Type 0 where
+-- the report on a fault of a text that begins at the offset `start` of the input, with this explanation; offsets in the
+-- text become offsets in the input
+abbrev pub fault_in : ℕ → List ℕ → GameFault → List ℕ → Report
+fault_in start text fault why = Faulty (record fault { offset = start + fault.offset })
+    (start + fault.offset + (wrong_part fault.kind (drop fault.offset text)).0) why
+
+-- where a text of `total` bytes is read on after a game with these tokens that has a fault: where the game ends, if
+-- reading is to go on (`goes_on`) and that is found
+abbrev pub next_begin : Bool → ℕ → List (ℕ × Token) → Option ℕ
+next_begin goes_on total tokens = if goes_on then game_end total tokens else None
+
+-- the offset from which on a text of `total` bytes isn't read: that of a fault after which it isn't found where to go
+-- on (`next`); `None` if reading isn't to go on, or nothing is left
+abbrev pub unread_from : Bool → ℕ → ℕ → Option ℕ → Option ℕ
+unread_from goes_on total offset next =
+    if goes_on && not (is_some next) && nat_lt offset total then Some offset else None
+
+-- these are the reports on the games of `text`, which begins at the offset `start` of the input: on those from the
+-- text's offset `at` on (the last argument but one), up to the first with a fault after which it isn't read on
+-- (`next_begin`)
+pub data AreReportsOf (goes_on : Bool) (strict : Strictness) (start : ℕ) (text : List ℕ) : ℕ → List Placed
+    → Type 0 where
   -- no game comes from `at` on
-  none_left : {at : ℕ} {s : State} → IsJudged strict text at s (Ok None) → AreReports strict start text at []
-  -- the next game has no fault and ends with its termination marker; the other reports are on the games after that.
-  -- Offsets in the text become offsets in the input
+  none_left : {at : ℕ} {s : State} → IsJudged strict text at s (Ok None) → AreReportsOf goes_on strict start text at []
+  -- the next game has no fault; the other reports are on the games after it
   next_game : {at : ℕ} {s : State} {end : PgnEnd} {reports : List Placed}
-      (game : IsJudged strict text at s (Ok (Some end))) → AreReports strict start text end.offset reports
-      → AreReports strict start text at (record {
+      (game : IsJudged strict text at s (Ok (Some end))) → AreReportsOf goes_on strict start text end.offset reports
+      → AreReportsOf goes_on strict start text at (record {
         begin = start + game_begin text at;
         end = start + end.offset;
+        first = shown (drop (game_begin text at) text);
+        unread = None;
         names = Some (names_of game.tokens);
         report = Game (length s.moves) end.outcome end.termination;
       } ∷ reports)
-  -- the next game has a fault. What comes after the fault is not read, so its span goes to the text's end
-  last_fault : {at : ℕ} {s : State} {fault : GameFault} (reason : Option (List ℕ))
-      (game : IsJudged strict text at s (Err fault))
+  -- the next game has a fault. It ends where reading goes on, or at the text's end, and the other reports are on the
+  -- games after that
+  next_fault : {at : ℕ} {s : State} {fault : GameFault} {reports : List Placed} (reason : Option (List ℕ))
+      (next : Option ℕ) (game : IsJudged strict text at s (Err fault))
       → IsReason fault.kind (drop fault.offset text) (verdict_now s) reason
-      → AreReports strict start text at (record {
+      → next ≡ next_begin goes_on (length text) game.tokens
+      → AreReportsOf goes_on strict start text (unwrap_or next (length text)) reports
+      → AreReportsOf goes_on strict start text at (record {
         begin = start + game_begin text at;
-        end = start + length text;
+        end = start + unwrap_or next (length text);
+        first = shown (drop (game_begin text at) text);
+        unread = option_map (λ offset. start + offset) (unread_from goes_on (length text) fault.offset next);
         names = Some (names_of game.tokens);
-        report = Faulty (record fault { offset = start + fault.offset })
-            (start + fault.offset + (wrong_part fault.kind (drop fault.offset text)).0)
-            (explanation s (drop fault.offset text) fault.kind reason);
-      } ∷ [])
+        report = fault_in start text fault (explanation s (drop fault.offset text) fault.kind reason);
+      } ∷ reports)
+
+-- the reports on a text up to the first game with a fault
+abbrev pub AreReports : Strictness → ℕ → List ℕ → ℕ → List Placed → Type 0
+AreReports = AreReportsOf false
 
 -- ---- the reports on the games of pieces
 
--- these are the reports on a piece, which begins at this offset of the input, and whose bytes (`piece`) are read as a
--- text of its own: on its games in order, up to the first with a fault; or, if it is too long (more than 16,777,216
--- bytes), one report on the piece: the fault TooLong at its first byte, explained by the first word there (`shown`). A
--- game of more than 20,000 half-moves has the same kind of fault, but at its 20,001st half-move. `strict`: an outcome
--- mark that contradicts the tag Result or the board's verdict is a fault
-abbrev pub AreReportsIn : Bool → ℕ → List ℕ → List Placed → Type 0
+-- these are the reports on a piece that begins at this offset of the input, as a text of its own, also after faults;
+-- or, if it has more than 16,777,216 bytes, the one report that it is too long, which is a fault at its first byte
+abbrev pub AreReportsIn : Strictness → ℕ → List ℕ → List Placed → Type 0
 AreReportsIn strict offset piece reports =
-    MatchBool (nat_le (length piece) PIECE_LEN) (AreReports strict offset piece 0 reports)
+    MatchBool (nat_le (length piece) PIECE_LEN) (AreReportsOf true strict offset piece 0 reports)
     (reports ≡ record {
       begin = offset;
       end = offset + length piece;
+      first = [];
+      unread = Some offset;
       names = None;
       report = Faulty (record { kind = Pgn TooLong; offset = offset }) offset (shown piece);
     } ∷ [])
@@ -123,30 +151,38 @@ span_text options begin end =
 abbrev pub names_text : VerifyOptions → Option (List ℕ) → List ℕ
 names_text options names = option_map_or (λ text. codes " | " ++ text) (if options.names then names else None) []
 
--- what is written of a report; `input` is what was read of the input, `number` the report's number, `span` the end of
--- its line, and `names` what comes after that if it is on a fault
-abbrev pub written_line : VerifyOptions → List ℕ → ℕ → List ℕ → List ℕ → Report → List ℕ
--- a game's line, such as `game 3: 4 half-moves, 0-1, time forfeit`, unless `options.quiet` leaves it out. Before `span`
--- comes what the game's last tag Termination names, if anything
-written_line options input number span names (Game plies outcome termination) =
-    if options.quiet then [] else report_line number (decimal plies ++ (codes " half-moves, " ++ (outcome_text outcome
-    ++ (option_map_or (λ t. codes ", " ++ termination_text t) termination [] ++ span))))
--- a fault's line, such as `game 2: illegal move at byte 39`, and with `options.explain` the line that explains it
-written_line options input number span names (Faulty fault wrong_at explanation) =
-    report_line number (fault_name fault.kind ++ (codes " at byte " ++ (decimal fault.offset ++ (span ++ names))))
-    ++ (if options.explain then explanation_line input wrong_at explanation else [])
+-- the end of a fault's explanation: which bytes aren't read, such as ` | bytes 151 to 606 not read`, if any
+abbrev pub unread_text : Option ℕ → ℕ → List ℕ
+unread_text from end = option_map_or (λ begin. codes " | bytes " ++ (decimal begin ++ (codes " to " ++ (decimal end
+    ++ codes " not read")))) from []
 
--- the lines of these reports, which are numbered from `number` on; a report whose line `quiet` leaves out has a number
--- too. `input` is what was read of the input
+-- what is written of a report, which is that of `placed`; `input` is what was read of the input, and `number` the
+-- report's number
+abbrev pub written_line : VerifyOptions → List ℕ → ℕ → Placed → Report → List ℕ
+-- a game's line, such as `game 3: 4 half-moves, 0-1, time forfeit`, unless `options.quiet` leaves it out
+written_line options input number placed (Game plies outcome termination) =
+    if options.quiet then [] else report_line number (decimal plies ++ (codes " half-moves, " ++ (outcome_text outcome
+    ++ (option_map_or (λ t. codes ", " ++ termination_text t) termination []
+    ++ span_text options placed.begin placed.end))))
+-- a fault's line, such as `game 2: illegal move at byte 39`, and with `options.explain` one that explains it
+written_line options input number placed (Faulty fault wrong_at explanation) =
+    report_line number (fault_name fault.kind ++ (codes " at byte " ++ (decimal fault.offset
+    ++ (span_text options placed.begin placed.end ++ names_text options placed.names))))
+    ++ (if options.explain
+    then explanation_line input (if is_at_begin fault.kind then placed.begin else wrong_at)
+    ((if is_at_begin fault.kind then placed.first else []) ++ (explanation ++ unread_text placed.unread placed.end))
+    else [])
+
+-- the lines of these reports, which are numbered from `number` on, those too that `quiet` leaves out. `input` is what
+-- was read of the input
 abbrev pub report_lines : VerifyOptions → List ℕ → ℕ → List Placed → List ℕ
 report_lines options input number [] = []
 report_lines options input number (placed ∷ rest) =
-    written_line options input number (span_text options placed.begin placed.end) (names_text options placed.names)
-    placed.report ++ report_lines options input (number + 1) rest
+    written_line options input number placed placed.report ++ report_lines options input (number + 1) rest
 
 -- ---- the counts
 
--- how many half-moves a report counts: those of a game without a fault; `None` if it is on a fault
+-- how many half-moves a report counts; `None` if it is on a fault
 abbrev pub half_moves_of : Report → Option ℕ
 half_moves_of (Game plies outcome termination) = Some plies
 half_moves_of (Faulty fault wrong_at explanation) = None
@@ -155,8 +191,7 @@ half_moves_of (Faulty fault wrong_at explanation) = None
 abbrev pub without_spans : List Placed → List Report
 without_spans reports = map (λ placed. placed.report) reports
 
--- the counts of these reports: how many games without a fault there are, how many half-moves these have, and how many
--- faults there are
+-- the counts of these reports: the games without a fault, their half-moves, and the faults
 abbrev pub counts_of : List Report → Tally
 counts_of reports = record {
   games = count_by (λ report. is_some (half_moves_of report)) reports;
@@ -164,13 +199,11 @@ counts_of reports = record {
   faults = count_by (λ report. not (is_some (half_moves_of report))) reports;
 }
 
--- how verifying ended, from the counts of all reports: `EachGame` if each game is without a fault, `FaultReported` if a
--- fault was reported
+-- how verifying ended, from the counts of all reports
 abbrev pub verified : Tally → Verified
 verified t = if t.faults == 0 then EachGame else FaultReported
 
 -- the last line written of a collection, such as `games 2 half-moves 6 faults 1`
 unfoldable pub counts_line : Tally → List ℕ
-counts_line t =
-    codes "games " ++ (decimal t.games ++ (codes " half-moves " ++ (decimal t.half_moves
+counts_line t = codes "games " ++ (decimal t.games ++ (codes " half-moves " ++ (decimal t.half_moves
     ++ (codes " faults " ++ (decimal t.faults ++ new_line ∷ [])))))

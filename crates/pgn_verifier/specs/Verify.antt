@@ -8,29 +8,24 @@ use Rattle.pgn_verifier.specs.declared.options.VerifyOptions.{VerifyOptions}
 use Rattle.pgn_verifier.specs.declared.tally.Verified.{Verified}
 use Rattle.pgn_verifier.specs.Reports.{Placed, AreReports, report_lines, without_spans, counts_of, verified}
 
--- what verifying a text reads (`i`) and writes (`o`), by its result. Of the `options`, with `strict` a termination
--- marker, such as `1-0`, that contradicts the tag Result or the board's verdict is a fault; with `quiet` only faults
--- have a line; with `spans` each line ends with its span; with `names` a fault's line ends with its players, event and
--- date; with `explain` a second line explains the fault. `PIECE_LEN` is 16,777,216. The zeros given to `AreReports`:
--- the text begins at offset 0 of the input, and its games from its own offset 0 on are reported
+-- what verifying a text reads (`i`) and writes (`o`), by its result. `PIECE_LEN` is 16,777,216. The zeros given to
+-- `AreReports`: the text begins at offset 0 of the input, and all its games are reported
 abbrev pub Verifies : VerifyOptions → Result Verified VerifyFault → FromInput → ToOutput → Type 0
--- the whole input was read, and has at most `PIECE_LEN` bytes; the lines of its games up to and including the first
--- fault, numbered from 1, were written and flushed (flushed also if there are none); `summary` is `FaultReported` if
--- there was a fault, otherwise `EachGame`
+-- the whole input was read, and has at most `PIECE_LEN` bytes; the lines of its games up to the first fault were
+-- written and flushed (flushed also if there are none)
 Verifies options (Ok summary) i o = IsWhole i × (length i.text ≤ PIECE_LEN)
     × ((reports : List Placed) × AreReports options.strict 0 i.text 0 reports
     × (o ≡ all_of (report_lines options i.text 1 reports)) × (summary ≡ verified (counts_of (without_spans reports))))
--- the whole input was read, and has at most `PIECE_LEN` bytes; of the lines as for `Ok` a beginning (it may be empty,
--- or all of them) was written, nothing was flushed, and then a write or the flush failed
+-- the same was read; a beginning of the lines, maybe nothing or all, was written, nothing was flushed, and then a write
+-- or the flush failed
 Verifies options (Err WriteFailed) i o = IsWhole i × (length i.text ≤ PIECE_LEN)
     × ((reports : List Placed) × AreReports options.strict 0 i.text 0 reports
     × BreaksOffIn nothing (report_lines options i.text 1 reports) o)
 -- a read failed before the input's end, and nothing was written
 Verifies options (Err ReadFailed) i o = (i.ended ≡ false) × (i.failed ≡ true) × (o ≡ nothing)
--- memory ran out before the input's end, or at the end of an input of at most `PIECE_LEN` bytes; no read failed, and
--- nothing was written
+-- memory ran out before or at the input's end; no read failed, and nothing was written
 Verifies options (Err NoMemory) i o =
     (i.failed ≡ false) × (i.ended ≡ true → length i.text ≤ PIECE_LEN) × (o ≡ nothing)
--- more than `PIECE_LEN` bytes were read, and the input's end was not reported; no read failed, and nothing was written
+-- more than `PIECE_LEN` bytes were read, before the input's end; no read failed, and nothing was written
 Verifies options (Err InputTooLong) i o =
     (i.failed ≡ false) × (i.ended ≡ false) × (PIECE_LEN < length i.text) × (o ≡ nothing)

@@ -4,6 +4,7 @@ use Rattle.std.specs.Prelude.{◌≡◌, ℕ, zero, suc, ◌==◌, Bool, true, f
 use Rattle.std.specs.List.{prefix_len, list_any}
 use Rattle.std.specs.Str.{bytes_eq}
 use Rattle.byte_devices.specs.Bytes.{byte, space, is_name_byte}
+use Rattle.chess_base.specs.Faults.{fen_fault_name}
 use Rattle.chess_base.specs.declared.fen_fault.FenFault.{FenFault}
 use Rattle.chess_base.specs.declared.fen_fault.FenFault.TheVariants.{Side, Castling, EnPassant, Counters}
 use Rattle.text_lines.specs.Words.{short_number}
@@ -20,23 +21,27 @@ drop_while test text = drop (prefix_len test text) text
 -- fewer fields
 unfoldable pub from_field : ℕ → List ℕ → List ℕ
 from_field zero fen = drop_while (λ c. c == space) fen
-from_field (suc number) fen =
-    from_field number (drop_while (λ c. not (c == space)) (drop_while (λ c. c == space) fen))
+from_field (suc number) fen = from_field number (drop_while (λ c. not (c == space)) (drop_while (λ c. c == space) fen))
 
 -- the field with this number: its bytes, up to the next space or the FEN's end. Of a FEN with fewer fields it is the
 -- empty text at the end
 abbrev pub field_at : ℕ → List ℕ → List ℕ
 field_at number fen = take_while (λ c. not (c == space)) (from_field number fen)
 
--- the number of the field that is shown for this fault of a FEN, 0 for the first field. For a counter it is 5 (the
--- fullmove number) if field 4 (the halfmove clock) is a number of one to six digits, otherwise 4. For a wrong number of
--- fields, and for a fault of the pieces together, such as two kings of a colour, the first field is shown
+-- the number of the field that is shown for this fault of a FEN, 0 for the first. Of the counters it is the fullmove
+-- number (5) if the halfmove clock (4) is a number. For a fault of no single field, such as two kings, it is the first
 abbrev pub field_number : FenFault → List ℕ → ℕ
 field_number Side fen = 1
 field_number Castling fen = 2
 field_number EnPassant fen = 3
 field_number Counters fen = if is_some (short_number 6 (field_at 4 fen)) then 5 else 4
 field_number _ fen = 0
+
+-- the reason for a bad FEN: the name of its fault; of a bad castling field also how it was read, as a tag Variant may
+-- give Chess960 a name that is not known
+abbrev pub fen_reason : FenFault → List ℕ
+fen_reason Castling = codes "castling, as in normal chess unless the tag Variant names Chess960"
+fen_reason fault = fen_fault_name fault
 
 -- ---- tags
 
@@ -54,8 +59,7 @@ abbrev pub HasString : List ℕ → Type 0
 HasString text = (string rest : List ℕ) × IsString string × (text ≡ string ++ byte "\"" ∷ rest)
 
 -- the reason for a bad tag; `text` is the text from its `[` on. It is the first part that is missing: a name, a quote
--- after the name, a quote that ends the value, or else `]`. That no tag can be read there is claimed by `IsJudged`, so
--- `no_bracket` need not say that `]` is missing
+-- after the name, a quote that ends the value, or else `]`, since no tag can be read there (`IsJudged`)
 pub data IsTagReason (text : List ℕ) : Option (List ℕ) → Type 0 where
   no_name : (HasName text → ⊥) → IsTagReason text (Some (codes "no name"))
   no_value : HasName text → ((rest : List ℕ) → HasOpening text rest → ⊥) → IsTagReason text (Some (codes "no value"))
@@ -74,10 +78,15 @@ token_reason text =
     then codes "a draw is written 1/2-1/2"
     -- an en dash, the bytes E2 80 93, as in `1–0`
     else if bytes_eq (take 3 text) (226 ∷ 128 ∷ 147 ∷ []) then codes "an en dash, where results have a hyphen"
+    -- a null move, as other programs write it
+    else if list_any (bytes_eq (take_while is_word_byte text)) (codes "--" ∷ codes "Z0" ∷ [])
+    then codes "a null move, which chess does not have"
+    -- a variation with no move before it
+    else if bytes_eq (take 1 text) (codes "(") then codes "no move that this variation replaces"
     -- any other word is not a move, and with any other byte no token begins
     else if list_any is_word_byte (take 1 text) then codes "not a move" else codes "begins no token"
 
--- the reason for an illegal move, which begins the text: of the word `0-0`, which elsewhere may also be a result
+-- the reason for an illegal move, which begins the text: of the word `0-0`, which may be meant as a result
 abbrev pub move_reason : List ℕ → Option (List ℕ)
 move_reason text =
     if bytes_eq (take_while is_word_byte text) (codes "0-0") then Some (codes "castling, and no result of PGN")

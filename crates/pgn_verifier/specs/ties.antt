@@ -1,2 +1,3 @@
 -- What only joins code to the definitions: no claim rests on it.
+pub mod Counting
 pub mod OnTheWay

@@ -53,7 +53,11 @@ fn finish<W: Output>(
     requires limit { game.old.limit ≡ MOST_MOVES }
     ensures { WritesText options text.now (W.seen output.old) (W.seen output.new) result }
 {
-    let start = TextStart { offset: 0, line: 1 };
+    let start = TextStart {
+        offset: 0,
+        line: 1,
+        goes_on: false,
+    };
     let tally = verify_text(options, start, text, game, output, Tally::none())?;
     output.flush()?;
     Ok(tally.verified())

@@ -47,6 +47,7 @@ fn verify_piece<W: Output>(
     let start = TextStart {
         offset: pieces.offset(),
         line,
+        goes_on: true,
     };
     match pieces.text() {
         Some(text) => verify_text(options, start, text, game, output, before),
@@ -111,11 +112,12 @@ fn finish<W: Output>(output: &mut W, tally: Tally) -> Result<(), WriteFault>
 }
 
 /// Reads the games of an input of any length and writes a line for each, as `verify` does. The input is cut into
-/// pieces, and each is read as a text of its own: a fault ends only its piece. A piece begins at the input's first
-/// byte, at each tag line after a line of moves, and at an Event tag line if the piece so far already has one. A piece
-/// with more than 16,777,216 bytes is one fault, `too long` at its first byte. Offsets count from the input's first
-/// byte. The last line is `games G half-moves H faults F`: how many games have no fault, how many half-moves these
-/// have, and how many faults there are. The lines do not depend on how reads cut the input.
+/// pieces, and each is read as a text of its own, also after a fault: the next game is read where the one with the
+/// fault ends (`game_end`), or if that isn't found, in the next piece. A piece begins at the input's first byte, at
+/// each tag line after a line of moves, and at an Event tag line if the piece so far already has one. A piece with more
+/// than 16,777,216 bytes is one fault, `too long` at its first byte. Offsets count from the input's first byte. The
+/// last line is `games G half-moves H faults F`: how many games have no fault, how many half-moves these have, and how
+/// many faults there are. The lines do not depend on how reads cut the input.
 ///
 /// No clause says when a line is written, nor how much memory is used. The code holds one piece and the bytes of one
 /// read, and writes a piece's lines as soon as its end is known.

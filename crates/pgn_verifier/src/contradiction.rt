@@ -7,10 +7,11 @@ ghost use Rattle.chess_pgn.specs.LastTags.{result_tag_of};
 ghost use Rattle.chess_pgn.specs.Tokens.{tokens_from};
 ghost use Rattle.byte_devices.specs.Bytes.{after_byte_order_mark};
 ghost use Rattle.chess_game.specs.Results.{same_outcome};
-ghost use Rattle.pgn_verifier.specs.GameFaults.{result_differs, board_says_otherwise};
+ghost use Rattle.pgn_verifier.specs.GameFaults.{looked_for, result_differs, board_says_otherwise};
 ghost use Rattle.pgn_verifier.specs.shared.Contradictions.{contradiction};
 
 use crate::game_fault::{FaultKind, GameFault};
+use crate::options::Strictness;
 use chess_game::{Game, Outcome, Verdict};
 use chess_moves::Board;
 use chess_pgn::{PgnEnd, ResultTag, result_tag};
@@ -67,10 +68,35 @@ fn board_says_otherwise(verdict: Option<Verdict>, end: PgnEnd) -> Option<GameFau
     })
 }
 
+// The fault of a game that ends with another outcome (`end`) than its last tag `Result` names; `None` also if that
+// isn't looked for (`is_looked_for`). The game was read from `at` on.
+fn result_fault(is_looked_for: bool, text: &[u8], at: usize, end: PgnEnd) -> Option<GameFault>
+    requires at { at ≤ length text.now }
+    ensures fault { result ≡ looked_for is_looked_for (result_differs
+        (result_tag_of (length text.now) (tokens_from text.now (after_byte_order_mark text.now at))) end) }
+    ensures within { IfSome result (λ fault. fault.offset ≤ length text.now) }
+{
+    if !is_looked_for {
+        return None;
+    }
+    result_differs(result_tag(text, at), end)
+}
+
+// The fault of a game that ends with another outcome (`end`) than the board's verdict; `None` also if that isn't looked
+// for (`is_looked_for`).
+fn board_fault<B: Board>(is_looked_for: bool, game: &Game<B>, end: PgnEnd) -> Option<GameFault>
+    ensures { result ≡ looked_for is_looked_for (board_says_otherwise (verdict_now game.now.state) end) }
+{
+    if !is_looked_for {
+        return None;
+    }
+    board_says_otherwise(game.verdict(), end)
+}
+
 // What is wrong with the outcome (`end`) of the game that was read from `at` on: it differs from its tag `Result`, or
-// else from the board's verdict. `None` if it agrees, or if it isn't compared (`strict` is false).
+// else from the board's verdict. `None` if it agrees, and where it isn't compared.
 pub(crate) fn contradiction<B: Board>(
-    strict: bool,
+    strict: Strictness,
     text: &[u8],
     at: usize,
     game: &Game<B>,
@@ -84,8 +110,5 @@ pub(crate) fn contradiction<B: Board>(
         (verdict_now game.now.state) end }
     ensures within { IfSome result (λ fault. fault.offset ≤ length text.now) }
 {
-    if !strict {
-        return None;
-    }
-    result_differs(result_tag(text, at), end).or(board_says_otherwise(game.verdict(), end))
+    result_fault(strict.result, text, at, end).or(board_fault(strict.board, game, end))
 }

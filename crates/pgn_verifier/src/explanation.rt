@@ -1,26 +1,26 @@
 //! The lines on a fault: its own, and the one that explains it.
 
-ghost use Rattle.std.specs.Prelude.{◌≡◌, ◌≤◌, ◌<◌, ◌+◌, ◌^◌, ◌++◌, ◌∷◌, [], true, not, if◌then◌else◌, List, ℕ, length, take, drop, decimal, codes, Some, None};
-ghost use Rattle.std.specs.List.{count_by, suffix_len};
+ghost use Rattle.std.specs.Prelude.{◌≡◌, ◌≤◌, ◌<◌, ◌+◌, ◌^◌, ◌++◌, [], true, if◌then◌else◌, List, ℕ, length, take, drop, decimal, codes, Some, None};
 ghost use Rattle.std.specs.Option.{option_map, option_map_or};
 ghost use Rattle.arrayvec.specs.ArrayVec.{array_vec_len};
-ghost use Rattle.byte_devices.specs.Bytes.{new_line};
 ghost use Rattle.chess_fen.specs.Writing.{fen};
 ghost use Rattle.chess_game.specs.Ends.{verdict_result, result_text};
 ghost use Rattle.chess_game.specs.Game.{current, verdict_now};
 ghost use Rattle.chess_pgn.specs.declared.read.PgnFaultKind.TheVariants.{TooLong};
-ghost use Rattle.pgn_pieces.specs.Places.{breaks_line, line_ends, line_of, column_of};
-ghost use Rattle.pgn_verifier.specs.Explanations.{wrong_part, has_position, explanation_line, shown};
+ghost use Rattle.pgn_verifier.specs.Explanations.{is_at_begin, wrong_part, has_position, explanation_line, shown};
 ghost use Rattle.chess_game.specs.Results.{outcome_text};
-ghost use Rattle.pgn_verifier.specs.declared.game_fault.FaultKind.TheVariants.{Pgn};
+ghost use Rattle.pgn_verifier.specs.declared.game_fault.FaultKind.TheVariants.{InVariation, Pgn};
+ghost use Rattle.pgn_verifier.specs.GameFaults.{fault_name};
 ghost use Rattle.pgn_verifier.specs.WrongParts.{move_reason};
 ghost use Rattle.pgn_verifier.specs.laws.Reasons.{reason, explanation_of};
-ghost use Rattle.pgn_verifier.specs.ties.OnTheWay.{StandsIf, moved, fault_line, span_written};
+ghost use Rattle.pgn_verifier.specs.ties.Counting.{IsHere};
+ghost use Rattle.pgn_verifier.specs.ties.OnTheWay.{StandsIf, moved, fault_line, span_written, unread_written};
 ghost use Rattle.pgn_verifier.specs.declared.explanation.TheConstants.{FAULT_LINES_LEN};
 
-use crate::fen_field::{fen_text, field_offset, wrong_field};
-use crate::game_fault::{FaultKind, GameFault, fault_name};
-use crate::label::{FaultLabel, append_span};
+use crate::fen_field::{fen_reason, fen_text, field_offset, wrong_field};
+use crate::game_fault::{FaultKind, GameFault, pgn_fault_name};
+use crate::label::{FaultLabel, Span, append_span};
+use crate::place::Place;
 use crate::shown::{Shown, shown, shown_field};
 use crate::start::TextStart;
 use crate::token_reason::{bad_tag_reason, move_reason, token_reason};
@@ -30,65 +30,52 @@ use chess_fen::write_fen;
 use chess_game::{Game, Outcome, Verdict};
 use chess_moves::Board;
 use chess_pgn::PgnFaultKind;
-use pgn_pieces::line_ends;
 
-// The most bytes of the lines on a fault: of its own 300, and of the one that explains it 320.
-const FAULT_LINES_LEN: usize = 620;
+// The most bytes of the lines on a fault: of its own 320, and of the one that explains it 466.
+const FAULT_LINES_LEN: usize = 786;
+
+// The reason for an unknown variant.
+const KNOWN_VARIANTS: &[u8] = b"neither normal chess nor Chess960, by a name that is known";
 
 /// The lines on a fault.
 pub(crate) type FaultLines = ArrayVec<u8, FAULT_LINES_LEN>;
+
+// Appends the words by which a line names a game's fault, such as `illegal move`.
+fn append_fault_name(lines: &mut FaultLines, kind: FaultKind)
+    requires { array_vec_len lines.old + 40 ≤ FAULT_LINES_LEN }
+    ensures text { lines.new.items ≡ lines.old.items ++ fault_name kind }
+    ensures len { array_vec_len lines.new ≤ array_vec_len lines.old + 33 }
+{
+    match kind {
+        FaultKind::Pgn(kind) => append(lines, pgn_fault_name(kind)),
+        FaultKind::InVariation(kind) => {
+            append(lines, pgn_fault_name(kind));
+            append(lines, b" in a variation");
+        }
+        FaultKind::UnknownVariant => append(lines, b"unknown variant"),
+        FaultKind::ResultDiffers { .. } => append(lines, b"result differs"),
+        FaultKind::BoardSaysOtherwise => append(lines, b"board says otherwise"),
+    }
+}
 
 // The line of a fault, such as `game 2: illegal move at byte 39`.
 #[tactic(auto, unfolding(crate::specs::Reports::report_line))]
 fn fault_line(label: &FaultLabel, fault: GameFault) -> FaultLines
     ensures text { result.items
         ≡ fault_line label.now.game.number fault (span_written label.now.game.span) label.now.names.items }
-    ensures len { array_vec_len result ≤ 300 }
+    ensures len { array_vec_len result ≤ 320 }
 {
     let mut lines = FaultLines::new();
     append(&mut lines, b"game ");
     append_number(&mut lines, label.game.number as u64);
     append(&mut lines, b": ");
-    append(&mut lines, fault_name(fault.kind));
+    append_fault_name(&mut lines, fault.kind);
     append(&mut lines, b" at byte ");
     append_number(&mut lines, fault.offset as u64);
     append_span(&mut lines, label.game.span);
     append(&mut lines, label.names.as_slice());
     lines.push(b'\n');
     lines
-}
-
-// Whether columns are counted anew after this byte: it is `\n` or `\r`.
-fn breaks_line(byte: u8) -> bool
-    ensures { result ≡ breaks_line byte }
-{
-    byte == b'\n' || byte == b'\r'
-}
-
-// How many bytes a text has after its last `\n` or `\r`.
-fn last_line_len(text: &[u8]) -> usize
-    ensures value { result ≡ suffix_len (λ c. not (breaks_line c)) text.now }
-    ensures within { result ≤ length text.now }
-{
-    text.iter()
-        .rev()
-        .take_while(|byte| !breaks_line(**byte))
-        .count()
-}
-
-// The line of the byte after these, which begin on the line `start`.
-fn line_after(start: usize, before: &[u8]) -> usize
-    requires { start + length before.now < 2 ^ 64 }
-    ensures { result ≡ start + line_ends before.now }
-{
-    start + line_ends(before)
-}
-
-// The column of the byte after these, which begin where a line begins.
-fn column_after(before: &[u8]) -> usize
-    ensures { result ≡ suffix_len (λ c. not (breaks_line c)) before.now + 1 }
-{
-    last_line_len(before) + 1
 }
 
 // How many bytes after a fault's byte the part begins that is wrong: of a FEN the field that is shown for its fault,
@@ -111,7 +98,41 @@ fn shown_part(kind: FaultKind, text: &[u8]) -> Shown
         FaultKind::Pgn(PgnFaultKind::BadFen(fault)) => {
             shown_field(wrong_field(fault, fen_text(text)))
         }
+        FaultKind::Pgn(PgnFaultKind::NoResult) => Shown::new(),
         _ => shown(text),
+    }
+}
+
+// Whether a fault is explained where its game begins, and the game's first word is shown: a missing result.
+fn is_at_begin(kind: FaultKind) -> bool
+    ensures { result ≡ is_at_begin kind }
+{
+    matches!(kind, FaultKind::Pgn(PgnFaultKind::NoResult))
+}
+
+/// The offset of a text at which a fault is explained: that of its game's beginning (`begin`), or of the part that is
+/// wrong.
+pub(crate) fn explained_at(fault: GameFault, begin: usize, text: &[u8]) -> usize
+    requires offset { fault.offset ≤ length text.now }
+    requires begin { begin ≤ length text.now }
+    ensures value { result ≡ (if is_at_begin fault.kind then begin
+        else fault.offset + (wrong_part fault.kind (drop fault.offset text.now)).0) }
+    ensures within { result ≤ length text.now }
+{
+    if is_at_begin(fault.kind) {
+        return begin;
+    }
+    fault.offset + part_offset(fault.kind, &text[fault.offset..])
+}
+
+// Appends the first word of a game, if the fault is explained where the game begins.
+fn append_first(lines: &mut FaultLines, kind: FaultKind, first: &[u8])
+    requires { array_vec_len lines.old + length first.now ≤ FAULT_LINES_LEN }
+    ensures text { lines.new.items ≡ lines.old.items ++ (if is_at_begin kind then first.now else []) }
+    ensures len { array_vec_len lines.new ≤ array_vec_len lines.old + length first.now }
+{
+    if is_at_begin(kind) {
+        append(lines, first);
     }
 }
 
@@ -171,11 +192,24 @@ fn append_pgn_reason(
 {
     match kind {
         PgnFaultKind::BadTag => append_part(lines, bad_tag_reason(text)),
-        PgnFaultKind::BadFen(fault) => append_part(lines, fault.name().as_bytes()),
+        PgnFaultKind::BadFen(fault) => append_part(lines, fen_reason(fault)),
         PgnFaultKind::BadToken => append_part(lines, token_reason(text)),
         PgnFaultKind::IllegalMove => append_move_reason(lines, text),
         PgnFaultKind::AfterEnd => append_verdict(lines, verdict),
         _ => {}
+    }
+}
+
+// Appends ` | ` and the reason for a fault in a variation; nothing if there is none. `text` is the text from its byte
+// on.
+fn append_variation_reason(lines: &mut FaultLines, kind: PgnFaultKind, text: &[u8])
+    requires { array_vec_len lines.old + 80 ≤ FAULT_LINES_LEN }
+    ensures text { lines.new.items ≡ lines.old.items
+        ++ option_map_or (λ text. codes " | " ++ text) (reason (InVariation kind) text.now None) [] }
+    ensures len { array_vec_len lines.new ≤ array_vec_len lines.old + 80 }
+{
+    if let PgnFaultKind::BadToken = kind {
+        append_part(lines, token_reason(text));
     }
 }
 
@@ -202,6 +236,8 @@ fn append_reason(lines: &mut FaultLines, kind: FaultKind, text: &[u8], verdict: 
 {
     match kind {
         FaultKind::Pgn(kind) => append_pgn_reason(lines, kind, text, verdict),
+        FaultKind::InVariation(kind) => append_variation_reason(lines, kind, text),
+        FaultKind::UnknownVariant => append_part(lines, KNOWN_VARIANTS),
         FaultKind::ResultDiffers { tag_len, outcome } => {
             append_results(lines, &text[..tag_len.min(text.len())], outcome)
         }
@@ -209,13 +245,16 @@ fn append_reason(lines: &mut FaultLines, kind: FaultKind, text: &[u8], verdict: 
     }
 }
 
-// Whether a position is known at a fault: not if a tag or a FEN could not be read.
+// Whether a position is shown at a fault: not at one of the tags, such as a bad FEN, and not in a variation.
 fn has_position(kind: FaultKind) -> bool
     ensures { result ≡ has_position kind }
 {
     !matches!(
         kind,
-        FaultKind::Pgn(PgnFaultKind::BadTag) | FaultKind::Pgn(PgnFaultKind::BadFen(_))
+        FaultKind::Pgn(PgnFaultKind::BadTag)
+            | FaultKind::Pgn(PgnFaultKind::BadFen(_))
+            | FaultKind::InVariation(_)
+            | FaultKind::UnknownVariant
     )
 }
 
@@ -246,55 +285,68 @@ fn append_place(lines: &mut FaultLines, line: usize, column: usize)
     append(lines, b" ");
 }
 
-// Appends the line that explains a fault of the game, where the part that is wrong is on this line and in this column;
-// `text` is the text from the fault's byte on.
+// Appends which part of the input isn't read, as ` | bytes 151 to 606 not read`; nothing if there is none.
+fn append_unread(lines: &mut FaultLines, unread: Option<Span>)
+    requires { array_vec_len lines.old + 62 ≤ FAULT_LINES_LEN }
+    ensures text { lines.new.items ≡ lines.old.items ++ unread_written unread }
+    ensures len { array_vec_len lines.new ≤ array_vec_len lines.old + 62 }
+{
+    if let Some(span) = unread {
+        append(lines, b" | bytes ");
+        append_number(lines, span.begin as u64);
+        append(lines, b" to ");
+        append_number(lines, span.end as u64);
+        append(lines, b" not read");
+    }
+}
+
+// Appends the text that explains a fault of the game; `text` is the text from the fault's byte on.
 fn append_explanation<B: Board>(
     lines: &mut FaultLines,
-    line: usize,
-    column: usize,
     text: &[u8],
     kind: FaultKind,
     game: &Game<B>,
 )
-    requires { array_vec_len lines.old ≤ 300 }
-    ensures { (input : List ℕ) (begin : ℕ) → line ≡ line_of input begin → column ≡ column_of input begin
-        → lines.new.items ≡ lines.old.items
-        ++ explanation_line input begin (explanation_of game.now.state text.now kind) }
+    requires { array_vec_len lines.old + 258 ≤ FAULT_LINES_LEN }
+    ensures text { lines.new.items ≡ lines.old.items ++ explanation_of game.now.state text.now kind }
+    ensures len { array_vec_len lines.new ≤ array_vec_len lines.old + 258 }
 {
-    append_place(lines, line, column);
     append(lines, shown_part(kind, text).as_slice());
     append_position(lines, kind, game);
     append_reason(lines, kind, text, game.verdict());
-    lines.push(b'\n');
 }
 
-/// The lines on a fault of the game: its own, and with `explain` the one that explains it. The fault is in a text that
-/// begins at `start`.
+/// The lines on a fault of the game: its own, and with `explain` the one that explains it. The fault is in this text,
+/// and is explained at this place.
 pub(crate) fn fault_lines<B: Board>(
     explain: bool,
     label: &FaultLabel,
-    start: TextStart,
+    place: Place,
     text: &[u8],
     fault: GameFault,
     game: &Game<B>,
 ) -> FaultLines
     requires within { fault.offset ≤ length text.now }
-    requires few { start.offset + length text.now ≤ 2 ^ 63 }
-    requires few_lines { start.line + length text.now < 2 ^ 64 }
-    ensures { (input : List ℕ) → StandsIf explain start input text.now
+    requires few { place.start.offset + length text.now ≤ 2 ^ 63 }
+    requires there { explain ≡ true → place.offset ≡ (if is_at_begin fault.kind then label.now.begin
+        else fault.offset + (wrong_part fault.kind (drop fault.offset text.now)).0) }
+    ensures { (input : List ℕ) → (explain ≡ true → IsHere place input)
         → result.items
-        ≡ fault_line label.now.game.number (moved start.offset fault) (span_written label.now.game.span)
-        label.now.names.items ++ (if explain then explanation_line input
-        (start.offset + fault.offset + (wrong_part fault.kind (drop fault.offset text.now)).0)
-        (explanation_of game.now.state (drop fault.offset text.now) fault.kind) else []) }
+        ≡ fault_line label.now.game.number (moved place.start.offset fault) (span_written label.now.game.span)
+        label.now.names.items ++ (if explain
+        then explanation_line input (if is_at_begin fault.kind then place.start.offset + label.now.begin
+        else place.start.offset + fault.offset + (wrong_part fault.kind (drop fault.offset text.now)).0)
+        ((if is_at_begin fault.kind then label.now.first.items else [])
+        ++ (explanation_of game.now.state (drop fault.offset text.now) fault.kind ++ unread_written label.now.unread))
+        else []) }
 {
-    let mut lines = fault_line(label, fault.moved(start.offset));
+    let mut lines = fault_line(label, fault.moved(place.start.offset));
     if explain {
-        let rest = &text[fault.offset..];
-        let before = &text[..fault.offset + part_offset(fault.kind, rest)];
-        let line = line_after(start.line, before);
-        let column = column_after(before);
-        append_explanation(&mut lines, line, column, rest, fault.kind, game);
+        append_place(&mut lines, place.line, place.column);
+        append_first(&mut lines, fault.kind, label.first.as_slice());
+        append_explanation(&mut lines, &text[fault.offset..], fault.kind, game);
+        append_unread(&mut lines, label.unread);
+        lines.push(b'\n');
     }
     lines
 }
@@ -311,7 +363,8 @@ pub(crate) fn too_long_lines(
         → result.items
         ≡ fault_line label.now.game.number (record { kind = Pgn TooLong; offset = start.offset })
         (span_written label.now.game.span) label.now.names.items
-        ++ (if explain then explanation_line input start.offset (shown beginning.now) else []) }
+        ++ (if explain then explanation_line input start.offset
+        (shown beginning.now ++ unread_written label.now.unread) else []) }
 {
     let mut lines = fault_line(
         label,
@@ -323,6 +376,7 @@ pub(crate) fn too_long_lines(
     if explain {
         append_place(&mut lines, start.line, 1);
         append(&mut lines, shown(beginning).as_slice());
+        append_unread(&mut lines, label.unread);
         lines.push(b'\n');
     }
     lines

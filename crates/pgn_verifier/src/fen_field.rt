@@ -1,8 +1,8 @@
-//! The field of a FEN that is shown for its fault.
+//! The field of a FEN that is shown for its fault, and the reason.
 
 ghost use Rattle.std.specs.Prelude.{◌≡◌, ◌≤◌, ◌-◌, not, take_while, length, ◌==◌};
 ghost use Rattle.byte_devices.specs.Bytes.{byte, space};
-ghost use Rattle.pgn_verifier.specs.WrongParts.{drop_while, from_field, field_at, field_number};
+ghost use Rattle.pgn_verifier.specs.WrongParts.{drop_while, fen_reason, from_field, field_at, field_number};
 
 use byte_devices::split_while;
 use chess_base::FenFault;
@@ -88,4 +88,15 @@ pub(crate) fn field_offset(fault: FenFault, fen: &[u8]) -> usize
     ensures within { result ≤ length fen.now }
 {
     fen.len() - from_field(field_number(fault, fen), fen).len()
+}
+
+/// The reason for a bad FEN: the name of its fault, and of a bad castling field how it was read.
+pub(crate) fn fen_reason(fault: FenFault) -> &'static [u8]
+    ensures value { result.now ≡ fen_reason fault }
+    ensures short { length result.now ≤ 77 }
+{
+    match fault {
+        FenFault::Castling => b"castling, as in normal chess unless the tag Variant names Chess960",
+        _ => fault.name().as_bytes(),
+    }
 }

@@ -2,7 +2,7 @@
 
 ghost use Rattle.std.specs.Prelude.{◌≡◌, ◌≤◌, ◌<◌, ◌+◌, ◌^◌, length};
 ghost use Rattle.pgn_verifier.specs.declared.game_fault.FaultKind.TheVariants.{Pgn};
-ghost use Rattle.pgn_verifier.specs.GameFaults.{fault_name};
+ghost use Rattle.pgn_verifier.specs.GameFaults.{pgn_fault_name};
 ghost use Rattle.pgn_verifier.specs.ties.OnTheWay.{moved};
 
 use chess_game::Outcome;
@@ -13,6 +13,10 @@ use chess_pgn::{PgnFault, PgnFaultKind};
 pub enum FaultKind {
     /// Its text can't be read or played.
     Pgn(PgnFaultKind),
+    /// One of its variations can't be read or played.
+    InVariation(PgnFaultKind),
+    /// Its tag `Variant` names a variant that is not known, so it was read as normal chess.
+    UnknownVariant,
     /// Its tag `Result`, whose text has `tag_len` bytes, differs from its termination marker, which names `outcome`.
     ResultDiffers { tag_len: usize, outcome: Outcome },
     /// The board has a verdict with another outcome than its termination marker.
@@ -53,9 +57,9 @@ impl From<PgnFault> for GameFault {
     }
 }
 
-// The words by which a line names a fault of reading a game's text, as `illegal move`.
-fn pgn_fault_name(kind: PgnFaultKind) -> &'static [u8]
-    ensures value { result.now ≡ fault_name (Pgn kind) }
+// The words for a fault of reading a game's text, as `illegal move`.
+pub(crate) fn pgn_fault_name(kind: PgnFaultKind) -> &'static [u8]
+    ensures value { result.now ≡ pgn_fault_name kind }
     ensures short { length result.now ≤ 18 }
 {
     match kind {
@@ -69,17 +73,5 @@ fn pgn_fault_name(kind: PgnFaultKind) -> &'static [u8]
         PgnFaultKind::UnclosedComment => b"unclosed comment",
         PgnFaultKind::UnclosedVariation => b"unclosed variation",
         PgnFaultKind::NoResult => b"no result",
-    }
-}
-
-// The words by which a line names a game's fault, as in `game 2: illegal move at byte 39`.
-pub(crate) fn fault_name(kind: FaultKind) -> &'static [u8]
-    ensures value { result.now ≡ fault_name kind }
-    ensures short { length result.now ≤ 20 }
-{
-    match kind {
-        FaultKind::Pgn(kind) => pgn_fault_name(kind),
-        FaultKind::ResultDiffers { .. } => b"result differs",
-        FaultKind::BoardSaysOtherwise => b"board says otherwise",
     }
 }

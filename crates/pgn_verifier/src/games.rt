@@ -1,16 +1,18 @@
-//! The games of a text, one after another, up to the first fault.
+//! The games of a text, one after another: up to the first fault, or also after faults.
 
 ghost use Rattle.std.specs.Prelude.{◌≡◌, ◌≤◌, ◌<◌, ◌+◌, ◌^◌, List, ℕ, length, IfOk, IfErr};
 ghost use Rattle.std.specs.Option.{IfSome};
 ghost use Rattle.chess_game.specs.declared.game.TheConstants.{MOST_MOVES};
-ghost use Rattle.pgn_verifier.specs.laws.Reported.{read_at, judged_at, placed_on};
+ghost use Rattle.pgn_verifier.specs.laws.Reported.{read_at, judged_at, placed_of};
 ghost use Rattle.pgn_verifier.specs.ties.OnTheWay.{StandsIf, Writes, GrowsBy};
 
-use crate::contradiction::contradiction;
-use crate::explanation::fault_lines;
+use crate::after_fault::AfterFault;
+use crate::end_faults::end_fault;
+use crate::explanation::{explained_at, fault_lines};
 use crate::game_fault::GameFault;
 use crate::label::{FaultLabel, Label};
-use crate::options::VerifyOptions;
+use crate::options::{Strictness, VerifyOptions};
+use crate::place::Place;
 use crate::report::write_game;
 use crate::start::TextStart;
 use crate::tally::Tally;
@@ -31,9 +33,9 @@ pub(crate) fn open_game<'t>(
 }
 
 // Reads the game of a text from the offset `at` on into `game`, and returns its end or its fault; `None` if no game is
-// left. With `strict`, an end that contradicts the tag `Result` or the board is a fault.
+// left. What `strict` names is a fault, too.
 fn judge_game(
-    strict: bool,
+    strict: Strictness,
     text: &[u8],
     at: usize,
     game: &mut Game<Bits<'_>>,
@@ -54,14 +56,15 @@ fn judge_game(
     let Some(end) = read_pgn(text, at, game)? else {
         return Ok(None);
     };
-    match contradiction(strict, text, at, game, end) {
+    match end_fault(strict, text, at, game, end) {
         Some(fault) => Err(fault),
         None => Ok(Some(end)),
     }
 }
 
-// Reads the games of a text up to its first fault, writes their lines, and returns the counts, `before` with these
-// reports added. The text begins at `start` in the input; `game` is only room for the games that are read.
+// Reads the games of a text up to its first fault, or if it is read on (`start.goes_on`) also those after faults,
+// writes their lines, and returns the counts, `before` with these reports added. The text begins at `start` in the
+// input; `game` is only room for the games that are read.
 pub(crate) fn verify_text<W: Output>(
     options: VerifyOptions,
     start: TextStart,
@@ -77,12 +80,14 @@ pub(crate) fn verify_text<W: Output>(
     requires limit { game.old.limit ≡ MOST_MOVES }
     ensures written { (input : List ℕ) → StandsIf options.explain start input text.now
         → Writes options input before (W.seen output.old) (W.seen output.new) result
-        (placed_on options.strict start.offset text.now) }
+        (placed_of start.goes_on options.strict start.offset text.now) }
     ensures grown { IfOk result (λ after. GrowsBy (length text.now) before after) }
     ensures limit { game.new.limit ≡ MOST_MOVES }
 {
     let mut at = 0;
     let mut tally = before;
+    // Lines and columns are counted on from here.
+    let mut place = Place::at_start(start);
     loop {
         let number = tally.next_number();
         match judge_game(options.strict, text, at, game) {
@@ -95,10 +100,17 @@ pub(crate) fn verify_text<W: Output>(
                 at = end.offset;
             }
             Err(fault) => {
-                let unread = FaultLabel::of_game(options, number, start.offset, text, at);
-                let lines = fault_lines(options.explain, &unread, start, text, fault, game);
+                let after = AfterFault::of_game(start.goes_on, text, at, fault.offset);
+                let faulty = FaultLabel::of_game(options, number, start.offset, text, at, after);
+                let explained = explained_at(fault, faulty.begin, text);
+                place = place.counted_to(options.explain, text, explained);
+                let lines = fault_lines(options.explain, &faulty, place, text, fault, game);
                 put(output, lines.as_slice())?;
-                return Ok(tally.with_fault());
+                tally = tally.with_fault();
+                let Some(next) = after.next else {
+                    return Ok(tally);
+                };
+                at = next;
             }
         }
     }

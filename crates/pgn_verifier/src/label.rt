@@ -1,18 +1,22 @@
 //! What the line of each report says of its game: the number, with `--spans` where the game is, and of a game with a
 //! fault with `--names` its players, event and date.
 
-ghost use Rattle.std.specs.Prelude.{◌≡◌, ◌≤◌, ◌<◌, ◌+◌, ◌++◌, ◌^◌, None, Some, length};
+ghost use Rattle.std.specs.Prelude.{◌≡◌, ◌≤◌, ◌<◌, ◌+◌, ◌++◌, ◌^◌, None, Some, length, drop};
+ghost use Rattle.std.specs.Option.{IfSome, option_map, unwrap_or};
 ghost use Rattle.std.specs.List.{prefix_len};
 ghost use Rattle.arrayvec.specs.ArrayVec.{array_vec_len};
 ghost use Rattle.chess_pgn.specs.Tokens.{is_white_space};
 ghost use Rattle.byte_devices.specs.Bytes.{after_byte_order_mark};
 ghost use Rattle.pgn_pieces.specs.Stream.{current};
-ghost use Rattle.pgn_verifier.specs.Reports.{game_begin, names_text, span_text};
+ghost use Rattle.pgn_verifier.specs.Explanations.{shown};
+ghost use Rattle.pgn_verifier.specs.Reports.{game_begin, names_text, span_text, unread_text};
 ghost use Rattle.pgn_verifier.specs.laws.Reported.{names_at};
-ghost use Rattle.pgn_verifier.specs.ties.OnTheWay.{span_written};
+ghost use Rattle.pgn_verifier.specs.ties.OnTheWay.{span_written, unread_written};
 
+use crate::after_fault::AfterFault;
 use crate::names::{NamesText, game_names};
 use crate::options::VerifyOptions;
+use crate::shown::{Shown, shown};
 use arrayvec::ArrayVec;
 use byte_devices::{after_byte_order_mark, append, append_number};
 use chess_pgn::token_parts::is_white_space;
@@ -92,10 +96,7 @@ impl Label {
             ≡ span_text options (current pieces.now).offset (current pieces.now).end }
     {
         let span = if options.spans {
-            Some(Span {
-                begin: pieces.offset(),
-                end: pieces.end(),
-            })
+            Some(piece_span(pieces))
         } else {
             None
         };
@@ -103,39 +104,93 @@ impl Label {
     }
 }
 
-/// What a fault's line says of its game.
+// The span of the current piece.
+fn piece_span(pieces: &PgnPieces) -> Span
+    ensures begin { result.begin ≡ (current pieces.now).offset }
+    ensures end { result.end ≡ (current pieces.now).end }
+{
+    Span {
+        begin: pieces.offset(),
+        end: pieces.end(),
+    }
+}
+
+// The offset of a text at which reading goes on (`next`), or if it doesn't that of the text's end.
+fn next_or_end(next: Option<usize>, text: &[u8]) -> usize
+    requires { IfSome next (λ next. next ≤ length text.now) }
+    ensures value { result ≡ unwrap_or next (length text.now) }
+    ensures within { result ≤ length text.now }
+{
+    match next {
+        Some(next) => next,
+        None => text.len(),
+    }
+}
+
+/// What a fault's line, and the one that explains it, say of its game.
 #[derive(Drop)]
 pub(crate) struct FaultLabel {
     /// The game's number and span.
     pub game: Label,
+    /// The offset in the game's text at which the game begins.
+    pub begin: usize,
+    /// The first word of the game, as it is shown.
+    pub first: Shown,
     /// The end of the line, which names the game; empty if the line is not to name it.
     pub names: NamesText,
+    /// The part of the input that isn't read after the fault, if that is to be said.
+    pub unread: Option<Span>,
 }
 
 impl FaultLabel {
-    /// The label of the game of a text that is read from the offset `at` on, and has a fault: it ends with the text.
-    /// The text begins at `start` in the input.
+    /// The label of the game of a text that is read from the offset `at` on, and has a fault: it ends where reading
+    /// goes on, or with the text. The text begins at `start` in the input.
     pub(crate) fn of_game(
         options: VerifyOptions,
         number: usize,
         start: usize,
         text: &[u8],
         at: usize,
+        after: AfterFault,
     ) -> Self
         requires at { at ≤ length text.now }
+        requires next { IfSome after.next (λ next. next ≤ length text.now) }
+        requires unread { IfSome after.unread (λ begin. begin ≤ length text.now) }
         requires few { start + length text.now ≤ 2 ^ 63 }
         ensures number { result.game.number ≡ number }
         ensures span { span_written result.game.span
-            ≡ span_text options (start + game_begin text.now at) (start + length text.now) }
+            ≡ span_text options (start + game_begin text.now at) (start + unwrap_or after.next (length text.now)) }
+        ensures begin { result.begin ≡ game_begin text.now at }
+        ensures begin_within { result.begin ≤ length text.now }
+        ensures first { result.first.items ≡ shown (drop (game_begin text.now at) text.now) }
+        ensures unread { unread_written result.unread
+            ≡ unread_text (option_map (λ offset. start + offset) after.unread)
+            (start + unwrap_or after.next (length text.now)) }
         ensures names { result.names.items ≡ names_text options (Some (names_at text.now at)) }
     {
-        let game = Label::of_game(options, number, start, text, at, text.len());
+        let end = next_or_end(after.next, text);
+        let game = Label::of_game(options, number, start, text, at, end);
+        let unread = match after.unread {
+            Some(offset) => Some(Span {
+                begin: start + offset,
+                end: start + end,
+            }),
+            None => None,
+        };
         let names = if options.names {
             game_names(text, at)
         } else {
             NamesText::new()
         };
-        FaultLabel { game, names }
+        let begin = game_begin(text, at);
+        let first = shown(&text[begin..]);
+        FaultLabel {
+            game,
+            begin,
+            first,
+            names,
+            unread,
+        }
     }
 
     /// The label of the current piece, which is too long: no tags of it are known.
@@ -144,10 +199,15 @@ impl FaultLabel {
         ensures span { span_written result.game.span
             ≡ span_text options (current pieces.now).offset (current pieces.now).end }
         ensures names { result.names.items ≡ names_text options None }
+        ensures unread { unread_written result.unread
+            ≡ unread_text (Some (current pieces.now).offset) (current pieces.now).end }
     {
         FaultLabel {
             game: Label::of_piece(options, number, pieces),
+            begin: 0,
+            first: Shown::new(),
             names: NamesText::new(),
+            unread: Some(piece_span(pieces)),
         }
     }
 }

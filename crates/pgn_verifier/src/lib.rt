@@ -3,7 +3,7 @@
 //! ```
 //! let mut input = Counted::reading(b"1. e4 *".as_slice());
 //! let mut output = Counted::writing(Vec::<u8>::new(alloc));
-//! let options = VerifyOptions { quiet: false, strict: false, spans: false, names: false, explain: false };
+//! let options = VerifyOptions { quiet: false, strict: LENIENT, spans: false, names: false, explain: false };
 //! match verify(alloc, options, &mut input, &mut output)? {
 //!     Verified::EachGame => println!(rt; "each game was read")?,
 //!     Verified::FaultReported => println!(rt; "a game has a fault")?,
@@ -14,9 +14,11 @@
 //! continues after faults, piece by piece.
 #![tactic(auto)]
 
+mod after_fault;
 mod buffered;
 mod collection;
 mod contradiction;
+mod end_faults;
 mod explanation;
 mod fault;
 mod fen_field;
@@ -25,6 +27,7 @@ mod games;
 mod label;
 mod names;
 mod options;
+mod place;
 mod report;
 mod shown;
 mod start;
@@ -35,5 +38,5 @@ pub use buffered::verify;
 pub use collection::verify_collection;
 pub use fault::VerifyFault;
 pub use game_fault::{FaultKind, GameFault};
-pub use options::VerifyOptions;
+pub use options::{LENIENT, STRICT_FAULTS, Strictness, VerifyOptions};
 pub use tally::Verified;

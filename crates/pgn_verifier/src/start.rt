@@ -1,4 +1,4 @@
-//! Where a text begins.
+//! Where a text begins, and how far it is read.
 
 /// Where a text begins in the input: at the beginning of a line.
 #[derive(Clone, Copy)]
@@ -7,4 +7,6 @@ pub(crate) struct TextStart {
     pub offset: usize,
     /// The number of the line, counted from 1. It is known only if faults are explained.
     pub line: usize,
+    /// Whether games after one with a fault are read too, where it is found where the next one begins.
+    pub goes_on: bool,
 }

@@ -108,8 +108,15 @@ fn begins_with_dash(text: &[u8]) -> bool
     text.starts_with(&[0xE2, 0x80, 0x93])
 }
 
-/// What is wrong with a bad token: it is a draw as PGN doesn't write it, an en dash, another word and not a move, or
-/// its first byte begins no token.
+// Whether the text begins with a null move as other programs write it: `--` or `Z0`, whole.
+fn begins_with_null_move(text: &[u8]) -> bool
+    ensures { result ≡ list_any (bytes_eq (take_while is_word_byte text.now)) (codes "--" ∷ codes "Z0" ∷ []) }
+{
+    first_word(text) == b"--".as_slice() || first_word(text) == b"Z0".as_slice()
+}
+
+/// What is wrong with a bad token: it is a draw as PGN doesn't write it, an en dash, a null move, a variation with no
+/// move before it, another word and not a move, or its first byte begins no token.
 pub(crate) fn token_reason(text: &[u8]) -> &'static [u8]
     ensures value { result.now ≡ token_reason text.now }
     ensures short { length result.now ≤ 40 }
@@ -118,6 +125,10 @@ pub(crate) fn token_reason(text: &[u8]) -> &'static [u8]
         b"a draw is written 1/2-1/2"
     } else if begins_with_dash(text) {
         b"an en dash, where results have a hyphen"
+    } else if begins_with_null_move(text) {
+        b"a null move, which chess does not have"
+    } else if text.starts_with(b"(") {
+        b"no move that this variation replaces"
     } else if begins_word(text) {
         b"not a move"
     } else {

@@ -1,19 +1,14 @@
 -- White space before a game is skipped: from the game's first byte on the same is read.
-use Rattle.std.proofs.Common.{◌≡◌, ℕ, ◌+◌, ◌-◌, ◌<◌, ◌≤◌, ◌||◌, ◌==◌, eqb, Bool, true, false, cond, List, [], ◌∷◌, length, drop, None, refl, sym, ap, ◌∙◌, arith}
-use Rattle.std.specs.List.{prefix_len}
-use Rattle.std.specs.Option.{option_map_or}
-use Rattle.std.specs.Prelude.{codes}
+use Rattle.std.proofs.Common.{◌≡◌, ℕ, ◌+◌, ◌-◌, ◌<◌, ◌≤◌, ◌||◌, ◌==◌, eqb, Bool, true, false, cond, List, [], ◌∷◌, length, drop, None, one-add, refl, sym, ap, ◌∙◌, arith, drop-drop, codes, slice_get}
+use Rattle.std.specs.{List.filter_map, List.prefix_len, Option.option_map_or}
 use Rattle.std.proofs.lemmas.Bool.Decides.{nat_tests}
-use Rattle.std.proofs.lemmas.List.{drop-drop}
 use Rattle.chess_base.specs.declared.man.Variant.TheVariants.{Normal}
-use Rattle.chess_pgn.specs.GameRead.{pgn_read, variant_named}
+use Rattle.chess_pgn.specs.{GameEnds.ends_at, GameEnds.game_end, GameRead.pgn_read, GameRead.variant_named, LastTags.may_precede_tags, laws.TokenByToken.game_of, laws.TokenByToken.nothing_read, laws.TokenByToken.tokens_read}
 use Rattle.chess_pgn.specs.Tokens.{Token, Skip, begins_line, is_white_space, tokens_from}
 use Rattle.byte_devices.specs.Bytes.{after_byte_order_mark}
-use Rattle.chess_pgn.specs.laws.TokenByToken.{game_of, nothing_read, tokens_read}
 use Rattle.chess_pgn.specs.shared.Kinds.{IsOf, IsLongest, Blank, token}
-use Rattle.chess_pgn.proofs.shared.Tags.{last_step}
-use Rattle.chess_pgn.proofs.shared.Tokens.{read_kinds, kinds_read}
-use Rattle.pgn_verifier.specs.Reports.{game_begin}
+use Rattle.chess_pgn.proofs.{shared.Tags.last_step, shared.Tokens.read_kinds, shared.Tokens.kinds_read}
+use Rattle.pgn_verifier.specs.{Reports.game_begin, laws.Reported.next_at}
 use Rattle.pgn_verifier_laws.proofs.PartsAlike.{TokenByToken, not_before, no_mark}
 
 blank_is_longest : (b : Bool) (c : ℕ) (rest : List ℕ) → is_white_space c ≡ true → IsLongest (IsOf b Blank) (c ∷ []) rest
@@ -36,24 +31,29 @@ one_skipped limit total left ts =
     ap (λ o. game_of limit total (nothing_read (option_map_or (λ tag. variant_named tag.0) o Normal)) ts)
     (last_step (codes "Variant") None (left, Skip) ts)
 
-run_skipped : (limit : ℕ) (text rest : List ℕ) (at : ℕ) → drop at text ≡ rest
-    → tokens_read limit (length text) (tokens_from text at)
-    ≡ tokens_read limit (length text) (tokens_from text (at + prefix_len is_white_space rest))
-run_skipped limit text [] at is = ap (λ n. tokens_read limit (length text) (tokens_from text n)) (omega arith)
-run_skipped limit text (c ∷ rest) at is =
-    by_test (is_white_space c) refl
-    (run_skipped limit text rest (at + 1) (sym (drop-drop 1 at text) ∙ ap (drop 1) is))
+end_skipped : (total left : ℕ) (ts : List (ℕ × Token)) → game_end total ((left, Skip) ∷ ts) ≡ game_end total ts
+end_skipped total left ts =
+    ap (λ k. slice_get (filter_map (ends_at total) (drop k ((left, Skip) ∷ ts))) 0)
+    (one-add (prefix_len (λ t. may_precede_tags t.1) ts))
+
+-- what is said of tokens where nothing is said of a skipped one
+module _ {A : Type 0} (said : List (ℕ × Token) → A)
+    (skip : (left : ℕ) (ts : List (ℕ × Token)) → said ((left, Skip) ∷ ts) ≡ said ts)
   where
-    by_test : (b : Bool) → is_white_space c ≡ b
-        → tokens_read limit (length text) (tokens_from text (at + 1))
-        ≡ tokens_read limit (length text) (tokens_from text (at + 1 + prefix_len is_white_space rest))
-        → tokens_read limit (length text) (tokens_from text at)
-        ≡ tokens_read limit (length text) (tokens_from text (at + cond b (1 + prefix_len is_white_space rest) 0))
-    by_test true e later =
-        ap (tokens_read limit (length text)) (blank_first text at c rest is e)
-        ∙ one_skipped limit (length text) (length text - at) (tokens_from text (at + 1)) ∙ later
-        ∙ ap (λ n. tokens_read limit (length text) (tokens_from text n)) (omega arith)
-    by_test false e later = ap (λ n. tokens_read limit (length text) (tokens_from text n)) (omega arith)
+    run_skipped : (text rest : List ℕ) (at : ℕ) → drop at text ≡ rest
+        → said (tokens_from text at) ≡ said (tokens_from text (at + prefix_len is_white_space rest))
+    run_skipped text [] at is = ap (λ n. said (tokens_from text n)) (omega arith)
+    run_skipped text (c ∷ rest) at is =
+        by_test (is_white_space c) refl (run_skipped text rest (at + 1) (sym (drop-drop 1 at text) ∙ ap (drop 1) is))
+      where
+        by_test : (b : Bool) → is_white_space c ≡ b
+            → said (tokens_from text (at + 1)) ≡ said (tokens_from text (at + 1 + prefix_len is_white_space rest))
+            → said (tokens_from text at)
+            ≡ said (tokens_from text (at + cond b (1 + prefix_len is_white_space rest) 0))
+        by_test true e later =
+            ap said (blank_first text at c rest is e) ∙ skip (length text - at) (tokens_from text (at + 1)) ∙ later
+            ∙ ap (λ n. said (tokens_from text n)) (omega arith)
+        by_test false e later = ap (λ n. said (tokens_from text n)) (omega arith)
 
 -- the byte order mark at the text's front is not before a game's first byte
 mark_passed : (text : List ℕ) (at : ℕ) → after_byte_order_mark text (game_begin text at) ≡ game_begin text at
@@ -78,9 +78,19 @@ pub begins_alike : TokenByToken → (limit : ℕ) (text : List ℕ) (at : ℕ)
     → pgn_read limit text at ≡ pgn_read limit text (game_begin text at)
 begins_alike law limit text at =
     let first : ℕ = after_byte_order_mark text at in
-    law limit text at ∙ run_skipped limit text (drop first text) first refl
+    law limit text at
+    ∙ run_skipped (tokens_read limit (length text)) (one_skipped limit (length text)) text (drop first text) first refl
     ∙ ap (λ n. tokens_read limit (length text) (tokens_from text n)) (sym (mark_passed text at))
     ∙ sym (law limit text (game_begin text at))
+
+-- and reading goes on at the same place after a fault
+pub goes_on_alike : (goes_on : Bool) (text : List ℕ) (at : ℕ)
+    → next_at goes_on text (game_begin text at) ≡ next_at goes_on text at
+goes_on_alike false text at = refl
+goes_on_alike true text at =
+    let first : ℕ = after_byte_order_mark text at in
+    ap (λ n. game_end (length text) (tokens_from text n)) (mark_passed text at)
+    ∙ sym (run_skipped (game_end (length text)) (end_skipped (length text)) text (drop first text) first refl)
 
 -- a game that is read begins in the text, not before the offset from which it is read
 pub begins_later : (text : List ℕ) (at : ℕ) → at ≤ game_begin text at

@@ -1,43 +1,21 @@
 -- The games that are counted are games: from what is said of their tokens.
-use Rattle.std.proofs.Common.{◌≡◌, ◌∙◌, ℕ, zero, suc, ◌+◌, ◌-◌, ◌<◌, Bool, true, false, List, [], ◌∷◌, ◌++◌, length, take, Option, Some, None, Ok, refl, sym, ap, subst, append_assoc, append-nil, arith}
-use Rattle.std.specs.Prelude.{if◌then◌else◌, nat_le}
-use Rattle.std.specs.Bool.{MatchBool}
-use Rattle.std.specs.List.{filter, list_all}
-use Rattle.std.specs.Option.{option_map_or}
-use Rattle.chess_base.specs.Initial.{initial_setup_of}
+use Rattle.std.proofs.Common.{◌≡◌, ◌∙◌, ℕ, zero, suc, ◌+◌, ◌-◌, ◌<◌, Bool, true, false, List, [], ◌∷◌, ◌++◌, length, take, Option, Some, None, Ok, refl, sym, ap, subst, append_assoc, append-nil, arith, MatchBool, if◌then◌else◌, nat_le}
+use Rattle.std.specs.{List.filter, List.list_all, Option.option_map_or, Option.unwrap_or}
+use Rattle.chess_base.specs.{Initial.initial_setup_of, MoveList.moves, Sound.IsSound, declared.man.Move.Move, declared.man.Variant.Variant, declared.setup.Setup.Setup}
 use Rattle.byte_devices.specs.Bytes.{is_digit}
-use Rattle.chess_base.specs.MoveList.{moves}
-use Rattle.chess_base.specs.Sound.{IsSound}
-use Rattle.chess_base.specs.declared.man.Move.{Move}
-use Rattle.chess_base.specs.declared.man.Variant.{Variant}
-use Rattle.chess_base.specs.declared.setup.Setup.{Setup}
-use Rattle.chess_game.specs.Ends.{verdict}
-use Rattle.chess_game.specs.Game.{State, verdict_now}
-use Rattle.chess_game.specs.Line.{position_after}
-use Rattle.chess_game.specs.declared.game.TheConstants.{MOST_MOVES}
-use Rattle.chess_game.specs.declared.results.Outcome.{Outcome}
-use Rattle.chess_pgn.specs.GameRead.{GameRead, IsRead, tagged_variant}
-use Rattle.chess_pgn.specs.LastTags.{result_tag_of, tag_section}
-use Rattle.chess_pgn.specs.Tokens.{Token, Word}
-use Rattle.chess_pgn.specs.Words.{is_marks}
-use Rattle.chess_pgn.specs.declared.read.PgnEnd.{PgnEnd}
-use Rattle.chess_pgn.specs.declared.word_kind.WordKind.{WordKind}
+use Rattle.chess_game.specs.{Ends.verdict, Game.State, Game.verdict_now, Line.position_after, declared.game.TheConstants.MOST_MOVES, declared.results.Outcome.Outcome}
+use Rattle.chess_pgn.specs.{GameRead.GameRead, GameRead.IsRead, GameRead.tagged_variant, LastTags.result_tag_of, LastTags.tag_section, UnknownVariants.unknown_variant_in, Tokens.Token, Tokens.Word, Words.is_marks, declared.read.PgnEnd.PgnEnd, declared.word_kind.WordKind.WordKind, laws.WordKinds.word_kind, declared.read.PgnFaultKind.TheVariants.TooLong}
 use Rattle.chess_pgn.specs.declared.word_kind.WordKind.TheVariants.{End, Number, Marks, Move as MoveWord}
-use Rattle.chess_pgn.specs.laws.WordKinds.{word_kind}
 use Rattle.chess_pgn_laws.specs.GameOfTokens.{AreReadAs, GamesAreOfTokens, IsOfTokens, StopsAt, move_words}
 use Rattle.chess_text.specs.Moves.{denotes, one_of, reading, shape}
 use Rattle.chess_text.specs.declared.reading.Reading.TheVariants as reads
 use Rattle.chess_text.specs.laws.Laws.{ReadMovesAreLegal}
 use Rattle.pgn_pieces.specs.declared.pieces.TheConstants.{PIECE_LEN}
-use Rattle.chess_pgn.specs.declared.read.PgnFaultKind.TheVariants.{TooLong}
-use Rattle.pgn_verifier.specs.Explanations.{shown}
-use Rattle.pgn_verifier.specs.declared.game_fault.FaultKind.TheVariants.{Pgn}
-use Rattle.pgn_verifier.specs.GameFaults.{IsJudged}
-use Rattle.pgn_verifier.specs.Reports.{AreReports, Placed, Faulty, without_spans, none_left, next_game, last_fault}
+use Rattle.pgn_verifier.specs.{declared.options.Strictness.Strictness, Explanations.shown, declared.game_fault.FaultKind.TheVariants.Pgn, GameFaults.IsJudged, GameFaults.variation_in}
+use Rattle.pgn_verifier.specs.Reports.{AreReportsOf, Placed, Faulty, without_spans, none_left, next_game, next_fault}
 use Rattle.pgn_writer.specs.Outcomes.{outcome_of}
 use Rattle.pgn_verifier_laws.specs.Counted.{AreTold, CountedGamesAreGames, CountedGamesOfPiecesAreGames, HasGame, HasGames}
-use Rattle.pgn_verifier_laws.proofs.PartsAlike.{judged_so}
-use Rattle.pgn_verifier_laws.proofs.SoundStarts.{start_sound}
+use Rattle.pgn_verifier_laws.proofs.{PartsAlike.judged_so, SoundStarts.start_sound}
 use Rattle.chess_game.proofs.shared.Lines.{position_after-snoc}
 
 -- ---- moves and their words
@@ -122,10 +100,12 @@ ended_at text v tokens taken ((left, t) ∷ ts) s end all (word, is, kind, decla
 
 module _ (legal : ReadMovesAreLegal) (law : GamesAreOfTokens)
     (initial : (v : Variant) → IsSound (initial_setup_of v)) where
-  has_game : (strict : Bool) (text : List ℕ) (at : ℕ) (s : State) (end : PgnEnd)
+  has_game : (strict : Strictness) (text : List ℕ) (at : ℕ) (s : State) (end : PgnEnd)
       → IsJudged strict text at s (Ok (Some end)) → HasGame text at end.offset (length s.moves) end.outcome
   has_game strict text at s end j =
-      let so = judged_so strict (result_tag_of (length text) j.tokens) (verdict_now s) end j.ended (sym j.is) in
+      let so = judged_so strict (variation_in j.split_of text at s.start)
+      (unknown_variant_in (length text) j.tokens)
+      (result_tag_of (length text) j.tokens) (verdict_now s) end j.ended (sym j.is) in
       let r : GameRead = record { state = s; answer = Ok (Some end) } in
       let read : IsRead MOST_MOVES text at r = record {
         tokens = j.tokens;
@@ -153,12 +133,13 @@ module _ (legal : ReadMovesAreLegal) (law : GamesAreOfTokens)
         unended = unended MOST_MOVES s.start [] (move_words of.taken) s.moves of.moves;
       }
 
-  has_games : {strict : Bool} {start : ℕ} {text : List ℕ} {at : ℕ} {reports : List Placed}
-      → AreReports strict start text at reports → HasGames text at (without_spans reports)
+  has_games : {goes_on : Bool} {strict : Strictness} {start : ℕ} {text : List ℕ} {at : ℕ} {reports : List Placed}
+      → AreReportsOf goes_on strict start text at reports → HasGames text at (without_spans reports)
   has_games (none_left j) = tt
-  has_games {strict} {start} {text} (next_game {at} {s} {end} {reports} j h) =
+  has_games {goes_on} {strict} {start} {text} (next_game {at} {s} {end} {reports} j h) =
       (end.offset, has_game strict text at s end j, has_games h)
-  has_games (last_fault reason j h) = tt
+  has_games {goes_on} {strict} {start} {text} (next_fault reason next j h there later) =
+      (unwrap_or next (length text), has_games later)
 
 pub counted_games : ReadMovesAreLegal → GamesAreOfTokens → ((v : Variant) → IsSound (initial_setup_of v))
     → CountedGamesAreGames
@@ -168,13 +149,15 @@ pub counted_games_of_pieces : ReadMovesAreLegal → GamesAreOfTokens → ((v : V
     → CountedGamesOfPiecesAreGames
 counted_games_of_pieces legal law initial strict offset piece reports h = at (nat_le (length piece) PIECE_LEN) h
   where
-    at : (b : Bool) → MatchBool b (AreReports strict offset piece 0 reports)
+    at : (b : Bool) → MatchBool b (AreReportsOf true strict offset piece 0 reports)
         (reports ≡ record {
           begin = offset;
           end = offset + length piece;
+          first = [];
+          unread = Some offset;
           names = None;
           report = Faulty (record { kind = Pgn TooLong; offset = offset }) offset (shown piece);
         } ∷ [])
         → HasGames piece 0 (without_spans reports)
     at true are = has_games legal law initial are
-    at false is = subst (λ (all : List Placed). HasGames piece 0 (without_spans all)) (sym is) tt
+    at false is = subst (λ (all : List Placed). HasGames piece 0 (without_spans all)) (sym is) (0, tt)

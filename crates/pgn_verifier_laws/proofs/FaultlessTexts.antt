@@ -1,35 +1,20 @@
 -- If no fault is reported on a text's pieces, then their reports are those on the text.
-use Rattle.std.proofs.Common.{◌≡◌, ℕ, zero, suc, ◌+◌, ◌-◌, ◌<◌, ◌≤◌, Bool, true, false, cond, eqb, not, List, [], ◌∷◌, ◌++◌, length, is_some, get_or, drop, take, Option, Some, None, Result, Ok, Err, refl, sym, ap, subst, ◌∙◌, inl, inr, ◌⊎◌, append_assoc, append-nil, length-append, arith}
-use Rattle.std.specs.Prelude.{nat_le, if◌then◌else◌, ◌&&◌, ◌||◌}
+use Rattle.std.proofs.Common.{◌≡◌, ℕ, zero, suc, ◌+◌, ◌-◌, ◌<◌, ◌≤◌, Bool, true, false, cond, eqb, not, List, [], ◌∷◌, ◌++◌, length, get_or, drop, take, Option, Some, None, Result, Ok, Err, refl, sym, ap, subst, ◌∙◌, inl, inr, ◌⊎◌, append_assoc, append-nil, length-append, arith, bytes_eq, nat_le, if◌then◌else◌, ◌&&◌, ◌||◌}
 use Rattle.std.specs.List.{concat, flat_map, list_all, list_any}
-use Rattle.std.specs.Str.{bytes_eq}
-use Rattle.std.proofs.lemmas.Bool.{and_parts, or_parts, eqb-true}
-use Rattle.std.proofs.lemmas.Bool.Decides.{nat_tests}
-use Rattle.std.proofs.lemmas.List.{get_or_at, reverse-append}
-use Rattle.std.proofs.Math.Path.{fun_ext}
-use Rattle.std.proofs.lemmas.List.Folds.{list_all-append, sum_by-zero}
-use Rattle.chess_pgn.specs.Tokens.{begins_line}
+use Rattle.std.proofs.{lemmas.Bool.and_parts, lemmas.Bool.or_parts, lemmas.Bool.eqb-true, lemmas.Bool.Decides.nat_tests, lemmas.List.get_or_at, lemmas.List.reverse-append, Math.Path.fun_ext, lemmas.List.Folds.list_all-append, lemmas.List.Folds.sum_by-zero}
+use Rattle.chess_pgn.specs.{Tokens.begins_line, declared.read.PgnEnd.PgnEnd}
 use Rattle.byte_devices.specs.Bytes.{after_byte_order_mark}
-use Rattle.chess_pgn.specs.declared.read.PgnEnd.{PgnEnd}
-use Rattle.pgn_pieces.specs.Pieces.{cut}
-use Rattle.pgn_pieces.specs.Places.{breaks_line}
-use Rattle.pgn_pieces.specs.Stream.{with_offsets, pieces}
-use Rattle.pgn_pieces.specs.declared.pieces.TheConstants.{PIECE_LEN}
+use Rattle.pgn_pieces.specs.{Pieces.cut, Places.breaks_line, Stream.with_offsets, Stream.pieces, declared.pieces.TheConstants.PIECE_LEN}
 use Rattle.pgn_pieces.proofs.shared.Cuts.{AreLines, no_texts, last_text, next_text, cut_is_all, cut_ends}
-use Rattle.pgn_verifier.specs.Reports.{Report, Game, Faulty, half_moves_of, counts_of, verified}
-use Rattle.pgn_verifier.specs.declared.game_fault.GameFault.{GameFault}
-use Rattle.pgn_verifier.specs.declared.tally.Verified.TheVariants.{EachGame, FaultReported}
+use Rattle.pgn_verifier.specs.{declared.options.Strictness.Strictness, declared.game_fault.GameFault.GameFault, declared.tally.Verified.TheVariants.EachGame, declared.tally.Verified.TheVariants.FaultReported}
+use Rattle.pgn_verifier.specs.Reports.{Report, Game, Faulty, counts_of, verified}
 use Rattle.pgn_verifier_laws.specs.NoFaults.{begins_with_mark, ends_with_return, FaultlessTextsAreReportedAlike}
 use Rattle.pgn_verifier_laws.specs.Parts.{BeginsAlike, HoldsWhole, no_more, game, AllHoldWhole, no_parts, next_part}
 use Rattle.pgn_verifier_laws.proofs.Parts.{next_begins, reported_alike, reported_alone, all_reported_alike}
-use Rattle.pgn_verifier_laws.proofs.PartsAlike.{TokenByToken, no_mark}
-use Rattle.pgn_verifier_laws.proofs.PartsRead.{IsClosed, in_text}
-use Rattle.pgn_verifier.specs.laws.Reported.{collection_reports, judged_at, read_at, report_then, reports_from, reports_in, reports_on, too_long_report}
+use Rattle.pgn_verifier_laws.proofs.{PartsAlike.TokenByToken, PartsAlike.no_mark, PartsRead.IsClosed, PartsRead.in_text, GoesOn.is_game, GoesOn.same_of}
+use Rattle.pgn_verifier.specs.laws.Reported.{collection_reports, judged_at, read_at, report_then, games_from, games_of, reports_from, reports_in, reports_on, too_long_report}
 
 -- ---- reports without a fault
-
-abbrev pub is_game : Report → Bool
-is_game r = is_some (half_moves_of r)
 
 no_fault : (r : Report) → eqb (cond (not (is_game r)) 1 0) 0 ≡ is_game r
 no_fault (Game plies outcome termination) = refl
@@ -46,15 +31,16 @@ all_games rs h = ap (λ p. list_all p rs) (sym (fun_ext no_fault))
 
 -- ---- one part
 
-pub record Holds (strict : Bool) (before part after : List ℕ) (at : ℕ) : Type 0 where
+pub record Holds (strict : Strictness) (before part after : List ℕ) (at : ℕ) : Type 0 where
   pub games : List Report
   pub holds : HoldsWhole strict before part after at games
 
-module _ (law : TokenByToken) (strict : Bool) (start : ℕ) (before part after : List ℕ) (closed : IsClosed part after)
+module _ (law : TokenByToken) (strict : Strictness) (plain : strict.variations ≡ false) (start : ℕ)
+    (before part after : List ℕ) (closed : IsClosed part after)
   where
     holds_whole : (k at : ℕ) → BeginsAlike before part after at → at ≤ length part → length part < k + at
         → list_all is_game (reports_from strict start k part at) ≡ true → Holds strict before part after at
-    unfolding reports_from
+    unfolding games_from
     holds_whole zero at begins within many h = absurd (omega (arith, within, many))
     holds_whole (suc k) at begins within many h =
         by_judged (judged_at strict part at) refl (λ next b w m g. holds_whole k next b w m g) h
@@ -62,7 +48,7 @@ module _ (law : TokenByToken) (strict : Bool) (start : ℕ) (before part after :
         by_judged : (j : Result (Option PgnEnd) GameFault) → judged_at strict part at ≡ j
             → ((next : ℕ) → BeginsAlike before part after next → next ≤ length part → length part < k + next
             → list_all is_game (reports_from strict start k part next) ≡ true → Holds strict before part after next)
-            → list_all is_game (report_then start part j (read_at part at).state
+            → list_all is_game (report_then start part None j (read_at part at).state
             (λ next. reports_from strict start k part next)) ≡ true
             → Holds strict before part after at
         by_judged (Ok None) e again all = record {
@@ -70,7 +56,7 @@ module _ (law : TokenByToken) (strict : Bool) (start : ℕ) (before part after :
           holds = no_more e closed;
         }
         by_judged (Ok (Some end)) e again all =
-            let found = in_text law strict before part after at end begins closed e in
+            let found = in_text law strict plain before part after at end begins closed e in
             let here : length before + end.offset - length before ≡ end.offset = omega arith in
             let inside : length before + end.offset ≤ length before + length part = omega (arith, found.inside) in
             let rest = again end.offset
@@ -85,11 +71,13 @@ module _ (law : TokenByToken) (strict : Bool) (start : ℕ) (before part after :
         by_judged (Err fault) e again all = absurd (cc)
 
 -- a part whose reports are on games holds whole games
-pub part_holds : TokenByToken → (strict : Bool) (start : ℕ) (before part after : List ℕ) → IsClosed part after
-    → BeginsAlike before part after 0 → list_all is_game (reports_on strict start part) ≡ true
+pub part_holds : TokenByToken → (strict : Strictness) → strict.variations ≡ false → (start : ℕ)
+    (before part after : List ℕ) → IsClosed part after → BeginsAlike before part after 0
+    → list_all is_game (reports_on strict start part) ≡ true
     → Holds strict before part after 0
-part_holds law strict start before part after closed begins all =
-    holds_whole law strict start before part after closed (length part + 1) 0 begins (omega arith) (omega arith) all
+part_holds law strict plain start before part after closed begins all =
+    holds_whole law strict plain start before part after closed (length part + 1) 0 begins (omega arith) (omega arith)
+    all
 
 -- ---- where parts begin
 
@@ -178,15 +166,15 @@ next_starts before front end parts ten (inr (line, is, unmarked)) = inr (
 
 -- ---- all parts
 
-record AllHold (strict : Bool) (offset : ℕ) (before : List ℕ) (parts : List (List ℕ)) : Type 0 where
+record AllHold (strict : Strictness) (offset : ℕ) (before : List ℕ) (parts : List (List ℕ)) : Type 0 where
   games : List Report
   holds : AllHoldWhole strict before parts games
   reported : flat_map (reports_in strict) (with_offsets offset parts) ≡ games
 
-nothing_held : (strict : Bool) (offset : ℕ) (before : List ℕ) → AllHold strict offset before []
+nothing_held : (strict : Strictness) (offset : ℕ) (before : List ℕ) → AllHold strict offset before []
 nothing_held strict offset before = record { games = []; holds = no_parts; reported = refl }
 
-module _ (law : TokenByToken) (strict : Bool) where
+module _ (law : TokenByToken) (strict : Strictness) (plain : strict.variations ≡ false) where
   one_part : (first : List ℕ) (parts : List (List ℕ)) (before : List ℕ) (offset : ℕ)
       → BeginsAlike before first (concat parts) 0 → IsClosed first (concat parts)
       → list_all is_game (flat_map (reports_in strict) (with_offsets offset (first ∷ parts))) ≡ true
@@ -200,22 +188,26 @@ module _ (law : TokenByToken) (strict : Bool) where
       later = flat_map (reports_in strict) (with_offsets (offset + length first) parts)
 
       by_length : (b : Bool) → nat_le (length first) PIECE_LEN ≡ b
-          → list_all is_game ((if b then reports_on strict offset first else
+          → list_all is_game ((if b then games_of true strict offset first else
           too_long_report (record { offset = offset; bytes = first }) ∷ []) ++ later) ≡ true
           → AllHold strict offset before (first ∷ parts)
       by_length false e k = absurd (cc)
       by_length true e k =
-          let both = and_parts (list_all is_game (reports_on strict offset first)) (list_all is_game later)
-          (sym (list_all-append is_game (reports_on strict offset first) later) ∙ k) in
-          let part = part_holds law strict offset before first (concat parts) closed begins both.0 in
+          let both = and_parts (list_all is_game (games_of true strict offset first)) (list_all is_game later)
+          (sym (list_all-append is_game (games_of true strict offset first) later) ∙ k) in
+          let same : reports_on strict offset first ≡ games_of true strict offset first =
+          same_of strict offset first true false both.0 in
+          let part = part_holds law strict plain offset before first (concat parts) closed begins
+          (ap (list_all is_game) same ∙ both.0) in
           let rest = again both.1 in
           record {
             games = part.games ++ rest.games;
             holds = next_part begins part.holds rest.holds;
-            reported = ap (λ b. (if b then reports_on strict offset first else
+            reported = ap (λ b. (if b then games_of true strict offset first else
                 too_long_report (record { offset = offset; bytes = first }) ∷ []) ++ later) e
+                ∙ ap (λ l. l ++ later) (sym same)
                 ∙ ap (λ l. l ++ later)
-                (reported_alike law strict offset before first (concat parts) part.games begins part.holds).alone
+                (reported_alike law strict plain offset before first (concat parts) part.games begins part.holds).alone
                 ∙ ap (λ l. part.games ++ l) rest.reported;
           }
 
@@ -238,11 +230,11 @@ module _ (law : TokenByToken) (strict : Bool) where
 
 pub faultless_alike : TokenByToken → FaultlessTextsAreReportedAlike
 unfolding pieces
-faultless_alike law strict text none unmarked other =
+faultless_alike law strict plain text none unmarked other =
     let games : list_all is_game (flat_map (reports_in strict) (with_offsets 0 (cut text))) ≡ true =
     all_games (collection_reports strict true text) none in
-    let all = all_hold law strict (cut_ends text) other [] 0 (inl (refl, unmarked)) games in
+    let all = all_hold law strict plain (cut_ends text) other [] 0 (inl (refl, unmarked)) games in
     let starts : List ℕ → ℕ = λ part. 0 in
-    all.reported ∙ sym (reported_alone law strict all.holds starts)
-    ∙ sym (all_reported_alike law strict 0 (cut text) all.games all.holds starts)
+    all.reported ∙ sym (reported_alone law strict plain all.holds starts)
+    ∙ sym (all_reported_alike law strict plain 0 (cut text) all.games all.holds starts)
     ∙ ap (reports_on strict 0) (cut_is_all text)

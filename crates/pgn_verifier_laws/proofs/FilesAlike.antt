@@ -1,25 +1,14 @@
 -- The reports on a collection's files, one after another, are those on the collection.
-use Rattle.std.proofs.Common.{◌≡◌, ℕ, zero, suc, ◌+◌, Bool, true, false, List, [], ◌∷◌, ◌++◌, length, map, drop, Option, Some, None, Result, Ok, Err, refl, sym, ap, ◌∙◌, append-nil, length-append, arith}
-use Rattle.std.specs.Prelude.{if◌then◌else◌, nat_le, not, is_some}
+use Rattle.std.proofs.Common.{◌≡◌, ℕ, zero, suc, ◌+◌, Bool, true, false, List, [], ◌∷◌, ◌++◌, length, map, drop, Option, Some, None, Result, Ok, Err, refl, sym, ap, ◌∙◌, append-nil, length-append, arith, ap₂, if◌then◌else◌, nat_le, not, is_some}
 use Rattle.std.specs.List.{onto_first, concat, flat_map, sum_by}
-use Rattle.std.specs.Option.{unwrap_or}
-use Rattle.std.proofs.Math.Path.{ap₂}
-use Rattle.std.proofs.lemmas.List.{map-append}
-use Rattle.std.proofs.lemmas.List.Concat.{flat_map-append}
-use Rattle.std.proofs.lemmas.List.Sums.{sum_by-append, sum_by-cons}
+use Rattle.std.specs.Option.{option_map, option_map_or, unwrap_or}
+use Rattle.std.proofs.{lemmas.List.map-append, lemmas.List.Concat.flat_map-append, lemmas.List.Sums.sum_by-append, lemmas.List.Sums.sum_by-cons}
 use Rattle.chess_pgn.specs.declared.read.PgnEnd.{PgnEnd}
-use Rattle.pgn_pieces.specs.Pieces.{cut, lines_of}
-use Rattle.pgn_pieces.specs.Places.{breaks_line}
-use Rattle.pgn_pieces.specs.Stream.{with_offsets}
-use Rattle.pgn_pieces.specs.declared.pieces.TheConstants.{PIECE_LEN}
-use Rattle.pgn_pieces.specs.laws.Shards.{begins_in_tag, ends_in_moves, ShardsAreCut}
+use Rattle.pgn_pieces.specs.{Pieces.cut, Pieces.lines_of, Places.breaks_line, Stream.with_offsets, declared.pieces.TheConstants.PIECE_LEN, laws.Shards.begins_in_tag, laws.Shards.ends_in_moves, laws.Shards.ShardsAreCut}
 use Rattle.pgn_pieces.proofs.shared.Cuts.{cut_is_all, lines_joined}
-use Rattle.pgn_verifier.specs.Collection.{AreCollectionReports}
-use Rattle.pgn_verifier.specs.Explanations.{wrong_part}
-use Rattle.pgn_verifier.specs.Reports.{Report, Game, Faulty, Placed, game_begin, half_moves_of, without_spans, counts_of}
-use Rattle.pgn_verifier.specs.declared.game_fault.GameFault.{GameFault}
-use Rattle.pgn_verifier.specs.laws.Reasons.{explanation_of}
-use Rattle.pgn_verifier.specs.laws.Reported.{names_at, read_at, judged_at, placed_then, placed_from, placed_on, placed_in, too_long_placed}
+use Rattle.pgn_verifier.specs.{declared.options.Strictness.Strictness, Collection.AreCollectionReports, Explanations.wrong_part, declared.game_fault.GameFault.GameFault, laws.Reasons.explanation_of}
+use Rattle.pgn_verifier.specs.Reports.{Report, Game, Faulty, Placed, game_begin, unread_from, half_moves_of, without_spans, counts_of}
+use Rattle.pgn_verifier.specs.laws.Reported.{next_at, read_at, judged_at, game_placed, fault_placed, placed_then, placed_from, placed_of, placed_in, too_long_placed}
 use Rattle.pgn_verifier_laws.specs.Files.{AreCutWherePiecesBegin, moved, one_after_another, IsSumOf, FilesAreVerifiedAlike}
 use Rattle.pgn_verifier_laws.proofs.OnlyReports.{only_all}
 
@@ -73,69 +62,91 @@ pieces_of_files law (file ∷ next ∷ files) h =
 -- ---- reports at another offset
 
 abbrev moved_placed : ℕ → Placed → Placed
-moved_placed by p = record p { begin = by + p.begin; end = by + p.end; report = moved by p.report }
+moved_placed by p = record p {
+  begin = by + p.begin;
+  end = by + p.end;
+  unread = option_map (λ from. by + from) p.unread;
+  report = moved by p.report;
+}
 
 grouped : (by start n : ℕ) → by + start + n ≡ by + (start + n)
 grouped by start n = omega arith
 
-moved_from : (strict : Bool) (by start n : ℕ) (text : List ℕ) (at : ℕ)
-    → placed_from strict (by + start) n text at ≡ map (moved_placed by) (placed_from strict start n text at)
+grouped_in : (by start : ℕ) (o : Option ℕ)
+    → option_map (λ n. by + start + n) o ≡ option_map (λ n. by + n) (option_map (λ n. start + n) o)
+grouped_in by start None = refl
+grouped_in by start (Some n) = ap (λ k. Some k) (grouped by start n)
+
+game_moved : (by start : ℕ) (text : List ℕ) (at : ℕ) (end : PgnEnd)
+    → game_placed (by + start) text at end (read_at text at).state
+    ≡ moved_placed by (game_placed start text at end (read_at text at).state)
+game_moved by start text at end =
+    let there : Placed = moved_placed by (game_placed start text at end (read_at text at).state) in
+    ap₂ (λ (b e : ℕ). record there { begin = b; end = e }) (grouped by start (game_begin text at))
+    (grouped by start end.offset)
+
+fault_moved : (goes_on : Bool) (by start : ℕ) (text : List ℕ) (at : ℕ) (next : Option ℕ) (fault : GameFault)
+    → fault_placed goes_on (by + start) text at next fault (read_at text at).state
+    ≡ moved_placed by (fault_placed goes_on start text at next fault (read_at text at).state)
+fault_moved goes_on by start text at next fault =
+    let wrong : ℕ = (wrong_part fault.kind (drop fault.offset text)).0 in
+    let why : List ℕ = explanation_of (read_at text at).state (drop fault.offset text) fault.kind in
+    let from : Option ℕ = unread_from goes_on (length text) fault.offset next in
+    let here : Placed = fault_placed goes_on (by + start) text at next fault (read_at text at).state in
+    let there : Placed = moved_placed by (fault_placed goes_on start text at next fault (read_at text at).state) in
+    ap₂ (λ (b e : ℕ). record here { begin = b; end = e }) (grouped by start (game_begin text at))
+    (grouped by start (unwrap_or next (length text)))
+    ∙ ap (λ (o : Option ℕ). record there { unread = o; report = here.report }) (grouped_in by start from)
+    ∙ ap₂ (λ (o w : ℕ). record there { report = Faulty (record fault { offset = o }) w why })
+    (grouped by start fault.offset)
+    (ap (λ k. k + wrong) (grouped by start fault.offset) ∙ grouped by (start + fault.offset) wrong)
+
+moved_from : (goes_on : Bool) (strict : Strictness) (by start n : ℕ) (text : List ℕ) (at : ℕ)
+    → placed_from goes_on strict (by + start) n text at
+    ≡ map (moved_placed by) (placed_from goes_on strict start n text at)
 unfolding placed_from
-moved_from strict by start zero text at = refl
-moved_from strict by start (suc n) text at =
-    by_answer (judged_at strict text at) (λ next. moved_from strict by start n text next)
+moved_from goes_on strict by start zero text at = refl
+moved_from goes_on strict by start (suc n) text at =
+    by_answer (judged_at strict text at) (λ m. moved_from goes_on strict by start n text m)
   where
-    by_answer : (r : Result (Option PgnEnd) GameFault)
-        → ((next : ℕ)
-        → placed_from strict (by + start) n text next ≡ map (moved_placed by) (placed_from strict start n text next))
-        → placed_then (by + start) text at r (read_at text at).state
-        (λ next. placed_from strict (by + start) n text next)
+    far : ℕ → List Placed
+    far m = placed_from goes_on strict (by + start) n text m
+
+    near : ℕ → List Placed
+    near m = placed_from goes_on strict start n text m
+
+    on : (next : Option ℕ) → ((m : ℕ) → far m ≡ map (moved_placed by) (near m))
+        → option_map_or far next [] ≡ map (moved_placed by) (option_map_or near next [])
+    on None later = refl
+    on (Some m) later = later m
+
+    by_answer : (r : Result (Option PgnEnd) GameFault) → ((m : ℕ) → far m ≡ map (moved_placed by) (near m))
+        → placed_then goes_on (by + start) text at (next_at goes_on text at) r (read_at text at).state far
         ≡ map (moved_placed by)
-        (placed_then start text at r (read_at text at).state (λ next. placed_from strict start n text next))
+        (placed_then goes_on start text at (next_at goes_on text at) r (read_at text at).state near)
     by_answer (Ok None) later = refl
     by_answer (Ok (Some end)) later =
-        let game : Report = Game (length (read_at text at).state.moves) end.outcome end.termination in
-        let names : Option (List ℕ) = Some (names_at text at) in
-        ap₂ (λ (b e : ℕ). record { begin = b; end = e; names = names; report = game }
-        ∷ placed_from strict (by + start) n text end.offset)
-        (grouped by start (game_begin text at)) (grouped by start end.offset)
-        ∙ ap (λ (ps : List Placed). record {
-          begin = by + (start + game_begin text at);
-          end = by + (start + end.offset);
-          names = names;
-          report = game;
-        } ∷ ps) (later end.offset)
+        ap₂ (λ (p : Placed) (ps : List Placed). p ∷ ps) (game_moved by start text at end) (later end.offset)
     by_answer (Err fault) later =
-        let wrong : ℕ = (wrong_part fault.kind (drop fault.offset text)).0 in
-        let why : List ℕ = explanation_of (read_at text at).state (drop fault.offset text) fault.kind in
-        let there : Placed = record {
-          begin = by + (start + game_begin text at);
-          end = by + (start + length text);
-          names = Some (names_at text at);
-          report = Faulty (record fault { offset = by + start + fault.offset }) (by + start + fault.offset + wrong) why;
-        } in
-        ap₂ (λ (b e : ℕ). record there { begin = b; end = e } ∷ [])
-        (grouped by start (game_begin text at)) (grouped by start (length text))
-        ∙ ap₂ (λ (o w : ℕ). record there { report = Faulty (record fault { offset = o }) w why } ∷ [])
-        (grouped by start fault.offset)
-        (ap (λ k. k + wrong) (grouped by start fault.offset) ∙ grouped by (start + fault.offset) wrong)
+        ap₂ (λ (p : Placed) (ps : List Placed). p ∷ ps)
+        (fault_moved goes_on by start text at (next_at goes_on text at) fault) (on (next_at goes_on text at) later)
 
-moved_in : (strict : Bool) (by offset : ℕ) (bytes : List ℕ)
+moved_in : (strict : Strictness) (by offset : ℕ) (bytes : List ℕ)
     → placed_in strict (record { offset = by + offset; bytes = bytes })
     ≡ map (moved_placed by) (placed_in strict (record { offset = offset; bytes = bytes }))
 moved_in strict by offset bytes = by_test (nat_le (length bytes) PIECE_LEN)
   where
     by_test : (b : Bool)
-        → (if b then placed_on strict (by + offset) bytes
+        → (if b then placed_of true strict (by + offset) bytes
         else too_long_placed (record { offset = by + offset; bytes = bytes }) ∷ [])
-        ≡ map (moved_placed by) (if b then placed_on strict offset bytes
+        ≡ map (moved_placed by) (if b then placed_of true strict offset bytes
         else too_long_placed (record { offset = offset; bytes = bytes }) ∷ [])
-    by_test true = moved_from strict by offset (length bytes + 1) bytes 0
+    by_test true = moved_from true strict by offset (length bytes + 1) bytes 0
     by_test false =
         ap (λ (e : ℕ). record (too_long_placed (record { offset = by + offset; bytes = bytes })) { end = e } ∷ [])
         (grouped by offset (length bytes))
 
-moved_all : (strict : Bool) (by offset : ℕ) (all : List (List ℕ))
+moved_all : (strict : Strictness) (by offset : ℕ) (all : List (List ℕ))
     → flat_map (placed_in strict) (with_offsets (by + offset) all)
     ≡ map (moved_placed by) (flat_map (placed_in strict) (with_offsets offset all))
 moved_all strict by offset [] = refl
@@ -161,7 +172,7 @@ offsets_joined offset (bytes ∷ more) rest =
     (offsets_joined (offset + length bytes) more rest
     ∙ ap (λ k. with_offsets (offset + length bytes) more ++ with_offsets k rest) there)
 
-module _ (strict : Bool) (reports : List ℕ → List Placed)
+module _ (strict : Strictness) (reports : List ℕ → List Placed)
     (are : (text : List ℕ) → AreCollectionReports strict 0 (cut text) (reports text)) where
   file_after_file : (offset : ℕ) (files : List (List ℕ))
       → flat_map (placed_in strict) (with_offsets offset (flat_map cut files)) ≡ one_after_another reports offset files

@@ -3,6 +3,7 @@ mod OnlyReports
 mod FaultlessTexts
 mod Parts
 mod GamesAlike
+mod GoesOn
 mod PartsAlike
 mod PartsRead
 mod WrittenGames

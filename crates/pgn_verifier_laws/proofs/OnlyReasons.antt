@@ -4,11 +4,9 @@ use Rattle.chess_game.specs.declared.verdicts.Verdict.{Verdict}
 use Rattle.chess_pgn.specs.Tokens.{after_next}
 use Rattle.chess_pgn.specs.declared.read.PgnFaultKind.TheVariants as pgn
 use Rattle.chess_pgn.proofs.shared.Tags.{opening_read}
-use Rattle.pgn_verifier.specs.Explanations.{IsReason}
+use Rattle.pgn_verifier.specs.{Explanations.IsReason, declared.game_fault.FaultKind.FaultKind, laws.Reasons.reason}
 use Rattle.pgn_verifier.specs.WrongParts.{HasName, HasOpening, HasString, IsTagReason, no_name, no_value, not_closed, no_bracket}
-use Rattle.pgn_verifier.specs.declared.game_fault.FaultKind.{FaultKind}
-use Rattle.pgn_verifier.specs.declared.game_fault.FaultKind.TheVariants.{Pgn, ResultDiffers, BoardSaysOtherwise}
-use Rattle.pgn_verifier.specs.laws.Reasons.{reason}
+use Rattle.pgn_verifier.specs.declared.game_fault.FaultKind.TheVariants.{Pgn, InVariation, UnknownVariant, ResultDiffers, BoardSaysOtherwise}
 use Rattle.pgn_verifier.proofs.shared.TagReasons.{name_found, opened, same_end, tag_reason_is}
 
 opening_name : (text rest : List ℕ) → HasOpening text rest → HasName text
@@ -55,5 +53,16 @@ only_reason (Pgn pgn.TooLong) text verdict r h = h
 only_reason (Pgn pgn.UnclosedComment) text verdict r h = h
 only_reason (Pgn pgn.UnclosedVariation) text verdict r h = h
 only_reason (Pgn pgn.NoResult) text verdict r h = h
+only_reason (InVariation pgn.BadTag) text verdict r h = h
+only_reason (InVariation (pgn.BadFen fault)) text verdict r h = h
+only_reason (InVariation pgn.BadToken) text verdict r h = h
+only_reason (InVariation pgn.IllegalMove) text verdict r h = h
+only_reason (InVariation pgn.AmbiguousMove) text verdict r h = h
+only_reason (InVariation pgn.AfterEnd) text verdict r h = h
+only_reason (InVariation pgn.TooLong) text verdict r h = h
+only_reason (InVariation pgn.UnclosedComment) text verdict r h = h
+only_reason (InVariation pgn.UnclosedVariation) text verdict r h = h
+only_reason (InVariation pgn.NoResult) text verdict r h = h
+only_reason UnknownVariant text verdict r h = h
 only_reason (ResultDiffers tag_len outcome) text verdict r h = h
 only_reason BoardSaysOtherwise text verdict r h = h

@@ -1,33 +1,21 @@
 -- A game that is read in a text is read in each part of it that holds the game.
-use Rattle.std.proofs.Common.{◌≡◌, ℕ, zero, suc, ◌+◌, ◌-◌, ◌<◌, ◌≤◌, Bool, true, List, [], ◌∷◌, ◌++◌, length, take, drop, Option, Some, Ok, Err, refl, sym, ap, subst, ◌∙◌, append_assoc, append-nil, length-append, arith}
-use Rattle.std.specs.Prelude.{nat_le, if◌then◌else◌}
-use Rattle.std.specs.List.{concat, flat_map}
-use Rattle.std.specs.Option.{option_map_or}
+use Rattle.std.proofs.Common.{◌≡◌, ℕ, zero, suc, ◌+◌, ◌-◌, ◌<◌, ◌≤◌, true, false, List, [], ◌∷◌, ◌++◌, length, take, drop, Option, Some, None, Ok, Err, refl, sym, ap, subst, ◌∙◌, append_assoc, append-nil, length-append, arith, le-leb, is_some, nat_le, if◌then◌else◌}
+use Rattle.std.specs.{List.concat, List.flat_map, List.list_all, Option.option_map_or}
 use Rattle.std.proofs.Math.Seq.{drop-length, take-length}
-use Rattle.std.proofs.lemmas.Bool.{le-leb}
 use Rattle.std.proofs.lemmas.List.{take-append-drop, take-append-le, length-drop, append_cancel_left}
-use Rattle.chess_game.specs.Game.{State, verdict_now}
-use Rattle.chess_game.specs.declared.game.TheConstants.{MOST_MOVES}
-use Rattle.chess_game.specs.declared.verdicts.Verdict.{Verdict}
+use Rattle.chess_game.specs.{Game.State, Game.verdict_now, declared.game.TheConstants.MOST_MOVES, declared.verdicts.Verdict.Verdict}
 use Rattle.chess_pgn.specs.GameRead.{GameRead, pgn_read, read_of_split, tagged_variant}
-use Rattle.chess_pgn.specs.LastTags.{tag_section, result_tag_of}
+use Rattle.chess_pgn.specs.{LastTags.tag_section, LastTags.result_tag_of, UnknownVariants.unknown_variant_in, Tokens.Token, Tokens.begins_line, Tokens.tokens_from, declared.read.PgnEnd.PgnEnd, laws.TokenByToken.game_of, laws.TokenByToken.nothing_read, laws.TokenByToken.tokens_read}
 use Rattle.chess_pgn.specs.shared.Kinds.{IsOf, IsLongest, Kind, ended}
-use Rattle.chess_pgn.specs.Tokens.{Token, begins_line, tokens_from}
 use Rattle.byte_devices.specs.Bytes.{after_byte_order_mark}
-use Rattle.chess_pgn.specs.declared.read.PgnEnd.{PgnEnd}
-use Rattle.chess_pgn.specs.laws.TokenByToken.{game_of, nothing_read, tokens_read}
 use Rattle.chess_pgn.proofs.shared.Tokens.{read_kinds, kinds_read}
-use Rattle.pgn_verifier.specs.GameFaults.{judged}
+use Rattle.pgn_verifier.specs.{declared.options.Strictness.Strictness, GameFaults.judged, GameFaults.variation_in, Reports.Report, Reports.Game}
 use Rattle.pgn_verifier_laws.specs.Parts.{BeginsAlike, GamesAreInParts, HoldsWhole, no_more, game, WholeGamesAreReportedAlike, AllHoldWhole, no_parts, next_part, TextsAreReportedInParts, PiecesAreReportedAlike}
-use Rattle.pgn_pieces.specs.Pieces.{cut}
-use Rattle.pgn_pieces.specs.Stream.{with_offsets, pieces}
-use Rattle.pgn_pieces.specs.declared.pieces.TheConstants.{PIECE_LEN}
+use Rattle.pgn_pieces.specs.{Pieces.cut, Stream.with_offsets, Stream.pieces, declared.pieces.TheConstants.PIECE_LEN}
 use Rattle.pgn_pieces.proofs.shared.Cuts.{cut_is_all}
-use Rattle.pgn_verifier.specs.Reports.{Report, Game}
-use Rattle.pgn_verifier_laws.proofs.GamesAlike.{Fits, found}
-use Rattle.pgn_verifier_laws.proofs.PartsAlike.{TokenByToken, there, lines, over, same_variant, outcome_in, same_result, judged_so, agrees, not_before, no_mark}
-use Rattle.pgn_verifier_laws.proofs.PartsRead.{skips_to_end}
-use Rattle.pgn_verifier.specs.laws.Reported.{read_at, report_then, reports_from, reports_in, reports_on, too_long_report}
+use Rattle.pgn_verifier_laws.proofs.{GoesOn.is_game, GoesOn.same_of, GamesAlike.Fits, GamesAlike.found, PartsRead.skips_to_end}
+use Rattle.pgn_verifier_laws.proofs.PartsAlike.{TokenByToken, there, lines, over, same_variant, outcome_in, same_result, same_known, judged_so, agrees, not_before, no_mark}
+use Rattle.pgn_verifier.specs.laws.Reported.{read_at, report_then, games_from, games_of, reports_from, reports_in, reports_on, too_long_report}
 
 -- ---- the part
 
@@ -68,14 +56,16 @@ module _ (before part after : List ℕ) (starts : begins_line (before ++ (part +
 -- ---- the game
 
 pub in_parts : TokenByToken → GamesAreInParts
-in_parts law strict before part after at end begins is inside =
+in_parts law strict plain before part after at end begins is inside =
     let text : List ℕ = before ++ (part ++ after) in
     let here : ℕ = after_byte_order_mark part at in
     let ts : List (ℕ × Token) = tokens_from text (after_byte_order_mark text (length before + at)) in
     let us : List (ℕ × Token) = tokens_from part here in
     let r : GameRead = pgn_read MOST_MOVES text (length before + at) in
     let v : Option Verdict = verdict_now r.state in
-    let said = judged_so strict (result_tag_of (length text) ts) v end r.answer is in
+    let said = judged_so strict (variation_in tokens_from text (length before + at) r.state.start)
+    (unknown_variant_in (length text) ts)
+    (result_tag_of (length text) ts) v end r.answer is in
     let whole : tokens_read MOST_MOVES (length text) ts ≡ over r.state end =
     sym (law MOST_MOVES text (length before + at)) ∙ ap (λ a. record { state = r.state; answer = a }) said.0 in
     let f = found MOST_MOVES text part (length before) 0 (length part) (fits_part before part after begins.line) r.state
@@ -92,12 +82,18 @@ in_parts law strict before part after at end begins is inside =
     let outcomes : outcome_in (result_tag_of (length part) us) ≡ outcome_in (result_tag_of (length text) ts) =
     ap (λ l. outcome_in (result_tag_of (length part) l)) (sym own)
     ∙ same_result (length text) (length part) f.own ts f.tags in
+    let variants : is_some (unknown_variant_in (length part) us) ≡ is_some (unknown_variant_in (length text) ts) =
+    ap (λ l. is_some (unknown_variant_in (length part) l)) (sym own)
+    ∙ same_known (length text) (length part) f.own ts f.tags in
     record {
-      judged = ap (λ (g : GameRead). judged strict (result_tag_of (length part) us) (verdict_now g.state) g.answer)
+      judged = ap (λ (g : GameRead). judged strict (variation_in tokens_from part at g.state.start)
+          (unknown_variant_in (length part) us) (result_tag_of (length part) us) (verdict_now g.state) g.answer)
           alone
           ∙ ap (λ fault. option_map_or Err fault (Ok (Some back)))
-          (agrees strict (result_tag_of (length text) ts) (result_tag_of (length part) us) v end
-          (end.offset - length before) outcomes said.1);
+          (agrees strict plain (variation_in tokens_from text (length before + at) r.state.start)
+          (variation_in tokens_from part at r.state.start) (unknown_variant_in (length text) ts)
+          (result_tag_of (length text) ts) (unknown_variant_in (length part) us) (result_tag_of (length part) us) v end
+          (end.offset - length before) variants outcomes said.1);
       state = ap (λ (g : GameRead). g.state) alone;
       some_bytes = omega (arith, f.bytes, not_before part at);
     }
@@ -113,18 +109,20 @@ next_begins before part after at next begins h = record {
 }
 
 module _ (law : TokenByToken)
-    (strict : Bool) (start : ℕ) (before part after : List ℕ) where
+    (strict : Strictness) (plain : strict.variations ≡ false) (start : ℕ) (before part after : List ℕ) where
   alone : {at : ℕ} {games : List Report} → HoldsWhole strict before part after at games
       → BeginsAlike before part after at → at ≤ length part → (k : ℕ) → length part < k + at
       → reports_from strict start k part at ≡ games
-  unfolding reports_from
+  unfolding games_from
   alone holds begins within zero many = absurd (omega (arith, within, many))
   alone (no_more {at} none closed) begins within (suc k) many =
-      ap (λ j. report_then start part j (read_at part at).state (λ next. reports_from strict start k part next)) none
+      ap (λ j. report_then start part None j (read_at part at).state
+      (λ next. reports_from strict start k part next)) none
   alone (game {at} {games} end is inside more) begins within (suc k) many =
-      let found = in_parts law strict before part after at end begins is inside in
+      let found = in_parts law strict plain before part after at end begins is inside in
       let next : ℕ = end.offset - length before in
-      ap (λ j. report_then start part j (read_at part at).state (λ n. reports_from strict start k part n)) found.judged
+      ap (λ j. report_then start part None j (read_at part at).state (λ n. reports_from strict start k part n))
+      found.judged
       ∙ ap (λ (s : State). Game (length s.moves) end.outcome end.termination ∷ reports_from strict start k part next)
       found.state
       ∙ ap (λ l. Game (length (read_at (before ++ (part ++ after)) (length before + at)).state.moves) end.outcome
@@ -137,20 +135,20 @@ module _ (law : TokenByToken)
       → BeginsAlike before part after at → at ≤ length part → (most : ℕ)
       → reports_from strict start (length games + most) (before ++ (part ++ after)) (length before + at)
       ≡ games ++ reports_from strict start most (before ++ (part ++ after)) (length before + length part)
-  unfolding reports_from
+  unfolding games_from
   in_text (no_more {at} none closed) begins within most =
       let count : 0 + most ≡ most = omega arith in
       ap (λ k. reports_from strict start k (before ++ (part ++ after)) (length before + at)) count
-      ∙ skips_to_end law strict before part after at begins closed within none start most
+      ∙ skips_to_end law strict plain before part after at begins closed within none start most
   in_text (game {at} {games} end is inside more) begins within most =
       let text : List ℕ = before ++ (part ++ after) in
-      let found = in_parts law strict before part after at end begins is inside in
+      let found = in_parts law strict plain before part after at end begins is inside in
       let next : ℕ = end.offset - length before in
       let here : length before + next ≡ end.offset = omega (arith, found.some_bytes) in
       let count : suc (length games) + most ≡ suc (length games + most) = omega arith in
       let report : Report = Game (length (read_at text (length before + at)).state.moves) end.outcome end.termination in
       ap (λ k. reports_from strict start k text (length before + at)) count
-      ∙ ap (λ j. report_then start text j (read_at text (length before + at)).state
+      ∙ ap (λ j. report_then start text None j (read_at text (length before + at)).state
       (λ n. reports_from strict start (length games + most) text n)) is
       ∙ ap (λ n. report ∷ reports_from strict start (length games + most) text n) (sym here)
       ∙ ap (λ l. report ∷ l)
@@ -159,17 +157,17 @@ module _ (law : TokenByToken)
 
 pub reported_alike : TokenByToken
     → WholeGamesAreReportedAlike
-reported_alike law strict start before part after games begins holds = record {
-  alone = alone law strict start before part after holds begins (omega arith) (length part + 1) (omega arith);
-  in_text = in_text law strict start before part after holds begins (omega arith);
+reported_alike law strict plain start before part after games begins holds = record {
+  alone = alone law strict plain start before part after holds begins (omega arith) (length part + 1) (omega arith);
+  in_text = in_text law strict plain start before part after holds begins (omega arith);
 }
 
 -- ---- all parts
 
 -- at a text's end no game is left
-nothing_left : (strict : Bool) (start k : ℕ) (text : List ℕ)
+nothing_left : (strict : Strictness) (start k : ℕ) (text : List ℕ)
     → reports_from strict start k text (length text) ≡ []
-unfolding reports_from pgn_read
+unfolding games_from pgn_read
 nothing_left strict start zero text = refl
 nothing_left strict start (suc k) text = by_first text (mark text)
   where
@@ -182,17 +180,19 @@ nothing_left strict start (suc k) text = by_first text (mark text)
     by_first text e =
         let none : [] ≡ tokens_from text (after_byte_order_mark text (length text)) =
         kinds_read text (ended (ap (λ n. drop n text) e ∙ drop-length text)) in
-        ap (λ ts. report_then start text
-        (judged strict (result_tag_of (length text) ts) (verdict_now (read_of_split MOST_MOVES (length text) ts).state)
+        ap (λ ts. report_then start text None
+        (judged strict (variation_in tokens_from text (length text)
+        (read_of_split MOST_MOVES (length text) ts).state.start) (unknown_variant_in (length text) ts)
+        (result_tag_of (length text) ts) (verdict_now (read_of_split MOST_MOVES (length text) ts).state)
         (read_of_split MOST_MOVES (length text) ts).answer) (read_of_split MOST_MOVES (length text) ts).state
         (λ next. reports_from strict start k text next)) (sym none)
 
-module _ (law : TokenByToken) (strict : Bool) where
+module _ (law : TokenByToken) (strict : Strictness) (plain : strict.variations ≡ false) where
   few : (before part after : List ℕ) {at : ℕ} {games : List Report} → HoldsWhole strict before part after at games
       → BeginsAlike before part after at → at ≤ length part → length games + at ≤ length part
   few before part after (no_more none closed) begins within = omega (arith, within)
   few before part after (game {at} {games} end is inside more) begins within =
-      let found = in_parts law strict before part after at end begins is inside in
+      let found = in_parts law strict plain before part after at end begins is inside in
       omega (
         arith,
         found.some_bytes,
@@ -205,7 +205,7 @@ module _ (law : TokenByToken) (strict : Bool) where
   all_alone no_parts starts = refl
   all_alone (next_part {before} {first} {parts} {games} {more} begins holds rest) starts =
       ap (λ l. l ++ flat_map (λ part. reports_on strict (starts part) part) parts)
-      (reported_alike law strict (starts first) before first (concat parts) games begins holds).alone
+      (reported_alike law strict plain (starts first) before first (concat parts) games begins holds).alone
       ∙ ap (λ l. games ++ l) (all_alone rest starts)
 
   few_of_all : {before : List ℕ} {parts : List (List ℕ)} {games : List Report} → AllHoldWhole strict before parts games
@@ -233,28 +233,34 @@ module _ (law : TokenByToken) (strict : Bool) where
       let here : length before ≡ length before + 0 = omega arith in
       ap (λ m. reports_from strict start m text (length before)) count
       ∙ ap (λ n. reports_from strict start (length games + (length more + k)) text n) here
-      ∙ (reported_alike law strict start before first (concat parts) games begins holds).in_text (length more + k)
+      ∙ (reported_alike law strict plain start before first (concat parts) games begins holds).in_text (length more + k)
       ∙ ap (λ n. games ++ reports_from strict start (length more + k) text n) (sym (length-append before first))
       ∙ ap (λ t. games ++ reports_from strict start (length more + k) t (length (before ++ first)))
       (sym (append_assoc before first (concat parts)))
       ∙ ap (λ l. games ++ l) (whole start k rest)
 
-pub reported_alone : TokenByToken → (strict : Bool) {before : List ℕ} {parts : List (List ℕ)} {games : List Report}
-    → AllHoldWhole strict before parts games → (starts : List ℕ → ℕ)
+pub reported_alone : TokenByToken → (strict : Strictness) → strict.variations ≡ false → {before : List ℕ}
+    {parts : List (List ℕ)} {games : List Report} → AllHoldWhole strict before parts games → (starts : List ℕ → ℕ)
     → flat_map (λ part. reports_on strict (starts part) part) parts ≡ games
-reported_alone law strict holds starts = all_alone law strict holds starts
+reported_alone law strict plain holds starts = all_alone law strict plain holds starts
 
 pub all_reported_alike : TokenByToken
     → TextsAreReportedInParts
-all_reported_alike law strict start parts games holds starts =
+all_reported_alike law strict plain start parts games holds starts =
     let k : ℕ = length (concat parts) + 1 - length games in
-    let count : length (concat parts) + 1 ≡ length games + k = omega (arith, few_of_all law strict holds) in
-    ap (λ m. reports_from strict start m (concat parts) 0) count ∙ whole law strict start k holds
-    ∙ sym (all_alone law strict holds starts)
+    let count : length (concat parts) + 1 ≡ length games + k = omega (arith, few_of_all law strict plain holds) in
+    ap (λ m. reports_from strict start m (concat parts) 0) count ∙ whole law strict plain start k holds
+    ∙ sym (all_alone law strict plain holds starts)
 
 -- ---- pieces
 
-module _ (law : TokenByToken) (strict : Bool) where
+-- whole games have no fault
+are_games : {strict : Strictness} {before part after : List ℕ} {at : ℕ} {games : List Report}
+    → HoldsWhole strict before part after at games → list_all is_game games ≡ true
+are_games (no_more none closed) = refl
+are_games (game end is inside more) = are_games more
+
+module _ (law : TokenByToken) (strict : Strictness) (plain : strict.variations ≡ false) where
   in_pieces : {before : List ℕ} {parts : List (List ℕ)} {games : List Report}
       → AllHoldWhole strict before parts games → (offset : ℕ) → length (concat parts) ≤ PIECE_LEN
       → flat_map (reports_in strict) (with_offsets offset parts) ≡ games
@@ -264,18 +270,20 @@ module _ (law : TokenByToken) (strict : Bool) where
       length-append first (concat parts) in
       let short : nat_le (length first) PIECE_LEN ≡ true = le-leb (length first) PIECE_LEN (omega (arith, h, all)) in
       let later : List Report = flat_map (reports_in strict) (with_offsets (offset + length first) parts) in
-      ap (λ b. (if b then reports_on strict offset first else
+      let alone : reports_on strict offset first ≡ games =
+      (reported_alike law strict plain offset before first (concat parts) games begins holds).alone in
+      ap (λ b. (if b then games_of true strict offset first else
       too_long_report (record { offset = offset; bytes = first }) ∷ []) ++ later) short
       ∙ ap (λ l. l ++ later)
-      (reported_alike law strict offset before first (concat parts) games begins holds).alone
+      (same_of strict offset first false true (ap (list_all is_game) alone ∙ are_games holds) ∙ alone)
       ∙ ap (λ l. games ++ l) (in_pieces rest (offset + length first) (omega (arith, h, all)))
 
 pub pieces_alike : TokenByToken
     → PiecesAreReportedAlike
 unfolding pieces
-pieces_alike law strict text games few holds =
+pieces_alike law strict plain text games few holds =
     let all : concat (cut text) ≡ text = cut_is_all text in
     let short : length (concat (cut text)) ≤ PIECE_LEN = omega (arith, few, ap length all) in
     let starts : List ℕ → ℕ = λ part. 0 in
-    in_pieces law strict holds 0 short ∙ sym (all_alone law strict holds starts)
-    ∙ sym (all_reported_alike law strict 0 (cut text) games holds starts) ∙ ap (reports_on strict 0) all
+    in_pieces law strict plain holds 0 short ∙ sym (all_alone law strict plain holds starts)
+    ∙ sym (all_reported_alike law strict plain 0 (cut text) games holds starts) ∙ ap (reports_on strict 0) all

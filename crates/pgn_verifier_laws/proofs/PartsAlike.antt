@@ -1,38 +1,25 @@
 -- What is alike in a text and in a part of it: places, steps, tags, and whether results agree.
-use Rattle.std.proofs.Common.{◌≡◌, ℕ, zero, suc, ◌+◌, ◌-◌, ◌<◌, ◌≤◌, Bool, true, false, cond, eqb, List, [], ◌∷◌, ◌++◌, length, get_or, take, drop, Option, Some, None, Result, Ok, Err, refl, sym, ap, ◌∙◌, arith}
-use Rattle.std.specs.Prelude.{is_some, nat_lt, codes, map, if◌then◌else◌, ◌&&◌}
+use Rattle.std.proofs.Common.{◌≡◌, ℕ, zero, suc, ◌+◌, ◌-◌, ◌<◌, ◌≤◌, Bool, true, false, cond, eqb, List, [], ◌∷◌, ◌++◌, length, get_or, take, drop, Option, Some, None, Result, Ok, Err, refl, sym, ap, ◌∙◌, arith, bytes_eq, is_some, nat_lt, not, codes, map, if◌then◌else◌, ◌&&◌, option_and_then}
 use Rattle.std.specs.List.{last_or, cons_option, prefix_len}
 use Rattle.std.specs.Option.{option_map, option_map_or, option_or, option_eq}
-use Rattle.std.specs.Str.{bytes_eq}
-use Rattle.std.proofs.Math.Seq.{drop-append-add}
-use Rattle.std.proofs.lemmas.Bool.Decides.{nat_tests}
-use Rattle.std.proofs.lemmas.List.{drop-append-le, get_or_append_left, get_or-append-add}
-use Rattle.chess_base.specs.declared.fen_fault.FenFault.{FenFault}
-use Rattle.chess_base.specs.declared.man.Variant.TheVariants.{Normal}
-use Rattle.chess_base.specs.declared.setup.Setup.{Setup}
+use Rattle.std.proofs.{Math.Seq.drop-append-add, lemmas.Bool.Decides.nat_tests, lemmas.List.drop-append-le, lemmas.List.get_or_append_left, lemmas.List.get_or-append-add}
+use Rattle.chess_base.specs.{declared.fen_fault.FenFault.FenFault, declared.man.Variant.TheVariants.Normal, declared.setup.Setup.Setup}
 use Rattle.chess_fen.specs.Reading.{fen_reading_as}
 use Rattle.chess_game.specs.Game.{State, current, verdict_now, contradicts_verdict}
-use Rattle.chess_game.specs.Results.{same_outcome}
-use Rattle.chess_game.specs.declared.results.Outcome.{Outcome}
-use Rattle.chess_game.specs.declared.verdicts.Verdict.{Verdict}
-use Rattle.chess_text.specs.declared.reading.Reading.{Reading}
+use Rattle.chess_game.specs.{Results.same_outcome, declared.results.Outcome.Outcome, declared.verdicts.Verdict.Verdict}
+use Rattle.chess_text.specs.{declared.reading.Reading.Reading, Moves.reading}
 use Rattle.chess_text.specs.declared.reading.Reading.TheVariants as reads
-use Rattle.chess_text.specs.Moves.{reading}
 use Rattle.chess_pgn.specs.GameRead.{GameRead, pgn_read, tagged_variant, variant_named}
 use Rattle.chess_pgn.specs.LastTags.{may_precede_tags, tag_section, tags_named, last_tag, result_tag_of}
-use Rattle.chess_pgn.specs.shared.Kinds.{IsFault}
+use Rattle.chess_pgn.specs.{shared.Kinds.IsFault, laws.WordKinds.word_kind, declared.read.PgnEnd.PgnEnd, declared.read.PgnFault.PgnFault, declared.tagged_result.ResultTag.ResultTag, UnknownVariants.is_known_variant, UnknownVariants.unknown_variant_in}
 use Rattle.chess_pgn.specs.Tokens.{Token, Skip, Tag, Word, Bad_tag, Unclosed_comment, Unclosed_variation, Bad, begins_line, tokens_from}
 use Rattle.byte_devices.specs.Bytes.{after_byte_order_mark}
 use Rattle.pgn_writer.specs.Outcomes.{outcome_of}
-use Rattle.chess_pgn.specs.laws.WordKinds.{word_kind}
-use Rattle.chess_pgn.specs.declared.read.PgnEnd.{PgnEnd}
-use Rattle.chess_pgn.specs.declared.read.PgnFault.{PgnFault}
-use Rattle.chess_pgn.specs.declared.tagged_result.ResultTag.{ResultTag}
 use Rattle.chess_pgn.specs.laws.TokenByToken.{SoFar, Step, On, Stop, ends, move_step, word_step, fen_step, step, read_rest_with, game_of, tokens_read}
 use Rattle.chess_pgn.proofs.shared.Words.{word_cases}
-use Rattle.pgn_verifier.specs.GameFaults.{result_differs, board_says_otherwise, judged}
-use Rattle.pgn_verifier.specs.shared.Contradictions.{contradiction}
-use Rattle.pgn_verifier.specs.declared.game_fault.GameFault.{GameFault}
+use Rattle.pgn_verifier.specs.{declared.options.Strictness.Strictness, declared.game_fault.GameFault.GameFault}
+use Rattle.pgn_verifier.specs.GameFaults.{looked_for, result_differs, board_says_otherwise, judged}
+use Rattle.pgn_verifier.specs.shared.Contradictions.{contradiction, end_fault, variant_fault, variation_fault}
 
 -- what is read of a text is read token by token
 abbrev pub TokenByToken : Type 0
@@ -229,6 +216,23 @@ same_result total small us ts same =
     by_text n None = refl
     by_text n (Some tag) = refl
 
+pub same_known : (total small : ℕ) (us ts : List (ℕ × Token)) → HaveSameTags us ts
+    → is_some (unknown_variant_in small us) ≡ is_some (unknown_variant_in total ts)
+same_known total small us ts same =
+    by_text small (last_tag (codes "Variant") (tag_section us))
+    ∙ ap (λ o. option_map_or (λ text. not (is_known_variant text)) o false) (same_last us ts same (codes "Variant"))
+    ∙ sym (by_text total (last_tag (codes "Variant") (tag_section ts)))
+  where
+    by_known : (b : Bool) (offset : ℕ) → is_some (if b then None else Some offset) ≡ not b
+    by_known true offset = refl
+    by_known false offset = refl
+
+    by_text : (n : ℕ) (o : Option (List ℕ × ℕ))
+        → is_some (option_and_then (λ (tag : List ℕ × ℕ). if is_known_variant tag.0 then None else Some (n - tag.1)) o)
+        ≡ option_map_or (λ text. not (is_known_variant text)) (option_map (λ (t : List ℕ × ℕ). t.0) o) false
+    by_text n None = refl
+    by_text n (Some tag) = by_known (is_known_variant tag.0) (n - tag.1)
+
 -- ---- where the tokens end
 
 -- no game ends at a text's end
@@ -255,18 +259,20 @@ read_so end = Ok (Some end)
 abbrev pub found_so : PgnEnd → Result (Option PgnEnd) GameFault
 found_so end = Ok (Some end)
 
-pub judged_so : (strict : Bool) (tag : Option ResultTag) (v : Option Verdict) (end : PgnEnd)
-    (answer : Result (Option PgnEnd) PgnFault) → judged strict tag v answer ≡ found_so end
-    → (answer ≡ read_so end) × (contradiction strict tag v end ≡ None)
-judged_so strict tag v end (Ok None) h = absurd (cc)
-judged_so strict tag v end (Err fault) h = absurd (cc)
-judged_so strict tag v end (Ok (Some e)) h = by_fault (contradiction strict tag v e) refl h
+pub judged_so : (strict : Strictness) (variation : PgnEnd → Option PgnFault) (unknown : Option ℕ)
+    (tag : Option ResultTag) (v : Option Verdict) (end : PgnEnd) (answer : Result (Option PgnEnd) PgnFault)
+    → judged strict variation unknown tag v answer ≡ found_so end
+    → (answer ≡ read_so end) × (end_fault strict variation unknown tag v end ≡ None)
+judged_so strict variation unknown tag v end (Ok None) h = absurd (cc)
+judged_so strict variation unknown tag v end (Err fault) h = absurd (cc)
+judged_so strict variation unknown tag v end (Ok (Some e)) h =
+    by_fault (end_fault strict variation unknown tag v e) refl h
   where
-    by_fault : (f : Option GameFault) → contradiction strict tag v e ≡ f
+    by_fault : (f : Option GameFault) → end_fault strict variation unknown tag v e ≡ f
         → option_map_or Err f (found_so e) ≡ found_so end
-        → (read_so e ≡ read_so end) × (contradiction strict tag v end ≡ None)
+        → (read_so e ≡ read_so end) × (end_fault strict variation unknown tag v end ≡ None)
     by_fault None k same =
-        let ends : e ≡ end = cc in (ap read_so ends, ap (contradiction strict tag v) (sym ends) ∙ k)
+        let ends : e ≡ end = cc in (ap read_so ends, ap (end_fault strict variation unknown tag v) (sym ends) ∙ k)
     by_fault (Some f) k same = absurd (cc)
 
 none_of_two : (a b : Option GameFault) → option_or a b ≡ None → (a ≡ None) × (b ≡ None)
@@ -294,13 +300,47 @@ board_agrees : (v : Option Verdict) (end : PgnEnd) (m : ℕ) → board_says_othe
     → board_says_otherwise v (record end { offset = m }) ≡ None
 board_agrees v end m h = then_none (contradicts_verdict v end.outcome) _ _ h
 
-pub agrees : (strict : Bool) (tag other : Option ResultTag) (v : Option Verdict) (end : PgnEnd) (m : ℕ)
-    → outcome_in other ≡ outcome_in tag → contradiction strict tag v end ≡ None
-    → contradiction strict other v (record end { offset = m }) ≡ None
-agrees false tag other v end m same h = refl
-agrees true tag other v end m same h =
-    let both = none_of_two (result_differs tag end) (board_says_otherwise v end) h in
-    rw (tags_agree tag other end m same both.0) (board_agrees v end m both.1)
+variants_agree : (unknown other : Option ℕ) → is_some other ≡ is_some unknown → variant_fault unknown ≡ None
+    → variant_fault other ≡ None
+variants_agree None None same h = refl
+variants_agree None (Some other) same h = absurd (cc)
+variants_agree (Some offset) other same h = absurd (cc)
+
+results_agree : (looked : Bool) (tag other : Option ResultTag) (end : PgnEnd) (m : ℕ)
+    → outcome_in other ≡ outcome_in tag → looked_for looked (result_differs tag end) ≡ None
+    → looked_for looked (result_differs other (record end { offset = m })) ≡ None
+results_agree false tag other end m same h = refl
+results_agree true tag other end m same h = tags_agree tag other end m same h
+
+boards_agree : (looked : Bool) (v : Option Verdict) (end : PgnEnd) (m : ℕ)
+    → looked_for looked (board_says_otherwise v end) ≡ None
+    → looked_for looked (board_says_otherwise v (record end { offset = m })) ≡ None
+boards_agree false v end m h = refl
+boards_agree true v end m h = board_agrees v end m h
+
+known_agree : (looked : Bool) (unknown other : Option ℕ) → is_some other ≡ is_some unknown
+    → looked_for looked (variant_fault unknown) ≡ None → looked_for looked (variant_fault other) ≡ None
+known_agree false unknown other same h = refl
+known_agree true unknown other same h = variants_agree unknown other same h
+
+-- a game without a fault at its end has none where it is read again: variations aren't looked at
+pub agrees : (strict : Strictness) → strict.variations ≡ false → (variation variation' : PgnEnd → Option PgnFault)
+    (unknown : Option ℕ) (tag : Option ResultTag) (unknown' : Option ℕ) (other : Option ResultTag) (v : Option Verdict)
+    (end : PgnEnd) (m : ℕ) → is_some unknown' ≡ is_some unknown → outcome_in other ≡ outcome_in tag
+    → end_fault strict variation unknown tag v end ≡ None
+    → end_fault strict variation' unknown' other v (record end { offset = m }) ≡ None
+agrees strict plain variation variation' unknown tag unknown' other v end m known same h =
+    let first = none_of_two (looked_for strict.variations (variation_fault (variation end)))
+    (option_or (looked_for strict.variant (variant_fault unknown)) (contradiction strict tag v end)) h in
+    let later = none_of_two (looked_for strict.variant (variant_fault unknown)) (contradiction strict tag v end)
+    first.1 in
+    let both = none_of_two (looked_for strict.result (result_differs tag end))
+    (looked_for strict.board (board_says_otherwise v end)) later.1 in
+    rw (
+      plain,
+      known_agree strict.variant unknown unknown' known later.0,
+      results_agree strict.result tag other end m same both.0,
+    ) (boards_agree strict.board v end m both.1)
 
 -- ---- byte order marks
 

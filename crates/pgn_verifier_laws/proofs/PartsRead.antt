@@ -1,45 +1,27 @@
 -- A part of a text that ends with a line, or with the text, is read alone as it is in the text, if it has no fault.
-use Rattle.std.proofs.Common.{◌≡◌, ℕ, zero, suc, ◌+◌, ◌-◌, ◌<◌, ◌≤◌, Bool, true, false, cond, eqb, List, [], ◌∷◌, ◌++◌, length, take, drop, Option, Some, None, Result, Ok, Err, refl, sym, ap, subst, ◌∙◌, inl, inr, ◌⊎◌, append_assoc, append-nil, length-append, arith}
-use Rattle.std.specs.Prelude.{is_some, nat_lt, codes, ◌&&◌, ◌==◌}
-use Rattle.std.specs.List.{last_or}
-use Rattle.std.specs.Option.{option_map, option_map_or}
-use Rattle.std.specs.Str.{bytes_eq}
-use Rattle.std.proofs.lemmas.Bool.{and_parts}
-use Rattle.std.proofs.lemmas.Bool.Decides.{nat_tests}
-use Rattle.std.proofs.lemmas.List.{drop-append-le, length-drop, take-append-drop}
-use Rattle.std.proofs.lemmas.Slice.Eq.{bytes_eq-Decides}
-use Rattle.chess_base.specs.declared.fen_fault.FenFault.{FenFault}
-use Rattle.chess_base.specs.declared.man.Variant.{Variant}
-use Rattle.chess_base.specs.declared.man.Variant.TheVariants.{Normal}
-use Rattle.chess_base.specs.declared.setup.Setup.{Setup}
+use Rattle.std.proofs.Common.{◌≡◌, ℕ, zero, suc, ◌+◌, ◌-◌, ◌<◌, ◌≤◌, Bool, true, false, cond, eqb, List, [], ◌∷◌, ◌++◌, length, take, drop, Option, Some, None, Result, Ok, Err, refl, sym, ap, subst, ◌∙◌, inl, inr, ◌⊎◌, append_assoc, append-nil, length-append, arith, bytes_eq, is_some, nat_lt, codes, ◌&&◌, ◌==◌, if◌then◌else◌, option_and_then}
+use Rattle.std.specs.{List.last_or, Option.option_map, Option.option_map_or}
+use Rattle.std.proofs.{lemmas.Bool.and_parts, lemmas.Bool.Decides.nat_tests, lemmas.List.drop-append-le, lemmas.List.length-drop, lemmas.List.take-append-drop, lemmas.Slice.Eq.bytes_eq-Decides}
+use Rattle.chess_base.specs.{declared.fen_fault.FenFault.FenFault, declared.man.Variant.Variant, declared.man.Variant.TheVariants.Normal, declared.setup.Setup.Setup}
 use Rattle.chess_fen.specs.Reading.{fen_reading_as}
-use Rattle.chess_game.specs.Game.{State, current, verdict_now}
-use Rattle.chess_game.specs.declared.game.TheConstants.{MOST_MOVES}
-use Rattle.chess_game.specs.declared.verdicts.Verdict.{Verdict}
-use Rattle.chess_text.specs.declared.reading.Reading.{Reading}
+use Rattle.chess_game.specs.{Game.State, Game.current, Game.verdict_now, declared.game.TheConstants.MOST_MOVES, declared.verdicts.Verdict.Verdict}
+use Rattle.chess_text.specs.{declared.reading.Reading.Reading, Moves.reading}
 use Rattle.chess_text.specs.declared.reading.Reading.TheVariants as reads
-use Rattle.chess_text.specs.Moves.{reading}
 use Rattle.chess_pgn.specs.GameRead.{GameRead, pgn_read, tagged_variant, variant_named}
 use Rattle.chess_pgn.specs.LastTags.{may_precede_tags, tag_section, tags_named, result_tag_of}
 use Rattle.chess_pgn.specs.shared.Kinds.{IsSplitByKinds, IsOf, IsLongest, Kind, token_of, Blank, Line, Comment, Nag, Variation, Tag_pair, Asterisk, Symbol, ended, token, stopped}
 use Rattle.chess_pgn.specs.Tokens.{Token, Skip, Tag, Word, Bad_tag, Unclosed_comment, Unclosed_variation, Bad, begins_line, tokens_from}
 use Rattle.byte_devices.specs.Bytes.{after_byte_order_mark}
 use Rattle.pgn_writer.specs.Outcomes.{outcome_of}
-use Rattle.chess_pgn.specs.laws.WordKinds.{word_kind}
-use Rattle.chess_pgn.specs.declared.read.PgnEnd.{PgnEnd}
-use Rattle.chess_pgn.specs.declared.read.PgnFault.{PgnFault}
-use Rattle.chess_pgn.specs.declared.read.PgnFaultKind.TheVariants.{NoResult}
-use Rattle.chess_pgn.specs.declared.tagged_result.ResultTag.{ResultTag}
+use Rattle.chess_pgn.specs.{laws.WordKinds.word_kind, declared.read.PgnEnd.PgnEnd, declared.read.PgnFault.PgnFault, declared.read.PgnFaultKind.TheVariants.NoResult, declared.tagged_result.ResultTag.ResultTag, UnknownVariants.is_known_variant, UnknownVariants.unknown_variant_in}
 use Rattle.chess_pgn.specs.laws.TokenByToken.{SoFar, Step, On, Stop, move_step, word_step, fen_step, step, read_rest_with, game_of, nothing_read, tokens_read}
 use Rattle.chess_pgn.proofs.shared.Words.{word_cases}
 use Rattle.chess_pgn.proofs.shared.Tokens.{read_kinds, kinds_read, stays_longest, token_some}
-use Rattle.pgn_verifier.specs.GameFaults.{judged}
-use Rattle.pgn_verifier.specs.shared.Contradictions.{contradiction}
-use Rattle.pgn_verifier.specs.declared.game_fault.GameFault.{GameFault}
+use Rattle.pgn_verifier.specs.{declared.options.Strictness.Strictness, GameFaults.judged, GameFaults.variation_in, shared.Contradictions.end_fault, declared.game_fault.GameFault.GameFault}
 use Rattle.pgn_verifier_laws.specs.Parts.{BeginsAlike}
 use Rattle.pgn_verifier_laws.proofs.GamesAlike.{Fits, found}
-use Rattle.pgn_verifier_laws.proofs.PartsAlike.{TokenByToken, there, lines, over, own_more, same_variant, outcome_in, same_result, faults_stop, read_so, found_so, judged_so, agrees, not_before, no_mark}
-use Rattle.pgn_verifier.specs.laws.Reported.{judged_at, read_at, report_then, reports_from}
+use Rattle.pgn_verifier_laws.proofs.PartsAlike.{TokenByToken, there, lines, over, own_more, same_variant, outcome_in, same_result, same_known, faults_stop, read_so, found_so, judged_so, agrees, not_before, no_mark}
+use Rattle.pgn_verifier.specs.laws.Reported.{games_from, judged_at, read_at, report_then, reports_from}
 
 abbrev no_game : Result (Option PgnEnd) PgnFault
 no_game = Ok None
@@ -54,6 +36,10 @@ result_in total tags = option_map (λ (tag : List ℕ × ℕ). record {
   offset = total - tag.1;
   len = length tag.0;
 }) (last_or None tags)
+
+abbrev unknown_in : ℕ → List (List ℕ × ℕ) → Option ℕ
+unknown_in total tags = option_and_then
+    (λ (tag : List ℕ × ℕ). if is_known_variant tag.0 then None else Some (total - tag.1)) (last_or None tags)
 
 -- a part ends with a line, or the text ends with it
 abbrev pub IsClosed : List ℕ → List ℕ → Type 0
@@ -285,23 +271,25 @@ module _ (limit : ℕ) (before part after : List ℕ)
 
 -- the text has a game without a fault from the part's offset `at` on: the one that the part alone has, which ends at
 -- its offset `end`
-pub record IsInText (strict : Bool) (before part after : List ℕ) (at : ℕ) (end : PgnEnd) : Type 0 where
+pub record IsInText (strict : Strictness) (before part after : List ℕ) (at : ℕ) (end : PgnEnd) : Type 0 where
   pub judged : judged_at strict (before ++ (part ++ after)) (length before + at)
       ≡ Ok (Some (record end { offset = length before + end.offset }))
   pub inside : end.offset ≤ length part
   pub some_bytes : at < end.offset
 
-pub in_text : TokenByToken → (strict : Bool) (before part after : List ℕ) (at : ℕ) (end : PgnEnd)
-    → BeginsAlike before part after at → IsClosed part after → judged_at strict part at ≡ Ok (Some end)
+pub in_text : TokenByToken → (strict : Strictness) → strict.variations ≡ false → (before part after : List ℕ) (at : ℕ)
+    (end : PgnEnd) → BeginsAlike before part after at → IsClosed part after → judged_at strict part at ≡ Ok (Some end)
     → IsInText strict before part after at end
-in_text law strict before part after at end begins closed is =
+in_text law strict plain before part after at end begins closed is =
     let text : List ℕ = before ++ (part ++ after) in
     let here : ℕ = after_byte_order_mark part at in
     let us : List (ℕ × Token) = tokens_from part here in
     let ts : List (ℕ × Token) = tokens_from text (after_byte_order_mark text (length before + at)) in
     let r : GameRead = pgn_read MOST_MOVES part at in
     let v : Option Verdict = verdict_now r.state in
-    let said = judged_so strict (result_tag_of (length part) us) v end r.answer is in
+    let said = judged_so strict (variation_in tokens_from part at r.state.start)
+    (unknown_variant_in (length part) us)
+    (result_tag_of (length part) us) v end r.answer is in
     let alone : tokens_read MOST_MOVES (length part) us ≡ over r.state end =
     sym (law MOST_MOVES part at) ∙ ap (λ a. record { state = r.state; answer = a }) said.0 in
     let k = found MOST_MOVES part text 0 (length before) (length part)
@@ -318,27 +306,42 @@ in_text law strict before part after at end begins closed is =
     let outcomes : outcome_in (result_tag_of (length text) ts) ≡ outcome_in (result_tag_of (length part) us) =
     ap (λ l. outcome_in (result_tag_of (length text) l)) (sym own)
     ∙ same_result (length part) (length text) k.own us k.tags in
+    let variants : is_some (unknown_variant_in (length text) ts) ≡ is_some (unknown_variant_in (length part) us) =
+    ap (λ l. is_some (unknown_variant_in (length text) l)) (sym own)
+    ∙ same_known (length part) (length text) k.own us k.tags in
     record {
-      judged = ap (λ (g : GameRead). judged strict (result_tag_of (length text) ts) (verdict_now g.state) g.answer)
+      judged = ap (λ (g : GameRead). judged strict (variation_in tokens_from text (length before + at) g.state.start)
+          (unknown_variant_in (length text) ts) (result_tag_of (length text) ts) (verdict_now g.state) g.answer)
           whole
           ∙ ap (λ fault. option_map_or Err fault (Ok (Some moved)))
-          (agrees strict (result_tag_of (length part) us) (result_tag_of (length text) ts) v end
-          (length before + end.offset) outcomes said.1);
+          (agrees strict plain (variation_in tokens_from part at r.state.start)
+          (variation_in tokens_from text (length before + at) r.state.start) (unknown_variant_in (length part) us)
+          (result_tag_of (length part) us) (unknown_variant_in (length text) ts) (result_tag_of (length text) ts) v end
+          (length before + end.offset) variants outcomes said.1);
       inside = omega (arith, k.inside);
       some_bytes = omega (arith, k.bytes, not_before part at);
     }
 
 -- ---- where the part has no more games
 
-judged_none : (strict : Bool) (tag : Option ResultTag) (v : Option Verdict) (answer : Result (Option PgnEnd) PgnFault)
-    → judged strict tag v answer ≡ Ok None → answer ≡ Ok None
-judged_none strict tag v (Ok None) h = refl
-judged_none strict tag v (Err fault) h = absurd (cc)
-judged_none strict tag v (Ok (Some end)) h = by_fault (contradiction strict tag v end) h
+judged_none : (strict : Strictness) (variation : PgnEnd → Option PgnFault) (unknown : Option ℕ)
+    (tag : Option ResultTag) (v : Option Verdict) (answer : Result (Option PgnEnd) PgnFault)
+    → judged strict variation unknown tag v answer ≡ Ok None → answer ≡ Ok None
+judged_none strict variation unknown tag v (Ok None) h = refl
+judged_none strict variation unknown tag v (Err fault) h = absurd (cc)
+judged_none strict variation unknown tag v (Ok (Some end)) h = by_fault (end_fault strict variation unknown tag v end) h
   where
     by_fault : (f : Option GameFault) → option_map_or Err f (found_so end) ≡ Ok None → read_so end ≡ no_game
     by_fault None k = absurd (cc)
     by_fault (Some f) k = absurd (cc)
+
+-- where variations aren't looked at, they don't matter
+plain_alike : (strict : Strictness) → strict.variations ≡ false → (variation variation' : PgnEnd → Option PgnFault)
+    (unknown : Option ℕ) (tag : Option ResultTag) (v : Option Verdict) (answer : Result (Option PgnEnd) PgnFault)
+    → judged strict variation unknown tag v answer ≡ judged strict variation' unknown tag v answer
+plain_alike strict plain variation variation' unknown tag v (Ok None) = refl
+plain_alike strict plain variation variation' unknown tag v (Ok (Some end)) = rw plain refl
+plain_alike strict plain variation variation' unknown tag v (Err fault) = refl
 
 -- reading begins within the part
 pub mark_within : (part : List ℕ) (at : ℕ) → at ≤ length part → after_byte_order_mark part at ≤ length part
@@ -358,13 +361,14 @@ mark_within part at within = by_mark ((at == 0) && bytes_eq (take 3 part) (239 �
           length-append (take 3 part) (drop 3 part),
         )
 
-pub skips_to_end : TokenByToken → (strict : Bool) (before part after : List ℕ) (at : ℕ)
-    → BeginsAlike before part after at → IsClosed part after → at ≤ length part → judged_at strict part at ≡ Ok None
+pub skips_to_end : TokenByToken → (strict : Strictness) → strict.variations ≡ false → (before part after : List ℕ)
+    (at : ℕ) → BeginsAlike before part after at → IsClosed part after → at ≤ length part
+    → judged_at strict part at ≡ Ok None
     → (start most : ℕ) → reports_from strict start most (before ++ (part ++ after)) (length before + at)
     ≡ reports_from strict start most (before ++ (part ++ after)) (length before + length part)
-unfolding reports_from
-skips_to_end law strict before part after at begins closed within none start zero = refl
-skips_to_end law strict before part after at begins closed within none start (suc most) =
+unfolding games_from
+skips_to_end law strict plain before part after at begins closed within none start zero = refl
+skips_to_end law strict plain before part after at begins closed within none start (suc most) =
     by_place (eqb (length before + length part) 0) refl
   where
     text : List ℕ
@@ -382,7 +386,9 @@ skips_to_end law strict before part after at begins closed within none start (su
         (read_kinds part (after_byte_order_mark part at)) (mark_within part at within)
         (nothing_read (tagged_variant (tag_section (tokens_from part (after_byte_order_mark part at)))))
         (ap (λ (r : GameRead). r.answer) (sym (law MOST_MOVES part at))
-        ∙ judged_none strict (result_tag_of (length part) (tokens_from part (after_byte_order_mark part at)))
+        ∙ judged_none strict (variation_in tokens_from part at (read_at part at).state.start)
+        (unknown_variant_in (length part) (tokens_from part (after_byte_order_mark part at)))
+        (result_tag_of (length part) (tokens_from part (after_byte_order_mark part at)))
         (verdict_now (read_at part at).state) (read_at part at).answer none) in
         let ts : List (ℕ × Token) = tokens_from text (after_byte_order_mark text (length before + at)) in
         let us : List (ℕ × Token) =
@@ -395,6 +401,8 @@ skips_to_end law strict before part after at begins closed within none start (su
         ∙ ap (λ l. tags_named name (tag_section l)) ending in
         let variants : tagged_variant (tag_section ts) ≡ tagged_variant (tag_section us) =
         ap variant_in (tags (codes "Variant")) in
+        let unknowns : unknown_variant_in (length text) ts ≡ unknown_variant_in (length text) us =
+        ap (unknown_in (length text)) (tags (codes "Variant")) in
         let results : result_tag_of (length text) ts ≡ result_tag_of (length text) us =
         ap (result_in (length text)) (tags (codes "Result")) in
         let games : tokens_read MOST_MOVES (length text) ts ≡ tokens_read MOST_MOVES (length text) us =
@@ -406,9 +414,22 @@ skips_to_end law strict before part after at begins closed within none start (su
         ≡ pgn_read MOST_MOVES text (length before + length part) =
         law MOST_MOVES text (length before + at) ∙ games
         ∙ sym (law MOST_MOVES text (length before + length part)) in
-        ap (λ (r : GameRead). report_then start text (judged strict (result_tag_of (length text) ts)
-        (verdict_now r.state) r.answer) r.state (λ next. reports_from strict start most text next)) same_read
-        ∙ ap (λ tag. report_then start text (judged strict tag
-        (verdict_now (read_at text (length before + length part)).state)
-        (read_at text (length before + length part)).answer) (read_at text (length before + length part)).state
+        let here : ℕ = length before + at in
+        let there : ℕ = length before + length part in
+        ap (λ (r : GameRead). report_then start text None
+        (judged strict (variation_in tokens_from text here r.state.start)
+        (unknown_variant_in (length text) ts) (result_tag_of (length text) ts) (verdict_now r.state) r.answer) r.state
+        (λ next. reports_from strict start most text next)) same_read
+        ∙ ap (λ unknown. report_then start text None (judged strict
+        (variation_in tokens_from text here (read_at text there).state.start) unknown (result_tag_of (length text) ts)
+        (verdict_now (read_at text there).state) (read_at text there).answer) (read_at text there).state
+        (λ next. reports_from strict start most text next)) unknowns
+        ∙ ap (λ tag. report_then start text None (judged strict
+        (variation_in tokens_from text here (read_at text there).state.start) (unknown_variant_in (length text) us) tag
+        (verdict_now (read_at text there).state) (read_at text there).answer) (read_at text there).state
         (λ next. reports_from strict start most text next)) results
+        ∙ ap (λ r. report_then start text None r (read_at text there).state
+        (λ next. reports_from strict start most text next))
+        (plain_alike strict plain (variation_in tokens_from text here (read_at text there).state.start)
+        (variation_in tokens_from text there (read_at text there).state.start) (unknown_variant_in (length text) us)
+        (result_tag_of (length text) us) (verdict_now (read_at text there).state) (read_at text there).answer)

@@ -1,19 +1,10 @@
 -- The start of a game that was read is sound.
-use Rattle.std.proofs.Common.{◌≡◌, ◌∙◌, ℕ, zero, suc, ◌*◌, Bool, true, false, eqb, List, [], ◌∷◌, ◌++◌, length, length-append, map, take, drop, Option, Some, None, Result, Ok, Err, refl, sym, ap, subst, arith}
-use Rattle.std.specs.Prelude.{codes, if◌then◌else◌, max, option_and_then, ◌==◌}
-use Rattle.std.specs.List.{slice_split, flat_map}
-use Rattle.std.specs.Option.{ok_or, option_map, option_map_or}
+use Rattle.std.proofs.Common.{◌≡◌, ◌∙◌, ℕ, zero, suc, ◌*◌, Bool, true, false, eqb, List, [], ◌∷◌, ◌++◌, length, length-append, map, take, drop, Option, Some, None, Result, Ok, Err, refl, sym, ap, subst, arith, codes, if◌then◌else◌, max, option_and_then, ◌==◌}
+use Rattle.std.specs.{List.slice_split, List.flat_map, Option.ok_or, Option.option_map, Option.option_map_or}
 use Rattle.std.proofs.lemmas.Bool.Decides.{nat_tests}
-use Rattle.chess_base.specs.Faults.{conditions, first_failing, setup_fault}
-use Rattle.chess_base.specs.Sound.{IsSound}
-use Rattle.chess_base.specs.declared.fen_fault.FenFault.{FenFault}
+use Rattle.chess_base.specs.{Faults.conditions, Faults.first_failing, Faults.setup_fault, Sound.IsSound, declared.fen_fault.FenFault.FenFault, declared.man.Colour.Colour, declared.man.Man.Man, declared.man.Rights.Rights, declared.man.Variant.Variant, declared.setup.Setup.Setup}
 use Rattle.chess_base.specs.declared.fen_fault.FenFault.TheVariants as faults
-use Rattle.chess_base.specs.declared.man.Colour.{Colour}
-use Rattle.chess_base.specs.declared.man.Man.{Man}
-use Rattle.chess_base.specs.declared.man.Rights.{Rights}
-use Rattle.chess_base.specs.declared.man.Variant.{Variant}
-use Rattle.chess_base.specs.declared.setup.Setup.{Setup}
-use Rattle.chess_base.proofs.shared.Sound.{IsSound-from_no_fault}
+use Rattle.chess_base.proofs.shared.Sound.{first_failing-conditions_if, IsSound-from_no_fault}
 use Rattle.chess_fen.specs.Reading.{◌>>=◌, conditions_of, fen_reading_as, reading_in, side_of}
 use Rattle.chess_fen.specs.RightNames.{names_rights_well, rights_in}
 use Rattle.chess_fen.specs.Texts.{all_there, fields_of, from_top, is_castling_field, placement_of, rank_of, squares_of, target_of}
@@ -108,7 +99,7 @@ unfolding setup_fault
 sound_if letters p q long h =
     let is = unfaulted (first_failing (conditions_of letters p)) p q h in
     subst IsSound is.1 (IsSound-from_no_fault p long (without 4 (faults.Castling, names_rights_well p.variant p.men letters)
-    (conditions p) is.0))
+    (conditions p) (sym (first_failing-conditions_if (names_rights_well p.variant p.men letters) p) ∙ is.0)))
 
 -- the position of these parts
 abbrev made : Variant → Row → Colour → Rights → Option ℕ → ℕ → ℕ → Setup

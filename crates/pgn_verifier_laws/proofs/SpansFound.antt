@@ -1,37 +1,19 @@
 -- The spans of reports are found one after another in the text.
-use Rattle.std.proofs.Common.{◌≡◌, ℕ, zero, suc, ◌+◌, ◌-◌, ◌<◌, ◌≤◌, eqb, Bool, true, false, List, [], ◌∷◌, ◌++◌, length, take, drop, Option, Some, None, IfSome, Result, Ok, Err, IfOk, refl, sym, ap, subst, ◌∙◌, append_assoc, append-nil, length-append, arith}
-use Rattle.std.specs.List.{concat, flat_map}
-use Rattle.std.specs.Prelude.{nat_le, if◌then◌else◌}
-use Rattle.std.proofs.Math.Seq.{drop-length}
-use Rattle.std.proofs.lemmas.Bool.Decides.{nat_tests}
-use Rattle.std.proofs.lemmas.List.{drop-drop, length-drop, length-take-le, take-append-drop}
-use Rattle.std.proofs.lemmas.List.Folds.{concat-append}
-use Rattle.std.proofs.lemmas.List.Sums.{prefix_len-le-length}
-use Rattle.chess_game.specs.Game.{verdict_now}
-use Rattle.chess_game.specs.declared.game.TheConstants.{MOST_MOVES}
-use Rattle.chess_pgn.specs.GameRead.{GameRead, pgn_read}
-use Rattle.chess_pgn.specs.LastTags.{result_tag_of}
-use Rattle.chess_pgn.specs.Tokens.{is_white_space, tokens_from}
+use Rattle.std.proofs.Common.{◌≡◌, ℕ, zero, suc, ◌+◌, ◌-◌, ◌<◌, ◌≤◌, eqb, Bool, true, false, List, [], ◌∷◌, ◌++◌, length, take, drop, Option, Some, None, IfSome, Result, Ok, Err, IfOk, refl, sym, ap, subst, ◌∙◌, append_assoc, append-nil, length-append, arith, nat_le, if◌then◌else◌, drop-drop, length-drop, length-take-le, take-append-drop}
+use Rattle.std.specs.{List.concat, List.flat_map, Option.option_map_or}
+use Rattle.std.proofs.{Math.Seq.drop-length, lemmas.Bool.Decides.nat_tests, lemmas.List.Folds.concat-append, lemmas.List.Sums.prefix_len-le-length}
+use Rattle.chess_game.specs.{Game.verdict_now, declared.game.TheConstants.MOST_MOVES}
+use Rattle.chess_pgn.specs.{GameRead.GameRead, GameRead.pgn_read, LastTags.result_tag_of, UnknownVariants.unknown_variant_in, Tokens.is_white_space, Tokens.tokens_from, declared.read.PgnEnd.PgnEnd, declared.read.PgnFault.PgnFault, laws.TokenByToken.tokens_read}
 use Rattle.byte_devices.specs.Bytes.{after_byte_order_mark}
-use Rattle.chess_pgn.specs.declared.read.PgnEnd.{PgnEnd}
-use Rattle.chess_pgn.specs.declared.read.PgnFault.{PgnFault}
-use Rattle.chess_pgn.specs.laws.TokenByToken.{tokens_read}
 use Rattle.chess_pgn.specs.shared.Kinds as kinds
-use Rattle.chess_pgn.proofs.shared.Ends.{ends_in_text}
-use Rattle.chess_pgn.proofs.shared.Tokens.{kinds_read}
-use Rattle.pgn_pieces.specs.Pieces.{cut}
-use Rattle.pgn_pieces.specs.Stream.{Piece, with_offsets, pieces}
-use Rattle.pgn_pieces.specs.declared.pieces.TheConstants.{PIECE_LEN}
+use Rattle.chess_pgn.proofs.{shared.Ends.ends_in_text, shared.Tokens.kinds_read}
+use Rattle.pgn_pieces.specs.{Pieces.cut, Stream.Piece, Stream.with_offsets, Stream.pieces, declared.pieces.TheConstants.PIECE_LEN}
 use Rattle.pgn_pieces.proofs.shared.Cuts.{cut_is_all}
-use Rattle.pgn_verifier.specs.GameFaults.{judged}
-use Rattle.pgn_verifier.specs.Reports.{Placed, game_begin}
-use Rattle.pgn_verifier.specs.declared.game_fault.GameFault.{GameFault}
-use Rattle.pgn_verifier.specs.laws.Reported.{read_at, judged_at, placed_then, placed_from, placed_on, placed_in, collection_placed, too_long_placed}
+use Rattle.pgn_verifier.specs.{declared.options.Strictness.Strictness, GameFaults.judged, GameFaults.variation_in, Reports.Placed, Reports.game_begin, declared.game_fault.GameFault.GameFault}
+use Rattle.pgn_verifier.specs.laws.Reported.{next_at, read_at, judged_at, fault_placed, placed_then, placed_from, placed_of, placed_in, collection_placed, too_long_placed}
+use Rattle.pgn_verifier.proofs.shared.ReportsAre.{later_there}
 use Rattle.pgn_verifier_laws.specs.Spans.{MakeUp, no_more, next, SpansMakeUpTheText, SpansMakeUpTheCollection}
-use Rattle.pgn_verifier_laws.proofs.BlanksSkipped.{begins_alike, begins_later}
-use Rattle.pgn_verifier_laws.proofs.OnlyReports.{only_reports, only_collection_reports}
-use Rattle.pgn_verifier_laws.proofs.PartsAlike.{TokenByToken, judged_so, no_mark}
-use Rattle.pgn_verifier_laws.proofs.PartsRead.{mark_within}
+use Rattle.pgn_verifier_laws.proofs.{BlanksSkipped.begins_alike, BlanksSkipped.begins_later, BlanksSkipped.goes_on_alike, OnlyReports.only_reports, OnlyReports.only_collection_reports, PartsAlike.TokenByToken, PartsAlike.judged_so, PartsAlike.no_mark, PartsRead.mark_within}
 
 -- ---- where a game is
 
@@ -46,14 +28,16 @@ begins_within text at h =
 abbrev EndsAfter : ℕ → ℕ → Result (Option PgnEnd) PgnFault → Type 0
 EndsAfter begin total r = IfOk r (λ o. IfSome o (λ e. (begin < e.offset) × (e.offset ≤ total)))
 
-module _ (law : TokenByToken) (strict : Bool) (text : List ℕ) (at : ℕ) (within : at ≤ length text) where
+module _ (law : TokenByToken) (strict : Strictness) (text : List ℕ) (at : ℕ) (within : at ≤ length text) where
   alike : pgn_read MOST_MOVES text (game_begin text at) ≡ pgn_read MOST_MOVES text at
   alike = sym (begins_alike law MOST_MOVES text at)
 
   game_there : (end : PgnEnd) → judged_at strict text at ≡ Ok (Some end)
       → (game_begin text at < end.offset) × (end.offset ≤ length text)
   game_there end is =
-      let read = (judged_so strict (result_tag_of (length text) (tokens_from text (after_byte_order_mark text at)))
+      let read = (judged_so strict (variation_in tokens_from text at (read_at text at).state.start)
+      (unknown_variant_in (length text) (tokens_from text (after_byte_order_mark text at)))
+    (result_tag_of (length text) (tokens_from text (after_byte_order_mark text at)))
       (verdict_now (read_at text at).state) end (read_at text at).answer is).0 in
       subst (EndsAfter (game_begin text at) (length text)) (ap (λ (r : GameRead). r.answer) alike ∙ read)
       (ends_in_text MOST_MOVES text (game_begin text at) (begins_within text at within))
@@ -78,7 +62,9 @@ module _ (law : TokenByToken) (strict : Bool) (text : List ℕ) (at : ℕ) (with
       by_place true e =
           let last : game_begin text at ≡ length text = grind (arith, nat_tests, e) in
           let none : judged_at strict text at ≡ Ok None =
-          ap (judged strict (result_tag_of (length text) (tokens_from text (after_byte_order_mark text at)))
+          ap (judged strict (variation_in tokens_from text at (read_at text at).state.start)
+          (unknown_variant_in (length text) (tokens_from text (after_byte_order_mark text at)))
+    (result_tag_of (length text) (tokens_from text (after_byte_order_mark text at)))
           (verdict_now (read_at text at).state)) (none_there last) in
           let both : Ok None ≡ Err fault = sym none ∙ is in
           absurd (cc)
@@ -107,31 +93,49 @@ placed_next start text at begin end placed reports low some high begins ends mor
     (next (take (begin - at) (drop at text)) (take (end - begin) (drop begin text))
     (omega (arith, begins, between, low)) (omega (arith, begins, ends, game, some)) (omega (arith, game, some)) more)
 
-text_made : TokenByToken → (strict : Bool) (start n : ℕ) (text : List ℕ) (at : ℕ) → at ≤ length text
-    → MakeUp (start + at) (drop at text) (placed_from strict start n text at)
+text_made : TokenByToken → (goes_on : Bool) (strict : Strictness) (start n : ℕ) (text : List ℕ) (at : ℕ)
+    → at ≤ length text → MakeUp (start + at) (drop at text) (placed_from goes_on strict start n text at)
 unfolding placed_from
-text_made law strict start zero text at within = no_more
-text_made law strict start (suc n) text at within =
-    by_answer (judged_at strict text at) refl (λ m h. text_made law strict start n text m h)
+text_made law goes_on strict start zero text at within = no_more
+text_made law goes_on strict start (suc n) text at within =
+    by_answer (judged_at strict text at) refl (λ m h. text_made law goes_on strict start n text m h)
   where
-    by_answer : (r : Result (Option PgnEnd) GameFault) → judged_at strict text at ≡ r
-        → ((m : ℕ) → m ≤ length text → MakeUp (start + m) (drop m text) (placed_from strict start n text m))
-        → MakeUp (start + at) (drop at text)
-        (placed_then start text at r (read_at text at).state (λ m. placed_from strict start n text m))
+    Later : Type 0
+    Later = (m : ℕ) → m ≤ length text
+        → MakeUp (start + m) (drop m text) (placed_from goes_on strict start n text m)
+
+    -- where reading goes on after a fault
+    there : IfSome (next_at goes_on text at) (λ m. (game_begin text at < m) × (m ≤ length text))
+    there = subst (λ o. IfSome o (λ m. (game_begin text at < m) × (m ≤ length text))) (goes_on_alike goes_on text at)
+        (later_there goes_on text (game_begin text at) (begins_within text at within))
+
+    after_fault : (fault : GameFault) → game_begin text at < length text → (next : Option ℕ)
+        → IfSome next (λ m. (game_begin text at < m) × (m ≤ length text)) → Later
+        → MakeUp (start + at) (drop at text) (fault_placed goes_on start text at next fault (read_at text at).state
+        ∷ option_map_or (λ m. placed_from goes_on strict start n text m) next [])
+    after_fault fault some None k later =
+        placed_next start text at (game_begin text at) (length text) _ _ (begins_later text at) some (omega arith) refl
+        refl no_more
+    after_fault fault some (Some m) k later =
+        placed_next start text at (game_begin text at) m _ _ (begins_later text at) k.0 k.1 refl refl (later m k.1)
+
+    by_answer : (r : Result (Option PgnEnd) GameFault) → judged_at strict text at ≡ r → Later
+        → MakeUp (start + at) (drop at text) (placed_then goes_on start text at (next_at goes_on text at) r
+        (read_at text at).state (λ m. placed_from goes_on strict start n text m))
     by_answer (Ok None) e later = no_more
     by_answer (Ok (Some end)) e later =
         let there = game_there law strict text at within end e in
         placed_next start text at (game_begin text at) end.offset _ _ (begins_later text at) there.0 there.1 refl refl
         (later end.offset there.1)
     by_answer (Err fault) e later =
-        placed_next start text at (game_begin text at) (length text) _ _ (begins_later text at)
-        (fault_there law strict text at within fault e) (omega arith) refl refl no_more
+        after_fault fault (fault_there law strict text at within fault e) (next_at goes_on text at) there later
 
-text_begun : TokenByToken → (strict : Bool) (start : ℕ) (text : List ℕ) → MakeUp start text (placed_on strict start text)
-text_begun law strict start text =
+text_begun : TokenByToken → (goes_on : Bool) (strict : Strictness) (start : ℕ) (text : List ℕ)
+    → MakeUp start text (placed_of goes_on strict start text)
+text_begun law goes_on strict start text =
     let first : start + 0 ≡ start = omega arith in
-    subst (λ n. MakeUp n text (placed_on strict start text)) first
-    (text_made law strict start (length text + 1) text 0 (omega arith))
+    subst (λ n. MakeUp n text (placed_of goes_on strict start text)) first
+    (text_made law goes_on strict start (length text + 1) text 0 (omega arith))
 
 -- ---- pieces
 
@@ -158,19 +162,19 @@ made_both (next {offset} between game {rest} {placed} {reports} begins ends some
     ∙ ap (λ xs. between ++ xs) (append_assoc game rest more)))
     (next between game begins ends some last)
 
-piece_made : TokenByToken → (strict : Bool) (piece : Piece)
+piece_made : TokenByToken → (strict : Strictness) (piece : Piece)
     → MakeUp piece.offset piece.bytes (placed_in strict piece)
 piece_made law strict piece = by_test (nat_le (length piece.bytes) PIECE_LEN) refl
   where
     by_test : (b : Bool) → nat_le (length piece.bytes) PIECE_LEN ≡ b → MakeUp piece.offset piece.bytes
-        (if b then placed_on strict piece.offset piece.bytes else too_long_placed piece ∷ [])
-    by_test true e = text_begun law strict piece.offset piece.bytes
+        (if b then placed_of true strict piece.offset piece.bytes else too_long_placed piece ∷ [])
+    by_test true e = text_begun law true strict piece.offset piece.bytes
     by_test false e =
         let long : PIECE_LEN < length piece.bytes = grind (arith, nat_tests, e) in
         subst (λ xs. MakeUp piece.offset xs (too_long_placed piece ∷ [])) (append-nil piece.bytes)
         (next [] piece.bytes (omega arith) refl (omega (arith, long)) no_more)
 
-all_made : TokenByToken → (strict : Bool) (offset : ℕ) (all : List (List ℕ)) (rest : List ℕ)
+all_made : TokenByToken → (strict : Strictness) (offset : ℕ) (all : List (List ℕ)) (rest : List ℕ)
     → MakeUp offset (concat all ++ rest) (flat_map (placed_in strict) (with_offsets offset all))
 all_made law strict offset [] rest = no_more
 all_made law strict offset (piece ∷ more) rest =
@@ -180,7 +184,7 @@ all_made law strict offset (piece ∷ more) rest =
     (concat more ++ rest) (flat_map (placed_in strict) (with_offsets (offset + length piece) more))
     (all_made law strict (offset + length piece) more rest) refl)
 
-collection_made : TokenByToken → (strict ended : Bool) (text : List ℕ)
+collection_made : TokenByToken → (strict : Strictness) (ended : Bool) (text : List ℕ)
     → MakeUp 0 text (collection_placed strict ended text)
 unfolding pieces
 collection_made law strict ended text = by_end ended
@@ -204,7 +208,7 @@ collection_made law strict ended text = by_end ended
 
 pub make_up_text : TokenByToken → SpansMakeUpTheText
 make_up_text law strict start text reports h =
-    subst (MakeUp start text) (sym (only_reports strict start text reports h)) (text_begun law strict start text)
+    subst (MakeUp start text) (sym (only_reports strict start text reports h)) (text_begun law false strict start text)
 
 pub make_up_collection : TokenByToken → SpansMakeUpTheCollection
 make_up_collection law strict ended text reports h =

@@ -1,27 +1,16 @@
--- A game as it is written is read back, and neither its tag Result nor the board contradicts its outcome.
-use Rattle.std.proofs.Common.{◌≡◌, ℕ, Bool, true, false, List, [], ◌++◌, length, Option, Some, None, Ok, Err, refl, sym, ap, subst, ◌∙◌}
-use Rattle.std.specs.Prelude.{option_and_then}
+-- A game as it is written is read back, its variant is known, and neither its tag Result nor the board contradicts its
+-- outcome.
+use Rattle.std.proofs.Common.{◌≡◌, ℕ, Bool, true, false, List, [], ◌++◌, length, Option, Some, None, Ok, Err, refl, sym, ap, subst, ◌∙◌, option_and_then}
 use Rattle.std.specs.Option.{option_map, option_map_or, option_or}
-use Rattle.chess_game.specs.Ends.{verdict_result}
-use Rattle.chess_game.specs.Game.{outcome_now, verdict_now}
-use Rattle.chess_game.specs.Results.{same_outcome}
-use Rattle.chess_game.specs.declared.game.TheConstants.{MOST_MOVES}
-use Rattle.chess_game.specs.declared.results.Declared.{Declared}
-use Rattle.chess_game.specs.declared.results.Outcome.{Outcome}
+use Rattle.chess_game.specs.{Ends.verdict_result, Game.outcome_now, Game.verdict_now, Results.same_outcome, declared.game.TheConstants.MOST_MOVES, declared.results.Declared.Declared, declared.results.Outcome.Outcome, declared.verdicts.Verdict.Verdict}
 use Rattle.chess_game.specs.declared.results.Outcome.TheVariants.{WhiteWins, BlackWins, Draw, Unfinished}
-use Rattle.chess_game.specs.declared.verdicts.Verdict.{Verdict}
-use Rattle.chess_pgn.specs.GameRead.{GameRead, pgn_read}
-use Rattle.pgn_writer.specs.GameText.{pgn}
-use Rattle.chess_pgn.specs.LastTags.{result_tag_of}
-use Rattle.pgn_writer.specs.Terminations.{termination_of}
-use Rattle.chess_pgn.specs.Tokens.{tokens_from}
+use Rattle.chess_pgn.specs.{GameRead.GameRead, GameRead.pgn_read, LastTags.result_tag_of, UnknownVariants.unknown_variant_in, Tokens.tokens_from, declared.read.PgnEnd.PgnEnd, declared.read.PgnFault.PgnFault, declared.tagged_result.ResultTag.ResultTag}
+use Rattle.pgn_writer.specs.{GameText.pgn, Terminations.termination_of}
 use Rattle.byte_devices.specs.Bytes.{after_byte_order_mark}
-use Rattle.chess_pgn.specs.declared.read.PgnEnd.{PgnEnd}
-use Rattle.chess_pgn.specs.declared.tagged_result.ResultTag.{ResultTag}
-use Rattle.chess_pgn_laws.specs.PgnLaw.{PgnIsReadBack, ResultIsWritten}
+use Rattle.pgn_verifier.specs.{declared.game_fault.GameFault.GameFault, declared.options.Strictness.Strictness, shared.Contradictions.end_fault, shared.Contradictions.variant_fault}
+use Rattle.chess_pgn_laws.specs.PgnLaw.{PgnIsReadBack, ResultIsWritten, VariantIsWritten}
 use Rattle.chess_pgn.proofs.shared.Tokens.{read_split}
-use Rattle.pgn_verifier.specs.GameFaults.{result_differs, board_says_otherwise, judged, IsJudged}
-use Rattle.pgn_verifier.specs.shared.Contradictions.{contradiction}
+use Rattle.pgn_verifier.specs.GameFaults.{looked_for, result_differs, board_says_otherwise, judged, variation_in, IsJudged}
 use Rattle.pgn_verifier.proofs.shared.ReportsAre.{judged_is}
 use Rattle.pgn_verifier_laws.specs.WrittenGames.{WrittenGamesHaveNoFault}
 
@@ -42,19 +31,35 @@ board_agrees : (v : Option Verdict) (d : Option Declared) (end : PgnEnd)
 board_agrees None d end is = refl
 board_agrees (Some v) d end is = rw (is, same_self (verdict_result v).outcome) refl
 
-nothing_contradicts : (strict : Bool) (tag : Option ResultTag) (v : Option Verdict) (end : PgnEnd)
-    → result_differs tag end ≡ None → board_says_otherwise v end ≡ None → contradiction strict tag v end ≡ None
-nothing_contradicts true tag v end first second = rw (first, second) refl
-nothing_contradicts false tag v end first second = refl
+looked_none : (looked : Bool) (fault : Option GameFault) → fault ≡ None → looked_for looked fault ≡ None
+looked_none true fault none = none
+looked_none false fault none = refl
 
-pub written_games : PgnIsReadBack → ResultIsWritten → WrittenGamesHaveNoFault
-written_games read result strict tags s before after texts h =
+nothing_contradicts : (strict : Strictness) → strict.variations ≡ false → (variation : PgnEnd → Option PgnFault)
+    (unknown : Option ℕ) (tag : Option ResultTag) (v : Option Verdict) (end : PgnEnd) → unknown ≡ None
+    → result_differs tag end ≡ None → board_says_otherwise v end ≡ None
+    → end_fault strict variation unknown tag v end ≡ None
+nothing_contradicts strict plain variation unknown tag v end known first second =
+    rw (
+      plain,
+      looked_none strict.variant (variant_fault unknown) (ap variant_fault known),
+      looked_none strict.result (result_differs tag end) first,
+    ) (looked_none strict.board (board_says_otherwise v end) second)
+
+-- what the tags Result and Variant of written games say
+abbrev pub TagsAreWritten : Type 0
+TagsAreWritten = ResultIsWritten × VariantIsWritten
+
+pub written_games : PgnIsReadBack → TagsAreWritten → WrittenGamesHaveNoFault
+written_games read (result, variant) strict plain tags s before after texts h =
     let text : List ℕ = before ++ pgn [] tags s ++ after in
     let begin : ℕ = after_byte_order_mark text (length before) in
     let r : GameRead = pgn_read MOST_MOVES text (length before) in
     let back = read MOST_MOVES tags s before after texts h in
+    let unknown : Option ℕ = unknown_variant_in (length text) (tokens_from text begin) in
     let tag : Option ResultTag = result_tag_of (length text) (tokens_from text begin) in
     let named = result MOST_MOVES tags s before after texts h (tokens_from text begin) (read_split text begin) in
+    let known = variant MOST_MOVES tags s before after texts h (tokens_from text begin) (read_split text begin) in
     let end : PgnEnd = record {
       outcome = outcome_now s;
       termination = Some (termination_of tags.ended (outcome_now s));
@@ -64,9 +69,12 @@ written_games read result strict tags s before after texts h =
       read = r.state;
       end = end;
       judged = subst (IsJudged strict text (length before) r.state)
-          (ap (judged strict tag (verdict_now r.state)) back.answer
+          (ap (judged strict (variation_in tokens_from text (length before) r.state.start) unknown tag
+          (verdict_now r.state)) back.answer
           ∙ ap (λ fault. option_map_or Err fault (Ok (Some end)))
-          (nothing_contradicts strict tag (verdict_now r.state) end (tag_agrees (outcome_now s) end tag refl named)
+          (nothing_contradicts strict plain (variation_in tokens_from text (length before) r.state.start) unknown tag
+          (verdict_now r.state) end known
+          (tag_agrees (outcome_now s) end tag refl named)
           (board_agrees (verdict_now r.state) r.state.declared end (sym back.outcome))))
           (judged_is strict text (length before));
       start = back.start;

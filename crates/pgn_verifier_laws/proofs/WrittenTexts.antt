@@ -1,38 +1,24 @@
 -- Written games, one after another, have no fault.
-use Rattle.std.proofs.Common.{◌≡◌, ℕ, zero, suc, ◌+◌, ◌-◌, ◌<◌, Bool, false, List, [], ◌∷◌, ◌++◌, length, drop, Some, None, Ok, refl, sym, ap, subst, ◌∙◌, inl, inr, ◌⊎◌, append_assoc, append-nil, length-append, arith}
-use Rattle.std.specs.Prelude.{map}
+use Rattle.std.proofs.Common.{◌≡◌, ℕ, zero, suc, ◌+◌, ◌-◌, ◌<◌, Bool, false, List, [], ◌∷◌, ◌++◌, length, drop, Some, None, Ok, refl, sym, ap, subst, ◌∙◌, inl, inr, ◌⊎◌, append_assoc, append-nil, length-append, arith, map}
 use Rattle.std.specs.List.{concat, flat_map, list_all}
-use Rattle.std.proofs.Math.Seq.{drop-append-add}
-use Rattle.std.proofs.lemmas.Grind.{flat_map-append}
+use Rattle.std.proofs.{Math.Seq.drop-append-add, lemmas.Grind.flat_map-append}
 use Rattle.chess_game.specs.Game.{State, outcome_now, verdict_now, IsPlayable}
-use Rattle.chess_game.specs.declared.game.TheConstants.{MOST_MOVES}
-use Rattle.chess_game.specs.declared.results.Outcome.{Outcome}
-use Rattle.chess_pgn.specs.GameRead.{GameRead, pgn_read}
-use Rattle.pgn_writer.specs.GameText.{pgn, tag_lines, game_tokens}
-use Rattle.chess_pgn.specs.LastTags.{result_tag_of}
+use Rattle.chess_game.specs.{declared.game.TheConstants.MOST_MOVES, declared.results.Outcome.Outcome}
+use Rattle.chess_pgn.specs.{GameRead.GameRead, GameRead.pgn_read, LastTags.result_tag_of, UnknownVariants.unknown_variant_in, declared.read.PgnEnd.PgnEnd, laws.TokenByToken.tokens_read}
+use Rattle.pgn_writer.specs.{GameText.pgn, GameText.tag_lines, GameText.game_tokens, Terminations.termination_of, declared.tags.Tags.Tags, declared.termination.Termination.Termination}
 use Rattle.chess_pgn.specs.shared.Kinds.{IsSplitByKinds, IsOf, IsLongest, Blank, ended, token}
-use Rattle.pgn_writer.specs.Terminations.{termination_of}
 use Rattle.chess_pgn.specs.Tokens.{Token, Skip, begins_line, tokens_from}
 use Rattle.byte_devices.specs.Bytes.{after_byte_order_mark}
 use Rattle.pgn_writer.specs.Written as written
-use Rattle.chess_pgn.specs.declared.read.PgnEnd.{PgnEnd}
-use Rattle.pgn_writer.specs.declared.tags.Tags.{Tags}
-use Rattle.pgn_writer.specs.declared.termination.Termination.{Termination}
-use Rattle.chess_pgn_laws.specs.PgnLaw.{AreTagTexts, IsReadBack, PgnIsReadBack, ResultIsWritten}
-use Rattle.chess_pgn.specs.laws.TokenByToken.{tokens_read}
+use Rattle.chess_pgn_laws.specs.PgnLaw.{AreTagTexts, IsReadBack, PgnIsReadBack}
 use Rattle.chess_pgn.proofs.shared.Tokens.{kinds_read}
-use Rattle.pgn_verifier.specs.GameFaults.{judged}
-use Rattle.pgn_verifier.specs.Reports.{Report, Game}
+use Rattle.pgn_verifier.specs.{declared.options.Strictness.Strictness, GameFaults.judged, GameFaults.variation_in, Reports.Report, Reports.Game}
 use Rattle.pgn_verifier_laws.specs.NoFaults.{begins_with_mark}
 use Rattle.pgn_verifier_laws.specs.Parts.{BeginsAlike, AllHoldWhole, no_parts, next_part}
 use Rattle.pgn_verifier_laws.specs.WrittenGames.{HasNoFault, TaggedGame, AreWritable, written_text, report_of, WrittenTextsHaveNoFault}
-use Rattle.pgn_verifier_laws.proofs.FaultlessTexts.{is_game, part_holds, begins_first, begins_later}
-use Rattle.pgn_verifier_laws.proofs.Parts.{all_reported_alike}
+use Rattle.pgn_verifier_laws.proofs.{FaultlessTexts.part_holds, FaultlessTexts.begins_first, FaultlessTexts.begins_later, GoesOn.is_game, Parts.all_reported_alike, PartsRead.in_text, OnlyReports.only_judged, WrittenGames.TagsAreWritten, WrittenGames.written_games}
 use Rattle.pgn_verifier_laws.proofs.PartsAlike.{TokenByToken, read_so, judged_so, no_mark}
-use Rattle.pgn_verifier_laws.proofs.PartsRead.{in_text}
-use Rattle.pgn_verifier_laws.proofs.OnlyReports.{only_judged}
-use Rattle.pgn_verifier_laws.proofs.WrittenGames.{written_games}
-use Rattle.pgn_verifier.specs.laws.Reported.{judged_at, read_at, report_then, reports_from, reports_on}
+use Rattle.pgn_verifier.specs.laws.Reported.{games_from, judged_at, read_at, report_then, reports_from, reports_on}
 
 -- ---- the end of a game's text
 
@@ -87,7 +73,7 @@ last_tokens body =
     (end_is_longest (begins_line (body ++ 10 ∷ 10 ∷ []) (length body + 1)) [])
     (ended (ap (λ n. drop n (body ++ 10 ∷ 10 ∷ [])) both ∙ drop-append-add body (10 ∷ 10 ∷ []) 2)))
 
-none_after : TokenByToken → (strict : Bool) (body : List ℕ) → 0 < length body
+none_after : TokenByToken → (strict : Strictness) (body : List ℕ) → 0 < length body
     → judged_at strict (body ++ 10 ∷ 10 ∷ []) (length body) ≡ Ok None
 none_after law strict body some =
     let text : List ℕ = body ++ 10 ∷ 10 ∷ [] in
@@ -98,14 +84,15 @@ none_after law strict body some =
     ap (tokens_from text) (no_mark text (length body) some) ∙ sym (kinds_read text (last_tokens body)) in
     let is : pgn_read MOST_MOVES text (length body) ≡ tokens_read MOST_MOVES (length text) own =
     law MOST_MOVES text (length body) ∙ ap (tokens_read MOST_MOVES (length text)) same in
-    ap (λ (r : GameRead). judged strict (result_tag_of (length text) ts) (verdict_now r.state) r.answer) is
+    ap (λ (r : GameRead). judged strict (variation_in tokens_from text (length body) r.state.start)
+    (unknown_variant_in (length text) ts) (result_tag_of (length text) ts) (verdict_now r.state) r.answer) is
 
-nothing_more : (strict : Bool) (start k : ℕ) (text : List ℕ) (at : ℕ) → judged_at strict text at ≡ Ok None
+nothing_more : (strict : Strictness) (start k : ℕ) (text : List ℕ) (at : ℕ) → judged_at strict text at ≡ Ok None
     → reports_from strict start k text at ≡ []
-unfolding reports_from
+unfolding games_from
 nothing_more strict start zero text at none = refl
 nothing_more strict start (suc k) text at none =
-    ap (λ j. report_then start text j (read_at text at).state (λ next. reports_from strict start k text next)) none
+    ap (λ j. report_then start text None j (read_at text at).state (λ next. reports_from strict start k text next)) none
 
 -- ---- one game
 
@@ -116,18 +103,20 @@ same_termination end o t offset same =
     let ends : end ≡ record { outcome = o; termination = Some t; offset = offset } = cc in
     ap (λ (e : PgnEnd). e.termination) ends
 
-module _ (law : TokenByToken) (read : PgnIsReadBack) (result : ResultIsWritten) (strict : Bool) where
+module _ (law : TokenByToken) (read : PgnIsReadBack) (result : TagsAreWritten) (strict : Strictness)
+    (plain : strict.variations ≡ false)
+  where
   one_report : (start : ℕ) (g : TaggedGame) → AreTagTexts g.tags
       → IsPlayable (record { limit = MOST_MOVES; state = g.state })
       → reports_on strict start (pgn [] g.tags g.state) ≡ report_of g ∷ []
-  unfolding reports_from
+  unfolding games_from
   one_report start g texts playable =
       let text : List ℕ = pgn [] g.tags g.state in
       let T : Termination = termination_of g.tags.ended (outcome_now g.state) in
       let all : pgn [] g.tags g.state ++ [] ≡ pgn [] g.tags g.state = append-nil (pgn [] g.tags g.state) in
       let found : HasNoFault strict text 0 g.state (length text) =
       subst (λ t. HasNoFault strict t 0 g.state (length text)) all
-      (written_games read result strict g.tags g.state [] [] texts playable) in
+      (written_games read result strict plain g.tags g.state [] [] texts playable) in
       let only = only_judged strict text 0 found.read (Ok (Some found.end)) found.judged in
       let is : judged_at strict text 0 ≡ Ok (Some found.end) = sym only.1 in
       let moves : (read_at text 0).state.moves ≡ g.state.moves =
@@ -135,7 +124,9 @@ module _ (law : TokenByToken) (read : PgnIsReadBack) (result : ResultIsWritten) 
       let back : IsReadBack g.state T (length text) (pgn_read MOST_MOVES text 0) =
       subst (λ t. IsReadBack g.state T (length text) (pgn_read MOST_MOVES t 0)) all
       (read MOST_MOVES g.tags g.state [] [] texts playable) in
-      let said = judged_so strict (result_tag_of (length text) (tokens_from text (after_byte_order_mark text 0)))
+      let said = judged_so strict (variation_in tokens_from text 0 (read_at text 0).state.start)
+      (unknown_variant_in (length text) (tokens_from text (after_byte_order_mark text 0)))
+    (result_tag_of (length text) (tokens_from text (after_byte_order_mark text 0)))
       (verdict_now (read_at text 0).state) found.end (read_at text 0).answer is in
       let termination : found.end.termination ≡ Some T =
       same_termination found.end (outcome_now g.state) T back.offset (sym said.0 ∙ back.answer) in
@@ -147,14 +138,14 @@ module _ (law : TokenByToken) (read : PgnIsReadBack) (result : ResultIsWritten) 
         length-append tail.0 (10 ∷ 10 ∷ []),
       ) in
       let some : 0 < found.end.offset =
-      (in_text law strict [] text [] 0 found.end (begins_first text [] (inr refl)) (inr refl) is).some_bytes
+      (in_text law strict plain [] text [] 0 found.end (begins_first text [] (inr refl)) (inr refl) is).some_bytes
       in
       let none : judged_at strict text found.end.offset ≡ Ok None =
       ap (λ t. judged_at strict t found.end.offset) tail.1 ∙ ap (judged_at strict (tail.0 ++ 10 ∷ 10 ∷ [])) place
       ∙ none_after law strict tail.0 (omega (arith, some, place)) in
       let count : length text + 1 ≡ suc (length text) = omega arith in
       ap (λ k. reports_from strict start k text 0) count
-      ∙ ap (λ j. report_then start text j (read_at text 0).state
+      ∙ ap (λ j. report_then start text None j (read_at text 0).state
       (λ next. reports_from strict start (length text) text next)) is
       ∙ ap (λ l. Game (length (read_at text 0).state.moves) found.end.outcome found.end.termination ∷ l)
       (nothing_more strict start (length text) text found.end.offset none)
@@ -198,7 +189,7 @@ module _ (law : TokenByToken) (read : PgnIsReadBack) (result : ResultIsWritten) 
       let after : List ℕ = concat (map text_of games) in
       let tail = text_ends g.tags g.state in
       let begins = begins_at before after g starts in
-      let one = part_holds law strict 0 before part after
+      let one = part_holds law strict plain 0 before part after
       (inl (tail.0 ++ 10 ∷ [], tail.1 ∙ sym (append_assoc tail.0 (10 ∷ []) (10 ∷ [])))) begins
       (ap (list_all is_game) (one_report 0 g texts playable)) in
       let rest = all_held games h (before ++ part) (next_starts before g) in
@@ -216,10 +207,10 @@ module _ (law : TokenByToken) (read : PgnIsReadBack) (result : ResultIsWritten) 
   joined [] = refl
   joined (g ∷ games) = ap (λ l. pgn [] g.tags g.state ++ l) (joined games)
 
-pub written_texts : TokenByToken → PgnIsReadBack → ResultIsWritten → WrittenTextsHaveNoFault
-written_texts law read result strict start games h =
-    let held = all_held law read result strict games h [] (inl refl) in
-    ap (reports_on strict start) (joined law read result strict games)
-    ∙ all_reported_alike law strict start (map (λ (g : TaggedGame). pgn [] g.tags g.state) games) held.0 held.1
+pub written_texts : TokenByToken → PgnIsReadBack → TagsAreWritten → WrittenTextsHaveNoFault
+written_texts law read result strict plain start games h =
+    let held = all_held law read result strict plain games h [] (inl refl) in
+    ap (reports_on strict start) (joined law read result strict plain games)
+    ∙ all_reported_alike law strict plain start (map (λ (g : TaggedGame). pgn [] g.tags g.state) games) held.0 held.1
     (λ part. start)
-    ∙ all_reports law read result strict start games h
+    ∙ all_reports law read result strict plain start games h

@@ -1,5 +1,5 @@
 -- What `verify` says of a game that it counts.
-use Rattle.std.specs.Prelude.{◌≡◌, ⊤, ℕ, ◌+◌, ◌-◌, ◌<◌, Bool, List, [], ◌∷◌, ◌++◌, length, take, Some, None, IsTrue}
+use Rattle.std.specs.Prelude.{◌≡◌, ⊤, ℕ, ◌+◌, ◌-◌, ◌<◌, List, [], ◌∷◌, ◌++◌, length, take, Some, None, IsTrue}
 use Rattle.std.specs.List.{filter}
 use Rattle.chess_base.specs.MoveList.{moves}
 use Rattle.chess_base.specs.Moves.{after, is_legal}
@@ -13,6 +13,7 @@ use Rattle.chess_pgn.specs.Tokens.{Token, Word}
 use Rattle.byte_devices.specs.Bytes.{after_byte_order_mark}
 use Rattle.chess_pgn_laws.specs.GameOfTokens.{move_words}
 use Rattle.chess_text.specs.Moves.{denotes}
+use Rattle.pgn_verifier.specs.declared.options.Strictness.{Strictness}
 use Rattle.pgn_verifier.specs.Reports.{AreReports, AreReportsIn, Report, Placed, Game, Faulty, without_spans}
 use Rattle.pgn_writer.specs.Outcomes.{outcome_of}
 
@@ -45,20 +46,21 @@ pub record HasGame (text : List ℕ) (from to plies : ℕ) (outcome : Outcome) :
   -- before its last move the game had no verdict, such as mate
   pub unended : (k : ℕ) → k < plies → verdict start (take k moves) ≡ None
 
--- from this offset of the text on it has the games of which these are the reports, one after another, up to a fault
+-- from this offset of the text on it has the games of which these are the reports, one after another; after a fault the
+-- others come from some offset on
 abbrev pub HasGames : List ℕ → ℕ → List Report → Type 0
 HasGames text from [] = ⊤
 HasGames text from (Game plies outcome termination ∷ reports) =
     (to : ℕ) × HasGame text from to plies outcome × HasGames text to reports
-HasGames text from (Faulty fault wrong_at explanation ∷ reports) = ⊤
+HasGames text from (Faulty fault wrong_at explanation ∷ reports) = (to : ℕ) × HasGames text to reports
 
 -- the games that `verify` counts in a text are games; `start` is the offset of the input at which the text begins,
--- `strict`: results are compared
+-- `strict`: what is looked for at a game's end
 abbrev pub CountedGamesAreGames : Type 0
-CountedGamesAreGames = (strict : Bool) (start : ℕ) (text : List ℕ) (reports : List Placed)
+CountedGamesAreGames = (strict : Strictness) (start : ℕ) (text : List ℕ) (reports : List Placed)
     → AreReports strict start text 0 reports → HasGames text 0 (without_spans reports)
 
 -- so are those that `verify --keep-going` counts in a piece of a collection, which begins at this offset of the input
 abbrev pub CountedGamesOfPiecesAreGames : Type 0
-CountedGamesOfPiecesAreGames = (strict : Bool) (offset : ℕ) (piece : List ℕ) (reports : List Placed)
+CountedGamesOfPiecesAreGames = (strict : Strictness) (offset : ℕ) (piece : List ℕ) (reports : List Placed)
     → AreReportsIn strict offset piece reports → HasGames piece 0 (without_spans reports)

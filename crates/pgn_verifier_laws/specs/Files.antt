@@ -1,10 +1,12 @@
 -- A collection that is cut into files where pieces begin: `verify --keep-going` reports the same of the files as of the
 -- whole.
-use Rattle.std.specs.Prelude.{◌≡◌, ⊤, ℕ, ◌+◌, Bool, true, List, [], ◌∷◌, ◌++◌, length, map}
+use Rattle.std.specs.Prelude.{◌≡◌, ⊤, ℕ, ◌+◌, true, List, [], ◌∷◌, ◌++◌, length, map}
 use Rattle.std.specs.List.{concat, sum_by}
+use Rattle.std.specs.Option.{option_map}
 use Rattle.byte_devices.specs.Bytes.{new_line}
 use Rattle.pgn_pieces.specs.Pieces.{cut, lines_of}
 use Rattle.pgn_pieces.specs.laws.Shards.{begins_in_tag, ends_in_moves}
+use Rattle.pgn_verifier.specs.declared.options.Strictness.{Strictness}
 use Rattle.pgn_verifier.specs.Collection.{AreCollectionReports}
 use Rattle.pgn_verifier.specs.Reports.{Placed, Report, Game, Faulty, without_spans, counts_of}
 
@@ -37,6 +39,7 @@ one_after_another reports offset (file ∷ files) =
     map (λ (p : Placed). record p {
       begin = offset + p.begin;
       end = offset + p.end;
+      unread = option_map (λ from. offset + from) p.unread;
       report = moved offset p.report;
     }) (reports file)
     ++ one_after_another reports (offset + length file) files
@@ -55,6 +58,6 @@ pub record IsSumOf (reports : List ℕ → List Placed) (files : List (List ℕ)
 -- so it is with what `verify --keep-going` reports (`reports`) of each collection that is cut where pieces begin, with
 -- `--strict` (`strict`) or without
 abbrev pub FilesAreVerifiedAlike : Type 0
-FilesAreVerifiedAlike = (strict : Bool) (reports : List ℕ → List Placed)
+FilesAreVerifiedAlike = (strict : Strictness) (reports : List ℕ → List Placed)
     → ((text : List ℕ) → AreCollectionReports strict 0 (cut text) (reports text))
     → (files : List (List ℕ)) → AreCutWherePiecesBegin files → IsSumOf reports files

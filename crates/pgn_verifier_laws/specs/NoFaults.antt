@@ -4,6 +4,7 @@ use Rattle.std.specs.List.{list_any}
 use Rattle.std.specs.Str.{bytes_eq}
 use Rattle.byte_devices.specs.Bytes.{carriage_return}
 use Rattle.pgn_pieces.specs.Pieces.{cut}
+use Rattle.pgn_verifier.specs.declared.options.Strictness.{Strictness}
 use Rattle.pgn_verifier.specs.declared.tally.Verified.TheVariants.{EachGame}
 use Rattle.pgn_verifier.specs.Reports.{counts_of, verified}
 use Rattle.pgn_verifier.specs.laws.Reported.{collection_reports, reports_on}
@@ -18,9 +19,9 @@ ends_with_return text = bytes_eq (take 1 (reverse text)) (carriage_return ∷ []
 
 -- if the reports on a text's pieces have no fault, then they are the reports on the text, with two exceptions: a piece
 -- after the first begins with a byte order mark, which is skipped at the front of a piece but not within a text; or a
--- piece ends with `\r`, which doesn't end a `;` comment within a text. `strict`: results are compared
+-- piece ends with `\r`, which doesn't end a `;` comment within a text. Variations aren't looked at
 abbrev pub FaultlessTextsAreReportedAlike : Type 0
-FaultlessTextsAreReportedAlike = (strict : Bool) (text : List ℕ)
+FaultlessTextsAreReportedAlike = (strict : Strictness) → strict.variations ≡ false → (text : List ℕ)
     → verified (counts_of (collection_reports strict true text)) ≡ EachGame
     → list_any begins_with_mark (drop 1 (cut text)) ≡ false
     → list_any ends_with_return (cut text) ≡ false

@@ -1,12 +1,13 @@
 -- The games of a text are also those of its parts that hold them whole, such as its pieces: `verify` and
 -- `verify_collection` report the same of them.
-use Rattle.std.specs.Prelude.{◌≡◌, ◌≤◌, ◌<◌, ◌⊎◌, ℕ, ◌+◌, ◌-◌, Bool, true, List, [], ◌∷◌, ◌++◌, length, Some, None, Ok}
+use Rattle.std.specs.Prelude.{◌≡◌, ◌≤◌, ◌<◌, ◌⊎◌, ℕ, ◌+◌, ◌-◌, true, List, [], ◌∷◌, ◌++◌, length, Some, None, Ok, false}
 use Rattle.std.specs.List.{concat, flat_map}
 use Rattle.chess_pgn.specs.Tokens.{begins_line}
 use Rattle.byte_devices.specs.Bytes.{new_line, after_byte_order_mark}
 use Rattle.chess_pgn.specs.declared.read.PgnEnd.{PgnEnd}
 use Rattle.pgn_pieces.specs.Pieces.{cut}
 use Rattle.pgn_pieces.specs.declared.pieces.TheConstants.{PIECE_LEN}
+use Rattle.pgn_verifier.specs.declared.options.Strictness.{Strictness}
 use Rattle.pgn_verifier.specs.Reports.{Report, Game}
 use Rattle.pgn_verifier.specs.laws.Reported.{collection_reports, read_at, judged_at, reports_from, reports_on}
 
@@ -21,17 +22,17 @@ pub record BeginsAlike (before part after : List ℕ) (at : ℕ) : Type 0 where
 
 -- from the part's offset `at` on, the part alone has a game without a fault: the one that the whole text has there,
 -- which ends at `end`
-pub record HasGame (strict : Bool) (before part after : List ℕ) (at : ℕ) (end : PgnEnd) : Type 0 where
+pub record HasGame (strict : Strictness) (before part after : List ℕ) (at : ℕ) (end : PgnEnd) : Type 0 where
   pub judged : judged_at strict part at ≡ Ok (Some (record end { offset = end.offset - length before }))
   pub state : (read_at part at).state ≡ (read_at (before ++ (part ++ after)) (length before + at)).state
   pub some_bytes : at < end.offset - length before
 
 -- a game without a fault, which is read in a text from a place in one of its parts on, and which ends in that part, is
--- read in the part alone: the same start, moves, outcome and termination, whatever text comes before and after it.
--- `strict`: results are compared
+-- read in the part alone: the same start, moves, outcome and termination, whatever text comes before and after it. Here
+-- and below, variations aren't looked at
 abbrev pub GamesAreInParts : Type 0
-GamesAreInParts = (strict : Bool) (before part after : List ℕ) (at : ℕ) (end : PgnEnd)
-    → BeginsAlike before part after at
+GamesAreInParts = (strict : Strictness) → strict.variations ≡ false → (before part after : List ℕ) (at : ℕ)
+    (end : PgnEnd) → BeginsAlike before part after at
     → judged_at strict (before ++ (part ++ after)) (length before + at) ≡ Ok (Some end)
     → end.offset ≤ length before + length part → HasGame strict before part after at end
 
@@ -44,7 +45,7 @@ EndsAlike part after = ((front : List ℕ) × (part ≡ front ++ new_line ∷ []
 -- from its offset `at` on, a part that stands in a text after `before` holds whole games, of which these are the
 -- reports: one after another is read in the text without a fault and ends in the part. After the last, the part alone
 -- has no more games, and it ends where a line ends, or where the text ends
-pub data HoldsWhole (strict : Bool) (before part after : List ℕ) : ℕ → List Report → Type 0 where
+pub data HoldsWhole (strict : Strictness) (before part after : List ℕ) : ℕ → List Report → Type 0 where
   no_more : {at : ℕ} → judged_at strict part at ≡ Ok None → EndsAlike part after
       → HoldsWhole strict before part after at []
   game : {at : ℕ} {games : List Report} (end : PgnEnd)
@@ -57,39 +58,41 @@ pub data HoldsWhole (strict : Bool) (before part after : List ℕ) : ℕ → Lis
 
 -- of a part that holds whole games, the reports are theirs. From the part's beginning on, those on the text are theirs
 -- too, and then those from the part's end on. The input's offset `start`, at which the part or the text begins, doesn't
--- matter; `strict`: results are compared
-pub record AreReportedAlike (strict : Bool) (start : ℕ) (before part after : List ℕ) (games : List Report) : Type 0
-  where
-    pub alone : reports_on strict start part ≡ games
-    pub in_text : (most : ℕ)
-        → reports_from strict start (length games + most) (before ++ (part ++ after)) (length before + 0)
-        ≡ games ++ reports_from strict start most (before ++ (part ++ after)) (length before + length part)
+-- matter; `strict`: what is looked for at a game's end
+pub record AreReportedAlike (strict : Strictness) (start : ℕ) (before part after : List ℕ) (games : List Report)
+    : Type 0 where
+  pub alone : reports_on strict start part ≡ games
+  pub in_text : (most : ℕ)
+      → reports_from strict start (length games + most) (before ++ (part ++ after)) (length before + 0)
+      ≡ games ++ reports_from strict start most (before ++ (part ++ after)) (length before + length part)
 
 -- so it is with each part that begins where a line begins
 abbrev pub WholeGamesAreReportedAlike : Type 0
-WholeGamesAreReportedAlike = (strict : Bool) (start : ℕ) (before part after : List ℕ) (games : List Report)
-    → BeginsAlike before part after 0 → HoldsWhole strict before part after 0 games
+WholeGamesAreReportedAlike = (strict : Strictness) → strict.variations ≡ false → (start : ℕ)
+    (before part after : List ℕ) (games : List Report) → BeginsAlike before part after 0
+    → HoldsWhole strict before part after 0 games
     → AreReportedAlike strict start before part after games
 
 -- ---- the games of all parts
 
 -- a text's parts, one after another, each of which begins where a line begins and holds whole games; these are the
 -- reports on all of them. The first argument after `strict` is the text before the parts
-pub data AllHoldWhole (strict : Bool) : List ℕ → List (List ℕ) → List Report → Type 0 where
+pub data AllHoldWhole (strict : Strictness) : List ℕ → List (List ℕ) → List Report → Type 0 where
   no_parts : {before : List ℕ} → AllHoldWhole strict before [] []
   next_part : {before first : List ℕ} {parts : List (List ℕ)} {games more : List Report}
       → BeginsAlike before first (concat parts) 0 → HoldsWhole strict before first (concat parts) 0 games
       → AllHoldWhole strict (before ++ first) parts more → AllHoldWhole strict before (first ∷ parts) (games ++ more)
 
 -- if a text's parts hold whole games, the reports on the text are those on its parts, each read as a text of its own;
--- `start`: the offset of the input at which a text begins, `strict`: results are compared
+-- `start`: the offset of the input at which a text begins, `strict`: what is looked for at a game's end
 abbrev pub TextsAreReportedInParts : Type 0
-TextsAreReportedInParts = (strict : Bool) (start : ℕ) (parts : List (List ℕ)) (games : List Report)
-    → AllHoldWhole strict [] parts games → (starts : List ℕ → ℕ)
+TextsAreReportedInParts = (strict : Strictness) → strict.variations ≡ false → (start : ℕ) (parts : List (List ℕ))
+    (games : List Report) → AllHoldWhole strict [] parts games → (starts : List ℕ → ℕ)
     → reports_on strict start (concat parts) ≡ flat_map (λ part. reports_on strict (starts part) part) parts
 
 -- if the pieces of a text hold whole games, and it has at most 16,777,216 bytes, as `verify` takes it, then the reports
 -- on the text and on its pieces are the same
 abbrev pub PiecesAreReportedAlike : Type 0
-PiecesAreReportedAlike = (strict : Bool) (text : List ℕ) (games : List Report) → length text ≤ PIECE_LEN
-    → AllHoldWhole strict [] (cut text) games → collection_reports strict true text ≡ reports_on strict 0 text
+PiecesAreReportedAlike = (strict : Strictness) → strict.variations ≡ false → (text : List ℕ) (games : List Report)
+    → length text ≤ PIECE_LEN → AllHoldWhole strict [] (cut text) games
+    → collection_reports strict true text ≡ reports_on strict 0 text

@@ -1,5 +1,5 @@
 -- Games as they are written have no fault.
-use Rattle.std.specs.Prelude.{◌≡◌, ℕ, ◌+◌, Bool, List, [], ◌∷◌, ◌++◌, length, map, Some, Ok}
+use Rattle.std.specs.Prelude.{◌≡◌, ℕ, ◌+◌, List, [], ◌∷◌, ◌++◌, length, map, Some, Ok, false}
 use Rattle.std.specs.List.{flat_map}
 use Rattle.chess_game.specs.Game.{State, outcome_now, IsPlayable}
 use Rattle.chess_game.specs.declared.game.TheConstants.{MOST_MOVES}
@@ -8,13 +8,14 @@ use Rattle.pgn_writer.specs.Terminations.{termination_of}
 use Rattle.chess_pgn.specs.declared.read.PgnEnd.{PgnEnd}
 use Rattle.pgn_writer.specs.declared.tags.Tags.{Tags}
 use Rattle.chess_pgn_laws.specs.PgnLaw.{AreTagTexts}
+use Rattle.pgn_verifier.specs.declared.options.Strictness.{Strictness}
 use Rattle.pgn_verifier.specs.GameFaults.{IsJudged}
 use Rattle.pgn_verifier.specs.Reports.{Report, Game}
 use Rattle.pgn_verifier.specs.laws.Reported.{reports_on}
 
 -- the game from the offset `at` on (`read`) has no fault, and is the game `s`, whose text ends at the offset
--- `text_end`; `strict`: results are compared
-pub record HasNoFault (strict : Bool) (text : List ℕ) (at : ℕ) (s : State) (text_end : ℕ) : Type 0 where
+-- `text_end`; `strict`: what is looked for
+pub record HasNoFault (strict : Strictness) (text : List ℕ) (at : ℕ) (s : State) (text_end : ℕ) : Type 0 where
   pub read : State
   pub end : PgnEnd
   pub judged : IsJudged strict text at read (Ok (Some end))
@@ -24,11 +25,11 @@ pub record HasNoFault (strict : Bool) (text : List ℕ) (at : ℕ) (s : State) (
   pub two_before_end : end.offset + 2 ≡ text_end
 
 -- the text that is written of a playable game, with no line prefix, has no fault, whatever text comes before and after
--- it, and whether or not results are compared
+-- it, whichever faults are looked for but those in variations
 abbrev pub WrittenGamesHaveNoFault : Type 0
 WrittenGamesHaveNoFault =
-    (strict : Bool) → (tags : Tags) → (s : State) → (before after : List ℕ) → AreTagTexts tags
-    → IsPlayable (record { limit = MOST_MOVES; state = s })
+    (strict : Strictness) → strict.variations ≡ false → (tags : Tags) → (s : State) → (before after : List ℕ)
+    → AreTagTexts tags → IsPlayable (record { limit = MOST_MOVES; state = s })
     → HasNoFault strict (before ++ pgn [] tags s ++ after) (length before) s (length (before ++ pgn [] tags s))
 
 -- ---- several games
@@ -53,8 +54,8 @@ abbrev pub report_of : TaggedGame → Report
 report_of g =
     Game (length g.state.moves) (outcome_now g.state) (Some (termination_of g.tags.ended (outcome_now g.state)))
 
--- the texts of such games, one after another, have no fault: the reports are on just these games, whether or not
--- results are compared. `start` is the offset of the input at which the text begins
+-- the texts of such games, one after another, have no fault: the reports are on just these games, whichever
+-- faults are looked for but those in variations. `start` is the offset of the input at which the text begins
 abbrev pub WrittenTextsHaveNoFault : Type 0
-WrittenTextsHaveNoFault = (strict : Bool) (start : ℕ) (games : List TaggedGame) → AreWritable games
-    → reports_on strict start (written_text games) ≡ map report_of games
+WrittenTextsHaveNoFault = (strict : Strictness) → strict.variations ≡ false → (start : ℕ) (games : List TaggedGame)
+    → AreWritable games → reports_on strict start (written_text games) ≡ map report_of games

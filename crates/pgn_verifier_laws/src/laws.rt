@@ -3,6 +3,7 @@
 ghost use Rattle.std.specs.Prelude.{◌≡◌, Bool, List, Option, Result, ℕ};
 ghost use Rattle.chess_game.specs.Game.{State};
 ghost use Rattle.chess_pgn.specs.declared.read.PgnEnd.{PgnEnd};
+ghost use Rattle.pgn_verifier.specs.declared.options.Strictness.{Strictness};
 ghost use Rattle.pgn_verifier.specs.declared.game_fault.GameFault.{GameFault};
 ghost use Rattle.pgn_pieces.specs.Pieces.{known_pieces};
 ghost use Rattle.pgn_verifier.specs.Collection.{AreCollectionReports};
@@ -25,28 +26,29 @@ use pgn_pieces::shards_are_cut;
 /// is the one that is made by reading games one after another. Without their spans the reports are those of which the
 /// other laws speak.
 pub fn reports_are_the_only_ones()
-    ensures game { (strict : Bool) (text : List ℕ) (at : ℕ)
+    ensures game { (strict : Strictness) (text : List ℕ) (at : ℕ)
         → IsJudged strict text at (read_at text at).state (judged_at strict text at) }
-    ensures no_other_game { (strict : Bool) (text : List ℕ) (at : ℕ) (s : State)
+    ensures no_other_game { (strict : Strictness) (text : List ℕ) (at : ℕ) (s : State)
         (answer : Result (Option PgnEnd) GameFault) → IsJudged strict text at s answer
         → (s ≡ (read_at text at).state) × (answer ≡ judged_at strict text at) }
-    ensures text { (strict : Bool) (start : ℕ) (text : List ℕ)
+    ensures text { (strict : Strictness) (start : ℕ) (text : List ℕ)
         → AreReports strict start text 0 (placed_on strict start text) }
-    ensures no_other_of_text { (strict : Bool) (start : ℕ) (text : List ℕ) (reports : List Placed)
+    ensures no_other_of_text { (strict : Strictness) (start : ℕ) (text : List ℕ) (reports : List Placed)
         → AreReports strict start text 0 reports → reports ≡ placed_on strict start text }
-    ensures collection { (strict ended : Bool) (text : List ℕ)
+    ensures collection { (strict : Strictness) (ended : Bool) (text : List ℕ)
         → AreCollectionReports strict 0 (known_pieces ended text) (collection_placed strict ended text) }
-    ensures no_other_of_collection { (strict ended : Bool) (text : List ℕ) (reports : List Placed)
+    ensures no_other_of_collection { (strict : Strictness) (ended : Bool) (text : List ℕ) (reports : List Placed)
         → AreCollectionReports strict 0 (known_pieces ended text) reports
         → reports ≡ collection_placed strict ended text }
-    ensures plain { (strict : Bool) (start : ℕ) (text : List ℕ)
+    ensures plain { (strict : Strictness) (start : ℕ) (text : List ℕ)
         → without_spans (placed_on strict start text) ≡ reports_on strict start text }
-    ensures plain_of_collection { (strict ended : Bool) (text : List ℕ)
+    ensures plain_of_collection { (strict : Strictness) (ended : Bool) (text : List ℕ)
         → without_spans (collection_placed strict ended text) ≡ collection_reports strict ended text }
 {}
 
 /// States a law and does nothing: the text that `write_pgn` of chess_pgn writes of a game has no fault when it is
-/// verified from its first byte on, with `strict` neither, whatever text comes before and after it.
+/// verified from its first byte on, with `strict` neither, whatever text comes before and after it. Variations aren't
+/// looked at.
 pub fn written_games_have_no_fault()
     ensures { WrittenGamesHaveNoFault }
 {
@@ -56,7 +58,7 @@ pub fn written_games_have_no_fault()
 
 /// States a law and does nothing: if the texts that `write_pgn` of chess_pgn writes of some games come one after
 /// another, as a match writes its games before the line of the score, then the reports on the whole text are on just
-/// these games, and none is a fault.
+/// these games, and none is a fault. Variations aren't looked at.
 pub fn written_texts_have_no_fault()
     ensures { WrittenTextsHaveNoFault }
 {
@@ -68,6 +70,7 @@ pub fn written_texts_have_no_fault()
 /// States a law and does nothing: a game that is read in a text without a fault, from a place in one of its parts on,
 /// and that ends in that part, is read in the part alone, if the part begins where a line begins. So where the pieces
 /// of a text of at most 16,777,216 bytes hold whole games, `verify` and `verify_collection` report the same games.
+/// Variations aren't looked at.
 pub fn games_are_in_parts()
     ensures game { GamesAreInParts }
     ensures reports { WholeGamesAreReportedAlike }
@@ -81,6 +84,7 @@ pub fn games_are_in_parts()
 /// States a law and does nothing: if `verify_collection` reports no fault of a text, then the reports on the text as a
 /// whole are on the same games, unless a piece of the text after the first begins with a byte order mark, or a piece
 /// ends with `\r`. `verify` writes these reports if the text has at most 16,777,216 bytes; it takes no longer one.
+/// Variations aren't looked at.
 pub fn a_text_without_faults_is_reported_alike()
     ensures { FaultlessTextsAreReportedAlike }
 {

@@ -1,12 +1,15 @@
 ghost use Rattle.std.specs.Prelude.{◌<◌};
 
 use byte_devices::{Counted, PieceReader};
-use pgn_verifier::{Verified, VerifyFault, VerifyOptions, verify, verify_collection};
+use pgn_verifier::{
+    LENIENT, STRICT_FAULTS, Strictness, Verified, VerifyFault, VerifyOptions, verify,
+    verify_collection,
+};
 use std::process::Abort;
 
 const ALL: VerifyOptions = VerifyOptions {
     quiet: false,
-    strict: false,
+    strict: LENIENT,
     spans: false,
     names: false,
     explain: false,
@@ -14,15 +17,28 @@ const ALL: VerifyOptions = VerifyOptions {
 
 const STRICT: VerifyOptions = VerifyOptions {
     quiet: true,
-    strict: true,
+    strict: STRICT_FAULTS,
     spans: false,
     names: false,
     explain: false,
 };
 
+const VARIATIONS: VerifyOptions = VerifyOptions {
+    quiet: false,
+    strict: Strictness {
+        variations: true,
+        variant: false,
+        result: false,
+        board: false,
+    },
+    spans: false,
+    names: false,
+    explain: true,
+};
+
 const SPANS: VerifyOptions = VerifyOptions {
     quiet: false,
-    strict: false,
+    strict: LENIENT,
     spans: true,
     names: false,
     explain: false,
@@ -30,7 +46,7 @@ const SPANS: VerifyOptions = VerifyOptions {
 
 const NAMES: VerifyOptions = VerifyOptions {
     quiet: false,
-    strict: false,
+    strict: LENIENT,
     spans: false,
     names: true,
     explain: false,
@@ -38,7 +54,7 @@ const NAMES: VerifyOptions = VerifyOptions {
 
 const EXPLAINED: VerifyOptions = VerifyOptions {
     quiet: true,
-    strict: true,
+    strict: STRICT_FAULTS,
     spans: false,
     names: false,
     explain: true,
@@ -115,6 +131,165 @@ fn texts_have_a_line_for_each_game(rt: HostRuntime) {
         Verified::FaultReported,
         b"game 1: result differs at byte 9\n",
     );
+}
+
+// Tags `Variant` with `--strict`, and what is written of them: the names of normal chess and Chess960 are known, in
+// capital or small letters; another name is a fault, which comes before that of the result. Only the last tag counts.
+const VARIANTS: [(&[u8], Verified, &[u8]); 8] = [
+    (b"[Variant \"Standard\"] e4 *", Verified::EachGame, b""),
+    (b"[Variant \"FROM POSITION\"] e4 *", Verified::EachGame, b""),
+    (b"[Variant \"chess960\"] e4 *", Verified::EachGame, b""),
+    (
+        b"[Variant \"Atomic\"] e4 *",
+        Verified::FaultReported,
+        b"game 1: unknown variant at byte 10\n",
+    ),
+    (
+        b"[Variant \"Chess 960\"] e4 *",
+        Verified::FaultReported,
+        b"game 1: unknown variant at byte 10\n",
+    ),
+    (
+        b"[Result \"1-0\"][Variant \"\"] e4 *",
+        Verified::FaultReported,
+        b"game 1: unknown variant at byte 24\n",
+    ),
+    (b"[Variant \"Atomic\"][Variant \"Normal\"] e4 *", Verified::EachGame, b""),
+    (
+        b"[Variant \"Atomic\"] e4 e4 *",
+        Verified::FaultReported,
+        b"game 1: illegal move at byte 22\n",
+    ),
+];
+
+#[test]
+fn unknown_variants_are_faults(rt: HostRuntime) {
+    for (text, wanted, lines) in &VARIANTS {
+        check_cuts(&rt, &rt, false, STRICT, *text, *wanted, *lines);
+    }
+}
+
+// Games with variations, and what is written of them. A variation replaces the move just before it.
+const VARIATION_TEXTS: [(&[u8], Verified, &[u8]); 22] = [
+    (b"1. e4 (1. d4 d5) e5 *", Verified::EachGame, b"game 1: 2 half-moves, *\n"),
+    (b"1. e4 e5 (1... c5 2. Nf3) 2. Nc3 *", Verified::EachGame, b"game 1: 3 half-moves, *\n"),
+    // Two variations replace the same move, and one is in another.
+    (
+        b"1. e4 (1. d4) (1. c4 c5 (1... e5) 2. Nf3) 1... e5 *",
+        Verified::EachGame,
+        b"game 1: 2 half-moves, *\n",
+    ),
+    // Black's move replaces White's: it is not Black's turn.
+    (
+        b"1. e4 (1... e5) e5 *",
+        Verified::FaultReported,
+        b"game 1: illegal move in a variation at byte 12\n# line 1 column 13 e5)\n",
+    ),
+    (
+        b"1. e4 e5 (2. Nf3) *",
+        Verified::FaultReported,
+        b"game 1: illegal move in a variation at byte 13\n# line 1 column 14 Nf3)\n",
+    ),
+    // The second move of a variation, and one of a variation in it.
+    (
+        b"1. e4 (1. d4 d4) e5 *",
+        Verified::FaultReported,
+        b"game 1: illegal move in a variation at byte 13\n# line 1 column 14 d4)\n",
+    ),
+    (
+        b"1. e4 (1. d4 d5 (1... c5 2. c5)) e5 *",
+        Verified::FaultReported,
+        b"game 1: illegal move in a variation at byte 28\n# line 1 column 29 c5))\n",
+    ),
+    // After a variation the line goes on where it was.
+    (
+        b"1. e4 (1. d4) d4 *",
+        Verified::FaultReported,
+        b"game 1: illegal move at byte 14\n# line 1 column 15 d4 | rnbqkbnr/pppppppp/8/8/4P3/8/PPPP1PPP/RNBQKBNR b KQkq e3 0 1\n",
+    ),
+    (
+        b"1. d4 (1. e4 e5 (1... c5) e5) d5 *",
+        Verified::FaultReported,
+        b"game 1: illegal move in a variation at byte 26\n# line 1 column 27 e5)\n",
+    ),
+    // With no move before it in its own line.
+    (
+        b"(1. d4) 1. e4 *",
+        Verified::FaultReported,
+        b"game 1: bad token in a variation at byte 0\n# line 1 column 1 (1. | no move that this variation replaces\n",
+    ),
+    (
+        b"1. e4 ((1. d4) c4) e5 *",
+        Verified::FaultReported,
+        b"game 1: bad token in a variation at byte 7\n# line 1 column 8 (1. | no move that this variation replaces\n",
+    ),
+    // Null moves.
+    (
+        b"1. e4 e5 (1... -- 2. d4) *",
+        Verified::FaultReported,
+        b"game 1: bad token in a variation at byte 15\n# line 1 column 16 -- | a null move, which chess does not have\n",
+    ),
+    (
+        b"1. e4 e5 (1... Z0) *",
+        Verified::FaultReported,
+        b"game 1: bad token in a variation at byte 15\n# line 1 column 16 Z0) | a null move, which chess does not have\n",
+    ),
+    // Comments, `%` lines, glyphs, marks, numbers, results and tags are passed over, and what is in them isn't read.
+    (
+        b"1. e4 (1. d4 {Ke9 (} $1 !? ; Ke9 (\n% Ke9 (\n d5 1-0 [a \"Ke9\"] 2. c4) e5 *",
+        Verified::EachGame,
+        b"game 1: 2 half-moves, *\n",
+    ),
+    (
+        b"1. e4 (1. d4 & d5) e5 *",
+        Verified::FaultReported,
+        b"game 1: bad token in a variation at byte 13\n# line 1 column 14 & | begins no token\n",
+    ),
+    (
+        b"1. e4 (1. d4 Ke9) e5 *",
+        Verified::FaultReported,
+        b"game 1: bad token in a variation at byte 13\n# line 1 column 14 Ke9) | not a move\n",
+    ),
+    // Castling, en passant and a promotion in variations.
+    (
+        b"[FEN \"r3k2r/6P1/8/8/8/8/8/R3K2R w KQkq - 0 1\"] 1. O-O (1. O-O-O) (1. gxh8=Q+) Ke7 *",
+        Verified::EachGame,
+        b"game 1: 2 half-moves, *\n",
+    ),
+    (
+        b"[FEN \"4k3/8/8/8/1p6/8/P7/4K3 w - - 0 1\"] 1. a4 bxa3 (1... b3) (1... bxa3 2. Kd1 (2. Ke2)) *",
+        Verified::EachGame,
+        b"game 1: 2 half-moves, *\n",
+    ),
+    // After mate no move is legal; no draw ends a variation: here the kings are alone.
+    (
+        b"1. f3 e5 2. g4 d5 (2... Qh4# 3. a3) *",
+        Verified::FaultReported,
+        b"game 1: illegal move in a variation at byte 32\n# line 1 column 33 a3)\n",
+    ),
+    (
+        b"[FEN \"4k3/8/8/8/8/8/4p3/4K3 w - - 0 1\"] 1. Kd2 (1. Kxe2 Ke7 2. Ke3) e1=Q+ *",
+        Verified::EachGame,
+        b"game 1: 2 half-moves, *\n",
+    ),
+    // A fault of the game itself comes first, and the games after a game are read.
+    (
+        b"1. e4 (1. d5) e5 2. Ke3 *",
+        Verified::FaultReported,
+        b"game 1: illegal move at byte 20\n# line 1 column 21 Ke3 | rnbqkbnr/pppp1ppp/8/4p3/4P3/8/PPPP1PPP/RNBQKBNR w KQkq e6 0 2\n",
+    ),
+    (
+        b"1. e4 (1. d4) * 1. d4 (1. d5) *",
+        Verified::FaultReported,
+        b"game 1: 1 half-moves, *\ngame 2: illegal move in a variation at byte 26\n# line 1 column 27 d5)\n",
+    ),
+];
+
+#[test]
+fn variations_are_read(rt: HostRuntime) {
+    for (text, wanted, lines) in &VARIATION_TEXTS {
+        check_cuts(&rt, &rt, false, VARIATIONS, *text, *wanted, *lines);
+    }
 }
 
 #[test]
@@ -254,12 +429,12 @@ fn faults_in_pieces_are_explained(rt: HostRuntime) {
         EXPLAINED,
         b"[Site \"s\"]\r\n[Event \"a\"]\r\n1. e4\r\n[Site \"t\"]\n[Event \"b\"]\n1. d4 *\n[Event \"c\"]\n1. f3 e5 2. g4\nQh4 a3 0-1",
         Verified::FaultReported,
-        b"game 1: no result at byte 32\n# line 4 column 1 (end) | rnbqkbnr/pppppppp/8/8/4P3/8/PPPP1PPP/RNBQKBNR b KQkq e3 0 1\ngame 3: move after the end at byte 94\n# line 9 column 5 a3 | rnb1kbnr/pppp1ppp/8/4p3/6Pq/5P2/PPPPP2P/RNBQKBNR w KQkq - 1 3 | 0-1 {Black mates}\ngames 1 half-moves 1 faults 2\n",
+        b"game 1: no result at byte 32\n# line 1 column 1 [Site | rnbqkbnr/pppppppp/8/8/4P3/8/PPPP1PPP/RNBQKBNR b KQkq e3 0 1\ngame 3: move after the end at byte 94\n# line 9 column 5 a3 | rnb1kbnr/pppp1ppp/8/4p3/6Pq/5P2/PPPPP2P/RNBQKBNR w KQkq - 1 3 | 0-1 {Black mates}\ngames 1 half-moves 1 faults 2\n",
     );
 }
 
 // A FEN of each fault: the text, and what is written of it.
-const FENS: [(&[u8], &[u8]); 23] = [
+const FENS: [(&[u8], &[u8]); 24] = [
     (
         b"[FEN \"4k3/8/8/8/8/8/8/4K3 w - - 0\"] *",
         b"game 1: bad FEN at byte 6\n# line 1 column 7 4k3/8/8/8/8/8/8/4K3 | fields\n",
@@ -290,19 +465,24 @@ const FENS: [(&[u8], &[u8]); 23] = [
     ),
     (
         b"[FEN \"4k3/8/8/8/8/8/8/4K3 w KX - 0 1\"] *",
-        b"game 1: bad FEN at byte 6\n# line 1 column 29 KX | castling\n",
+        b"game 1: bad FEN at byte 6\n# line 1 column 29 KX | castling, as in normal chess unless the tag Variant names Chess960\n",
     ),
     (
         b"[FEN \"4k3/8/8/8/8/8/8/4K2R w KQ - 0 1\"] *",
-        b"game 1: bad FEN at byte 6\n# line 1 column 30 KQ | castling\n",
+        b"game 1: bad FEN at byte 6\n# line 1 column 30 KQ | castling, as in normal chess unless the tag Variant names Chess960\n",
     ),
     (
         b"[FEN \"1rr3k1/p3ppbp/3pbnp1/7P/qP1BP1P1/5P2/1PPQ4/1NKR1B1R b Kq - 0 1\"] *",
-        b"game 1: bad FEN at byte 6\n# line 1 column 61 Kq | castling\n",
+        b"game 1: bad FEN at byte 6\n# line 1 column 61 Kq | castling, as in normal chess unless the tag Variant names Chess960\n",
     ),
     (
         b"[FEN \"  4k3/8/8/8/8/8/8/4K3   b  Q - 0 1\"] *",
-        b"game 1: bad FEN at byte 6\n# line 1 column 34 Q | castling\n",
+        b"game 1: bad FEN at byte 6\n# line 1 column 34 Q | castling, as in normal chess unless the tag Variant names Chess960\n",
+    ),
+    // Read as normal chess, since Variant names no variant that is known.
+    (
+        b"[Variant \"Chess 960\"] [FEN \"rk6/8/8/8/8/8/8/RK6 w Aa - 0 1\"] *",
+        b"game 1: bad FEN at byte 28\n# line 1 column 51 Aa | castling, as in normal chess unless the tag Variant names Chess960\n",
     ),
     (
         b"[FEN \"4k3/8/8/8/8/8/8/4K3 w - e4 0 1\"] *",
@@ -532,7 +712,7 @@ fn failed_reads_leave_the_explanations_that_are_known(rt: HostRuntime) {
     let failed = Err(VerifyFault::ReadFailed);
     check(&rt, &rt, false, EXPLAINED, given, failed, b"");
     let lines =
-        b"game 1: illegal move at byte 6\n# line 1 column 7 e4 | rnbqkbnr/pppppppp/8/8/4P3/8/PPPP1PPP/RNBQKBNR b KQkq e3 0 1\n";
+        b"game 1: illegal move at byte 6\n# line 1 column 7 e4 | rnbqkbnr/pppppppp/8/8/4P3/8/PPPP1PPP/RNBQKBNR b KQkq e3 0 1 | bytes 6 to 9 not read\n";
     check(&rt, &rt, true, EXPLAINED, given, failed, lines);
 }
 
@@ -637,4 +817,112 @@ fn a_game_that_is_cut_between_its_tags_has_a_fault(rt: HostRuntime) {
         Verified::FaultReported,
         b"game 1: no result at byte 12\ngame 2: 1 half-moves, *\ngames 1 half-moves 1 faults 1\n",
     );
+}
+
+// Collections, and what is written of them: after a fault reading goes on where its game ends.
+const READ_ON: [(&[u8], &[u8]); 11] = [
+    // Tags and moves on one line, as in pgn-extract's test-nobadresults.pgn.
+    (
+        b"[Result \"1-0\"] 1. e4 1-0\n[Result \"0-1\"] 1. e4 Ke7 0-1\n[Result \"1-0\"] 1. e4 Qa5 1-0\n",
+        b"game 1: 1 half-moves, 1-0, bytes 0 to 24\ngame 2: illegal move at byte 46, bytes 25 to 53\ngame 3: illegal move at byte 75, bytes 54 to 82\ngames 1 half-moves 1 faults 2\n",
+    ),
+    // Games without tags, one a line.
+    (
+        b"1. e4 Ke7 1-0\n1. e4 e5 1-0\n1. d4 *\n",
+        b"game 1: illegal move at byte 6, bytes 0 to 13\ngame 2: 2 half-moves, 1-0, bytes 14 to 26\ngame 3: 1 half-moves, *, bytes 27 to 34\ngames 2 half-moves 3 faults 1\n",
+    ),
+    // On one line, after a termination marker.
+    (
+        b"1. Ke7 1/2-1/2 [White \"x\"] 1. e4 1-0",
+        b"game 1: illegal move at byte 3, bytes 0 to 14\ngame 2: 1 half-moves, 1-0, bytes 15 to 36\ngames 1 half-moves 1 faults 1\n",
+    ),
+    // Without one, before the next tag.
+    (
+        b"[White \"a\"] 1. e4 Ke7\n[White \"b\"] 1. e4 *\n",
+        b"game 1: illegal move at byte 18, bytes 0 to 22\ngame 2: 1 half-moves, *, bytes 22 to 41\ngames 1 half-moves 1 faults 1\n",
+    ),
+    (
+        b"[White \"a\"] 1. e4\n[White \"b\"] 1. e4 *\n",
+        b"game 1: no result at byte 18, bytes 0 to 18\ngame 2: 1 half-moves, *, bytes 18 to 37\ngames 1 half-moves 1 faults 1\n",
+    ),
+    // A comment that isn't closed hides no game that begins on a line of its own.
+    (
+        b"[White \"a\"] 1. e4 {\n[White \"b\"] 1. e4 *\n",
+        b"game 1: unclosed comment at byte 18, bytes 0 to 20\ngame 2: 1 half-moves, *, bytes 20 to 39\ngames 1 half-moves 1 faults 1\n",
+    ),
+    // Markers in comments and variations don't count, nor do those among other words.
+    (
+        b"1. Ke7 {1-0} (1. e4 1-0) 1-0x 11-0 0-1 *",
+        b"game 1: illegal move at byte 3, bytes 0 to 38\ngame 2: 0 half-moves, *, bytes 39 to 40\ngames 1 half-moves 0 faults 1\n",
+    ),
+    // A FEN that denotes no position, with more tags after it.
+    (
+        b"[FEN \"x\"] [White \"a\"] 1. e4 * 1. e4 *",
+        b"game 1: bad FEN at byte 6, bytes 0 to 29\ngame 2: 1 half-moves, *, bytes 30 to 37\ngames 1 half-moves 1 faults 1\n",
+    ),
+    // Carriage returns alone end the lines.
+    (
+        b"[Event \"a\"]\r1. Ke7 1-0\r\r[Event \"b\"]\r1. e4 1-0\r",
+        b"game 1: illegal move at byte 15, bytes 0 to 22\ngame 2: 1 half-moves, 1-0, bytes 24 to 45\ngames 1 half-moves 1 faults 1\n",
+    ),
+    // A byte that begins no token: no marker is found after it.
+    (
+        b"1. e4 & 1-0\n1. e4 1-0\n",
+        b"game 1: bad token at byte 6, bytes 0 to 22\ngames 0 half-moves 0 faults 1\n",
+    ),
+    (
+        b"1. e4 Ke7 {1-0\n1. e4 1-0\n",
+        b"game 1: illegal move at byte 6, bytes 0 to 25\ngames 0 half-moves 0 faults 1\n",
+    ),
+];
+
+#[test]
+fn games_after_a_fault_are_read(rt: HostRuntime) {
+    for (text, lines) in &READ_ON {
+        check_cuts(
+            &rt,
+            &rt,
+            true,
+            SPANS,
+            text,
+            Verified::FaultReported,
+            lines,
+        );
+    }
+}
+
+// What is not read since no end of the game is found is said, and only that.
+const UNREAD: [(&[u8], &[u8]); 4] = [
+    // Lines and columns are counted from one fault to the next.
+    (
+        b"1. e4 Ke7 1-0\n1. e4\n Qa5 1-0 1. Ke7 *\n",
+        b"game 1: illegal move at byte 6\n# line 1 column 7 Ke7 | rnbqkbnr/pppppppp/8/8/4P3/8/PPPP1PPP/RNBQKBNR b KQkq e3 0 1\ngame 2: illegal move at byte 21\n# line 3 column 2 Qa5 | rnbqkbnr/pppppppp/8/8/4P3/8/PPPP1PPP/RNBQKBNR b KQkq e3 0 1\ngame 3: illegal move at byte 32\n# line 3 column 13 Ke7 | rnbqkbnr/pppppppp/8/8/8/8/PPPPPPPP/RNBQKBNR w KQkq - 0 1\ngames 0 half-moves 0 faults 3\n",
+    ),
+    (
+        b"1. e4 & 1-0\n1. e4 1-0\n",
+        b"game 1: bad token at byte 6\n# line 1 column 7 & | rnbqkbnr/pppppppp/8/8/4P3/8/PPPP1PPP/RNBQKBNR b KQkq e3 0 1 | begins no token | bytes 6 to 22 not read\ngames 0 half-moves 0 faults 1\n",
+    ),
+    (
+        b"[Event \"a\"]\n1. e4 e4 *\n[Event \"b\"]\n{x\n",
+        b"game 1: illegal move at byte 18\n# line 2 column 7 e4 | rnbqkbnr/pppppppp/8/8/4P3/8/PPPP1PPP/RNBQKBNR b KQkq e3 0 1\ngame 2: unclosed comment at byte 35\n# line 4 column 1 {x | rnbqkbnr/pppppppp/8/8/8/8/PPPPPPPP/RNBQKBNR w KQkq - 0 1 | bytes 35 to 38 not read\ngames 0 half-moves 0 faults 2\n",
+    ),
+    (
+        b"[Event \"a\"]\n1. e4\n",
+        b"game 1: no result at byte 18\n# line 1 column 1 [Event | rnbqkbnr/pppppppp/8/8/4P3/8/PPPP1PPP/RNBQKBNR b KQkq e3 0 1\ngames 0 half-moves 0 faults 1\n",
+    ),
+];
+
+#[test]
+fn what_is_not_read_is_said(rt: HostRuntime) {
+    for (text, lines) in &UNREAD {
+        check_cuts(
+            &rt,
+            &rt,
+            true,
+            EXPLAINED,
+            text,
+            Verified::FaultReported,
+            lines,
+        );
+    }
 }

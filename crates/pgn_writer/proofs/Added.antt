@@ -1,7 +1,5 @@
 -- One text after another, where some of it waits.
-use Rattle.std.proofs.Common.{◌≡◌, ℕ, ◌+◌, ◌<◌, List, [], ◌++◌, length, get_or, take, drop, Result, Ok, Err, IsErr, sym, ap, ◌∙◌, append_assoc, append-nil}
-use Rattle.std.specs.List.{flat_map}
-use Rattle.std.proofs.lemmas.List.{take-append-drop}
+use Rattle.std.proofs.Common.{◌≡◌, ℕ, ◌+◌, ◌<◌, List, [], ◌++◌, length, get_or, take, drop, Result, Ok, Err, IsErr, sym, ap, ◌∙◌, append_assoc, append-nil, flat_map, take-append-drop}
 use Rattle.std.proofs.lemmas.List.Concat.{flat_map-append}
 use Rattle.byte_devices.specs.Devices.{OutputState, CutShort, Puts}
 use Rattle.byte_devices.proofs.shared.Devices.{took_more, breaks_more, breaks_longer, flat_more}

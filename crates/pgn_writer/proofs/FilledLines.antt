@@ -1,14 +1,9 @@
 -- Tokens in full lines. They are written by how many bytes the line that is begun has; that gives the lines of the
 -- definitions, which are full, and no other lines are.
 use mathlib.Core.List.{reverse_aux}
-use Rattle.std.proofs.Common.{◌≡◌, ℕ, ◌+◌, ◌<◌, ◌≤◌, Bool, true, false, cond, eqb, leb, List, [], ◌∷◌, ◌++◌, length, map, reverse, refl, sym, ap, subst, ◌∙◌, append_assoc, arith}
-use Rattle.std.specs.List.{flat_map, fold}
-use Rattle.std.proofs.lemmas.Bool.{le-leb}
+use Rattle.std.proofs.Common.{◌≡◌, ℕ, ◌+◌, ◌<◌, ◌≤◌, Bool, true, false, cond, eqb, leb, List, [], ◌∷◌, ◌++◌, length, map, reverse, refl, sym, ap, subst, ◌∙◌, append_assoc, arith, le-leb, flat_map, fold, append-nil, length-append}
 use Rattle.std.proofs.lemmas.Bool.Decides.{nat_tests}
-use Rattle.std.proofs.lemmas.List.{append-nil, length-append}
-use Rattle.pgn_writer.specs.Written.{ended, with_token, lines_of}
-use Rattle.pgn_writer.specs.PgnText.{line_text, AreFullLines}
-use Rattle.pgn_writer.specs.laws.Layout.{AreShort}
+use Rattle.pgn_writer.specs.{Written.ended, Written.with_token, Written.lines_of, PgnText.line_text, PgnText.AreFullLines, laws.Layout.AreShort}
 use Rattle.pgn_writer.specs.shared.Lines.{lines_from, lines_begun, line_close, wrapped_token, next_column}
 
 -- ---- the last line first, and the first line first

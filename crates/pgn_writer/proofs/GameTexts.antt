@@ -1,33 +1,16 @@
 -- The text of a game, put together from left to right.
-use Rattle.std.proofs.Common.{◌≡◌, ℕ, zero, suc, ◌+◌, Bool, true, false, eqb, List, [], ◌∷◌, ◌++◌, take, slice_get, Some, Result, refl, sym, ap, subst, ◌∙◌, append_assoc, append-nil, add-one, arith}
-use Rattle.std.specs.Prelude.{IsTrue}
-use Rattle.std.specs.List.{flat_map}
-use Rattle.std.proofs.lemmas.List.Concat.{flat_map-append}
-use Rattle.std.proofs.lemmas.Bool.Decides.{nat_tests}
-use Rattle.chess_base.specs.declared.man.Move.{Move}
-use Rattle.chess_base.specs.declared.man.Variant.{Variant}
-use Rattle.chess_base.specs.declared.setup.Setup.{Setup}
+use Rattle.std.proofs.Common.{◌≡◌, ℕ, zero, suc, ◌+◌, Bool, true, false, eqb, List, [], ◌∷◌, ◌++◌, take, slice_get, Some, Result, refl, sym, ap, subst, ◌∙◌, append_assoc, append-nil, add-one, arith, IsTrue, flat_map}
+use Rattle.std.proofs.{lemmas.List.Concat.flat_map-append, lemmas.Bool.Decides.nat_tests}
+use Rattle.chess_base.specs.{declared.man.Move.Move, declared.man.Variant.Variant, declared.setup.Setup.Setup, Moves.is_legal, Moves.after}
 use Rattle.byte_devices.specs.Devices.{OutputState, CutShort, Puts}
-use Rattle.chess_base.specs.Moves.{is_legal, after}
 use Rattle.chess_game.specs.Game.{Seen, State, outcome_now, IsPlayable}
-use Rattle.chess_game.specs.Results.{outcome_text}
-use Rattle.chess_game.specs.declared.results.Outcome.{Outcome}
-use Rattle.chess_game.specs.Line.{position_after, IsLine}
-use Rattle.pgn_writer.specs.declared.tags.Tags.{Tags}
-use Rattle.pgn_writer.specs.declared.termination.Termination.{Termination}
-use Rattle.pgn_writer.specs.Terminations.{termination_of}
-use Rattle.pgn_writer.specs.GameText.{tag_lines, game_tokens, pgn}
+use Rattle.chess_game.specs.{Results.outcome_text, declared.results.Outcome.Outcome, Line.position_after, Line.IsLine}
+use Rattle.pgn_writer.specs.{declared.tags.Tags.Tags, declared.termination.Termination.Termination, Terminations.termination_of, GameText.tag_lines, GameText.game_tokens, GameText.pgn, shared.NumberedMoves.number_if_due, shared.NumberedMoves.numbered_move, shared.NumberedMoves.numbered_moves, ties.Waiting.TookSome, ties.Waiting.Adds, Written.ended, Written.lines_of, laws.Layout.AreShort}
 use Rattle.pgn_writer.specs.shared.TagGroups.{roster_lines, start_lines_in, last_lines, further_lines}
-use Rattle.pgn_writer.specs.shared.NumberedMoves.{number_if_due, numbered_move, numbered_moves}
 use Rattle.pgn_writer.specs.shared.Lines.{wrapped_token, next_column, line_close, placed_all, column_after_all}
 use Rattle.chess_text.specs.San.{san}
-use Rattle.pgn_writer.specs.ties.Waiting.{TookSome, Adds}
-use Rattle.pgn_writer.specs.Written.{ended, lines_of}
 use Rattle.pgn_writer.proofs.Added.{added_more, added_break, break_longer, adds_more, finished}
-use Rattle.pgn_writer.proofs.FilledLines.{filled_from, all_filled}
-use Rattle.pgn_writer.specs.laws.Layout.{AreShort}
-use Rattle.pgn_writer.proofs.NumberedMoves.{game_numbered}
-use Rattle.pgn_writer.proofs.ShortTokens.{game_is_short}
+use Rattle.pgn_writer.proofs.{FilledLines.filled_from, FilledLines.all_filled, NumberedMoves.game_numbered, ShortTokens.game_is_short}
 
 -- ---- texts of three parts
 

@@ -1,10 +1,7 @@
 -- The text that is written of a game is laid out as said, and no other text is.
 use Rattle.std.proofs.Common.{◌≡◌, ℕ, List, [], ◌∷◌, ◌++◌, ap, ◌∙◌}
 use Rattle.chess_game.specs.Game.{State}
-use Rattle.pgn_writer.specs.declared.tags.Tags.{Tags}
-use Rattle.pgn_writer.specs.GameText.{tag_lines, pgn}
-use Rattle.pgn_writer.specs.Written.{ended, lines_of}
-use Rattle.pgn_writer.specs.PgnText.{IsPgn}
+use Rattle.pgn_writer.specs.{declared.tags.Tags.Tags, GameText.tag_lines, GameText.pgn, Written.ended, Written.lines_of, PgnText.IsPgn}
 use Rattle.pgn_writer.proofs.FilledLines.{only_lines}
 
 pub only_written : (prefix : List ℕ) (t : Tags) (s : State) (text : List ℕ) → IsPgn prefix t s text

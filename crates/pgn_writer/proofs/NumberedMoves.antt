@@ -1,19 +1,10 @@
 -- A game's tokens are those of its moves one after another, and its outcome.
-use Rattle.std.proofs.Common.{◌≡◌, ℕ, true, false, ◌&&◌, ◌==◌, List, [], ◌∷◌, ◌++◌, length, refl, sym, ap, ◌∙◌, append_assoc, arith}
-use Rattle.std.specs.Prelude.{codes, decimal, not}
+use Rattle.std.proofs.Common.{◌≡◌, ℕ, true, false, ◌&&◌, ◌==◌, List, [], ◌∷◌, ◌++◌, length, refl, sym, ap, ◌∙◌, append_assoc, arith, codes, decimal, not}
 use Rattle.std.proofs.lemmas.Bool.Decides.{nat_tests}
-use Rattle.chess_base.specs.declared.man.Colour.{Colour}
-use Rattle.chess_base.specs.declared.man.Colour.TheVariants.{White, Black}
-use Rattle.chess_base.specs.declared.man.Move.{Move}
-use Rattle.chess_base.specs.declared.setup.Setup.{Setup}
-use Rattle.chess_base.specs.Men.{same_colour}
-use Rattle.chess_base.specs.Moves.{after}
-use Rattle.chess_base.specs.Options.{list_if}
-use Rattle.chess_game.specs.Game.{State, outcome_now}
-use Rattle.chess_game.specs.Results.{outcome_text}
+use Rattle.chess_base.specs.{declared.man.Colour.Colour, declared.man.Colour.TheVariants.White, declared.man.Colour.TheVariants.Black, declared.man.Move.Move, declared.setup.Setup.Setup, Men.same_colour, Moves.after, Options.list_if}
+use Rattle.chess_game.specs.{Game.State, Game.outcome_now, Results.outcome_text}
 use Rattle.chess_text.specs.San.{san}
-use Rattle.pgn_writer.specs.GameText.{move_tokens, game_tokens}
-use Rattle.pgn_writer.specs.shared.NumberedMoves.{number_if_due, numbered_moves}
+use Rattle.pgn_writer.specs.{GameText.move_tokens, GameText.game_tokens, shared.NumberedMoves.number_if_due, shared.NumberedMoves.numbered_moves}
 
 later_number : (c : Colour) (n : ℕ)
     → number_if_due c false n ≡ list_if (same_colour c White) ((decimal n ++ codes ".") ∷ [])

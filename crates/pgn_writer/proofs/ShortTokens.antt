@@ -1,26 +1,13 @@
 -- Each token of a game fits a line.
-use Rattle.std.proofs.Common.{◌≡◌, append_assoc, ℕ, ◌+◌, ◌≤◌, Bool, true, false, List, [], ◌∷◌, ◌++◌, length, arith}
-use Rattle.std.specs.Prelude.{codes, decimal}
-use Rattle.std.proofs.lemmas.Bool.{leb-true}
+use Rattle.std.proofs.Common.{◌≡◌, append_assoc, ℕ, ◌+◌, ◌≤◌, Bool, true, false, List, [], ◌∷◌, ◌++◌, length, arith, leb-true, length-append, codes, decimal}
 use Rattle.std.proofs.lemmas.Fmt.{length-decimal-le}
-use Rattle.std.proofs.lemmas.List.{length-append}
-use Rattle.chess_base.specs.declared.man.Colour.{Colour}
-use Rattle.chess_base.specs.declared.man.Colour.TheVariants.{White, Black}
-use Rattle.chess_base.specs.declared.man.Move.{Move}
-use Rattle.chess_base.specs.declared.setup.Setup.{Setup}
-use Rattle.chess_base.specs.Moves.{after}
-use Rattle.chess_base.specs.Sound.{IsSound}
-use Rattle.chess_game.specs.Game.{Seen, outcome_now, IsPlayable}
-use Rattle.chess_game.specs.Line.{IsLine}
-use Rattle.chess_game.specs.Results.{outcome_text}
-use Rattle.chess_game.specs.declared.results.Outcome.{Outcome}
+use Rattle.chess_base.specs.{declared.man.Colour.Colour, declared.man.Colour.TheVariants.White, declared.man.Colour.TheVariants.Black, declared.man.Move.Move, declared.setup.Setup.Setup, Moves.after, Sound.IsSound}
+use Rattle.chess_game.specs.{Game.Seen, Game.outcome_now, Game.IsPlayable, Line.IsLine, Results.outcome_text, declared.results.Outcome.Outcome}
 use Rattle.chess_game.specs.declared.results.Outcome.TheVariants.{WhiteWins, BlackWins, Draw, Unfinished}
-use Rattle.pgn_writer.specs.GameText.{game_tokens}
-use Rattle.pgn_writer.specs.shared.NumberedMoves.{number_if_due, numbered_moves}
+use Rattle.pgn_writer.specs.{GameText.game_tokens, shared.NumberedMoves.number_if_due, shared.NumberedMoves.numbered_moves, laws.Layout.AreShort}
 use Rattle.chess_text.specs.San.{san}
 use Rattle.chess_base.proofs.shared.LegalMoves.{IsSound-after}
 use Rattle.chess_text.proofs.shared.San.{san_short}
-use Rattle.pgn_writer.specs.laws.Layout.{AreShort}
 use Rattle.pgn_writer.proofs.NumberedMoves.{game_numbered}
 
 short_outcome : (o : Outcome) → AreShort (outcome_text o ∷ [])

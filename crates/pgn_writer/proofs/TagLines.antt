@@ -1,11 +1,7 @@
 -- Lines of tags, one after the other.
-use Rattle.std.proofs.Common.{◌≡◌, ℕ, ◌+◌, ◌<◌, List, [], ◌∷◌, ◌++◌, length, get_or, take, refl, sym, ap, subst, ◌∙◌}
-use Rattle.std.specs.List.{flat_map}
+use Rattle.std.proofs.Common.{◌≡◌, ℕ, ◌+◌, ◌<◌, List, [], ◌∷◌, ◌++◌, length, get_or, take, refl, sym, ap, subst, ◌∙◌, flat_map}
 use Rattle.byte_devices.specs.Devices.{OutputState, CutShort}
-use Rattle.pgn_writer.specs.ties.Waiting.{TookSome}
-use Rattle.pgn_writer.specs.Written.{tag_line, ended}
-use Rattle.pgn_writer.specs.ties.TagLines.{tag_lines_of}
-use Rattle.pgn_writer.specs.declared.tags.TagPair.{TagPair}
+use Rattle.pgn_writer.specs.{ties.Waiting.TookSome, Written.tag_line, Written.ended, ties.TagLines.tag_lines_of, declared.tags.TagPair.TagPair}
 use Rattle.pgn_writer.proofs.Added.{parts_more, parts_break}
 
 abbrev ended_tag : List ℕ → TagPair → List ℕ

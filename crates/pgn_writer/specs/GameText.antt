@@ -16,12 +16,11 @@ use Rattle.pgn_writer.specs.Written.{tag_line, ended, lines_of}
 
 -- ---- tags
 
--- the lines of the tags of the game `s`; `t` says what the game itself doesn't. First the seven that each game has, in
--- their order (section 8.1.1); then, sorted by name: FEN and SetUp (section 9.7), but not for normal chess from the
--- initial position; Termination, by `t.ended` and the game's outcome; and, in Chess960 only, Variant
+-- the lines of the tags of the game `s`; `t` says what the game itself doesn't. First the seven that each game has
+-- (section 8.1.1); then, sorted by name, FEN and SetUp (section 9.7), but not for normal chess from the initial
+-- position, Termination, and in Chess960 Variant
 abbrev pub tag_lines : Tags → State → List (List ℕ)
-tag_lines t s =
-    tag_line (codes "Event") t.event ∷ tag_line (codes "Site") t.site ∷ tag_line (codes "Date") t.date
+tag_lines t s = tag_line (codes "Event") t.event ∷ tag_line (codes "Site") t.site ∷ tag_line (codes "Date") t.date
     ∷ tag_line (codes "Round") t.round ∷ tag_line (codes "White") t.white ∷ tag_line (codes "Black") t.black
     ∷ tag_line (codes "Result") (outcome_text (outcome_now s))
     ∷ list_if (is_fischerandom s.start.variant || not (is_initial s.start))
@@ -41,8 +40,7 @@ move_tokens p (m ∷ ms) =
 -- the tokens of a game: its moves with their numbers, and the outcome last. If Black makes the game's first move, that
 -- move has a number too, such as `12...`
 abbrev pub game_tokens : State → List (List ℕ)
-game_tokens s =
-    list_if (same_colour s.start.side Black && not (length s.moves == 0))
+game_tokens s = list_if (same_colour s.start.side Black && not (length s.moves == 0))
     ((decimal s.start.fullmove ++ codes "...") ∷ [])
     ++ (move_tokens s.start s.moves ++ outcome_text (outcome_now s) ∷ [])
 

@@ -1,27 +1,13 @@
 -- Castling ends on the named squares.
 use Rattle.std.proofs.Common.{◌≡◌, ◌≢◌, ℕ, ◌<◌, ◌≤◌, ◌⊎◌, inl, inr, Bool, true, false, Option, Some, None, refl, sym, subst, ◌∙◌, arith, ◌==◌, ◌&&◌}
 use Rattle.std.proofs.lemmas.Bool.{and_parts, both_ways, cases_eq, eqb-true, eq-eqb, ne_eqb, not-true, ltb-true}
-use Rattle.std.specs.Int.{abs_diff}
-use Rattle.std.specs.Option.{option_map_or}
-use Rattle.chess_base.specs.declared.man.Colour.{Colour}
-use Rattle.chess_base.specs.declared.man.Colour.TheVariants.{White, Black}
-use Rattle.chess_base.specs.declared.man.CastlingSide.{CastlingSide}
-use Rattle.chess_base.specs.declared.man.CastlingSide.TheVariants.{KingSide, QueenSide}
-use Rattle.chess_base.specs.declared.man.Kind.{Kind}
-use Rattle.chess_base.specs.declared.man.Kind.TheVariants.{King, Rook, Pawn}
-use Rattle.chess_base.specs.declared.man.Man.{Man}
-use Rattle.chess_base.specs.declared.man.Move.{Move}
-use Rattle.chess_base.specs.declared.man.Variant.TheVariants.{Normal, Fischerandom}
-use Rattle.chess_base.specs.declared.setup.Setup.{Setup}
-use Rattle.chess_base.specs.Squares.{file, rank}
+use Rattle.std.specs.{Int.abs_diff, Option.option_map_or}
+use Rattle.chess_base.specs.{declared.man.Colour.Colour, declared.man.Colour.TheVariants.White, declared.man.Colour.TheVariants.Black, declared.man.CastlingSide.CastlingSide, declared.man.CastlingSide.TheVariants.KingSide, declared.man.CastlingSide.TheVariants.QueenSide, declared.man.Kind.Kind, declared.man.Kind.TheVariants.King, declared.man.Kind.TheVariants.Rook, declared.man.Kind.TheVariants.Pawn, declared.man.Man.Man, declared.man.Move.Move, declared.man.Variant.TheVariants.Normal, declared.man.Variant.TheVariants.Fischerandom, declared.setup.Setup.Setup, Squares.file, Squares.rank, Sound.IsSound, shared.Splits.names_castling}
 use Rattle.chess_base.specs.Men.{Men, man_at, is_man, first_rank}
 use Rattle.chess_base.specs.Castling.{home_square, king_home_file, rook_file, castled_king_file, castled_rook_file, right_of, king_square, are_placed_for_castling, names_castling_with, castling, castle_from, castle_of, is_to_side, right_is_sound}
 use Rattle.chess_base.specs.Moves.{is_legal, after, arriving_man, man_moves}
-use Rattle.chess_base.specs.Sound.{IsSound}
-use Rattle.chess_base.specs.shared.Splits.{names_castling}
 use Rattle.chess_base.proofs.shared.Castling.{says_from_castling, castling_says, castle_there, right_is_sound_of, placed_for_right, castling_rook_is_there}
-use Rattle.chess_base.proofs.shared.Kings.{king_square-at, one_king_of}
-use Rattle.chess_base.proofs.shared.Men.{is_man-kind, is_of-from_is_man, in_board}
+use Rattle.chess_base.proofs.{shared.Kings.king_square-at, shared.Kings.one_king_of, shared.Men.is_man-kind, shared.Men.is_of-from_is_man, shared.Men.in_board}
 use Rattle.chess_base.proofs.shared.MoveKinds.{MoveKind, ManMoves, Castles, PawnMoves, moves_from_pattern, castles_unpromoted}
 use Rattle.rules_laws.specs.Castled.{castling_of, is_towards, HasCastled, NormalCastlingEnds, FischerandomCastlingEnds}
 use Rattle.rules_laws.proofs.Pieces.{attacks_as, king_is_near, after_castle}

@@ -3,18 +3,10 @@ use Rattle.std.proofs.Common.{◌≡◌, ℕ, zero, suc, ◌+◌, ◌-◌, ◌<�
 use Rattle.std.proofs.lemmas.Bool.{cases_Bool, cases_eq, both_ways, leb-true, le-leb, or_parts, or_from}
 use Rattle.std.proofs.lemmas.List.Sums.{sum_by-cons}
 use Rattle.std.specs.List.{AllPairs, AllByRecursion, slice_get}
-use Rattle.chess_base.specs.declared.man.Colour.{Colour}
-use Rattle.chess_base.specs.declared.man.Kind.TheVariants.{Pawn}
-use Rattle.chess_base.specs.declared.man.Move.{Move}
-use Rattle.chess_base.specs.declared.setup.Setup.{Setup}
-use Rattle.chess_base.specs.Attacks.{is_in_check}
+use Rattle.chess_base.specs.{declared.man.Colour.Colour, declared.man.Kind.TheVariants.Pawn, declared.man.Move.Move, declared.setup.Setup.Setup, Attacks.is_in_check, Moves.after, Moves.halfmove_after, Moves.resets_clock}
 use Rattle.chess_base.specs.Men.{man_at, is_man, is_of, other}
-use Rattle.chess_base.specs.Moves.{after, halfmove_after, resets_clock}
 use Rattle.chess_base.proofs.shared.Captures.{resets_clock_is}
-use Rattle.chess_game.specs.declared.verdicts.Verdict.TheVariants.{FivefoldRepetition, SeventyFiveMoves}
-use Rattle.chess_game.specs.Ends.{has_insufficient_material, verdict}
-use Rattle.chess_game.specs.Line.{positions_of, position_after}
-use Rattle.chess_game.specs.Same.{is_same_position, repetition_count}
+use Rattle.chess_game.specs.{declared.verdicts.Verdict.TheVariants.FivefoldRepetition, declared.verdicts.Verdict.TheVariants.SeventyFiveMoves, Ends.has_insufficient_material, Ends.verdict, Line.positions_of, Line.position_after, Same.is_same_position, Same.repetition_count}
 use Rattle.rules_laws.specs.Endings.{position_at, IsThere, IsQuiet, IsQuietFor, ClocksCountQuietMoves, CountingEnds}
 use Rattle.rules_laws.proofs.NoMove.{judged, judged_at, has_none}
 

@@ -1,22 +1,10 @@
 -- A capture en passant follows a double advance.
-use Rattle.std.proofs.Common.{◌≡◌, ◌≢◌, ℕ, ◌<◌, ◌⊎◌, inl, inr, Bool, true, false, Option, Some, None, refl, sym, arith, ◌==◌, ◌||◌}
+use Rattle.std.proofs.Common.{◌≡◌, ◌≢◌, ℕ, ◌<◌, ◌⊎◌, inl, inr, Bool, true, false, Option, Some, None, refl, sym, arith, ◌==◌, ◌||◌, if◌then◌else◌}
 use Rattle.std.proofs.lemmas.Bool.{and_parts, and_from, both_ways, not-true, or_left, eqb-true, eq-eqb, ne_eqb, or_right}
-use Rattle.std.specs.Prelude.{if◌then◌else◌}
-use Rattle.chess_base.specs.declared.man.Colour.{Colour}
-use Rattle.chess_base.specs.declared.man.Colour.TheVariants.{White, Black}
-use Rattle.chess_base.specs.declared.man.Kind.TheVariants.{King, Pawn}
-use Rattle.chess_base.specs.declared.man.Move.{Move}
-use Rattle.chess_base.specs.declared.setup.Setup.{Setup}
-use Rattle.chess_base.specs.Squares.{file, rank, is_at}
+use Rattle.chess_base.specs.{declared.man.Colour.Colour, declared.man.Colour.TheVariants.White, declared.man.Colour.TheVariants.Black, declared.man.Kind.TheVariants.King, declared.man.Kind.TheVariants.Pawn, declared.man.Move.Move, declared.setup.Setup.Setup, Squares.file, Squares.rank, Squares.is_at, Attacks.attacks, Sound.IsSound, Sound.no_pawn_on_end_ranks}
 use Rattle.chess_base.specs.Men.{man_at, is_man, other, forward, pawn_rank}
-use Rattle.chess_base.specs.Attacks.{attacks}
 use Rattle.chess_base.specs.Moves.{is_legal, after, is_double_advance, is_en_passant, captured_square, target_after}
-use Rattle.chess_base.specs.Sound.{IsSound, no_pawn_on_end_ranks}
-use Rattle.chess_base.proofs.shared.Castling.{says_from_castling, castling_says, no_castle}
-use Rattle.chess_base.proofs.shared.Changes.{advance_goes, pawn_no_castling}
-use Rattle.chess_base.proofs.shared.LegalMoves.{IsSound-after}
-use Rattle.chess_base.proofs.shared.Squares.{each_square-at}
-use Rattle.chess_base.proofs.shared.Men.{is_man-kind, is_of-none, other-other}
+use Rattle.chess_base.proofs.{shared.Castling.says_from_castling, shared.Castling.castling_says, shared.Castling.no_castle, shared.Changes.advance_goes, shared.Changes.pawn_no_castling, shared.LegalMoves.IsSound-after, shared.Squares.each_square-at, shared.Men.is_man-kind, shared.Men.is_of-none, shared.Men.other-other}
 use Rattle.chess_base.proofs.shared.MoveKinds.{MoveKind, ManMoves, Castles, PawnMoves, Advances, Captures, TakesEnPassant, moves_from_pattern, is_double_advance-parts}
 use Rattle.rules_laws.specs.EnPassant.{CapturesEnPassant, GoesTwoSquaresOver, EnPassantFollowsDoubleAdvance}
 use Rattle.rules_laws.proofs.Pieces.{after_no_castle}

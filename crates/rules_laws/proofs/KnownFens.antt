@@ -2,13 +2,10 @@
 use Rattle.std.proofs.Common.{refl}
 use Rattle.std.specs.Fmt.{digits}
 use Rattle.chess_base.specs.Attacks.{is_clear, could_capture, attacks, is_attacked, is_in_check}
-use Rattle.chess_base.specs.Castling.{king_square, right_is_sound}
-use Rattle.chess_base.specs.Faults.{rights_are_sound}
-use Rattle.chess_base.specs.Men.{is_of, is_man}
+use Rattle.chess_base.specs.{Castling.king_square, Castling.right_is_sound, Faults.rights_are_sound, Men.is_of, Men.is_man}
 use Rattle.chess_base.specs.Sound.{has_one_king, no_pawn_on_end_ranks, has_at_most_16, target_is_sound}
 use Rattle.chess_base.specs.Squares.{squares, some_square, each_square, is_between}
-use Rattle.chess_fen.specs.Texts.{may_name_right}
-use Rattle.chess_fen.specs.Writing.{placement_text}
+use Rattle.chess_fen.specs.{Texts.may_name_right, Writing.placement_text}
 use Rattle.rules_laws.specs.KnownPositions.{FensAreRefused}
 
 pub fens_are_refused : FensAreRefused

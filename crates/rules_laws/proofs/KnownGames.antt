@@ -1,48 +1,42 @@
 -- Games that chess players know, by computation.
 use Rattle.std.proofs.Common.{◌≡◌, true, refl, ◌∙◌, List, Some}
-use Rattle.chess_base.specs.declared.man.Colour.{Colour}
-use Rattle.chess_base.specs.declared.man.Colour.TheVariants.{White, Black}
-use Rattle.chess_base.specs.declared.man.Move.{Move}
-use Rattle.chess_base.specs.ByColour.{by_colour}
+use Rattle.chess_base.specs.{declared.man.Colour.Colour, declared.man.Colour.TheVariants.White, declared.man.Colour.TheVariants.Black, declared.man.Move.Move, ByColour.by_colour, Men.is_of, Men.is_man, Men.other, Initial.initial_setup, Initial.initial_setup_of, MoveList.all_moves, MoveList.moves}
 use Rattle.chess_base.specs.Squares.{squares, some_square, each_square, is_between}
-use Rattle.chess_base.specs.Men.{is_of, is_man, other}
 use Rattle.chess_base.specs.Attacks.{is_clear, could_capture, attacks, is_attacked, is_in_check}
-use Rattle.chess_base.specs.Castling.{is_castling_to, castling, castle_of, castling_way_is_empty, castling_way_is_safe, castles}
-use Rattle.chess_base.specs.Initial.{initial_setup, initial_setup_of}
-use Rattle.chess_base.specs.MoveList.{all_moves, moves}
+use Rattle.chess_base.specs.Castling.{is_castling_to, castling, castle_of, castling_needs_empty, castling_way_is_empty, castling_way_is_safe, castles}
 use Rattle.chess_base.specs.Moves.{is_double_advance, is_en_passant, pawn_advances, pawn_captures, pawn_moves, man_moves, is_pseudo_legal, captured_square, men_after, rights_after, target_after, resets_clock, halfmove_after, after, is_legal}
-use Rattle.chess_game.specs.Ends.{verdict}
-use Rattle.chess_game.specs.declared.verdicts.Verdict.TheVariants.{WhiteMates, BlackMates}
-use Rattle.chess_game.specs.Line.{position_after, IsLine}
+use Rattle.chess_game.specs.{Ends.verdict, declared.verdicts.Verdict.TheVariants.WhiteMates, declared.verdicts.Verdict.TheVariants.BlackMates, Line.position_after, Line.IsLine}
 use Rattle.rules_laws.specs.KnownGames.{scholars_mate, fools_mate, KnownGamesEnd}
 use Rattle.rules_laws.proofs.NoMove.{has_none, some_numbers}
 
 scholars : IsLine initial_setup scholars_mate
 unfolding squares some_square each_square is_between is_of is_man is_clear could_capture attacks is_attacked is_in_check
-    is_castling_to castling castle_of castling_way_is_empty castling_way_is_safe castles initial_setup initial_setup_of
-    is_double_advance is_en_passant pawn_advances pawn_captures pawn_moves man_moves is_pseudo_legal captured_square
-    men_after rights_after target_after resets_clock halfmove_after after is_legal
+    is_castling_to castling castle_of castling_needs_empty castling_way_is_empty castling_way_is_safe castles
+    initial_setup initial_setup_of is_double_advance is_en_passant pawn_advances pawn_captures pawn_moves man_moves
+    is_pseudo_legal captured_square men_after rights_after target_after resets_clock halfmove_after after is_legal
 scholars = (refl, (refl, (refl, (refl, (refl, (refl, (refl, tt)))))))
 
 fools : IsLine initial_setup fools_mate
 unfolding squares some_square each_square is_between is_of is_man is_clear could_capture attacks is_attacked is_in_check
-    is_castling_to castling castle_of castling_way_is_empty castling_way_is_safe castles initial_setup initial_setup_of
-    is_double_advance is_en_passant pawn_advances pawn_captures pawn_moves man_moves is_pseudo_legal captured_square
-    men_after rights_after target_after resets_clock halfmove_after after is_legal
+    is_castling_to castling castle_of castling_needs_empty castling_way_is_empty castling_way_is_safe castles
+    initial_setup initial_setup_of is_double_advance is_en_passant pawn_advances pawn_captures pawn_moves man_moves
+    is_pseudo_legal captured_square men_after rights_after target_after resets_clock halfmove_after after is_legal
 fools = (refl, (refl, (refl, (refl, tt))))
 
 scholars_none : has_none (position_after initial_setup scholars_mate) ≡ true
 unfolding squares some_square each_square is_between is_of is_man is_clear could_capture attacks is_attacked is_in_check
-    is_castling_to castling castle_of castling_way_is_empty castling_way_is_safe castles initial_setup initial_setup_of
-    all_moves moves is_double_advance is_en_passant pawn_advances pawn_captures pawn_moves man_moves is_pseudo_legal
-    captured_square men_after rights_after target_after resets_clock halfmove_after after is_legal
+    is_castling_to castling castle_of castling_needs_empty castling_way_is_empty castling_way_is_safe castles
+    initial_setup initial_setup_of all_moves moves is_double_advance is_en_passant pawn_advances pawn_captures
+    pawn_moves man_moves is_pseudo_legal captured_square men_after rights_after target_after resets_clock halfmove_after
+    after is_legal
 scholars_none = refl
 
 fools_none : has_none (position_after initial_setup fools_mate) ≡ true
 unfolding squares some_square each_square is_between is_of is_man is_clear could_capture attacks is_attacked is_in_check
-    is_castling_to castling castle_of castling_way_is_empty castling_way_is_safe castles initial_setup initial_setup_of
-    all_moves moves is_double_advance is_en_passant pawn_advances pawn_captures pawn_moves man_moves is_pseudo_legal
-    captured_square men_after rights_after target_after resets_clock halfmove_after after is_legal
+    is_castling_to castling castle_of castling_needs_empty castling_way_is_empty castling_way_is_safe castles
+    initial_setup initial_setup_of all_moves moves is_double_advance is_en_passant pawn_advances pawn_captures
+    pawn_moves man_moves is_pseudo_legal captured_square men_after rights_after target_after resets_clock halfmove_after
+    after is_legal
 fools_none = refl
 
 scholars_check : is_in_check (position_after initial_setup scholars_mate).men Black ≡ true

@@ -3,20 +3,14 @@ use Rattle.std.proofs.Common.{refl}
 use Rattle.std.specs.Fmt.{digits}
 use Rattle.chess_base.specs.Attacks.{is_clear, could_capture, attacks, is_attacked, is_in_check}
 use Rattle.chess_base.specs.Castling.{king_square, right_is_sound, is_castling_to, castling, castle_of, castling_way_is_empty, castling_way_is_safe, castles}
-use Rattle.chess_base.specs.Faults.{rights_are_sound}
-use Rattle.chess_base.specs.Initial.{initial_setup, initial_setup_of}
-use Rattle.chess_base.specs.Men.{is_of, is_man}
-use Rattle.chess_base.specs.MoveList.{all_moves, moves}
+use Rattle.chess_base.specs.{Faults.rights_are_sound, Initial.initial_setup, Initial.initial_setup_of, Men.is_of, Men.is_man, MoveList.all_moves, MoveList.moves}
 use Rattle.chess_base.specs.Moves.{is_double_advance, is_en_passant, pawn_advances, pawn_captures, pawn_moves, man_moves, is_pseudo_legal, captured_square, men_after, rights_after, target_after, resets_clock, halfmove_after, after, is_legal}
 use Rattle.chess_base.specs.Sound.{has_one_king, no_pawn_on_end_ranks, has_at_most_16, target_is_sound}
 use Rattle.chess_base.specs.Squares.{squares, some_square, each_square, is_between}
-use Rattle.chess_fen.specs.Texts.{may_name_right}
-use Rattle.chess_fen.specs.Writing.{placement_text}
+use Rattle.chess_fen.specs.{Texts.may_name_right, Writing.placement_text}
 use Rattle.chess_game.specs.Ends.{has_bishop_on, has_insufficient_material, result_text, verdict}
 use Rattle.chess_game.specs.Same.{is_same_position, legal_en_passant_square, repetition_count, same_men, same_rights}
-use Rattle.chess_text.specs.Parts.{unmarked}
-use Rattle.chess_text.specs.Moves.{denotes, denotes_described, described}
-use Rattle.chess_text.specs.San.{rival_starts, check_mark, san}
+use Rattle.chess_text.specs.{Parts.unmarked, Moves.denotes, Moves.denotes_described, Moves.described, San.rival_starts, San.check_mark, San.san}
 use Rattle.rules_laws.specs.KnownTexts.{MovesAreNumbered, MovesAreWritten, ResultsAreWorded, TagsAreInOrder, TextsDenoteMoves}
 
 pub moves_are_written : MovesAreWritten

@@ -1,33 +1,15 @@
 -- From insufficient material nobody is mated.
-use Rattle.std.proofs.Common.{◌≡◌, ◌≢◌, ℕ, zero, suc, ◌+◌, ◌-◌, ◌%◌, ◌<◌, ◌≤◌, Bool, true, false, cond, List, [], ◌∷◌, length, get_or, Some, None, Option, refl, sym, ap, ◌∙◌, arith, ◌==◌, nat_le, inl, inr, count_by, subst, ◌⊎◌, ◌||◌, ◌&&◌, not, is_none}
+use Rattle.std.proofs.Common.{◌≡◌, ◌≢◌, ℕ, zero, suc, ◌+◌, ◌-◌, ◌%◌, ◌<◌, ◌≤◌, Bool, true, false, cond, List, [], ◌∷◌, length, get_or, Some, None, Option, refl, sym, ap, ◌∙◌, arith, ◌==◌, nat_le, inl, inr, count_by, subst, ◌⊎◌, ◌||◌, ◌&&◌, not, is_none, if◌then◌else◌}
 use Rattle.std.proofs.lemmas.Bool.{and_parts, and_from, and_right, or_cases, or_left, or_right, both_ways, cases_Bool, cases_eq, cases_lt, eqb-true, eq-eqb, ne_eqb, leb-true, not-true, false_from_ne_true}
-use Rattle.std.proofs.lemmas.List.{get_or_past}
-use Rattle.std.proofs.lemmas.List.Folds.{list_any_at}
-use Rattle.std.proofs.lemmas.List.Sums.{sum_by-cons}
-use Rattle.std.specs.Int.{abs_diff}
-use Rattle.std.specs.List.{list_any}
-use Rattle.std.specs.Prelude.{if◌then◌else◌}
-use Rattle.chess_base.specs.declared.man.CastlingSide.{CastlingSide}
-use Rattle.chess_base.specs.declared.man.CastlingSide.TheVariants.{KingSide, QueenSide}
-use Rattle.chess_base.specs.declared.man.Colour.{Colour}
-use Rattle.chess_base.specs.declared.man.Kind.{Kind}
+use Rattle.std.proofs.{lemmas.List.get_or_past, lemmas.List.Folds.list_any_at, lemmas.List.Sums.sum_by-cons}
+use Rattle.std.specs.{Int.abs_diff, List.list_any}
+use Rattle.chess_base.specs.{declared.man.CastlingSide.CastlingSide, declared.man.CastlingSide.TheVariants.KingSide, declared.man.CastlingSide.TheVariants.QueenSide, declared.man.Colour.Colour, declared.man.Kind.Kind, declared.man.Man.Man, declared.man.Move.Move, declared.setup.Setup.Setup, Attacks.attacks, Attacks.could_capture, Castling.right_of, Castling.castling, Castling.is_castling_to, Sound.IsSound, shared.Splits.could_capture_as}
 use Rattle.chess_base.specs.declared.man.Kind.TheVariants.{King, Queen, Rook, Bishop, Knight, Pawn}
-use Rattle.chess_base.specs.declared.man.Man.{Man}
-use Rattle.chess_base.specs.declared.man.Move.{Move}
-use Rattle.chess_base.specs.declared.setup.Setup.{Setup}
 use Rattle.chess_base.specs.Squares.{file, rank, is_at, share_diagonal}
 use Rattle.chess_base.specs.Men.{Men, man_at, is_man, is_of, other}
-use Rattle.chess_base.specs.Attacks.{attacks, could_capture}
-use Rattle.chess_base.specs.Castling.{right_of, castling, is_castling_to}
 use Rattle.chess_base.specs.Moves.{is_legal, after, captured_square, man_moves, arriving_man}
-use Rattle.chess_base.specs.Sound.{IsSound}
-use Rattle.chess_base.specs.shared.Splits.{could_capture_as}
-use Rattle.chess_base.proofs.shared.Castling.{no_castle, castling_rook_is_there, right_is_sound_of}
-use Rattle.chess_base.proofs.shared.Changes.{no_en_passant}
-use Rattle.chess_base.proofs.shared.Men.{same_kind-true, is_none-None}
-use Rattle.chess_base.proofs.shared.MenAfter.{length-men_after}
+use Rattle.chess_base.proofs.{shared.Castling.no_castle, shared.Castling.castling_rook_is_there, shared.Castling.right_is_sound_of, shared.Changes.no_en_passant, shared.Men.same_kind-true, shared.Men.is_none-None, shared.MenAfter.length-men_after, shared.Squares.some_square-at}
 use Rattle.chess_base.proofs.shared.MoveKinds.{Moves, MoveKind, ManMoves, Castles, PawnMoves, moves_from_pattern, is_of-mover}
-use Rattle.chess_base.proofs.shared.Squares.{some_square-at}
 use Rattle.chess_game.specs.Ends.{is_kind, has_bishop_on, has_insufficient_material}
 use Rattle.rules_laws.proofs.Pieces.{after_no_castle, attacks_of}
 

@@ -1,30 +1,15 @@
 -- When castling is legal in normal chess.
-use Rattle.std.proofs.Common.{◌≡◌, ◌≢◌, ℕ, ◌<◌, ◌⊎◌, inl, inr, Bool, true, false, Option, Some, None, refl, sym, subst, ap, ◌∙◌, arith, ◌==◌, ◌&&◌, ◌||◌, not, is_none, nat_lt, length}
+use Rattle.std.proofs.Common.{◌≡◌, ◌≢◌, ℕ, ◌<◌, ◌⊎◌, inl, inr, Bool, true, false, Option, Some, None, refl, sym, subst, ap, ◌∙◌, arith, ◌==◌, ◌&&◌, ◌||◌, not, is_none, nat_lt, length, if◌then◌else◌}
 use Rattle.std.proofs.lemmas.Bool.{and_parts, and_from, and_right, both_ways, cases_eq, eqb-true, eq-eqb, ne_eqb, not-true, not_from_false, or_cases, or_left, or_right, false_from_ne_true}
-use Rattle.std.proofs.lemmas.Bool.Decides.{nat_tests}
 use Rattle.std.specs.List.{AllByRecursion}
-use Rattle.std.specs.Prelude.{if◌then◌else◌}
-use Rattle.chess_base.specs.declared.castling.Castle.{Castle}
-use Rattle.chess_base.specs.declared.man.Colour.{Colour}
-use Rattle.chess_base.specs.declared.man.Colour.TheVariants.{White, Black}
-use Rattle.chess_base.specs.declared.man.CastlingSide.{CastlingSide}
-use Rattle.chess_base.specs.declared.man.CastlingSide.TheVariants.{KingSide, QueenSide}
-use Rattle.chess_base.specs.declared.man.Kind.{Kind}
+use Rattle.chess_base.specs.{declared.castling.Castle.Castle, declared.man.Colour.Colour, declared.man.Colour.TheVariants.White, declared.man.Colour.TheVariants.Black, declared.man.CastlingSide.CastlingSide, declared.man.CastlingSide.TheVariants.KingSide, declared.man.CastlingSide.TheVariants.QueenSide, declared.man.Kind.Kind, declared.man.Man.Man, declared.man.Move.Move, declared.man.Variant.Variant, declared.man.Variant.TheVariants.Normal, declared.man.Variant.TheVariants.Fischerandom, declared.setup.Setup.Setup, Squares.each_square, Squares.squares, Squares.is_between, Sound.IsSound, Sound.has_one_king, shared.Splits.could_capture_as, shared.Splits.names_castling}
 use Rattle.chess_base.specs.declared.man.Kind.TheVariants.{King, Queen, Rook, Bishop, Knight, Pawn}
-use Rattle.chess_base.specs.declared.man.Man.{Man}
-use Rattle.chess_base.specs.declared.man.Move.{Move}
-use Rattle.chess_base.specs.declared.man.Variant.{Variant}
-use Rattle.chess_base.specs.declared.man.Variant.TheVariants.{Normal, Fischerandom}
-use Rattle.chess_base.specs.declared.setup.Setup.{Setup}
-use Rattle.chess_base.specs.Squares.{each_square, squares, is_between}
 use Rattle.chess_base.specs.Men.{Men, man_at, is_man, is_of, other, same_colour, same_kind}
 use Rattle.chess_base.specs.Attacks.{attacks, could_capture, is_attacked, is_clear, is_in_check}
-use Rattle.chess_base.specs.Castling.{home_square, king_home_file, rook_file, castled_king_file, right_of, is_on_way, names_castling_with, are_placed_for_castling, castling, is_castling_to, castle_from, castle_of, castling_way_is_empty, castling_way_is_safe, castles}
+use Rattle.chess_base.specs.Castling.{home_square, king_home_file, rook_file, castled_king_file, right_of, is_on_way, names_castling_with, are_placed_for_castling, castling, is_castling_to, castle_from, castle_of, castling_needs_empty, castling_way_is_empty, castling_way_is_safe, castles}
 use Rattle.chess_base.specs.Moves.{is_legal, is_pseudo_legal, moves_as, after, arriving_man, man_moves}
-use Rattle.chess_base.specs.Sound.{IsSound, has_one_king}
-use Rattle.chess_base.specs.shared.Splits.{could_capture_as, names_castling}
-use Rattle.chess_base.proofs.shared.Kings.{one_king, one_king_of}
-use Rattle.chess_base.proofs.shared.Men.{same_kind-true, is_none-None, no_other, is_of-none, is_man-none}
+use Rattle.chess_base.proofs.{shared.Kings.one_king, shared.Kings.one_king_of, shared.Parts.castling_way_is_empty_by, shared.Geometry.is_between-end}
+use Rattle.chess_base.proofs.shared.Men.{same_kind-true, is_none-None, no_other, is_of-none, is_man-none, is_man-rook_as_king}
 use Rattle.chess_base.proofs.shared.MoveKinds.{MoveKind, ManMoves, Castles, PawnMoves, moves_from_pattern}
 use Rattle.chess_base.proofs.shared.Squares.{each_square-all, each_square-at, some_square-at, some_square-none}
 use Rattle.rules_laws.specs.Castled.{castling_of, castling_move, empty_squares, safe_squares, MayCastle, NormalCastlingIsLegal}
@@ -35,7 +20,7 @@ use Rattle.rules_laws.proofs.Pieces.{attacks_as, king_is_near, after_castle, att
 
 empty_by : (men : Men) (c : Colour) (w : CastlingSide) → castling_way_is_empty men (castling_of c w) ≡ true
     → AllByRecursion (λ s. man_at men s ≡ None) (empty_squares c w)
-unfolding castling_way_is_empty is_between
+unfolding castling_way_is_empty castling_needs_empty is_between
 empty_by men White KingSide e =
     (is_none-None _ (each_square-at _ e 5 (omega arith)), (is_none-None _ (each_square-at _ e 6 (omega arith)), tt))
 empty_by men White QueenSide e =
@@ -114,17 +99,18 @@ black_queen_way = refl
 
 empty_from : (men : Men) (c : Colour) (w : CastlingSide) → AllByRecursion (λ s. man_at men s ≡ None) (empty_squares c w)
     → castling_way_is_empty men (castling_of c w) ≡ true
-unfolding castling_way_is_empty
-empty_from men White KingSide h = each_square-all _ (λ x l.
+empty_from men White KingSide h = castling_way_is_empty_by men (castling_of White KingSide) ∙ each_square-all _ (λ x l.
     two_left men x 5 6 (not (on_either (castling_of White KingSide) x)) (x == 4) (x == 7)
     (each_square-at empty_white_king white_king_way x l) h.0 h.1.0)
-empty_from men White QueenSide h = each_square-all _ (λ x l.
+empty_from men White QueenSide h =
+    castling_way_is_empty_by men (castling_of White QueenSide) ∙ each_square-all _ (λ x l.
     three_left men x 1 2 3 (not (on_either (castling_of White QueenSide) x)) (x == 4) (x == 0)
     (each_square-at empty_white_queen white_queen_way x l) h.0 h.1.0 h.1.1.0)
-empty_from men Black KingSide h = each_square-all _ (λ x l.
+empty_from men Black KingSide h = castling_way_is_empty_by men (castling_of Black KingSide) ∙ each_square-all _ (λ x l.
     two_left men x 61 62 (not (on_either (castling_of Black KingSide) x)) (x == 60) (x == 63)
     (each_square-at empty_black_king black_king_way x l) h.0 h.1.0)
-empty_from men Black QueenSide h = each_square-all _ (λ x l.
+empty_from men Black QueenSide h =
+    castling_way_is_empty_by men (castling_of Black QueenSide) ∙ each_square-all _ (λ x l.
     three_left men x 57 58 59 (not (on_either (castling_of Black QueenSide) x)) (x == 60) (x == 56)
     (each_square-at empty_black_queen black_queen_way x l) h.0 h.1.0 h.1.1.0)
 
@@ -400,10 +386,6 @@ corner_is_apart White QueenSide a l = not-true _ (each_square-at (apart 2 0) whi
 corner_is_apart Black KingSide a l = not-true _ (each_square-at (apart 62 63) black_king_corner a l)
 corner_is_apart Black QueenSide a l = not-true _ (each_square-at (apart 58 56) black_queen_corner a l)
 
-not_between_end : (a t : ℕ) → is_between a t t ≡ false
-unfolding is_between
-not_between_end a t = grind (arith, nat_tests)
-
 -- ---- what castling leaves, square by square
 
 record AreApart (k : Castle) : Type 0 where
@@ -501,11 +483,6 @@ unfolding is_of
 rook_is White = refl
 rook_is Black = refl
 
-rook_is_no_king : (c : Colour) → is_man c King (Some (record { colour = c; kind = Rook })) ≡ false
-unfolding is_man
-rook_is_no_king White = refl
-rook_is_no_king Black = refl
-
 -- where q holds of the content of a square, and of none of the four, the square is another
 another : (men new : Men) (c : Colour) (k : Castle) (q : Option Man → Bool) (s : ℕ) → Castled men new c k → s < 64
     → q (man_at new s) ≡ true → q None ≡ false → q (Some (record { colour = c; kind = Rook })) ≡ false
@@ -548,7 +525,7 @@ clear_before men new c w a h l e = each_square-all _ (λ x m. by x m (is_between
     by x m false b = or_left _ _ (not_from_false _ b)
     by x m true b =
         elim (cases_eq x (castling_of c w).king_to) [
-          | inl at ↦ absurd (both_ways _ (not_between_end a (castling_of c w).king_to) (subst (λ (s : ℕ). is_between a (castling_of c w).king_to s ≡ true) at b))
+          | inl at ↦ absurd (both_ways _ (is_between-end a (castling_of c w).king_to) (subst (λ (s : ℕ). is_between a (castling_of c w).king_to s ≡ true) at b))
           | inr y ↦ elim (cases_eq x (castling_of c w).rook_to) [
             | inl at ↦ absurd (no_rook (subst (λ (s : ℕ). is_between a (castling_of c w).king_to s ≡ true) at b))
             | inr z ↦ elim (cases_eq x (castling_of c w).king_from) [
@@ -619,7 +596,7 @@ unfolding is_in_check
 out_of_check men new c w h whole one calm =
     some_square-none _ (λ s l. false_from_ne_true _ (λ e.
     let both = and_parts _ _ e in
-    elim (another men new c (castling_of c w) (λ (o : Option Man). is_man c King o) s h l both.0 (is_man-none c King None refl) (rook_is_no_king c)) [
+    elim (another men new c (castling_of c w) (λ (o : Option Man). is_man c King o) s h l both.0 (is_man-none c King None refl) (is_man-rook_as_king c)) [
       | inl at ↦ both_ways _ (unattacked men new c w h calm)
           (subst (λ (x : ℕ). is_attacked new x (other c) ≡ true) at both.1)
       | inr away ↦ away.1 (one_king men c s (castling_of c w).king_from whole one

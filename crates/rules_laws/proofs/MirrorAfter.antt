@@ -1,33 +1,11 @@
 -- The position after a move in the mirror.
-use Rattle.std.proofs.Common.{◌≡◌, ◌≢◌, ℕ, zero, suc, ◌+◌, ◌<◌, Bool, true, false, Some, None, Option, refl, sym, ap, ap₂, ◌∙◌, arith, ◌==◌, min, subst, ◌||◌, ◌&&◌, not, ◌∷◌, option_and_then}
-use Rattle.std.proofs.Math.Path.{fun_ext}
-use Rattle.std.proofs.lemmas.Bool.{and_parts, eqb-true}
+use Rattle.std.proofs.Common.{◌≡◌, ◌≢◌, ℕ, zero, suc, ◌+◌, ◌<◌, Bool, true, false, Some, None, Option, refl, sym, ap, ap₂, ◌∙◌, arith, ◌==◌, min, subst, ◌||◌, ◌&&◌, not, ◌∷◌, option_and_then, if◌then◌else◌, map}
+use Rattle.std.proofs.{Math.Path.fun_ext, lemmas.Bool.and_parts, lemmas.Bool.eqb-true}
 use Rattle.std.specs.Option.{option_map, option_map_or}
-use Rattle.std.specs.Prelude.{if◌then◌else◌, map}
-use Rattle.chess_base.specs.declared.castling.Castle.{Castle}
-use Rattle.chess_base.specs.declared.man.CastlingSide.{CastlingSide}
-use Rattle.chess_base.specs.declared.man.CastlingSide.TheVariants.{KingSide, QueenSide}
-use Rattle.chess_base.specs.declared.man.Colour.{Colour}
-use Rattle.chess_base.specs.declared.man.Colour.TheVariants.{White, Black}
-use Rattle.chess_base.specs.declared.man.Kind.{Kind}
-use Rattle.chess_base.specs.declared.man.Kind.TheVariants.{King, Rook, Pawn}
-use Rattle.chess_base.specs.declared.man.Man.{Man}
-use Rattle.chess_base.specs.declared.man.Move.{Move}
-use Rattle.chess_base.specs.declared.man.Rights.{Rights}
-use Rattle.chess_base.specs.declared.man.Variant.{Variant}
-use Rattle.chess_base.specs.declared.setup.Setup.{Setup}
-use Rattle.chess_base.specs.Squares.{rank, is_at, squares}
+use Rattle.chess_base.specs.{declared.castling.Castle.Castle, declared.man.CastlingSide.CastlingSide, declared.man.CastlingSide.TheVariants.KingSide, declared.man.CastlingSide.TheVariants.QueenSide, declared.man.Colour.Colour, declared.man.Colour.TheVariants.White, declared.man.Colour.TheVariants.Black, declared.man.Kind.Kind, declared.man.Kind.TheVariants.King, declared.man.Kind.TheVariants.Rook, declared.man.Kind.TheVariants.Pawn, declared.man.Man.Man, declared.man.Move.Move, declared.man.Rights.Rights, declared.man.Variant.Variant, declared.setup.Setup.Setup, Squares.rank, Squares.is_at, Squares.squares, Attacks.is_in_check, Castling.right_of, Castling.rights_by, Castling.castle_of, Sound.IsSound, shared.Below.from_below, shared.Parts.crossed_rank}
 use Rattle.chess_base.specs.Men.{Men, man_at, is_man, is_of, other, forward, first_rank}
-use Rattle.chess_base.specs.Attacks.{is_in_check}
-use Rattle.chess_base.specs.Castling.{right_of, rights_by, castle_of}
 use Rattle.chess_base.specs.Moves.{arriving_man, captured_square, after_castling, after_moving, men_after, rights_after, target_after, halfmove_after, after, is_double_advance, is_en_passant, is_legal}
-use Rattle.chess_base.specs.Sound.{IsSound}
-use Rattle.chess_base.specs.shared.Below.{from_below}
-use Rattle.chess_base.specs.shared.Parts.{crossed_rank}
-use Rattle.chess_base.proofs.shared.Captures.{resets_clock_is}
-use Rattle.chess_base.proofs.shared.Changes.{at_target}
-use Rattle.chess_base.proofs.shared.MoveKinds.{moves_from_pattern}
-use Rattle.chess_base.proofs.shared.Squares.{map_squares, get_or-map_squares}
+use Rattle.chess_base.proofs.{shared.Captures.resets_clock_is, shared.Changes.at_target, shared.MoveKinds.moves_from_pattern, shared.Squares.map_squares, shared.Squares.get_or-map_squares}
 use Rattle.rules_laws.specs.Mirror.{mirrored, mirrored_men, mirrored_rights, mirrored_setup, mirrored_move, MirrorIsAsLegal, MirrorMovesAlike}
 use Rattle.rules_laws.proofs.MirrorAttacks.{mirrored_in, twice, same_square, flipped, man_at-mirrored, is_of-mirrored, is_man-mirrored, is_in_check-mirrored}
 use Rattle.rules_laws.proofs.MirrorMoves.{forward-mirrored, forward_in, off_last, double_advance-mirrored, is_at-mirrored, en_passant-mirrored, right-mirrored, rook_in, mirrored_castle, castle-mirrored, IsInBoard, castle_in, pseudo_legal-mirrored}

@@ -1,20 +1,12 @@
 -- Attacks in the mirror.
-use Rattle.std.proofs.Common.{◌≡◌, ℕ, ◌+◌, ◌-◌, ◌<◌, ◌≤◌, Bool, true, false, Some, None, Option, refl, sym, ap, ap₂, ◌∙◌, arith, ◌==◌, inl, inr, subst, ◌||◌, ◌&&◌, not, is_none}
-use Rattle.std.proofs.lemmas.Bool.{cases_eq, eq-eqb, ne_eqb}
-use Rattle.std.proofs.lemmas.Bool.Decides.{nat_tests}
-use Rattle.std.specs.Cmp.{both_ways}
-use Rattle.std.specs.Int.{abs_diff}
-use Rattle.std.specs.Option.{option_map}
-use Rattle.chess_base.specs.declared.man.Colour.{Colour}
-use Rattle.chess_base.specs.declared.man.Colour.TheVariants.{White, Black}
-use Rattle.chess_base.specs.declared.man.Kind.{Kind}
+use Rattle.std.proofs.Common.{◌≡◌, ℕ, ◌+◌, ◌-◌, ◌<◌, ◌≤◌, Bool, true, false, Some, None, Option, refl, sym, ap, ap₂, ◌∙◌, arith, ◌==◌, inl, inr, subst, ◌||◌, ◌&&◌, not, is_none, option_map}
+use Rattle.std.proofs.{lemmas.Bool.cases_eq, lemmas.Bool.eq-eqb, lemmas.Bool.ne_eqb, lemmas.Bool.Decides.nat_tests}
+use Rattle.std.specs.{Cmp.both_ways, Int.abs_diff}
+use Rattle.chess_base.specs.{declared.man.Colour.Colour, declared.man.Colour.TheVariants.White, declared.man.Colour.TheVariants.Black, declared.man.Kind.Kind, declared.man.Man.Man, ByColour.by_colour, shared.Splits.could_capture_as}
 use Rattle.chess_base.specs.declared.man.Kind.TheVariants.{King, Queen, Rook, Bishop, Knight, Pawn}
-use Rattle.chess_base.specs.declared.man.Man.{Man}
 use Rattle.chess_base.specs.Squares.{file, rank, is_strictly_between, share_rank_or_file, share_diagonal, is_between, some_square, each_square}
-use Rattle.chess_base.specs.ByColour.{by_colour}
 use Rattle.chess_base.specs.Men.{Men, man_at, is_man, is_of, other, same_colour, same_kind}
 use Rattle.chess_base.specs.Attacks.{attacks, could_capture, is_attacked, is_clear, is_in_check}
-use Rattle.chess_base.specs.shared.Splits.{could_capture_as}
 use Rattle.chess_base.proofs.shared.Squares.{get_or-map_squares, each_square-all, each_square-at, each_square_same, some_square_same, some_square-at, some_square-none}
 use Rattle.rules_laws.specs.Mirror.{mirrored, mirrored_man, mirrored_men, MirrorAttacksAlike}
 

@@ -1,34 +1,19 @@
 -- Endings in the mirror.
-use Rattle.std.proofs.Common.{◌≡◌, ℕ, zero, suc, ◌+◌, ◌-◌, ◌%◌, ◌<◌, ◌≤◌, Bool, true, cond, Some, None, Option, refl, sym, ap, ap₂, ◌∙◌, arith, ◌==◌, subst, ◌||◌, ◌&&◌, List, [], ◌∷◌, length, map, count_by}
-use Rattle.std.proofs.lemmas.Bool.{and_parts, both_ways, false_from_ne_true}
-use Rattle.std.proofs.lemmas.Bool.Decides.{nat_tests}
-use Rattle.std.proofs.lemmas.List.{ext_get_or}
-use Rattle.std.proofs.lemmas.List.Sums.{sum_by-cons}
+use Rattle.std.proofs.Common.{◌≡◌, ℕ, zero, suc, ◌+◌, ◌-◌, ◌%◌, ◌<◌, ◌≤◌, Bool, cond, Some, None, Option, refl, sym, ap, ap₂, ◌∙◌, arith, ◌==◌, subst, ◌||◌, ◌&&◌, List, [], ◌∷◌, length, map, count_by, ext_get_or}
+use Rattle.std.proofs.{lemmas.Bool.both_ways, lemmas.Bool.false_from_ne_true, lemmas.Bool.Decides.nat_tests, lemmas.List.Sums.sum_by-cons, Math.Bool.and_comm}
 use Rattle.std.specs.List.{list_any}
-use Rattle.chess_base.specs.declared.man.Kind.{Kind}
+use Rattle.chess_base.specs.{declared.man.Kind.Kind, declared.man.Man.Man, declared.man.Move.Move, declared.setup.Setup.Setup, Men.Men, Men.man_at, Moves.is_legal, Sound.IsSound, shared.Below.from_below}
 use Rattle.chess_base.specs.declared.man.Kind.TheVariants.{Queen, Rook, Bishop, Knight, Pawn}
-use Rattle.chess_base.specs.declared.man.Man.{Man}
-use Rattle.chess_base.specs.declared.man.Move.{Move}
-use Rattle.chess_base.specs.declared.setup.Setup.{Setup}
 use Rattle.chess_base.specs.Squares.{file, rank, some_square, squares}
-use Rattle.chess_base.specs.Men.{Men, man_at}
-use Rattle.chess_base.specs.Moves.{is_legal}
-use Rattle.chess_base.specs.Sound.{IsSound}
-use Rattle.chess_base.specs.shared.Below.{from_below}
-use Rattle.chess_base.proofs.shared.MoveKinds.{Moves, moves_from_pattern}
+use Rattle.chess_base.proofs.shared.MoveKinds.{Moves-from_legal}
 use Rattle.chess_base.proofs.shared.Squares.{map_squares, length-map_squares, get_or-map_squares, some_square_same}
 use Rattle.chess_game.specs.Ends.{is_kind, has_bishop_on, has_insufficient_material}
 use Rattle.rules_laws.specs.Endings.{HasNoMove}
 use Rattle.rules_laws.specs.Mirror.{mirrored, mirrored_men, mirrored_setup, mirrored_move, MirrorEndsAlike}
 use Rattle.rules_laws.proofs.MirrorAttacks.{mirrored_in, twice, same_file, other_rank, rank_in, some_mirrored, flipped, man_at-mirrored, is_in_check-mirrored}
 use Rattle.rules_laws.proofs.MirrorAfter.{mirror_is_as_legal}
-use Rattle.std.proofs.Math.Bool.{and_comm}
 
 -- ---- no legal move
-
-pub in_board : (p : Setup) (m : Move) → is_legal p m ≡ true → Moves p m
-unfolding is_legal
-in_board p m legal = moves_from_pattern p m (and_parts _ _ legal).0
 
 pub move_twice : (m : Move) → m.from < 64 → m.to < 64 → mirrored_move (mirrored_move m) ≡ m
 move_twice m h l =
@@ -37,7 +22,7 @@ move_twice m h l =
 pub none_in_mirror : (p : Setup) → IsSound p → HasNoMove p → HasNoMove (mirrored_setup p)
 none_in_mirror p sound none m =
     false_from_ne_true _ (λ legal.
-    let h = in_board (mirrored_setup p) m legal in
+    let h = Moves-from_legal (mirrored_setup p) m legal in
     let back = mirror_is_as_legal p (mirrored_move m) sound (mirrored_in m.from h.from_in) (mirrored_in m.to h.to_in) in
     let here = ap (is_legal (mirrored_setup p)) (move_twice m h.from_in h.to_in) in
     both_ways _ (none (mirrored_move m)) (sym back ∙ here ∙ legal))
@@ -45,7 +30,7 @@ none_in_mirror p sound none m =
 pub none_from_mirror : (p : Setup) → IsSound p → HasNoMove (mirrored_setup p) → HasNoMove p
 none_from_mirror p sound none m =
     false_from_ne_true _ (λ legal.
-    let h = in_board p m legal in
+    let h = Moves-from_legal p m legal in
     both_ways _ (none (mirrored_move m)) (mirror_is_as_legal p m sound h.from_in h.to_in ∙ legal))
 
 -- ---- pieces of a kind

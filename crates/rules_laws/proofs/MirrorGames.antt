@@ -1,45 +1,24 @@
 -- Whole games in the mirror.
-use Rattle.std.proofs.Common.{◌≡◌, ℕ, ◌+◌, ◌<◌, Bool, true, false, cond, Some, None, Option, refl, sym, ap, ap₂, ◌∙◌, arith, ◌==◌, nat_le, subst, ◌&&◌, List, [], ◌∷◌, length, map, count_by}
+use Rattle.std.proofs.Common.{◌≡◌, ℕ, ◌+◌, ◌<◌, Bool, true, false, cond, Some, None, Option, refl, sym, ap, ap₂, ◌∙◌, arith, ◌==◌, nat_le, subst, ◌&&◌, List, [], ◌∷◌, length, map, count_by, option_map, if◌then◌else◌}
 use Rattle.std.proofs.lemmas.Bool.{and_parts, both_ways, eqb-true, ne_eqb}
-use Rattle.std.proofs.lemmas.List.Sums.{sum_by-cons}
-use Rattle.std.specs.Cmp.{both_ways as same_tests}
-use Rattle.std.specs.List.{list_any}
-use Rattle.std.specs.Option.{option_map}
-use Rattle.std.specs.Prelude.{if◌then◌else◌}
-use Rattle.chess_base.specs.declared.man.CastlingSide.{CastlingSide}
-use Rattle.chess_base.specs.declared.man.CastlingSide.TheVariants.{KingSide, QueenSide}
-use Rattle.chess_base.specs.declared.man.Colour.{Colour}
-use Rattle.chess_base.specs.declared.man.Colour.TheVariants.{White, Black}
-use Rattle.chess_base.specs.declared.man.Kind.TheVariants.{King, Pawn}
-use Rattle.chess_base.specs.declared.man.Man.{Man}
-use Rattle.chess_base.specs.declared.man.Move.{Move}
-use Rattle.chess_base.specs.declared.setup.Setup.{Setup}
-use Rattle.chess_base.specs.Squares.{rank, is_at, some_square}
+use Rattle.std.proofs.{lemmas.List.Sums.sum_by-cons, Math.Bool.and_comm}
+use Rattle.std.specs.{Cmp.both_ways as same_tests, List.list_any}
+use Rattle.chess_base.specs.{declared.man.CastlingSide.CastlingSide, declared.man.CastlingSide.TheVariants.KingSide, declared.man.CastlingSide.TheVariants.QueenSide, declared.man.Colour.Colour, declared.man.Colour.TheVariants.White, declared.man.Colour.TheVariants.Black, declared.man.Kind.TheVariants.King, declared.man.Kind.TheVariants.Pawn, declared.man.Man.Man, declared.man.Move.Move, declared.setup.Setup.Setup, Squares.rank, Squares.is_at, Squares.some_square, Attacks.is_in_check, MoveList.moves, MoveList.move_of, Sound.IsSound, shared.Parts.crossed_rank}
 use Rattle.chess_base.specs.Men.{Men, man_at, is_man, other, first_rank, same_kind}
-use Rattle.chess_base.specs.Attacks.{is_in_check}
 use Rattle.chess_base.specs.Castling.{right_of, is_castling_to, castling, castle_of, castles}
-use Rattle.chess_base.specs.MoveList.{moves, move_of}
 use Rattle.chess_base.specs.Moves.{is_legal, is_pseudo_legal, after, is_en_passant, is_double_advance, pawn_advances, pawn_captures, pawn_moves, man_moves, captured_square, men_after, rights_after, target_after, resets_clock, halfmove_after, promotion_fits}
-use Rattle.chess_base.specs.Sound.{IsSound}
-use Rattle.chess_base.specs.shared.Parts.{crossed_rank}
-use Rattle.chess_base.proofs.shared.Changes.{at_target}
-use Rattle.chess_base.proofs.shared.LegalMoves.{IsSound-after}
-use Rattle.chess_base.proofs.shared.Men.{is_man-kind}
-use Rattle.chess_base.proofs.shared.MoveKinds.{MoveKind, ManMoves, Castles, PawnMoves, unpromoted_below}
-use Rattle.chess_base.proofs.shared.Castling.{says_from_castling, castling_says}
-use Rattle.chess_base.proofs.shared.Squares.{each_square_same, some_square_same}
+use Rattle.chess_base.proofs.{shared.Changes.at_target, shared.LegalMoves.IsSound-after, shared.Men.is_man-kind, shared.Castling.says_from_castling, shared.Castling.castling_says, shared.Squares.each_square_same, shared.Squares.some_square_same}
+use Rattle.chess_base.proofs.shared.MoveKinds.{MoveKind, ManMoves, Castles, PawnMoves, unpromoted_below, Moves-from_legal}
 use Rattle.chess_moves.proofs.shared.AnyMove.{AllFound, any_by_start}
-use Rattle.chess_game.specs.Ends.{has_insufficient_material}
-use Rattle.chess_game.specs.Line.{positions_of, position_after, IsLine}
+use Rattle.chess_game.specs.{Ends.has_insufficient_material, Line.positions_of, Line.position_after, Line.IsLine}
 use Rattle.chess_game.specs.Same.{same_man, same_men, same_square, same_colour_rights, same_rights, legal_en_passant_square, is_same_position, repetition_count}
+use Rattle.chess_game.proofs.shared.Lines.{IsSound-position_after}
 use Rattle.rules_laws.specs.Mirror.{mirrored, mirrored_men, mirrored_rights, mirrored_setup, mirrored_move, mirrored_verdict, MirrorGamesAlike}
 use Rattle.rules_laws.proofs.NoMove.{judged, has_none, none_from, none_to, some_numbers}
 use Rattle.rules_laws.proofs.MirrorAttacks.{mirrored_in, twice, each_mirrored, some_mirrored, flipped, man_at-mirrored, same_colour-other, is_in_check-mirrored}
 use Rattle.rules_laws.proofs.MirrorAttacks as attacks
-use Rattle.rules_laws.proofs.MirrorMoves.{target_in, rook_in, en_passant-mirrored}
-use Rattle.rules_laws.proofs.MirrorAfter.{mirror_is_as_legal, mirror_moves_alike}
-use Rattle.rules_laws.proofs.MirrorEndings.{in_board, move_twice, none_in_mirror, none_from_mirror, material-mirrored}
-use Rattle.std.proofs.Math.Bool.{and_comm}
+use Rattle.rules_laws.proofs.{MirrorMoves.target_in, MirrorMoves.rook_in, MirrorMoves.en_passant-mirrored, MirrorAfter.mirror_is_as_legal, MirrorAfter.mirror_moves_alike}
+use Rattle.rules_laws.proofs.MirrorEndings.{move_twice, none_in_mirror, none_from_mirror, material-mirrored}
 
 -- ---- positions but for their fullmove numbers
 
@@ -115,7 +94,7 @@ short_of_last White s e = ne_eqb _ _ (λ f. omega (arith, e, f))
 short_of_last Black s e = ne_eqb _ _ (λ f. omega (arith, e, f))
 
 no_promotion : (p : Setup) (m : Move) → IsSound p → is_legal p m ≡ true → is_en_passant p m ≡ true → m.promotion ≡ None
-no_promotion p m sound legal passes = by (in_board p m legal).kind
+no_promotion p m sound legal passes = by (Moves-from_legal p m legal).kind
   where
     by : MoveKind p m → m.promotion ≡ None
     by (ManMoves n at e) = absurd (both_ways _ n (passes_parts p m passes).0)
@@ -138,7 +117,7 @@ found_in_mirror p to sound at = record {
   ends = λ m legal passes. (let on = (passes_parts (mirrored_setup p) m passes).1 in
       sym (eqb-true (mirrored to) m.to
       (subst (λ (o : Option ℕ). is_at (option_map mirrored o) m.to ≡ true) at on)));
-  stays = λ m legal passes. (let h = in_board (mirrored_setup p) m legal in
+  stays = λ m legal passes. (let h = Moves-from_legal (mirrored_setup p) m legal in
       let inside = mirrored_in m.from h.from_in in
       let inside' = mirrored_in m.to h.to_in in
       let same = move_twice m h.from_in h.to_in in
@@ -238,10 +217,6 @@ last_mirror p q (m ∷ ms) is sound line =
     last_mirror (after p m) (after q (mirrored_move m)) ms (next_mirror p q m is sound line.0)
     (IsSound-after p m sound line.0) line.1
 
-last_sound : (p : Setup) (ms : List Move) → IsSound p → IsLine p ms → IsSound (position_after p ms)
-last_sound p [] sound line = sound
-last_sound p (m ∷ ms) sound line = last_sound (after p m) ms (IsSound-after p m sound line.0) line.1
-
 abbrev one_if : Bool → ℕ
 one_if b = cond b 1 0
 
@@ -305,14 +280,15 @@ unfolding repetition_count
 repetitions_alike start ms sound line =
     count_alike start (mirrored_setup start) ms (position_after start ms)
     (position_after (mirrored_setup start) (map mirrored_move ms)) refl
-    (last_mirror start (mirrored_setup start) ms refl sound line) sound (last_sound start ms sound line) line
+    (last_mirror start (mirrored_setup start) ms refl sound line) sound (IsSound-position_after start ms sound line)
+    line
 
 pub mirror_games_alike : MirrorGamesAlike
 mirror_games_alike start ms sound line =
     let p = position_after start ms in
     let q = position_after (mirrored_setup start) (map mirrored_move ms) in
     let is : IsMirror p q = last_mirror start (mirrored_setup start) ms refl sound line in
-    let sound' : IsSound p = last_sound start ms sound line in
+    let sound' : IsSound p = IsSound-position_after start ms sound line in
     let at : Alike p q = alike p q is in
     let count = repetitions_alike start ms sound line in
     record {

@@ -1,32 +1,12 @@
 -- Moves in the mirror: a move is pseudo-legal exactly if its mirror is.
-use Rattle.std.proofs.Common.{◌≡◌, ◌≢◌, ℕ, ◌<◌, Bool, true, false, cond, Some, None, Option, refl, sym, ap, ap₂, ◌∙◌, arith, ◌==◌, subst, ◌||◌, ◌&&◌, not, is_none, option_and_then}
+use Rattle.std.proofs.Common.{◌≡◌, ◌≢◌, ℕ, ◌<◌, Bool, true, false, cond, Some, None, Option, refl, sym, ap, ap₂, ◌∙◌, arith, ◌==◌, subst, ◌||◌, ◌&&◌, not, is_none, option_and_then, option_map}
 use Rattle.std.proofs.lemmas.Bool.{and_parts, and_from, both_ways, eqb-true, eq-eqb, lt-ltb, not-true, or_left, or_right}
-use Rattle.std.specs.Option.{option_map}
-use Rattle.chess_base.specs.declared.castling.Castle.{Castle}
-use Rattle.chess_base.specs.declared.man.CastlingSide.{CastlingSide}
-use Rattle.chess_base.specs.declared.man.CastlingSide.TheVariants.{KingSide, QueenSide}
-use Rattle.chess_base.specs.declared.man.Colour.{Colour}
-use Rattle.chess_base.specs.declared.man.Colour.TheVariants.{White, Black}
-use Rattle.chess_base.specs.declared.man.Kind.{Kind}
-use Rattle.chess_base.specs.declared.man.Kind.TheVariants.{King, Rook, Pawn}
-use Rattle.chess_base.specs.declared.man.Man.{Man}
-use Rattle.chess_base.specs.declared.man.Move.{Move}
-use Rattle.chess_base.specs.declared.man.Rights.{Rights}
-use Rattle.chess_base.specs.declared.man.Variant.{Variant}
-use Rattle.chess_base.specs.declared.man.Variant.TheVariants.{Normal, Fischerandom}
-use Rattle.chess_base.specs.declared.setup.Setup.{Setup}
-use Rattle.chess_base.specs.Squares.{rank, is_at}
+use Rattle.chess_base.specs.{declared.castling.Castle.Castle, declared.man.CastlingSide.CastlingSide, declared.man.CastlingSide.TheVariants.KingSide, declared.man.CastlingSide.TheVariants.QueenSide, declared.man.Colour.Colour, declared.man.Colour.TheVariants.White, declared.man.Colour.TheVariants.Black, declared.man.Kind.Kind, declared.man.Kind.TheVariants.King, declared.man.Kind.TheVariants.Rook, declared.man.Kind.TheVariants.Pawn, declared.man.Man.Man, declared.man.Move.Move, declared.man.Rights.Rights, declared.man.Variant.Variant, declared.man.Variant.TheVariants.Normal, declared.man.Variant.TheVariants.Fischerandom, declared.setup.Setup.Setup, Squares.rank, Squares.is_at, Attacks.is_attacked, Sound.IsSound, Sound.no_pawn_on_end_ranks, shared.Parts.crossed_rank, shared.Splits.names_castling, shared.Splits.castles_or_moves}
 use Rattle.chess_base.specs.Men.{Men, man_at, is_man, other, forward, first_rank, pawn_rank, same_colour, same_kind}
-use Rattle.chess_base.specs.Attacks.{is_attacked}
 use Rattle.chess_base.specs.Castling.{home_square, king_home_file, castled_king_file, castled_rook_file, right_of, names_castling_with, is_castling_to, castling, castle_from, castle_of, is_on_way, castling_way_is_empty, castling_way_is_safe, castles}
 use Rattle.chess_base.specs.Moves.{is_double_advance, is_en_passant, pawn_advances, pawn_captures, pawn_moves, man_moves, moves_as, is_pseudo_legal}
-use Rattle.chess_base.specs.Sound.{IsSound, no_pawn_on_end_ranks}
-use Rattle.chess_base.specs.shared.Parts.{crossed_rank}
-use Rattle.chess_base.specs.shared.Splits.{names_castling, castles_or_moves}
-use Rattle.chess_base.proofs.shared.Castling.{castling_rook_is_there, right_is_sound_of}
-use Rattle.chess_base.proofs.shared.Changes.{at_target}
-use Rattle.chess_base.proofs.shared.Men.{in_board}
-use Rattle.chess_base.proofs.shared.Squares.{each_square-at, each_square_same}
+use Rattle.chess_base.proofs.shared.Castling.{castling_rook_is_there, right_is_sound_of, castled_king_file-below, castled_rook_file-below, home_square-below}
+use Rattle.chess_base.proofs.{shared.Changes.at_target, shared.Men.in_board, shared.Parts.castling_way_is_empty_by, shared.Squares.each_square-at, shared.Squares.each_square_same}
 use Rattle.rules_laws.specs.Mirror.{mirrored, mirrored_men, mirrored_rights, mirrored_setup, mirrored_move}
 use Rattle.rules_laws.proofs.MirrorAttacks.{mirrored_in, other_rank, rank_in, same_square, same_ranks, each_mirrored, flipped, man_at-mirrored, same_colour-other, is_of-mirrored, is_man-mirrored, is_none-mirrored, is_between-mirrored, attacks-mirrored, is_attacked-mirrored}
 
@@ -166,20 +146,10 @@ pub home-mirrored : (c : Colour) (f : ℕ) → f < 8 → home_square (other c) f
 home-mirrored White f h = omega (arith, h)
 home-mirrored Black f h = omega (arith, h)
 
-home_in : (c : Colour) (f : ℕ) → f < 8 → home_square c f < 64
-home_in White f h = omega (arith, h)
-home_in Black f h = omega (arith, h)
-
-king_file_in : (w : CastlingSide) → castled_king_file w < 8
-king_file_in KingSide = omega arith
-king_file_in QueenSide = omega arith
-
-rook_file_in : (w : CastlingSide) → castled_rook_file w < 8
-rook_file_in KingSide = omega arith
-rook_file_in QueenSide = omega arith
-
 home_named : (c : Colour) (f s : ℕ) → f < 8 → s < 64 → (mirrored s == home_square (other c) f) ≡ (s == home_square c f)
-home_named c f s h l = ap (λ (t : ℕ). mirrored s == t) (home-mirrored c f h) ∙ same_square s (home_square c f) l (home_in c f h)
+home_named c f s h l =
+    ap (λ (t : ℕ). mirrored s == t) (home-mirrored c f h)
+    ∙ same_square s (home_square c f) l (home_square-below c f h)
 
 pub right-mirrored : (r : Rights) (c : Colour) (w : CastlingSide)
     → right_of (mirrored_rights r) (other c) w ≡ option_map mirrored (right_of r c w)
@@ -199,7 +169,7 @@ names_with : (v : Variant) (c : Colour) (m : Move) (w : CastlingSide) (r : ℕ) 
     → names_castling_with v (other c) (mirrored_move m) w (mirrored r) ≡ names_castling_with v c m w r
 names_with Normal c m w r h l k =
     ap₂ (λ (a b : Bool). a && b) (home_named c king_home_file m.from (omega arith) h)
-    (home_named c (castled_king_file w) m.to (king_file_in w) l)
+    (home_named c (castled_king_file w) m.to (castled_king_file-below w) l)
 names_with Fischerandom c m w r h l k =
     ap₂ (λ (a b : Bool). a && b) (same_rank m.from r h k) (same_square m.to r l k)
 
@@ -236,7 +206,8 @@ castle_from-mirrored : (c : Colour) (w : CastlingSide) (king rook : ℕ)
     → castle_from (other c) w (mirrored king) (mirrored rook) ≡ mirrored_castle (castle_from c w king rook)
 castle_from-mirrored c w king rook =
     ap₂ (λ (a b : ℕ). record { king_from = mirrored king; king_to = a; rook_from = mirrored rook; rook_to = b })
-    (home-mirrored c (castled_king_file w) (king_file_in w)) (home-mirrored c (castled_rook_file w) (rook_file_in w))
+    (home-mirrored c (castled_king_file w) (castled_king_file-below w))
+    (home-mirrored c (castled_rook_file w) (castled_rook_file-below w))
 
 castle_with-mirrored : (c : Colour) (w : CastlingSide) (king : ℕ) (o : Option ℕ)
     → option_map (castle_from (other c) w (mirrored king)) (option_map mirrored o)
@@ -273,11 +244,12 @@ on_way-mirrored a b x h l k =
 
 way_is_empty-mirrored : (men : Men) (k : Castle) → IsInBoard k
     → castling_way_is_empty (mirrored_men men) (mirrored_castle k) ≡ castling_way_is_empty men k
-unfolding castling_way_is_empty
 way_is_empty-mirrored men k h =
-    sym (each_mirrored (λ x. not (is_on_way (mirrored k.king_from) (mirrored k.king_to) x || is_on_way (mirrored k.rook_from) (mirrored k.rook_to) x)
+    castling_way_is_empty_by (mirrored_men men) (mirrored_castle k)
+    ∙ sym (each_mirrored (λ x. not (is_on_way (mirrored k.king_from) (mirrored k.king_to) x || is_on_way (mirrored k.rook_from) (mirrored k.rook_to) x)
     || (x == mirrored k.king_from) || (x == mirrored k.rook_from) || is_none (man_at (mirrored_men men) x)))
-    ∙ each_square_same _ _ (λ x l.
+    ∙ each_square_same _ (λ x. not (is_on_way k.king_from k.king_to x || is_on_way k.rook_from k.rook_to x)
+    || (x == k.king_from) || (x == k.rook_from) || is_none (man_at men x)) (λ x l.
     rw (
       on_way-mirrored k.king_from k.king_to x h.king_from h.king_to l,
       on_way-mirrored k.rook_from k.rook_to x h.rook_from h.rook_to l,
@@ -285,6 +257,7 @@ way_is_empty-mirrored men k h =
       same_square x k.rook_from l h.rook_from,
       is_none-mirrored men x l,
     ) refl)
+    ∙ sym (castling_way_is_empty_by men k)
 
 way_is_safe-mirrored : (men : Men) (c : Colour) (k : Castle) → IsInBoard k
     → castling_way_is_safe (mirrored_men men) (other c) (mirrored_castle k) ≡ castling_way_is_safe men c k
@@ -307,9 +280,9 @@ castle_in_by p m k sound h w (Some r) at e =
     let same : castle_from p.side w m.from r ≡ k = cc in
     subst IsInBoard same (record {
       king_from = h;
-      king_to = home_in p.side (castled_king_file w) (king_file_in w);
+      king_to = home_square-below p.side (castled_king_file w) (castled_king_file-below w);
       rook_from = rook_in p p.side w r sound at;
-      rook_to = home_in p.side (castled_rook_file w) (rook_file_in w);
+      rook_to = home_square-below p.side (castled_rook_file w) (castled_rook_file-below w);
     })
 
 castle_in_side : (p : Setup) (m : Move) (k : Castle) → IsSound p → m.from < 64 → (o : Option CastlingSide)

@@ -2,26 +2,15 @@
 use Rattle.std.proofs.Common.{◌≡◌, ◌≢◌, ℕ, ◌+◌, ◌-◌, ◌<◌, ◌≤◌, true, false, List, [], ◌∷◌, Some, None, Option, refl, sym, ap, ◌∙◌, arith, inl, inr, subst, ◌⊎◌, ◌%◌}
 use Rattle.std.proofs.lemmas.Bool.{and_parts, and_from, or_cases, or_left, or_right, both_ways, cases_lt, eqb-true, ne_eqb, le-leb, lt-ltb, not_from_false, false_from_ne_true}
 use Rattle.std.specs.Int.{abs_diff}
-use Rattle.chess_base.specs.declared.man.Colour.{Colour}
-use Rattle.chess_base.specs.declared.man.Kind.{Kind}
+use Rattle.chess_base.specs.{declared.man.Colour.Colour, declared.man.Kind.Kind, declared.man.Man.Man, declared.man.Move.Move, declared.setup.Setup.Setup, Squares.file, Squares.rank, Castling.castle_of, Castling.king_square, Sound.IsSound}
 use Rattle.chess_base.specs.declared.man.Kind.TheVariants.{King, Queen, Rook, Bishop, Knight, Pawn}
-use Rattle.chess_base.specs.declared.man.Man.{Man}
-use Rattle.chess_base.specs.declared.man.Move.{Move}
-use Rattle.chess_base.specs.declared.setup.Setup.{Setup}
-use Rattle.chess_base.specs.Squares.{file, rank}
 use Rattle.chess_base.specs.Men.{Men, man_at, is_man, is_of, other, same_colour, same_kind}
 use Rattle.chess_base.specs.Attacks.{attacks, could_capture, is_attacked, is_in_check}
-use Rattle.chess_base.specs.Castling.{castle_of, king_square}
 use Rattle.chess_base.specs.Moves.{is_legal, is_pseudo_legal, moves_as, after, man_moves}
-use Rattle.chess_base.specs.Sound.{IsSound}
-use Rattle.chess_base.proofs.shared.Castling.{no_castle}
+use Rattle.chess_base.proofs.{shared.Castling.no_castle, shared.LegalMoves.IsSound-after, shared.MoveKinds.no_king_where_attacked, shared.Squares.some_square-none}
 use Rattle.chess_base.proofs.shared.Kings.{king_square-at, king_square-king, one_king, one_king_of}
-use Rattle.chess_base.proofs.shared.LegalMoves.{IsSound-after}
 use Rattle.chess_base.proofs.shared.Men.{colour_cases, same_colour-self, same_kind-true, is_man-colour, is_of-from_is_man, no_other, is_of-none, in_board, is_man-none}
-use Rattle.chess_base.proofs.shared.MoveKinds.{no_king_where_attacked}
-use Rattle.chess_base.proofs.shared.Squares.{some_square-none}
-use Rattle.chess_game.specs.Ends.{is_kind}
-use Rattle.chess_game.specs.Line.{position_after, IsLine}
+use Rattle.chess_game.specs.{Ends.is_kind, Line.position_after, Line.IsLine}
 use Rattle.rules_laws.specs.Endings.{HasNoMove, IsMate, InsufficientNeverMates}
 use Rattle.rules_laws.proofs.Pieces.{attacks_as, king_is_near}
 use Rattle.rules_laws.proofs.Material.{is_minor, is_major, shade, FewMinors, OneMinor, Bishops, IsBare, HasMoved, moved, origin, bishop_shade, knight_shade, attacks_by_kind, no_castling_here, bare_from, bare_after}

@@ -1,23 +1,10 @@
 -- Mate and stalemate by the moves that are legal.
-use Rattle.std.proofs.Common.{ℕ, ◌≡◌, Bool, true, false, List, [], ◌∷◌, length, Some, None, Option, refl, sym, ◌∙◌, arith, ◌==◌, nat_le}
+use Rattle.std.proofs.Common.{ℕ, ◌≡◌, Bool, true, false, List, [], ◌∷◌, length, Some, None, Option, refl, sym, ◌∙◌, arith, ◌==◌, nat_le, filter, if◌then◌else◌}
 use Rattle.std.proofs.lemmas.Bool.{eqb-true, eq-eqb, false_from_ne_true, ltb-true}
-use Rattle.std.specs.List.{filter}
-use Rattle.std.specs.Prelude.{if◌then◌else◌}
-use Rattle.chess_base.specs.declared.man.Colour.{Colour}
-use Rattle.chess_base.specs.declared.man.Colour.TheVariants.{White, Black}
-use Rattle.chess_base.specs.declared.man.Move.{Move}
-use Rattle.chess_base.specs.declared.setup.Setup.{Setup}
-use Rattle.chess_base.specs.Attacks.{is_in_check}
-use Rattle.chess_base.specs.ByColour.{by_colour}
-use Rattle.chess_base.specs.Men.{other}
-use Rattle.chess_base.specs.MoveList.{all_moves, moves}
-use Rattle.chess_base.specs.Moves.{is_legal}
+use Rattle.chess_base.specs.{declared.man.Colour.Colour, declared.man.Colour.TheVariants.White, declared.man.Colour.TheVariants.Black, declared.man.Move.Move, declared.setup.Setup.Setup, Attacks.is_in_check, ByColour.by_colour, Men.other, MoveList.all_moves, MoveList.moves, Moves.is_legal}
 use Rattle.chess_moves.proofs.shared.LegalMoves.{some_legal}
-use Rattle.chess_game.specs.declared.verdicts.Verdict.{Verdict}
+use Rattle.chess_game.specs.{declared.verdicts.Verdict.Verdict, Ends.has_insufficient_material, Ends.verdict, Line.position_after, Same.repetition_count}
 use Rattle.chess_game.specs.declared.verdicts.Verdict.TheVariants.{WhiteMates, BlackMates, Stalemate, InsufficientMaterial, FivefoldRepetition, SeventyFiveMoves}
-use Rattle.chess_game.specs.Ends.{has_insufficient_material, verdict}
-use Rattle.chess_game.specs.Line.{position_after}
-use Rattle.chess_game.specs.Same.{repetition_count}
 use Rattle.rules_laws.specs.Endings.{HasNoMove, NoMoveEnds}
 
 -- a verdict by its tests: no legal move, insufficient material, fivefold repetition, 75 moves; in check; the side on

@@ -1,23 +1,11 @@
 -- What a piece of a known kind attacks, and what is on a square after a move.
 use Rattle.std.proofs.Common.{◌≡◌, ◌≢◌, ℕ, ◌<◌, ◌≤◌, true, Option, Some, None, refl, ap, ◌∙◌, ◌==◌, ◌&&◌, not, nat_le}
 use Rattle.std.proofs.lemmas.Bool.{and_parts, eqb-false, leb-true, not-true}
-use Rattle.std.specs.Int.{abs_diff}
-use Rattle.std.specs.Option.{option_map_or}
-use Rattle.chess_base.specs.declared.castling.Castle.{Castle}
-use Rattle.chess_base.specs.declared.man.Colour.{Colour}
-use Rattle.chess_base.specs.declared.man.Kind.{Kind}
-use Rattle.chess_base.specs.declared.man.Kind.TheVariants.{King}
-use Rattle.chess_base.specs.declared.man.Man.{Man}
-use Rattle.chess_base.specs.declared.man.Move.{Move}
-use Rattle.chess_base.specs.declared.setup.Setup.{Setup}
-use Rattle.chess_base.specs.Squares.{file, rank}
+use Rattle.std.specs.{Int.abs_diff, Option.option_map_or}
+use Rattle.chess_base.specs.{declared.castling.Castle.Castle, declared.man.Colour.Colour, declared.man.Kind.Kind, declared.man.Kind.TheVariants.King, declared.man.Man.Man, declared.man.Move.Move, declared.setup.Setup.Setup, Squares.file, Squares.rank, Attacks.attacks, Attacks.could_capture, Castling.castle_of, shared.Splits.could_capture_as}
 use Rattle.chess_base.specs.Men.{Men, man_at, is_man, same_colour, same_kind}
-use Rattle.chess_base.specs.Attacks.{attacks, could_capture}
-use Rattle.chess_base.specs.Castling.{castle_of}
 use Rattle.chess_base.specs.Moves.{after, man_moves, men_after, after_castling, after_moving}
-use Rattle.chess_base.specs.shared.Splits.{could_capture_as}
-use Rattle.chess_base.proofs.shared.Men.{same_colour-true, same_kind-true}
-use Rattle.chess_base.proofs.shared.Squares.{get_or-map_squares}
+use Rattle.chess_base.proofs.{shared.Men.same_colour-true, shared.Men.same_kind-true, shared.Squares.get_or-map_squares}
 
 as_kind : (men : Men) (a b : ℕ) (c : Colour) (k : Kind) (o : Option Man) → is_man c k o ≡ true
     → could_capture_as men o a b ≡ could_capture men c k a b

@@ -1,7 +1,6 @@
 -- Rook, bishop and queen reach the squares of the diagrams.
 use Rattle.std.proofs.Common.{refl}
-use Rattle.chess_base.specs.Attacks.{is_clear, could_capture}
-use Rattle.chess_base.specs.Squares.{each_square, squares, is_between}
+use Rattle.chess_base.specs.{Attacks.is_clear, Attacks.could_capture, Squares.each_square, Squares.squares, Squares.is_between}
 use Rattle.rules_laws.specs.Sliders.{DiagramsHold}
 
 pub diagrams_hold : DiagramsHold

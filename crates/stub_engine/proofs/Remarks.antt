@@ -1,11 +1,9 @@
 -- What a stub says after its move, remark by remark.
-use Rattle.std.proofs.Common.{◌≡◌, ◌∙◌, ◌<◌, ◌≤◌, ◌+◌, ℕ, suc, Bor, Bool, true, false, List, [], ◌∷◌, ◌++◌, length, drop, get_or, is_some, option_map, Option, Some, None, unwrap_or, Result, IsErr, if◌then◌else◌, refl, sym, ap, append_assoc, append-nil, subst, arith}
+use Rattle.std.proofs.Common.{◌≡◌, ◌∙◌, ◌<◌, ◌≤◌, ◌+◌, ℕ, suc, Bor, Bool, true, false, List, [], ◌∷◌, ◌++◌, length, drop, get_or, is_some, option_map, Option, Some, None, unwrap_or, Result, IsErr, if◌then◌else◌, refl, sym, ap, append_assoc, append-nil, subst, arith, bytes_eq, codes, cond, flat_map, take}
 use Rattle.std.proofs.lemmas.List.{drop_more, at_drop_all}
 use Rattle.byte_devices.specs.Devices.{OutputState, Took, CutShort, Puts}
 use Rattle.byte_devices.proofs.shared.Devices.{took_none, took_more, breaks_more, breaks_longer, puts_exit}
-use Rattle.std.specs.Prelude.{codes, cond, flat_map, take}
 use Rattle.std.specs.List.{prefix_len}
-use Rattle.std.specs.Str.{bytes_eq}
 use Rattle.chess_cecp.specs.Serving.{says}
 use Rattle.stub_engine.specs.Stub.{Arguments, after_remarks, is_remark, playing, remark, remarks, turn}
 

@@ -15,8 +15,7 @@ use Rattle.chess_cecp.specs.declared.command.Command.TheVariants.{New, Ping, Pro
 abbrev pub Arguments : Type 0
 Arguments = List (Bor (List ℕ))
 
--- the state of a stub, an engine that plays the arguments that it is given: those not yet used, and whether it plays a
--- side (from `go` on, up to `force` or `new`)
+-- the state of a stub: the arguments not yet used, and whether it plays a side (from `go` on, up to `force` or `new`)
 pub record StubState : Type 0 where
   pub arguments : Arguments
   pub plays : Bool
@@ -31,20 +30,18 @@ playing arguments = record { arguments = arguments; plays = true }
 
 -- ---- a turn
 
--- the line that the stub sends for the argument `offer` (`offer draw`) or `claim` (a claim of a draw), which may follow
--- a move; `None` for any other argument
+-- the line that the stub sends after a move for the argument `offer` or `claim` (a claim of a draw); `None` for any
+-- other
 abbrev pub remark : List ℕ → Option (List ℕ)
-remark argument =
-    if bytes_eq argument (codes "offer") then Some (codes "offer draw\n")
+remark argument = if bytes_eq argument (codes "offer") then Some (codes "offer draw\n")
     else if bytes_eq argument (codes "claim") then Some (codes "1/2-1/2 {Draw by repetition}\n")
     else None
 
--- whether an argument is `offer` or `claim`, for each of which the stub sends a line after a move
+-- whether an argument is `offer` or `claim`
 abbrev pub is_remark : Bor (List ℕ) → Bool
 is_remark argument = is_some (remark argument.now)
 
--- the lines that the stub sends for the `offer`s and `claim`s (offers and claims of a draw) that these arguments begin
--- with, before the first other argument; empty if they begin with another
+-- the lines that the stub sends for the `offer`s and `claim`s that these arguments begin with
 unfoldable pub remarks : Arguments → List ℕ
 remarks arguments = flat_map (λ argument. unwrap_or (remark argument.now) []) (take_while is_remark arguments)
 
@@ -56,21 +53,19 @@ after_remarks arguments = drop (prefix_len is_remark arguments) arguments
 abbrev pub played_text : List ℕ → List ℕ
 played_text argument = (if bytes_eq argument (codes "resign") then [] else codes "move ") ++ (argument ++ new_line ∷ [])
 
--- the turn of a stub (an engine that plays the arguments that it is given), with these arguments left; it plays a side
--- from then on
+-- the turn of a stub with these arguments left; it plays a side from then on
 abbrev pub turn : Arguments → Response StubState
 -- none is left: it resigns
 turn [] = says (playing []) (codes "resign\n")
 -- `end` makes it end in the middle of a line, after `mov`. Any other first argument is played, even an `offer` or
--- `claim` (as `move offer`); the lines for the `offer`s and `claim`s right after it are sent, too
+-- `claim` (as `move offer`), with the remarks right after it
 turn (argument ∷ arguments) =
     if bytes_eq argument.now (codes "end") then record (says (playing arguments) (codes "mov")) { ends = true }
     else says (playing (after_remarks arguments)) (played_text argument.now ++ remarks arguments)
 
 -- ---- a line
 
--- what a stub (an engine that plays the arguments that it is given) in the state `s` does at a command; `text` is the
--- whole line
+-- what a stub in the state `s` does at a command; `text` is the whole line
 unfoldable pub stub_row : StubState → List ℕ → Command → Response StubState
 stub_row s text (Protover n) = says s (codes "feature ping=1 setboard=1 usermove=1 myname=\"stub\" done=1\n")
 stub_row s text (Ping n) = says s (codes "pong " ++ (decimal n ++ new_line ∷ []))
@@ -78,13 +73,12 @@ stub_row s text (Ping n) = says s (codes "pong " ++ (decimal n ++ new_line ∷ [
 stub_row s text New = becomes (waiting s.arguments)
 stub_row s text Go = turn s.arguments
 stub_row s text Quit = record (becomes s) { ends = true }
--- any other line, by its first word. After `usermove`, whatever move follows and even if none does, it takes its turn
--- if it plays a side. After `force` it plays no side until `go`. All else is ignored, even a move without `usermove`
+-- any other line, by its first word. At `usermove`, whatever follows, it takes its turn if it plays a side. After
+-- `force` it plays none until `go`. All else is ignored, even a move without `usermove`
 stub_row s text _ =
     if bytes_eq (word_of text) (codes "usermove") && s.plays then turn s.arguments
     else becomes (if bytes_eq (word_of text) (codes "force") then waiting s.arguments else s)
 
--- what a stub (an engine that plays the arguments that it is given) in the state `s` does with a line: it obeys the
--- line's command; a line that is too long is ignored
+-- what a stub in the state `s` does with a line; one that is too long is ignored
 unfoldable pub stub_response : StubState → LineSeen → Response StubState
 stub_response s line = if line.too_long then becomes s else stub_row s line.text (command_of line.text)

@@ -1,10 +1,7 @@
 -- What few digits write: it is small, and it is what the loop over them gives.
 use Rattle.std.proofs.Common.{◌≡◌, ℕ, ◌+◌, ◌-◌, ◌*◌, ◌^◌, ◌<◌, ◌≤◌, true, nat_lt, nat_le, List, [], ◌∷◌, length, drop, Some, sym, ap, ◌∙◌, arith, rules}
 use Rattle.std.specs.List.{list_all}
-use Rattle.std.proofs.Math.Nat.{pow-le-pow_right}
-use Rattle.std.proofs.lemmas.Bool.Decides.{nat_tests}
-use Rattle.std.proofs.lemmas.Grind.{common_steps}
-use Rattle.std.proofs.lemmas.Str.Parse.{IsNumeralModel, numerals_by_fold}
+use Rattle.std.proofs.{Math.Nat.pow-le-pow_right, lemmas.Bool.Decides.nat_tests, lemmas.Grind.common_steps, lemmas.Str.Parse.IsNumeralModel, lemmas.Str.Parse.numerals_by_fold}
 use Rattle.byte_devices.specs.Bytes.{is_digit}
 use Rattle.text_lines.specs.Words.{short_number}
 

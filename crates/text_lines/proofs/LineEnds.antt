@@ -1,11 +1,8 @@
 -- Where a line ends in a text, and what that says of the lines.
-use Rattle.std.proofs.Common.{◌≡◌, ◌≢◌, ◌≤◌, ◌<◌, ℕ, ◌+◌, ◌-◌, eqb, Bool, true, false, List, [], ◌∷◌, ◌++◌, length, get_or, take, drop, Some, None, one-add, refl, sym, ap, subst, ◌∙◌, arith, append_assoc, append-nil, length-drop}
-use Rattle.std.specs.Prelude.{cond, not, slice_range, ◌==◌}
+use Rattle.std.proofs.Common.{◌≡◌, ◌≢◌, ◌≤◌, ◌<◌, ℕ, ◌+◌, ◌-◌, eqb, Bool, true, false, List, [], ◌∷◌, ◌++◌, length, get_or, take, drop, Some, None, one-add, refl, sym, ap, subst, ◌∙◌, arith, append_assoc, append-nil, length-drop, eqb-true, cond, not, slice_range, ◌==◌}
 use Rattle.std.specs.List.{position_or_len}
-use Rattle.std.proofs.lemmas.Bool.{eqb-true}
 use Rattle.std.proofs.lemmas.List.{drop-drop, drop-take, drop_all, drop_more, take_all, length-take}
-use Rattle.std.proofs.lemmas.List.Sums.{passes_at_first}
-use Rattle.std.proofs.Math.Nat.{min-le_left}
+use Rattle.std.proofs.{lemmas.List.Sums.passes_at_first, Math.Nat.min-le_left}
 use Rattle.text_lines.specs.Lines.{LineSeen, Held, line_of, lines_from, lines_held}
 use Rattle.text_lines.specs.ties.Kept.{SameLines, HeldLine}
 use Rattle.text_lines.proofs.LineParts.{byte_step, ten_step, none_from, line_ended}

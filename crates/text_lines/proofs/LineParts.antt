@@ -1,12 +1,8 @@
 -- What has come of a line.
-use Rattle.std.proofs.Common.{◌≡◌, ℕ, ◌+◌, ◌-◌, ◌<◌, ◌≤◌, ◌==◌, nat_lt, nat_eq, min, ◌≢◌, Bool, true, false, List, [], ◌∷◌, ◌++◌, length, take, drop, refl, sym, ap, ◌∙◌, arith, append_assoc, length-append}
+use Rattle.std.proofs.Common.{◌≡◌, ℕ, ◌+◌, ◌-◌, ◌<◌, ◌≤◌, ◌==◌, nat_lt, nat_eq, min, ◌≢◌, Bool, true, false, List, [], ◌∷◌, ◌++◌, length, take, drop, refl, sym, ap, ◌∙◌, arith, append_assoc, length-append, reverse}
 use Rattle.std.specs.List.{onto_first}
-use Rattle.std.specs.Prelude.{reverse}
-use Rattle.std.proofs.lemmas.List.Splits.{slice_split-cons_yes, slice_split-cons_no, length-slice_split}
+use Rattle.std.proofs.{lemmas.List.Splits.slice_split-cons_yes, lemmas.List.Splits.slice_split-cons_no, lemmas.List.Splits.length-slice_split, Math.Nat.min-le_right, lemmas.Grind.common_steps, lemmas.Bool.Decides.nat_tests}
 use Rattle.std.proofs.lemmas.List.{take-take, take-append-le, take-append-drop, take_min, take_all, length-take, length-take-le, length-reverse}
-use Rattle.std.proofs.Math.Nat.{min-le_right}
-use Rattle.std.proofs.lemmas.Grind.{common_steps}
-use Rattle.std.proofs.lemmas.Bool.Decides.{nat_tests}
 use Rattle.text_lines.specs.ties.Kept.{kept_part, SameLines}
 use Rattle.text_lines.specs.Lines.{line_of, lines_from, parts, lines_of_parts, with_front, trimmed, without_front_blanks, without_end_blanks, without_return}
 use Rattle.text_lines.proofs.shared.Lines.{without_front_blanks-short}

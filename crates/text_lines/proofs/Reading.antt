@@ -1,19 +1,15 @@
 -- The reads of one call for the next line.
-use Rattle.std.proofs.Common.{◌≡◌, ℕ, ◌+◌, ◌-◌, ◌<◌, ◌≤◌, inl, inr, Bool, true, false, List, [], ◌∷◌, ◌++◌, length, take, Option, Some, None, Result, Ok, Err, IsErr, refl, sym, ap, ◌∙◌, arith, append_assoc, append-nil, length-append, nat_eq, ◌==◌, not, subst}
-use Rattle.std.proofs.Math.Seq.{take-append_seam}
-use Rattle.std.proofs.lemmas.List.{nil_from_length}
+use Rattle.std.proofs.Common.{◌≡◌, ℕ, ◌+◌, ◌-◌, ◌<◌, ◌≤◌, inl, inr, Bool, true, false, List, [], ◌∷◌, ◌++◌, length, take, Option, Some, None, Result, Ok, Err, IsErr, refl, sym, ap, ◌∙◌, arith, append_assoc, append-nil, length-append, nat_eq, ◌==◌, not, subst, MatchBool}
+use Rattle.std.proofs.{Math.Seq.take-append_seam, lemmas.List.nil_from_length}
 use Rattle.text_lines.proofs.LineParts.{line_ended, ten_step, byte_step, none_from, last_left}
 use Rattle.text_lines.proofs.shared.Lines.{nothing_left}
 use Rattle.std.specs.Io.KnownBytes.{Consumes}
-use Rattle.std.specs.Bool.{MatchBool}
 use Rattle.byte_devices.specs.Devices.{InputState, GavePiece, FailedToRead, WaitStep, saturating_increment}
 use Rattle.byte_devices.specs.declared.traits.ReadFault.{ReadFault}
 use Rattle.byte_devices.proofs.shared.Devices.{consumes_more, consumes_kept}
 use Rattle.text_lines.specs.Lines.{LineSeen, Held, nothing_held, lines_from, lines_held, line_of}
-use Rattle.text_lines.specs.laws.Unended.{HasNoEnd}
+use Rattle.text_lines.specs.{laws.Unended.HasNoEnd, ties.Kept.HeldLine, declared.lines.TheConstants.PIECE_LEN}
 use Rattle.text_lines.specs.Next.{before_piece, Waits, work, NextLine, NextLineUntil, line_if}
-use Rattle.text_lines.specs.ties.Kept.{HeldLine}
-use Rattle.text_lines.specs.declared.lines.TheConstants.{PIECE_LEN}
 
 -- after some reads: what was given, and that what is held stands for it
 pub record SoFar (n : ℕ) (r r' : InputState) (held held' : Held) (given : List ℕ) : Type 0 where

@@ -5,14 +5,12 @@ use Rattle.std.specs.Str.Parse.{digits_value}
 use Rattle.byte_devices.specs.Bytes.{is_blank, is_digit}
 use Rattle.text_lines.specs.Lines.{without_front_blanks}
 
--- the first word of a text: its bytes up to the first space or tab, all of them if it has neither. It is empty if the
--- text is empty or begins with a space or a tab
+-- the first word of a text: its bytes before the first space or tab; empty if the text begins with one
 abbrev pub word_of : List ℕ → List ℕ
 word_of [] = []
 word_of (c ∷ cs) = if is_blank c then [] else c ∷ word_of cs
 
--- what follows the first word of a text (`word_of`) and the spaces and tabs after that word: of `usermove e4` it is
--- `e4`, of `quit` the empty text
+-- what follows the first word of a text and the spaces and tabs after that: of `usermove e4` it is `e4`
 unfoldable pub argument_of : List ℕ → List ℕ
 argument_of text = without_front_blanks (drop (length (word_of text)) text)
 

@@ -8,7 +8,7 @@ use byte_devices::Counted;
 use chess_base::Position;
 use chess_bits::{AttackTables, Bits};
 use chess_game::{Game, MOST_MOVES, Outcome};
-use pgn_verifier::{Verified, VerifyOptions, verify_collection};
+use pgn_verifier::{LENIENT, STRICT_FAULTS, Verified, VerifyOptions, verify_collection};
 use std::alloc::{AllocError, Global};
 
 const OUTCOMES: [&[u8]; 4] = [b"1-0", b"0-1", b"1/2-1/2", b"*"];
@@ -66,7 +66,7 @@ pub fn verify_text(
 /// Options of verifying.
 pub const QUIET: VerifyOptions = VerifyOptions {
     quiet: true,
-    strict: false,
+    strict: LENIENT,
     spans: false,
     names: false,
     explain: false,
@@ -74,7 +74,7 @@ pub const QUIET: VerifyOptions = VerifyOptions {
 /// Options of verifying in a quality check.
 pub const CAREFUL: VerifyOptions = VerifyOptions {
     quiet: false,
-    strict: true,
+    strict: STRICT_FAULTS,
     spans: false,
     names: false,
     explain: true,

@@ -1,16 +1,12 @@
 -- A match's levels, start and date are read in turn.
-use Rattle.std.proofs.Common.{◌≡◌, ◌∙◌, Bool, ap, codes, Result, Ok, Err}
-use Rattle.std.specs.Prelude.{if◌then◌else◌, unwrap_or}
+use Rattle.std.proofs.Common.{◌≡◌, ◌∙◌, Bool, ap, codes, Result, Ok, Err, if◌then◌else◌, unwrap_or}
 use Rattle.std.specs.Result.{result_map_both}
-use Rattle.chess_base.specs.declared.fen_fault.FenFault.{FenFault}
-use Rattle.chess_base.specs.declared.setup.Setup.{Setup}
+use Rattle.chess_base.specs.{declared.fen_fault.FenFault.FenFault, declared.setup.Setup.Setup}
 use Rattle.chess_fen.specs.Reading.{◌>>=◌}
 use Rattle.clap.specs.Words.{Text}
-use Rattle.cecp_engine.specs.Levels.{LevelSeen}
-use Rattle.cecp_engine.specs.declared.level_fault.LevelFault.{LevelFault}
+use Rattle.cecp_engine.specs.{Levels.LevelSeen, declared.level_fault.LevelFault.LevelFault}
 use Rattle.arbiter_cli.specs.Plans.{Values, is_date, levels_asked, levels_start_and_date, start_asked}
-use Rattle.arbiter_cli.specs.declared.fault.WordsFault.{WordsFault}
-use Rattle.arbiter_cli.specs.declared.fault.WordsFault.TheVariants.{BadLevel, BadFen, BadDate}
+use Rattle.arbiter_cli.specs.{declared.fault.WordsFault.WordsFault, declared.fault.WordsFault.TheVariants.BadLevel, declared.fault.WordsFault.TheVariants.BadFen, declared.fault.WordsFault.TheVariants.BadDate}
 
 -- levels, start and date, read in turn
 abbrev in_turn : Result (LevelSeen × LevelSeen) LevelFault → Result Setup FenFault → Text → Bool

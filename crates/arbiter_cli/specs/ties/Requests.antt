@@ -1,5 +1,6 @@
 -- What the arguments ask for as they are written, on the way to a plan.
-use Rattle.std.specs.Prelude.{◌≡◌, ◌≤◌, ◌*◌, ℕ, Bool, List, codes, map, option_map, Option, Some, None, Result, Ok, Err, true, false, ◌≢◌, unwrap_or}
+use Rattle.std.specs.Prelude.{◌≡◌, ◌≤◌, ◌*◌, ◌==◌, ℕ, Bool, List, [], codes, map, option_map, Option, Some, None, Result, Ok, Err, true, false, ◌≢◌, unwrap_or}
+use Rattle.std.specs.List.{list_all, slice_split}
 use Rattle.std.specs.Option.{option_map_or}
 use Rattle.clap.specs.Words.{Row, Text, first_of, kind_of}
 use Rattle.arbiter_cli.specs.declared.plan.Plan.{Plan}
@@ -7,7 +8,7 @@ use Rattle.arbiter_cli.specs.declared.plan.Plan.TheVariants.{Session, Verify, St
 use Rattle.match_runner.specs.declared.plan.GamesPlan.{GamesPlan}
 use Rattle.chess_match.specs.declared.patience.Patience.{Patience}
 use Rattle.arbiter_cli.specs.declared.fault.WordsFault.{WordsFault}
-use Rattle.arbiter_cli.specs.declared.fault.WordsFault.TheVariants.{Words, NoMemory, BadLevel, BadFen, BadDate}
+use Rattle.arbiter_cli.specs.declared.fault.WordsFault.TheVariants.{Words, NoMemory, BadLevel, BadFen, BadDate, BadKind}
 use Rattle.arbiter_cli.specs.declared.request.MatchRequest.{MatchRequest}
 use Rattle.arbiter_cli.specs.declared.request.Request.{Request}
 use Rattle.arbiter_cli.specs.declared.request.Request.TheVariants as request
@@ -18,7 +19,7 @@ use Rattle.chess_base.specs.declared.setup.Setup.{Setup}
 use Rattle.chess_fen.specs.Reading.{fen_reading_as}
 use Rattle.cecp_engine.specs.Levels.{LevelSeen}
 use Rattle.cecp_engine.specs.declared.level_fault.LevelFault.{LevelFault}
-use Rattle.arbiter_cli.specs.Plans.{Said, Values, draws_in, is_date, is_set, levels_by, number_of, variant_in, verify_plan_of}
+use Rattle.arbiter_cli.specs.Plans.{Said, Values, draws_in, is_date, is_kind, is_set, levels_by, number_of, variant_in, verify_plan_of}
 use Rattle.clap.specs.declared.error.Error.{Error}
 use Rattle.clap.specs.declared.error.kind.ErrorKind.TheVariants.{OutOfMemory}
 
@@ -26,6 +27,10 @@ use Rattle.clap.specs.declared.error.kind.ErrorKind.TheVariants.{OutOfMemory}
 -- of each; `None` for an option without one
 abbrev pub matched : List Row → Values
 matched rows = λ name. first_of name rows
+
+-- the names in a list, which its commas part; none without a list
+abbrev pub names_in : Option Text → List Text
+names_in list = option_map_or (slice_split (λ b. b == 44)) list []
 
 -- how many games `--games` asks for; 1 without `--games`
 abbrev pub games_in : Values → ℕ
@@ -56,10 +61,12 @@ pub record IsMatchOf (value : Values) (m : MatchRequest) : Type 0 where
   pub reply : m.reply ≡ option_map number_of (value (codes "reply-timeout"))
   pub draws : m.draws ≡ draws_in value
 
--- the request is what the arguments ask for, with levels, FEN and date of a match still as texts
+-- the request is what the arguments ask for, with levels, FEN and date of a match still as texts, and with the list of
+-- kinds to ignore as it was given
 abbrev pub IsRequestOf : Said → Request → Type 0
 IsRequestOf said request.Session = said.command ≡ codes "session"
-IsRequestOf said (request.Verify v) = (said.command ≡ codes "verify") × (v ≡ verify_plan_of said.value)
+IsRequestOf said (request.Verify v ignored) = (said.command ≡ codes "verify") × (v ≡ verify_plan_of said.value)
+    × (option_map (λ t. t.now) ignored ≡ said.value (codes "ignore"))
 IsRequestOf said (request.Stub arguments) = (said.command ≡ codes "stub")
     × (map (λ w. w.now) arguments.items ≡ said.replies)
 IsRequestOf said (request.Match m) = (said.command ≡ codes "match") × IsMatchOf said.value m
@@ -86,23 +93,28 @@ pub record IsJudged (m : MatchRequest) (plan : GamesPlan) : Type 0 where
 abbrev pub IsJudgedFault : MatchRequest → WordsFault → Type 0
 IsJudgedFault m (Words e) = ⊥
 IsJudgedFault m NoMemory = ⊥
+IsJudgedFault m BadKind = ⊥
 IsJudgedFault m (BadLevel f) = levels_in m ≡ Err f
 IsJudgedFault m (BadFen f) = (l : LevelSeen × LevelSeen) × (levels_in m ≡ Ok l)
     × (start_of m.variant (option_map (λ t. t.now) m.fen) ≡ Err f)
 IsJudgedFault m BadDate = (l : LevelSeen × LevelSeen) × (p : Setup) × (levels_in m ≡ Ok l)
     × (start_of m.variant (option_map (λ t. t.now) m.fen) ≡ Ok p) × (is_date m.date.now ≡ false)
 
--- the plan is what the request asks for; of a match, levels and FEN are read, and the date is checked
+-- the plan is what the request asks for; of a match, levels and FEN are read, and the date is checked; of `verify`, the
+-- kinds to ignore are
 abbrev pub IsPlanned : Request → Plan → Type 0
 IsPlanned request.Session plan = plan ≡ Session
-IsPlanned (request.Verify v) plan = plan ≡ Verify v
+IsPlanned (request.Verify v ignored) plan = (plan ≡ Verify v)
+    × (list_all is_kind (names_in (option_map (λ t. t.now) ignored)) ≡ true)
 IsPlanned (request.Stub arguments) plan = plan ≡ Stub arguments
 IsPlanned (request.Match m) plan = (p : GamesPlan) × (plan ≡ Match p) × IsJudged m p
 
--- the fault is right for this request: that of the first of levels, FEN and date that is invalid in a match; no other
--- request has one
+-- the fault is right for this request: that of the first of levels, FEN and date that is invalid in a match, or that of
+-- the kinds to ignore of `verify`; no other request has one
 abbrev pub IsPlanFault : Request → WordsFault → Type 0
 IsPlanFault (request.Match m) f = IsJudgedFault m f
+IsPlanFault (request.Verify v ignored) f = (f ≡ BadKind)
+    × (list_all is_kind (names_in (option_map (λ t. t.now) ignored)) ≡ false)
 IsPlanFault _ f = ⊥
 
 -- the second fault is how this error of `clap` is reported: as out of memory if it is that, otherwise as the error

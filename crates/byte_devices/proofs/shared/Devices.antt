@@ -1,12 +1,7 @@
 -- For crates that read or write in steps: what holds after one text more, of the definitions in specs/Devices.
-use Rattle.std.proofs.Common.{◌≡◌, ℕ, zero, suc, ◌+◌, ◌^◌, ◌<◌, min, nat_eq, false, List, [], ◌++◌, length, take, drop, Option, None, Some, Result, Ok, Err, IsErr, refl, sym, ap, ◌∙◌, append_assoc, append-nil, arith, ◌-◌}
+use Rattle.std.proofs.Common.{◌≡◌, ℕ, zero, suc, ◌+◌, ◌^◌, ◌<◌, min, nat_eq, false, List, [], ◌++◌, length, take, drop, Option, None, Some, Result, Ok, Err, IsErr, refl, sym, ap, ◌∙◌, append_assoc, append-nil, arith, ◌-◌, get_or, add-one, ◌∷◌, flat_map, take-add, take-suc, take-append-drop, length-append}
 use Rattle.std.specs.Io.KnownBytes.{Keeps, Appends, Consumes}
-use Rattle.std.proofs.Math.Seq.{take-add, take-suc}
-use Rattle.std.proofs.lemmas.List.Concat.{flat_map-append}
-use Rattle.std.specs.List.{flat_map}
-use Rattle.std.proofs.Common.{get_or, add-one, ◌∷◌}
-use Rattle.std.proofs.lemmas.List.{take-append-drop, length-append}
-use Rattle.std.proofs.lemmas.Grind.{common_steps}
+use Rattle.std.proofs.{lemmas.List.Concat.flat_map-append, lemmas.Grind.common_steps}
 use Rattle.byte_devices.specs.Devices.{OutputState, Took, TookThenFailed, Sent, CutShort, Puts, Sends, FlushStep, saturating_increment, saturating_add}
 
 -- one text was appended after another

@@ -1,11 +1,10 @@
 -- For laws of whole runs: what passed at the devices, put together from what the calls did.
 use mathlib.Core.Bool.{or-true}
-use Rattle.std.proofs.Common.{◌≡◌, ℕ, ◌-◌, ◌||◌, Bool, true, false, List, [], ◌∷◌, ◌++◌, length, take, if◌then◌else◌, suc, refl, sym, ap, subst, ◌∙◌, append_assoc, append-nil, arith}
-use Rattle.std.specs.Prelude.{nat_lt}
+use Rattle.std.proofs.Common.{◌≡◌, ℕ, ◌-◌, ◌||◌, Bool, true, false, List, [], ◌∷◌, ◌++◌, length, take, if◌then◌else◌, suc, refl, sym, ap, subst, ◌∙◌, append_assoc, append-nil, arith, nat_lt}
 use Rattle.std.proofs.lemmas.Bool.Decides.{nat_tests}
 use Rattle.std.specs.Io.KnownBytes.{Appends}
 use Rattle.byte_devices.specs.Devices.{InputState, OutputState, Took, TookThenFailed, Sent, saturating_increment, saturating_add}
-use Rattle.byte_devices.specs.Transfers.{FromInput, ToOutput, OutputTook, nothing, all_of, all_for, all_unflushed}
+use Rattle.byte_devices.specs.Transfers.{FromInput, ToOutput, OutputTook, nothing, all_of, all_flushed, all_unflushed}
 use Rattle.byte_devices.proofs.shared.Devices.{appends_more, appends_none}
 
 -- ---- counts
@@ -27,16 +26,17 @@ came r' text ended failed =
 abbrev pub broke : ToOutput → List ℕ → ToOutput
 broke before start = record before { left = before.left ++ start; failed = true }
 
--- what went to an output that took this text and left nothing unflushed; a flush succeeded if the flag is true
-abbrev flushed_if : Bool → List ℕ → ToOutput
-flushed_if flushes text = record { flushed = text; left = []; any_flush = flushes; failed = false }
+-- what went to an output that took this text and left nothing unflushed, with a flush for each of these items, such as
+-- lines that are answered; so there was none without an item
+abbrev pub all_for : {A : Type 0} → List A → List ℕ → ToOutput
+all_for items text = all_flushed (nat_lt 0 (length items)) text
 
 -- `o` after `text`, which was flushed if `flushes` is true
 abbrev after_text : Bool → List ℕ → ToOutput → ToOutput
 after_text flushes text o = record o { flushed = text ++ o.flushed; any_flush = flushes || o.any_flush }
 
 -- the bytes of a text that was flushed
-flushed_bytes : (w w' : OutputState) (flushes : Bool) (text : List ℕ) → OutputTook w w' (flushed_if flushes text)
+flushed_bytes : (w w' : OutputState) (flushes : Bool) (text : List ℕ) → OutputTook w w' (all_flushed flushes text)
     → Appends w.known_bytes w'.known_bytes text
 flushed_bytes w w' flushes text h = subst (Appends w.known_bytes w'.known_bytes) (append-nil text) h.bytes
 
@@ -81,7 +81,7 @@ left_at_last true false k l m n e f = f ∙ ap (λ v. saturating_add v n) e
 left_at_last false true k l m n e f = f
 left_at_last false false k l m n e f = f ∙ ap (λ v. saturating_add v n) e
 
-took_then : (a b c : OutputState) (flushes : Bool) (x : List ℕ) (o : ToOutput) → OutputTook a b (flushed_if flushes x)
+took_then : (a b c : OutputState) (flushes : Bool) (x : List ℕ) (o : ToOutput) → OutputTook a b (all_flushed flushes x)
     → OutputTook b c o → OutputTook a c (after_text flushes x o)
 took_then a b c flushes x o h k = record {
   bytes = subst (Appends a.known_bytes c.known_bytes) (sym (append_assoc x o.flushed o.left))
@@ -107,9 +107,9 @@ some_of_both (x ∷ xs) ys =
 -- where there is an item, a flush succeeded
 pub some_for : {A : Type 0} (items : List A) (item : A) (more : List A) (text : List ℕ)
     → all_of text ≡ all_for (items ++ item ∷ more) text
-some_for [] item more text = ap (λ (b : Bool). flushed_if b text) (sym (above_0 (length more)))
+some_for [] item more text = ap (λ (b : Bool). all_flushed b text) (sym (above_0 (length more)))
 some_for (x ∷ items) item more text =
-    ap (λ (b : Bool). flushed_if b text) (sym (above_0 (length (items ++ item ∷ more))))
+    ap (λ (b : Bool). all_flushed b text) (sym (above_0 (length (items ++ item ∷ more))))
 
 -- more went to an output after a text that was flushed for these items
 pub took_more : {A : Type 0} (a b c : OutputState) (items : List A) (x : List ℕ) (o : ToOutput)
@@ -122,14 +122,14 @@ pub took_each : {A : Type 0} (a b c : OutputState) (items more : List A) (x y : 
     → OutputTook a b (all_for items x) → OutputTook b c (all_for more y)
     → OutputTook a c (all_for (items ++ more) (x ++ y))
 took_each a b c items more x y h k =
-    subst (λ (flushes : Bool). OutputTook a c (flushed_if flushes (x ++ y))) (some_of_both items more)
+    subst (λ (flushes : Bool). OutputTook a c (all_flushed flushes (x ++ y))) (some_of_both items more)
     (took_then a b c (nat_lt 0 (length items)) x (all_for more y) h k)
 
 -- a text was sent after those for these items
 pub took_last : {A : Type 0} (a b c : OutputState) (items : List A) (x y : List ℕ)
     → OutputTook a b (all_for items x) → Sent b c y → OutputTook a c (all_of (x ++ y))
 took_last a b c items x y h k =
-    subst (λ (flushes : Bool). OutputTook a c (flushed_if flushes (x ++ y))) (or-true (nat_lt 0 (length items)))
+    subst (λ (flushes : Bool). OutputTook a c (all_flushed flushes (x ++ y))) (or-true (nat_lt 0 (length items)))
     (took_then a b c (nat_lt 0 (length items)) x (all_of y) h (took_all b c y k))
 
 -- a text was sent for one more item
@@ -143,8 +143,8 @@ pub took_some_more : {A : Type 0} (w w' w'' : OutputState) (items : List A) (x s
     → OutputTook w w' (all_for items x) → TookThenFailed w' w'' start → OutputTook w w'' (broke (all_for items x) start)
 took_some_more w w' w'' items x start h k = took_then_broke (nat_lt 0 (length items)) h
   where
-    took_then_broke : (flushes : Bool) → OutputTook w w' (flushed_if flushes x)
-        → OutputTook w w'' (broke (flushed_if flushes x) start)
+    took_then_broke : (flushes : Bool) → OutputTook w w' (all_flushed flushes x)
+        → OutputTook w w'' (broke (all_flushed flushes x) start)
     took_then_broke flushes h = record {
       bytes = appends_more w.known_bytes w'.known_bytes w''.known_bytes x start (flushed_bytes w w' flushes x h) k.bytes;
       flushed = h.flushed;

@@ -1,16 +1,13 @@
 -- For matches: the items of a `feature` line, one after the other.
-use Rattle.std.proofs.Common.{◌≡◌, ℕ, zero, suc, ◌+◌, ◌-◌, ◌≤◌, ◌<◌, Bool, true, false, List, [], ◌∷◌, ◌++◌, length, take, drop, get_or, refl, ap, sym, ◌∙◌, Option, None, Some, arith, length-append, length-drop, append_assoc, append-nil}
-use Rattle.std.proofs.lemmas.Bool.Decides.{nat_tests}
-use Rattle.std.proofs.lemmas.List.{length-take-le, take-append-drop, take_all}
-use Rattle.std.proofs.lemmas.List.Sums.{prefix_len-le-length}
-use Rattle.std.specs.Prelude.{if◌then◌else◌, ◌==◌, ◌&&◌, ◌||◌, not, nat_lt, option_and_then}
+use Rattle.std.proofs.Common.{◌≡◌, ℕ, zero, suc, ◌+◌, ◌-◌, ◌≤◌, ◌<◌, Bool, true, false, List, [], ◌∷◌, ◌++◌, length, take, drop, get_or, refl, ap, sym, ◌∙◌, Option, None, Some, arith, length-append, length-drop, append_assoc, append-nil, bytes_eq, length-take-le, take-append-drop, take_all, if◌then◌else◌, ◌==◌, ◌&&◌, ◌||◌, not, nat_lt, option_and_then}
+use Rattle.std.proofs.{lemmas.Bool.Decides.nat_tests, lemmas.List.Sums.prefix_len-le-length}
 use Rattle.std.specs.Option.{option_map_or}
-use Rattle.std.specs.Str.{bytes_eq}
 use Rattle.byte_devices.specs.Bytes.{byte, is_digit, is_blank, is_name_byte}
 use Rattle.text_lines.specs.Lines.{without_front_blanks}
 use Rattle.text_lines.proofs.shared.Lines.{without_front_blanks-short}
 use Rattle.std.specs.List.{list_all, position_or_len, prefix_len, take_while, list_any}
 use Rattle.cecp_engine.specs.Items.{Item, Value, value_of, item_of, ends_handshake, first_items, items_of, last_said}
+use Rattle.cecp_engine.specs.shared.Values.{value_cut}
 
 -- ---- the last value
 
@@ -28,7 +25,45 @@ last_said-snoc f default name (j ∷ items) i =
 abbrev quote_at : List ℕ → ℕ
 quote_at text = position_or_len (λ c. c == byte "\"") text
 
-value_shorter : (text : List ℕ) (p : Value × List ℕ) → value_of text ≡ Some p → length p.1 < length text
+-- a double quote is no digit
+quote_no_digit : (c : ℕ) → is_digit c ≡ true → (c == 34) ≡ false
+quote_no_digit c h = grind (arith, nat_tests)
+
+-- a value in quotes, from the text after its first quote, and what follows, by how many bytes are before the next quote
+abbrev quoted_by : List ℕ → ℕ → Value × List ℕ
+quoted_by cs n = (record { quoted = true; text = take (quote_at cs) cs }, drop (n + 1) cs)
+
+-- the digits at the front of a text as a value, and what follows, by the number of digits
+abbrev digits_by : List ℕ → ℕ → Value × List ℕ
+digits_by text n = (record { quoted = false; text = take_while is_digit text }, drop n text)
+
+-- the value that `c ∷ cs` begins with, by these two numbers
+abbrev value_by : ℕ → List ℕ → ℕ → ℕ → Option (Value × List ℕ)
+value_by c cs inside digits = if c == 34 then (if nat_lt inside (length cs) then Some (quoted_by cs inside) else None)
+    else if is_digit c then Some (digits_by (c ∷ cs) digits) else None
+
+-- a value, as it is defined, is cut from the text as code cuts it
+value_is : (text : List ℕ) → value_of text ≡ value_cut text
+value_is [] = refl
+value_is (c ∷ cs) =
+    ap (λ n. value_by c cs n (length (take_while is_digit (c ∷ cs))))
+    (length-take-le (quote_at cs) cs (prefix_len-le-length (λ b. not (b == 34)) cs))
+    ∙ ap (λ n. value_by c cs (quote_at cs) n)
+    (length-take-le (prefix_len is_digit (c ∷ cs)) (c ∷ cs) (prefix_len-le-length is_digit (c ∷ cs)))
+    ∙ by_tests (c == 34) (nat_lt (quote_at cs) (length cs)) (is_digit c) refl refl
+  where
+    by_tests : (a b d : Bool) → (c == 34) ≡ a → is_digit c ≡ d
+        → (if a then (if b then Some (quoted_by cs (quote_at cs)) else None)
+        else if d then Some (digits_by (c ∷ cs) (prefix_len is_digit (c ∷ cs))) else None)
+        ≡ (if a && b then Some (quoted_by cs (quote_at cs))
+        else if d then Some (digits_by (c ∷ cs) (prefix_len is_digit (c ∷ cs))) else None)
+    by_tests true true d e f = refl
+    by_tests true false true e f =
+        let no : (c == 34) ≡ false = quote_no_digit c f in absurd (let h : true ≡ false = sym e ∙ no in cc)
+    by_tests true false false e f = refl
+    by_tests false b d e f = refl
+
+value_shorter : (text : List ℕ) (p : Value × List ℕ) → value_cut text ≡ Some p → length p.1 < length text
 value_shorter [] p e = cc
 value_shorter (c ∷ cs) p e = by_tests ((c == 34) && nat_lt (quote_at cs) (length cs)) (is_digit c) refl e
   where
@@ -60,7 +95,7 @@ after_first-is c cs = take_all (length (c ∷ cs) - 1) cs (omega arith)
 -- a quote with no other after it is no value
 pub unclosed : (text : List ℕ) (at : ℕ) → get_or text 0 0 ≡ 34
     → at ≡ position_or_len (λ c. c == byte "\"") (take (length text - 1) (drop 1 text))
-    → length (take (length text - 1) (drop 1 text)) ≤ at → None ≡ value_of text
+    → length (take (length text - 1) (drop 1 text)) ≤ at → None ≡ value_cut text
 unfolding after_first
 unclosed [] at h e k = refl
 unclosed (c ∷ cs) at h e k =
@@ -77,7 +112,7 @@ unclosed (c ∷ cs) at h e k =
 abbrev with_value : List ℕ → List ℕ → Option (Item × List ℕ)
 with_value name rest =
     option_and_then (λ (p : Value × List ℕ). if list_all is_blank (take 1 p.1) then Some
-    (record { name = name; value = p.0 }, without_front_blanks p.1) else None) (value_of rest)
+    (record { name = name; value = p.0 }, without_front_blanks p.1) else None) (value_cut rest)
 
 -- the item whose name is the first text, and whose `=` and value the second text begins with; and what follows these,
 -- without spaces and tabs at its front. `None` if the name is empty, `=` is missing, or the value is missing or
@@ -86,12 +121,16 @@ abbrev pub with_name : List ℕ → List ℕ → Option (Item × List ℕ)
 with_name (n ∷ ns) (c ∷ cs) = if c == 61 then with_value (n ∷ ns) cs else None
 with_name _ _ = None
 
--- the item of this name, as defined, from what follows the name
-abbrev item_after : List ℕ → List ℕ → Option (Item × List ℕ)
-item_after name rest =
+-- the item of this name, as defined, from what follows the name, and from the value after its first byte
+abbrev item_by : List ℕ → List ℕ → Option (Value × List ℕ) → Option (Item × List ℕ)
+item_by name rest value =
     if length name == 0 || not (bytes_eq (take 1 rest) (61 ∷ [])) then None
     else option_and_then (λ (p : Value × List ℕ). if list_all is_blank (take 1 p.1) then
-    Some (record { name = name; value = p.0 }, without_front_blanks p.1) else None) (value_of (drop 1 rest))
+    Some (record { name = name; value = p.0 }, without_front_blanks p.1) else None) value
+
+-- the item of this name from what follows the name, with the value as code cuts it
+abbrev item_after : List ℕ → List ℕ → Option (Item × List ℕ)
+item_after name rest = item_by name rest (value_cut (drop 1 rest))
 
 item_after-is : (name rest : List ℕ) → item_after name rest ≡ with_name name rest
 item_after-is [] rest = refl
@@ -115,7 +154,9 @@ pub item_parts : (text : List ℕ)
     → item_of text ≡ with_name (take_while is_name_byte text) (drop (prefix_len is_name_byte text) text)
 unfolding item_of
 item_parts text =
-    item_after-is (take_while is_name_byte text) (drop (length (take_while is_name_byte text)) text)
+    ap (item_by (take_while is_name_byte text) (drop (length (take_while is_name_byte text)) text))
+    (value_is (drop 1 (drop (length (take_while is_name_byte text)) text)))
+    ∙ item_after-is (take_while is_name_byte text) (drop (length (take_while is_name_byte text)) text)
     ∙ ap (λ n. with_name (take_while is_name_byte text) (drop n text))
     (length-take-le (prefix_len is_name_byte text) text (prefix_len-le-length is_name_byte text))
 
@@ -123,7 +164,7 @@ abbrev name_or : List ℕ → Option (Item × List ℕ) → List ℕ
 name_or default None = default
 name_or default (Some p) = p.0.name
 
-with_value_shorter : (name rest : List ℕ) (v : Option (Value × List ℕ)) (p : Item × List ℕ) → value_of rest ≡ v
+with_value_shorter : (name rest : List ℕ) (v : Option (Value × List ℕ)) (p : Item × List ℕ) → value_cut rest ≡ v
     → option_and_then (λ (p : Value × List ℕ). if list_all is_blank (take 1 p.1) then
     Some (record { name = name; value = p.0 }, without_front_blanks p.1) else None) v ≡ Some p
     → (p.0.name ≡ name) × (length p.1 < length rest)
@@ -150,7 +191,7 @@ with_name_shorter (n ∷ ns) (c ∷ cs) p e = by_test (c == 61) e
     by_test : (b : Bool) → (if b then with_value (n ∷ ns) cs else None) ≡ Some p
         → (p.0.name ≡ n ∷ ns) × (0 < length (n ∷ ns)) × (length p.1 + 1 < length (c ∷ cs))
     by_test true e =
-        let h = with_value_shorter (n ∷ ns) cs (value_of cs) p refl e in
+        let h = with_value_shorter (n ∷ ns) cs (value_cut cs) p refl e in
         let some : 0 < length (n ∷ ns) = omega arith in
         let fewer : length p.1 + 1 < length (c ∷ cs) = omega (arith, h.1) in
         (h.0, some, fewer)

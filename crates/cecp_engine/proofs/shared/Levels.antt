@@ -1,8 +1,6 @@
 -- For matches: the time that a level allots grows with the moves.
-use Rattle.std.proofs.Common.{◌≡◌, ℕ, zero, suc, ◌+◌, ◌*◌, ◌/◌, ◌≤◌, ◌<◌, arith, ne_eqb, false}
-use Rattle.std.proofs.Math.Nat.{div-mul-le_self, mul-le-mul_left}
+use Rattle.std.proofs.Common.{◌≡◌, ℕ, zero, suc, ◌+◌, ◌*◌, ◌/◌, ◌≤◌, ◌<◌, arith, ne_eqb, false, div-mul-le_self, mul-le-mul_left, if◌then◌else◌, ◌==◌}
 use Rattle.std.proofs.lemmas.Nat.{le-div}
-use Rattle.std.specs.Prelude.{if◌then◌else◌, ◌==◌}
 use Rattle.cecp_engine.specs.Levels.{LevelSeen, allotted}
 
 div_grows : (m k : ℕ) → 0 < m → k / m ≤ (k + 1) / m

@@ -1,15 +1,8 @@
 -- For boards and texts of moves: what captures, and what turns the clock back.
 pub use Rattle.chess_base.proofs.Rays.{could_capture-itself}
-use Rattle.std.proofs.Common.{◌≡◌, ℕ, Bool, true, false, ◌||◌, ◌&&◌, Some, None, refl, ap, ◌∙◌, arith}
-use Rattle.std.specs.Prelude.{is_some, if◌then◌else◌}
-use Rattle.chess_base.specs.declared.man.Kind.TheVariants.{Pawn}
-use Rattle.chess_base.specs.declared.man.Move.{Move}
-use Rattle.chess_base.specs.declared.setup.Setup.{Setup}
-use Rattle.chess_base.specs.Squares.{is_at}
+use Rattle.std.proofs.Common.{◌≡◌, ℕ, Bool, true, false, ◌||◌, ◌&&◌, Some, None, refl, ap, ◌∙◌, arith, is_some, if◌then◌else◌}
+use Rattle.chess_base.specs.{declared.man.Kind.TheVariants.Pawn, declared.man.Move.Move, declared.setup.Setup.Setup, Squares.is_at, Attacks.attacks, Moves.is_en_passant, Moves.captured_square, Moves.resets_clock, shared.Parts.one_rank_back}
 use Rattle.chess_base.specs.Men.{man_at, is_of, is_man, other}
-use Rattle.chess_base.specs.Attacks.{attacks}
-use Rattle.chess_base.specs.Moves.{is_en_passant, captured_square, resets_clock}
-use Rattle.chess_base.specs.shared.Parts.{one_rank_back}
 
 some_by : (passes enemy : Bool) (x y : ℕ)
     → is_some (if passes then Some x else if enemy then Some y else None) ≡ (enemy || passes)

@@ -1,20 +1,8 @@
 -- For lists and texts of moves: when a move castles, which squares that names, and the rights of a sound position.
-use Rattle.std.proofs.Common.{◌≡◌, ◌⊎◌, inl, inr, Bool, true, false, cond, ℕ, Option, Some, None, refl, ap, ◌∙◌}
+use Rattle.std.proofs.Common.{◌≡◌, ◌⊎◌, inl, inr, Bool, true, false, cond, ℕ, ◌<◌, Option, Some, None, refl, ap, ◌∙◌, arith}
 use Rattle.std.proofs.lemmas.Bool.{and_parts}
-use Rattle.chess_base.specs.declared.man.Colour.{Colour}
-use Rattle.chess_base.specs.declared.man.Variant.{Variant}
-use Rattle.chess_base.specs.declared.man.Kind.TheVariants.{King, Rook}
-use Rattle.chess_base.specs.declared.man.CastlingSide.{CastlingSide}
-use Rattle.chess_base.specs.declared.man.CastlingSide.TheVariants.{KingSide, QueenSide}
-use Rattle.chess_base.specs.declared.man.Move.{Move}
-use Rattle.chess_base.specs.Men.{man_at, is_man, Men}
-use Rattle.chess_base.specs.declared.setup.Setup.{Setup}
-use Rattle.chess_base.specs.Castling.{home_square, right_of, castling, is_castling_to, castled_king_file, castle_from, castle_of, mover_end, are_placed_for_castling, right_is_sound}
-use Rattle.chess_base.specs.shared.Splits.{names_castling, castle_with, right_is_sound_at}
-use Rattle.chess_base.specs.Before.{mover_to, castle_by}
-use Rattle.chess_base.specs.declared.man.Colour.TheVariants.{White, Black}
-use Rattle.chess_base.specs.declared.man.Variant.TheVariants.{Normal, Fischerandom}
-use Rattle.chess_base.specs.Sound.{IsSound}
+use Rattle.chess_base.specs.{declared.man.Colour.Colour, declared.man.Variant.Variant, declared.man.Kind.TheVariants.King, declared.man.Kind.TheVariants.Rook, declared.man.CastlingSide.CastlingSide, declared.man.CastlingSide.TheVariants.KingSide, declared.man.CastlingSide.TheVariants.QueenSide, declared.man.Move.Move, Men.man_at, Men.is_man, Men.Men, declared.setup.Setup.Setup, shared.Splits.names_castling, shared.Splits.castle_with, shared.Splits.right_is_sound_at, Before.mover_to, Before.castle_by, declared.man.Colour.TheVariants.White, declared.man.Colour.TheVariants.Black, declared.man.Variant.TheVariants.Normal, declared.man.Variant.TheVariants.Fischerandom, Sound.IsSound}
+use Rattle.chess_base.specs.Castling.{home_square, right_of, castling, is_castling_to, castled_king_file, castled_rook_file, castle_from, castle_of, mover_end, are_placed_for_castling, right_is_sound}
 
 castling_by : (a b : Bool) (w : CastlingSide) → cond a (Some KingSide) (cond b (Some QueenSide) None) ≡ Some w
     → ((w ≡ KingSide) × (a ≡ true)) ⊎ ((w ≡ QueenSide) × (b ≡ true))
@@ -92,3 +80,18 @@ pub castling_rook_is_there : (p : Setup) (c : Colour) (w : CastlingSide) (e : �
 unfolding right_is_sound
 castling_rook_is_there p c w e h at =
     rook_of_right p.variant p.men c w e (placed_for_right p.variant p.men c w (right_of p.rights c w) e h at)
+
+-- the king ends on a file of the board
+pub castled_king_file-below : (w : CastlingSide) → castled_king_file w < 8
+castled_king_file-below KingSide = omega arith
+castled_king_file-below QueenSide = omega arith
+
+-- so does the rook
+pub castled_rook_file-below : (w : CastlingSide) → castled_rook_file w < 8
+castled_rook_file-below KingSide = omega arith
+castled_rook_file-below QueenSide = omega arith
+
+-- the square of a file on a colour's first rank is on the board
+pub home_square-below : (c : Colour) (f : ℕ) → f < 8 → home_square c f < 64
+home_square-below White f h = omega (arith, h)
+home_square-below Black f h = omega (arith, h)

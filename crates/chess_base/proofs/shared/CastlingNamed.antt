@@ -1,27 +1,10 @@
 -- For boards: a castling is found by the squares of its king and rook.
-use Rattle.std.proofs.Common.{◌≡◌, ◌≢◌, ℕ, inl, inr, Bool, true, false, ◌&&◌, Option, Some, None, refl, sym, ap, ◌∙◌, ◌==◌, length}
-use Rattle.std.specs.Prelude.{option_and_then}
+use Rattle.std.proofs.Common.{◌≡◌, ◌≢◌, ℕ, inl, inr, Bool, true, false, ◌&&◌, Option, Some, None, refl, sym, ap, ◌∙◌, ◌==◌, length, option_and_then}
 use Rattle.std.specs.Option.{option_map, option_map_or}
 use Rattle.std.proofs.lemmas.Bool.{and_parts, and_left, cases_eq, eqb-true, eq-eqb, ne_eqb, false_from_ne_true}
-use Rattle.chess_base.specs.declared.castling.Castle.{Castle}
-use Rattle.chess_base.specs.declared.man.Colour.{Colour}
-use Rattle.chess_base.specs.declared.man.CastlingSide.{CastlingSide}
-use Rattle.chess_base.specs.declared.man.CastlingSide.TheVariants.{KingSide, QueenSide}
-use Rattle.chess_base.specs.declared.man.Kind.TheVariants.{King, Rook}
-use Rattle.chess_base.specs.declared.man.Move.{Move}
-use Rattle.chess_base.specs.declared.man.Variant.{Variant}
-use Rattle.chess_base.specs.declared.man.Variant.TheVariants.{Normal, Fischerandom}
-use Rattle.chess_base.specs.declared.setup.Setup.{Setup}
-use Rattle.chess_base.specs.Squares.{rank}
-use Rattle.chess_base.specs.Men.{Men, man_at, is_man}
-use Rattle.chess_base.specs.Sound.{IsSound, has_one_king}
+use Rattle.chess_base.specs.{declared.castling.Castle.Castle, declared.man.Colour.Colour, declared.man.CastlingSide.CastlingSide, declared.man.CastlingSide.TheVariants.KingSide, declared.man.CastlingSide.TheVariants.QueenSide, declared.man.Kind.TheVariants.King, declared.man.Kind.TheVariants.Rook, declared.man.Move.Move, declared.man.Variant.Variant, declared.man.Variant.TheVariants.Normal, declared.man.Variant.TheVariants.Fischerandom, declared.setup.Setup.Setup, Squares.rank, Men.Men, Men.man_at, Men.is_man, Sound.IsSound, Sound.has_one_king, shared.Parts.is_on_side_of_king, Before.castle_by, shared.Splits.right_is_sound_at, shared.Splits.names_castling, laws.Castles.castling_on, laws.Castles.is_castling_by, laws.Castles.castling_named}
 use Rattle.chess_base.specs.Castling.{right_of, king_square, castle_from, castle_of, are_placed_for_castling, right_is_sound, home_square, king_home_file, names_castling_with, castled_king_file, is_castling_to, castling}
-use Rattle.chess_base.specs.shared.Parts.{is_on_side_of_king}
-use Rattle.chess_base.specs.Before.{castle_by}
-use Rattle.chess_base.specs.shared.Splits.{right_is_sound_at, names_castling}
-use Rattle.chess_base.specs.laws.Castles.{castling_on, is_castling_by, castling_named}
-use Rattle.chess_base.proofs.shared.Castling.{right_is_sound_of, says_from_castling, castling_says}
-use Rattle.chess_base.proofs.shared.MenAfter.{eqb_comm}
+use Rattle.chess_base.proofs.{shared.Castling.right_is_sound_of, shared.Castling.says_from_castling, shared.Castling.castling_says, shared.MenAfter.eqb_comm}
 use Rattle.chess_base.proofs.shared.Kings.{one_king, one_king_of, king_square-at, king_square-king}
 
 -- a move that doesn't start on the king's square names nothing

@@ -2,26 +2,14 @@
 use Rattle.std.proofs.Common.{◌≡◌, ◌≢◌, ℕ, ◌+◌, ◌<◌, ◌⊎◌, inl, inr, true, false, ◌&&◌, Option, Some, None, is_none, refl, arith, ◌==◌}
 use Rattle.std.proofs.lemmas.Bool.{and_parts, and_left, and_right, or_cases, both_ways, eqb-true, eqb-false, false_from_ne_true, not-true}
 use Rattle.std.specs.Int.{abs_diff}
-use Rattle.chess_base.specs.declared.man.Colour.{Colour}
-use Rattle.chess_base.specs.declared.man.Colour.TheVariants.{White, Black}
-use Rattle.chess_base.specs.declared.man.Kind.{Kind}
+use Rattle.chess_base.specs.{declared.man.Colour.Colour, declared.man.Colour.TheVariants.White, declared.man.Colour.TheVariants.Black, declared.man.Kind.Kind, declared.man.CastlingSide.CastlingSide, declared.man.CastlingSide.TheVariants.KingSide, declared.man.CastlingSide.TheVariants.QueenSide, declared.man.Man.Man, declared.man.Move.Move, Squares.rank, Squares.file, Squares.is_at, Attacks.attacks, Attacks.could_capture, shared.Splits.could_capture_as, declared.setup.Setup.Setup, Sound.IsSound, Sound.target_is_sound}
 use Rattle.chess_base.specs.declared.man.Kind.TheVariants.{King, Queen, Rook, Bishop, Knight, Pawn}
-use Rattle.chess_base.specs.declared.man.CastlingSide.{CastlingSide}
-use Rattle.chess_base.specs.declared.man.CastlingSide.TheVariants.{KingSide, QueenSide}
-use Rattle.chess_base.specs.declared.man.Man.{Man}
-use Rattle.chess_base.specs.declared.man.Move.{Move}
-use Rattle.chess_base.specs.Squares.{rank, file, is_at}
 use Rattle.chess_base.specs.Men.{Men, man_at, other, same_colour, same_kind, is_of, is_man, forward, first_rank, pawn_rank}
-use Rattle.chess_base.specs.Attacks.{attacks, could_capture}
-use Rattle.chess_base.specs.shared.Splits.{could_capture_as}
-use Rattle.chess_base.specs.declared.setup.Setup.{Setup}
-use Rattle.chess_base.specs.Sound.{IsSound, target_is_sound}
 use Rattle.chess_base.specs.Castling.{castling_rook_to, castling, is_castling_to, mover_end}
 use Rattle.chess_base.specs.Moves.{arriving_man, second_square_emptied, man_moves, pawn_advances, is_double_advance, promotion_fits, is_en_passant}
 use Rattle.chess_base.specs.shared.Parts.{crossed_rank, is_rank_ahead, target_is_sound_at, one_rank_back}
-use Rattle.chess_base.proofs.shared.Parts.{target_is_sound_is}
+use Rattle.chess_base.proofs.{shared.Parts.target_is_sound_is, shared.Castling.lands_on_to, shared.Castling.no_castle}
 use Rattle.chess_base.proofs.shared.Men.{same_colour-true, not_is_man, is_man-kind, is_of-none, is_man-none, is_of-other, colour_cases, is_none-None}
-use Rattle.chess_base.proofs.shared.Castling.{lands_on_to, no_castle}
 use Rattle.chess_base.proofs.shared.MoveKinds.{Moves, PawnKind, Advances, Captures, TakesEnPassant, is_of-mover, no_king_where_attacked}
 
 -- a kind that equals that of a pawn is it

@@ -1,7 +1,6 @@
 -- For readers: where a choice by a test gives a value, the test holds; and where a function of an option gives one, the
 -- option has one.
-use Rattle.std.proofs.Common.{◌≡◌, Bool, true, false, cond, Option, Some, None, refl}
-use Rattle.std.specs.Option.{option_map}
+use Rattle.std.proofs.Common.{◌≡◌, Bool, true, false, cond, Option, Some, None, refl, option_map}
 
 -- an option that is there only if a test passes: it passes, and the option is there
 pub chosen : {A : Type 0} (b : Bool) (o : Option A) (x : A) → cond b o None ≡ Some x → (b ≡ true) × (o ≡ Some x)

@@ -1,16 +1,12 @@
 -- For proofs about lines: what lies between two of the squares of a line.
 use Rattle.std.proofs.Common.{◌≡◌, ℕ, ◌<◌, ◌*◌, ◌+◌, nat_lt, ◌-◌, inl, inr, Bool, true, false, ◌&&◌, ◌||◌, not, ◌==◌, is_none, refl, sym, ap, ◌∙◌, arith}
-use Rattle.std.proofs.lemmas.Bool.Decides.{nat_tests}
-use Rattle.std.proofs.lemmas.Bool.{cases_order, eqb-true}
+use Rattle.std.proofs.{lemmas.Bool.Decides.nat_tests, lemmas.Bool.cases_order, lemmas.Bool.eqb-true}
 use Rattle.std.specs.Int.{abs_diff}
 use Rattle.chess_base.specs.Squares.{file, rank, is_strictly_between, share_diagonal, is_between}
-use Rattle.chess_base.specs.declared.line.Line.{Line}
+use Rattle.chess_base.specs.{declared.line.Line.Line, Men.Men, Men.man_at, Attacks.is_clear}
 use Rattle.chess_base.specs.declared.line.Line.TheVariants.{Rank, File, Diagonal, Antidiagonal}
-use Rattle.chess_base.specs.Men.{Men, man_at}
-use Rattle.chess_base.specs.Attacks.{is_clear}
 use Rattle.chess_base.specs.shared.Lines.{same_line, is_between_on_file, is_between_on_rank, is_between_on_diagonal}
-use Rattle.chess_base.proofs.shared.Parts.{is_between_is}
-use Rattle.chess_base.proofs.shared.Squares.{each_square_same}
+use Rattle.chess_base.proofs.{shared.Parts.is_between_is, shared.Squares.each_square_same}
 
 -- ---- which squares are between two does not depend on their order
 
@@ -208,3 +204,8 @@ pub is_clear_back : (men : Men) (a b : ℕ) → is_clear men a b ≡ is_clear me
 unfolding is_clear
 is_clear_back men a b =
     each_square_same _ _ (λ x l. ap (λ t. not t || is_none (man_at men x)) (between_back a b x))
+
+-- a square is not between another and itself
+pub is_between-end : (a b : ℕ) → is_between a b b ≡ false
+unfolding is_between is_between_on_file is_between_on_rank is_between_on_diagonal
+is_between-end a b = grind (arith, nat_tests)

@@ -1,20 +1,9 @@
 -- For boards and texts of moves: a colour has one king, and its square.
 use Rattle.std.proofs.Common.{◌≡◌, ℕ, ◌<◌, inl, inr, length, get_or, set, Bool, true, false, count_by, nat_lt, Option, Some, None, refl, sym, arith, length-set, get_or-set_other}
 use Rattle.std.specs.List.{position_or_len}
-use Rattle.std.proofs.lemmas.Bool.{cases_eq, eqb-true, false_from_ne_true}
-use Rattle.std.proofs.lemmas.Bool.Decides.{nat_tests}
-use Rattle.std.proofs.lemmas.List.Quantifiers.{position-Some}
-use Rattle.std.proofs.lemmas.List.Sums.{position_or_len_is}
-use Rattle.chess_base.specs.declared.man.Colour.{Colour}
-use Rattle.chess_base.specs.declared.man.Kind.TheVariants.{King}
-use Rattle.chess_base.specs.declared.man.Man.{Man}
-use Rattle.chess_base.specs.Men.{Men, man_at, is_man}
-use Rattle.chess_base.specs.Sound.{has_one_king, IsSound}
-use Rattle.chess_base.specs.Castling.{king_square}
-use Rattle.chess_base.specs.declared.man.Colour.TheVariants.{White, Black}
-use Rattle.chess_base.specs.declared.setup.Setup.{Setup}
-use Rattle.chess_base.proofs.CountedWrites.{count_by-set}
-use Rattle.chess_base.proofs.shared.Men.{in_board}
+use Rattle.std.proofs.{lemmas.Bool.cases_eq, lemmas.Bool.eqb-true, lemmas.Bool.false_from_ne_true, lemmas.Bool.Decides.nat_tests, lemmas.List.Quantifiers.position-Some, lemmas.List.Sums.position_or_len_is}
+use Rattle.chess_base.specs.{declared.man.Colour.Colour, declared.man.Kind.TheVariants.King, declared.man.Man.Man, Men.Men, Men.man_at, Men.is_man, Sound.has_one_king, Sound.IsSound, Castling.king_square, declared.man.Colour.TheVariants.White, declared.man.Colour.TheVariants.Black, declared.setup.Setup.Setup}
+use Rattle.chess_base.proofs.{CountedWrites.count_by-set, shared.Men.in_board}
 
 -- where one piece passes, no two squares do
 only_one : (q : Option Man → Bool) (men : Men) (i j : ℕ) → q None ≡ false → count_by q men ≡ 1 → i < length men

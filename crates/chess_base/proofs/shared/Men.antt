@@ -1,16 +1,10 @@
 -- For proofs about pieces: what follows from the tests on the piece of a square, if there is one.
-use Rattle.std.proofs.Common.{◌≡◌, ℕ, ◌<◌, ◌⊎◌, inl, inr, true, false, Option, Some, None, is_none, length, ◌==◌, refl, sym, ap, ◌∙◌, arith}
+use Rattle.std.proofs.Common.{◌≡◌, ℕ, ◌<◌, ◌⊎◌, inl, inr, true, false, Option, Some, None, is_none, length, ◌==◌, refl, sym, ap, ◌∙◌, arith, unwrap_or}
 use Rattle.std.proofs.lemmas.Bool.{and_parts, and_left, and_right, eqb-true, cases_lt}
 use Rattle.std.proofs.lemmas.List.{get_or_past}
-use Rattle.std.specs.Option.{unwrap_or}
-use Rattle.chess_base.specs.declared.man.Colour.{Colour}
-use Rattle.chess_base.specs.declared.man.Colour.TheVariants.{White, Black}
-use Rattle.chess_base.specs.declared.man.Kind.{Kind}
+use Rattle.chess_base.specs.{declared.man.Colour.Colour, declared.man.Colour.TheVariants.White, declared.man.Colour.TheVariants.Black, declared.man.Kind.Kind, declared.man.Man.Man, Letters.white_letter, Letters.kind_with_letter, shared.Parts.kind_number}
 use Rattle.chess_base.specs.declared.man.Kind.TheVariants.{King, Queen, Rook, Bishop, Knight, Pawn}
-use Rattle.chess_base.specs.declared.man.Man.{Man}
-use Rattle.chess_base.specs.Letters.{white_letter, kind_with_letter}
 use Rattle.chess_base.specs.Men.{Men, man_at, other, same_colour, same_kind, is_of, is_man}
-use Rattle.chess_base.specs.shared.Parts.{kind_number}
 
 -- a colour equals itself
 pub same_colour-self : (c : Colour) → same_colour c c ≡ true
@@ -134,3 +128,9 @@ in_board men c k s l e =
 pub is_none-None : {A : Type 0} (o : Option A) → is_none o ≡ true → o ≡ None
 is_none-None None e = refl
 is_none-None (Some x) e = cc
+
+-- a rook is no king
+pub is_man-rook_as_king : (c : Colour) → is_man c King (Some (record { colour = c; kind = Rook })) ≡ false
+unfolding is_man
+is_man-rook_as_king White = refl
+is_man-rook_as_king Black = refl

@@ -1,27 +1,14 @@
 -- For boards: the pieces after a move, square by square.
-use Rattle.std.proofs.Common.{◌≡◌, ℕ, ◌<◌, inl, inr, length, ◌==◌, Bool, ◌||◌, Option, Some, None, ◌≢◌, true, false, refl, sym, ap, ◌∙◌, arith}
+use Rattle.std.proofs.Common.{◌≡◌, ℕ, ◌<◌, inl, inr, length, ◌==◌, Bool, ◌||◌, Option, Some, None, ◌≢◌, true, false, refl, sym, ap, ◌∙◌, arith, if◌then◌else◌}
 use Rattle.std.proofs.lemmas.Bool.{cases_eq, eq-eqb, ne_eqb}
 use Rattle.std.specs.Option.{option_map_or}
-use Rattle.std.specs.Prelude.{if◌then◌else◌}
-use Rattle.chess_base.specs.declared.castling.Castle.{Castle}
-use Rattle.chess_base.specs.declared.man.CastlingSide.{CastlingSide}
-use Rattle.chess_base.specs.declared.man.Move.{Move}
-use Rattle.chess_base.specs.declared.man.Man.{Man}
-use Rattle.chess_base.specs.declared.man.Kind.TheVariants.{King, Rook}
-use Rattle.chess_base.specs.declared.steps.Steps.{Steps}
-use Rattle.chess_base.specs.declared.setup.Saved.{Saved}
+use Rattle.chess_base.specs.{declared.castling.Castle.Castle, declared.man.CastlingSide.CastlingSide, declared.man.Move.Move, declared.man.Man.Man, declared.man.Kind.TheVariants.King, declared.man.Kind.TheVariants.Rook, declared.steps.Steps.Steps, declared.setup.Saved.Saved, declared.setup.Setup.Setup, shared.Parts.one_rank_back, Squares.is_at, Steps.man_stepped, Steps.men_stepped}
 use Rattle.chess_base.specs.Men.{Men, man_at, is_man, is_of, other}
-use Rattle.chess_base.specs.declared.setup.Setup.{Setup}
 use Rattle.chess_base.specs.Moves.{is_en_passant, arriving_man, captured_square, after_castling, after_moving, second_square_emptied, steps_of, men_after}
-use Rattle.chess_base.specs.shared.Parts.{one_rank_back}
 use Rattle.chess_base.specs.Before.{castling_undone, before_castling, before_moving, steps_back_by, steps_back, men_before}
-use Rattle.chess_base.specs.Squares.{is_at}
 use Rattle.chess_base.specs.Castling.{castling, castle_of, castle_from, mover_end, castling_rook_to}
-use Rattle.chess_base.specs.Steps.{man_stepped, men_stepped}
 use Rattle.chess_base.proofs.shared.Castling.{says_from_castling, castling_says, castle_there, no_castle}
-use Rattle.chess_base.proofs.shared.Changes.{no_en_passant}
-use Rattle.chess_base.proofs.shared.Men.{is_man-kind}
-use Rattle.chess_base.proofs.shared.Squares.{get_or-map_squares, length-map_squares, map_squares-same}
+use Rattle.chess_base.proofs.{shared.Changes.no_en_passant, shared.Men.is_man-kind, shared.Squares.get_or-map_squares, shared.Squares.length-map_squares, shared.Squares.map_squares-same}
 
 -- the pieces after steps, as one list
 

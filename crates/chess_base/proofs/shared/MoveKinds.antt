@@ -1,22 +1,12 @@
 -- For lists of moves: the kinds of pseudo-legal moves, and what follows from each.
 use Rattle.std.proofs.Common.{◌≡◌, ℕ, ◌<◌, inl, inr, Bool, true, false, ◌&&◌, ◌||◌, not, cond, Option, Some, None, refl, sym, ◌==◌, is_none}
 use Rattle.std.proofs.lemmas.Bool.{and_parts, and_from, and_right, or_cases, both_ways, eqb-true, ltb-true, false_from_ne_true, not-true}
-use Rattle.chess_base.specs.declared.man.Colour.{Colour}
+use Rattle.chess_base.specs.{declared.man.Colour.Colour, declared.man.CastlingSide.CastlingSide, declared.man.Man.Man, declared.man.Move.Move, Squares.rank, Squares.is_at, Attacks.attacks, Attacks.is_attacked, Attacks.is_in_check, declared.setup.Setup.Setup, shared.Splits.castles_or_moves, declared.castling.Castle.Castle, declared.man.Kind.Kind}
 use Rattle.chess_base.specs.declared.man.Kind.TheVariants.{King, Queen, Rook, Bishop, Knight, Pawn}
-use Rattle.chess_base.specs.declared.man.CastlingSide.{CastlingSide}
-use Rattle.chess_base.specs.declared.man.Man.{Man}
-use Rattle.chess_base.specs.declared.man.Move.{Move}
-use Rattle.chess_base.specs.Squares.{rank, is_at}
 use Rattle.chess_base.specs.Men.{Men, man_at, other, same_colour, same_kind, is_of, is_man, forward, first_rank, pawn_rank}
-use Rattle.chess_base.specs.Attacks.{attacks, is_attacked, is_in_check}
-use Rattle.chess_base.specs.declared.setup.Setup.{Setup}
-use Rattle.chess_base.specs.Moves.{is_pseudo_legal, moves_as, man_moves, pawn_moves, is_double_advance, pawn_advances, pawn_captures, promotion_fits}
-use Rattle.chess_base.specs.shared.Splits.{castles_or_moves}
+use Rattle.chess_base.specs.Moves.{is_legal, is_pseudo_legal, moves_as, man_moves, pawn_moves, is_double_advance, pawn_advances, pawn_captures, promotion_fits}
 use Rattle.chess_base.specs.Castling.{right_of, castle_from, castle_of, castling, castles, castling_way_is_empty}
-use Rattle.chess_base.specs.declared.castling.Castle.{Castle}
-use Rattle.chess_base.specs.declared.man.Kind.{Kind}
-use Rattle.chess_base.proofs.shared.Castling.{castle_there, no_castle}
-use Rattle.chess_base.proofs.shared.Squares.{some_square-at}
+use Rattle.chess_base.proofs.{shared.Castling.castle_there, shared.Castling.no_castle, shared.Squares.some_square-at}
 use Rattle.chess_base.proofs.shared.Men.{same_colour-self, same_colour-true, other-other, is_none-None}
 
 -- a pawn's move, by its three kinds
@@ -93,6 +83,11 @@ moves_from_pattern p m e =
     let three = and_parts _ _ e in
     let two = and_parts _ _ three.0 in
     moves_by p m (man_at p.men m.from) refl (ltb-true _ _ two.0) (ltb-true _ _ two.1) three.1
+
+-- a legal move is of one of the kinds, too
+pub Moves-from_legal : (p : Setup) (m : Move) → is_legal p m ≡ true → Moves p m
+unfolding is_legal
+Moves-from_legal p m e = moves_from_pattern p m (and_parts _ _ e).0
 
 -- the mover is of the side to move
 pub is_of-mover : (p : Setup) (m : Move) → Moves p m → is_of p.side (man_at p.men m.from) ≡ true

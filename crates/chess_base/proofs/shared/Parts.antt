@@ -2,17 +2,8 @@
 use Rattle.std.proofs.Common.{arith, ◌≡◌, ℕ, ◌==◌, Bool, true, not, ◌&&◌, ◌||◌, Option, Some, None, is_none, refl}
 use Rattle.std.proofs.lemmas.Bool.Decides.{nat_tests}
 use Rattle.std.specs.Option.{option_map_or}
-use Rattle.chess_base.specs.declared.castling.Castle.{Castle}
-use Rattle.chess_base.specs.declared.man.Colour.{Colour}
-use Rattle.chess_base.specs.declared.man.Colour.TheVariants.{White, Black}
-use Rattle.chess_base.specs.declared.man.Kind.TheVariants.{Pawn}
-use Rattle.chess_base.specs.declared.setup.Setup.{Setup}
-use Rattle.chess_base.specs.Squares.{rank, is_between, each_square}
+use Rattle.chess_base.specs.{declared.castling.Castle.Castle, declared.man.Colour.Colour, declared.man.Colour.TheVariants.White, declared.man.Colour.TheVariants.Black, declared.man.Kind.TheVariants.Pawn, declared.setup.Setup.Setup, Squares.rank, Squares.is_between, Squares.each_square, Castling.is_on_way, Castling.castling_needs_empty, Castling.castling_way_is_empty, Sound.target_is_sound, shared.Lines.is_between_on_file, shared.Lines.is_between_on_rank, shared.Lines.is_between_on_diagonal, shared.Parts.crossed_rank, shared.Parts.target_is_sound_at}
 use Rattle.chess_base.specs.Men.{Men, man_at, is_man, other, forward, pawn_rank}
-use Rattle.chess_base.specs.Castling.{is_on_way, castling_way_is_empty}
-use Rattle.chess_base.specs.Sound.{target_is_sound}
-use Rattle.chess_base.specs.shared.Lines.{is_between_on_file, is_between_on_rank, is_between_on_diagonal}
-use Rattle.chess_base.specs.shared.Parts.{crossed_rank, castling_needs_empty, target_is_sound_at}
 use Rattle.chess_base.proofs.shared.Squares.{each_square_same}
 
 -- what is between two squares, by file, rank and diagonal
@@ -21,14 +12,22 @@ pub is_between_is : (a b x : ℕ)
 unfolding is_between is_between_on_file is_between_on_rank is_between_on_diagonal
 is_between_is a b x = refl
 
-needs_or : (w a b n : Bool) → (not w || a || b || n) ≡ (not (w && not a && not b) || n)
+needs_or : (w a b n : Bool) → (not (w && not a && not b) || n) ≡ (not w || a || b || n)
 needs_or w a b n = grind arith
 
 -- the way of castling is empty, by its squares
 pub castling_way_is_empty_is : (men : Men) (k : Castle)
     → castling_way_is_empty men k ≡ each_square (λ x. not (castling_needs_empty k x) || is_none (man_at men x))
+unfolding castling_way_is_empty
+castling_way_is_empty_is men k = refl
+
+-- the same, square by square: it is on neither way, or one of the two starts on it, or it is empty
+pub castling_way_is_empty_by : (men : Men) (k : Castle)
+    → castling_way_is_empty men k ≡ each_square
+    (λ x. not (is_on_way k.king_from k.king_to x || is_on_way k.rook_from k.rook_to x) || (x == k.king_from)
+    || (x == k.rook_from) || is_none (man_at men x))
 unfolding castling_way_is_empty castling_needs_empty
-castling_way_is_empty_is men k =
+castling_way_is_empty_by men k =
     each_square_same _ _ (λ x l.
     needs_or (is_on_way k.king_from k.king_to x || is_on_way k.rook_from k.rook_to x) (x == k.king_from)
     (x == k.rook_from) (is_none (man_at men x)))

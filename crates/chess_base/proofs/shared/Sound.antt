@@ -1,15 +1,10 @@
 -- For readers of positions: a setup is sound exactly if it has no fault.
-use Rattle.std.proofs.Common.{◌≡◌, Bool, true, false, not, ◌&&◌, cond, Option, Some, None, length, refl}
+use Rattle.std.proofs.Common.{◌≡◌, Bool, true, false, not, ◌&&◌, cond, ◌∷◌, ◌++◌, take, drop, Option, Some, None, length, refl}
 use Rattle.std.proofs.lemmas.Bool.{and_parts}
-use Rattle.chess_base.specs.declared.man.Colour.TheVariants.{White, Black}
-use Rattle.chess_base.specs.declared.setup.Setup.{Setup}
-use Rattle.chess_base.specs.declared.fen_fault.FenFault.{FenFault}
+use Rattle.chess_base.specs.{declared.man.Colour.TheVariants.White, declared.man.Colour.TheVariants.Black, declared.setup.Setup.Setup, declared.fen_fault.FenFault.FenFault, Men.other, Attacks.is_in_check, shared.Parts.counters_fit}
 use Rattle.chess_base.specs.declared.fen_fault.FenFault.TheVariants.{Counters, Kings, Pawns, Men, Castling, EnPassant, Check}
-use Rattle.chess_base.specs.Men.{other}
-use Rattle.chess_base.specs.Attacks.{is_in_check}
 use Rattle.chess_base.specs.Sound.{IsSound, has_one_king, no_pawn_on_end_ranks, has_at_most_16, target_is_sound}
-use Rattle.chess_base.specs.Faults.{rights_are_sound, setup_fault}
-use Rattle.chess_base.specs.shared.Parts.{counters_fit}
+use Rattle.chess_base.specs.Faults.{conditions, conditions_if, first_failing, rights_are_sound, setup_fault}
 
 passes : (a : Bool) (f : FenFault) (rest : Option FenFault) → cond a rest (Some f) ≡ None → (a ≡ true) × (rest ≡ None)
 passes true f rest e = (refl, e)
@@ -50,6 +45,12 @@ IsSound-from_no_fault p l e =
       fullmove_low = c1.1;
       fullmove_high = c2.1;
     }
+
+-- that letters name rights well may be a condition of its own, right before the one that the rights are sound
+pub first_failing-conditions_if : (named : Bool) (p : Setup) → first_failing (conditions_if named p)
+    ≡ first_failing (take 4 (conditions p) ++ ((Castling, named) ∷ drop 4 (conditions p)))
+first_failing-conditions_if true p = refl
+first_failing-conditions_if false p = refl
 
 -- a sound position has no fault
 pub no_fault_from_IsSound : (p : Setup) → IsSound p → setup_fault p ≡ None

@@ -2,8 +2,7 @@
 use Rattle.std.proofs.Common.{◌≡◌, ℕ, ◌<◌, ◌⊎◌, inl, inr, Bool, true, false, ◌&&◌, ◌||◌, refl, sym, arith, zero, suc, ◌∷◌, length, get_or, map, ap, ◌∙◌}
 use Rattle.std.proofs.lemmas.Bool.{cases_Bool, and_parts, and_from, and_left, and_right, or_from, or_left, or_right}
 use Rattle.std.specs.List.{list_any, list_all}
-use Rattle.chess_base.specs.Squares.{squares, some_square, each_square}
-use Rattle.chess_base.specs.shared.Below.{some_below, each_below, from_below}
+use Rattle.chess_base.specs.{Squares.squares, Squares.some_square, Squares.each_square, shared.Below.some_below, shared.Below.each_below, shared.Below.from_below}
 
 last_or_below : (n k : ℕ) → k < suc n → (k ≡ n) ⊎ (k < n)
 last_or_below n k h = grind arith

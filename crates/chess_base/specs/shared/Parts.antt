@@ -1,7 +1,6 @@
 -- Parts of the definitions at the top of specs/ by names of their own, for contracts of private functions and proofs.
 use Rattle.std.specs.Prelude.{ℕ, ◌+◌, ◌==◌, nat_le, Bool, true, false, not, ◌&&◌, ◌||◌, List, [], Option, Some, None, is_none, if◌then◌else◌, option_and_then}
 use Rattle.std.specs.Option.{option_map_or}
-use Rattle.chess_base.specs.declared.castling.Castle.{Castle}
 use Rattle.chess_base.specs.declared.man.Colour.{Colour}
 use Rattle.chess_base.specs.declared.man.Colour.TheVariants.{White, Black}
 use Rattle.chess_base.specs.declared.man.CastlingSide.{CastlingSide}
@@ -13,7 +12,7 @@ use Rattle.chess_base.specs.declared.setup.TheConstants.{COUNTER_LIMIT}
 use Rattle.chess_base.specs.Squares.{rank}
 use Rattle.chess_base.specs.ByColour.{by_colour}
 use Rattle.chess_base.specs.Men.{Men, man_at, is_man, other, forward, first_rank}
-use Rattle.chess_base.specs.Castling.{is_to_side, is_on_way}
+use Rattle.chess_base.specs.Castling.{is_to_side}
 
 -- a number of its own for each kind of piece
 abbrev pub kind_number : Kind → ℕ
@@ -44,13 +43,6 @@ one_rank_back c s = forward (other c) s
 abbrev pub is_on_side_of_king : Colour → CastlingSide → Option ℕ → ℕ → Bool
 is_on_side_of_king c w o s =
     option_map_or (λ king. (rank king == first_rank c) && (rank s == first_rank c) && is_to_side w king s) o false
-
--- for castling k, square x has to be empty: the king or the rook crosses it or ends on it, and neither of the two
--- starts on it
-unfoldable pub castling_needs_empty : Castle → ℕ → Bool
-castling_needs_empty k x =
-    (is_on_way k.king_from k.king_to x || is_on_way k.rook_from k.rook_to x) && not (x == k.king_from)
-    && not (x == k.rook_from)
 
 -- no pawn of either colour is on square s, or s is on neither rank 1 nor rank 8
 abbrev pub pawn_is_allowed : Men → ℕ → Bool

@@ -1,8 +1,8 @@
 -- What a server of lines, such as a session, answers where it is known which bytes its input has to give: however reads
 -- cut them.
-use Rattle.std.specs.Prelude.{◌≡◌, ℕ, true, List, ◌++◌}
+use Rattle.std.specs.Prelude.{◌≡◌, ℕ, nat_lt, true, List, ◌++◌, length}
 use Rattle.std.specs.Option.{IfSome}
-use Rattle.byte_devices.specs.Transfers.{FromInput, Devices, OutputTook, all_for}
+use Rattle.byte_devices.specs.Transfers.{FromInput, Devices, OutputTook, all_flushed}
 use Rattle.text_lines.specs.Lines.{LineSeen, stream_lines}
 use Rattle.chess_cecp.specs.Serving.{Server, responses}
 use Rattle.chess_cecp.specs.Served.{lines_read}
@@ -22,4 +22,4 @@ AreFirstLines d i = IfSome d.input.known_bytes (λ bytes. (more : List LineSeen)
 abbrev pub AnswersInput : {S : Type 0} → Server S → S → S → Devices → Devices → Type 0
 AnswersInput respond s s' d d' = IfSome d.input.known_bytes (λ bytes.
     let due = responses respond s (lines_of bytes) in
-    OutputTook d.output d'.output (all_for (lines_of bytes) due.text) × (s' ≡ due.state))
+    OutputTook d.output d'.output (all_flushed (nat_lt 0 (length (lines_of bytes))) due.text) × (s' ≡ due.state))

@@ -1,5 +1,6 @@
 -- The laws of FEN, each as one statement.
-use Rattle.std.specs.Prelude.{◌≡◌, ℕ, true, ◌↔◌, List, Some, Ok}
+use Rattle.std.specs.Prelude.{◌≡◌, ℕ, true, ◌↔◌, List, Ok}
+use Rattle.std.specs.Option.{option_map_or}
 use Rattle.chess_base.specs.declared.man.CastlingSide.{CastlingSide}
 use Rattle.chess_base.specs.declared.man.Colour.{Colour}
 use Rattle.chess_base.specs.declared.man.Variant.TheVariants.{Fischerandom}
@@ -9,7 +10,7 @@ use Rattle.chess_base.specs.Sound.{IsSound}
 use Rattle.chess_fen.specs.Writing.{fen}
 use Rattle.chess_fen.specs.Reading.{fen_reading_as}
 use Rattle.chess_fen.specs.Denotation.{DenotesFenAs}
-use Rattle.chess_fen.specs.RightNames.{right_in}
+use Rattle.chess_fen.specs.RightNames.{Absent, At, right_in}
 use Rattle.chess_fen.specs.laws.NamedRooks.{RightIsNamed}
 
 -- the FEN that is written for a sound position denotes that position, in its variant
@@ -30,5 +31,5 @@ abbrev pub RightsAreNamed : Type 0
 RightsAreNamed =
     (text : List ℕ) → (p : Setup) → (c : Colour) → (w : CastlingSide)
     → p.variant ≡ Fischerandom → right_is_sound p c w ≡ true
-    → ((right_in Fischerandom p.men text c w ≡ Some (right_of p.rights c w)) ↔
+    → ((right_in Fischerandom p.men text c w ≡ option_map_or At (right_of p.rights c w) Absent) ↔
     RightIsNamed text p.men c w (right_of p.rights c w))

@@ -1,39 +1,19 @@
 -- What a line can do to a match, whatever it says: what holds of each of these effects holds of the line's.
-use native.Mathlib.Omega.{arith}
-use Rattle.std.specs.List.{list_any}
-use Rattle.std.proofs.Common.{◌≡◌, ℕ, ◌+◌, ◌-◌, ◌≤◌, ◌<◌, Bool, true, false, not, ◌&&◌, List, [], ◌∷◌, ◌++◌, length, refl, sym, ap, ◌∙◌, subst, Option, None, Some}
-use Rattle.std.specs.Option.{option_map_or, option_or}
-use Rattle.std.specs.Prelude.{if◌then◌else◌, nat_lt, nat_le, ◌==◌, codes, is_some, option_map}
-use Rattle.std.proofs.lemmas.Bool.{leb-false, ltb-false}
-use Rattle.chess_base.specs.declared.man.Colour.{Colour}
-use Rattle.chess_base.specs.declared.man.Colour.TheVariants.{White, Black}
-use Rattle.chess_base.specs.declared.man.Move.{Move}
-use Rattle.chess_base.specs.Men.{other, same_colour}
-use Rattle.chess_base.specs.Options.{list_if}
+use Rattle.std.specs.{List.list_any, Option.option_map_or, Option.option_or}
+use Rattle.std.proofs.Common.{◌≡◌, ℕ, ◌+◌, ◌-◌, ◌≤◌, ◌<◌, Bool, true, false, not, ◌&&◌, List, [], ◌∷◌, ◌++◌, length, refl, sym, ap, ◌∙◌, subst, Option, None, Some, arith, leb-false, ltb-false, if◌then◌else◌, nat_lt, nat_le, ◌==◌, codes, is_some, option_map}
+use Rattle.chess_base.specs.{declared.man.Colour.Colour, declared.man.Colour.TheVariants.White, declared.man.Colour.TheVariants.Black, declared.man.Move.Move, Men.other, Men.same_colour, Options.list_if}
 use Rattle.chess_base.proofs.shared.Men.{same_colour-true}
-use Rattle.chess_game.specs.declared.verdicts.Verdict.{Verdict}
+use Rattle.chess_game.specs.{declared.verdicts.Verdict.Verdict, declared.verdicts.DrawClaim.DrawClaim, Ends.verdict, Ends.claims, Ends.draw_claim, Line.position_after}
 use Rattle.cecp_engine.specs.EngineLines.{LineKind, Features, Moves, Resigns, OffersDraw, ClaimsDraw, ClaimsWin, Rejects, Answers, SaysElse}
 use Rattle.cecp_engine.specs.Items.{Item, ends_handshake, plays_fischerandom, takes}
-use Rattle.chess_match.specs.Acts.{awaits_line, is_limited}
-use Rattle.chess_match.specs.Effects.{Match, Phase, Handshake, Setup, Opening, BeforeMove, AfterMove, Over, Effect, awaited_since, before_move, begins_turn, clock, ends, flag_row, handshake_done, handshake_lines, handshake_row, if_automatic, ignores, judged, line_row, missing, move_row, moved, offer_row, ping_number, reply_row, sends_nothing, sends_to, setup_done, silence_row, turn_row, with_seat}
-use Rattle.chess_match.specs.shared.Parts.{enter, with_answers, counted}
-use Rattle.chess_match.specs.Lines.{Says, ping, setup_lines}
-use Rattle.chess_match.specs.Reasons.{is_write_fault_of}
-use Rattle.chess_match.specs.Rules.{Rules, start_fen, has_bare_king}
-use Rattle.chess_text.specs.San.{is_fischerandom}
-use Rattle.chess_text.specs.declared.reading.Reading.{Reading}
+use Rattle.chess_match.specs.{Acts.awaits_line, Acts.is_limited, shared.Parts.enter, shared.Parts.counted, Lines.Says, Lines.ping, Lines.setup_lines, Reasons.is_write_fault_of, Rules.Rules, Rules.start_fen, Rules.has_bare_king, declared.reason.MatchFault.MatchFault, declared.patience.Patience.Patience, declared.reason.Reason.Reason}
+use Rattle.chess_match.specs.Effects.{Match, Phase, Handshake, Setup, Opening, BeforeMove, AfterMove, Over, Effect, awaited_since, before_move, begins_turn, clock, ends, flag_row, handshake_done, handshake_lines, handshake_row, if_automatic, ignores, judged, line_row, missing, move_row, moved, offer_row, ping_number, reply_row, sends_nothing, sends_to, setup_done, silence_row, turn_row, with_seat, with_answers}
+use Rattle.chess_text.specs.{San.is_fischerandom, declared.reading.Reading.Reading, Moves.reading}
 use Rattle.chess_text.specs.declared.reading.Reading.TheVariants as reads
-use Rattle.chess_game.specs.declared.verdicts.DrawClaim.{DrawClaim}
-use Rattle.chess_match.specs.declared.reason.MatchFault.{MatchFault}
-use Rattle.chess_match.specs.declared.patience.Patience.{Patience}
 use Rattle.chess_match.specs.declared.reason.MatchFault.TheVariants.{Flood, NoAnswer, NoDone, NoHandshake, NoPing, NoSetboard, NoVariant}
-use Rattle.chess_match.specs.declared.reason.Reason.{Reason}
 use Rattle.chess_match.specs.declared.reason.Reason.TheVariants.{Decided, Claimed, Agreed, MovesIllegally, MovesOutOfTurn, ClaimsFalsely, RejectsLegalMove, Forfeits, ForfeitsToBareKing, GameTooLong, Faulted}
 use Rattle.chess_match.specs.declared.reason.Reason.TheVariants as over_by
 use Rattle.chess_match.specs.laws.Laws.{move_said, is_pong, items_in_line, whose_line}
-use Rattle.chess_game.specs.Ends.{verdict, claims, draw_claim}
-use Rattle.chess_game.specs.Line.{position_after}
-use Rattle.chess_text.specs.Moves.{reading}
 
 -- whether a match ended for a verdict of the board
 abbrev pub is_decided : Reason → Bool

@@ -1,17 +1,11 @@
 -- What holds of the acts of a match, by the kinds of act.
-use native.Mathlib.Omega.{arith}
-use Rattle.std.proofs.Common.{◌≡◌, ℕ, Bool, true, false, List, [], ◌∷◌, ◌++◌, refl, ap, sym, ◌∙◌, subst, append-nil, Option}
-use Rattle.std.specs.Prelude.{if◌then◌else◌}
+use Rattle.std.proofs.Common.{◌≡◌, ℕ, Bool, true, false, List, [], ◌∷◌, ◌++◌, refl, ap, sym, ◌∙◌, subst, append-nil, Option, arith, if◌then◌else◌}
 use Rattle.std.proofs.lemmas.Bool.{and_parts}
-use Rattle.chess_base.specs.declared.man.Colour.{Colour}
-use Rattle.chess_base.specs.declared.man.Colour.TheVariants.{White}
-use Rattle.chess_base.specs.Men.{same_colour}
+use Rattle.chess_base.specs.{declared.man.Colour.Colour, declared.man.Colour.TheVariants.White, Men.same_colour}
 use Rattle.chess_match.specs.Acts.{Act, Block, Sends, SendFails, Happens, IsMatch, IsMatchFrom, awaits_line, is_limited, is_over, blocks_from}
-use Rattle.chess_match.specs.shared.Parts.{blocks_after}
+use Rattle.chess_match.specs.{shared.Parts.blocks_after, Lines.SentLine, Rules.Rules}
 use Rattle.chess_match.specs.Effects.{Match, Phase, Opening, effect, beginning}
 use Rattle.chess_match.specs.Events.{Line, Opened, Silent, OutputEnds, FailsToRead, FailsToWrite}
-use Rattle.chess_match.specs.Lines.{SentLine}
-use Rattle.chess_match.specs.Rules.{Rules}
 use Rattle.chess_match.specs.laws.Laws.{has_ended, has_failed_read, lines_read, match_after}
 
 -- what holds before each act of a match, of what is due, of the acts up to a moment, and of the match then, if it holds

@@ -2,11 +2,7 @@
 use Rattle.std.proofs.Common.{◌≡◌, true, sym, ap, ◌∙◌}
 use Rattle.chess_base.specs.declared.man.Colour.{Colour}
 use Rattle.chess_base.proofs.shared.Men.{same_colour-self}
-use Rattle.chess_match.specs.Effects.{Over}
-use Rattle.chess_match.specs.Reasons.{is_write_fault_of}
-use Rattle.chess_match.specs.declared.reason.MatchFault.TheVariants.{Write}
-use Rattle.chess_match.specs.declared.reason.Reason.{Reason}
-use Rattle.chess_match.specs.declared.reason.Reason.TheVariants.{Faulted}
+use Rattle.chess_match.specs.{Effects.Over, Reasons.is_write_fault_of, declared.reason.MatchFault.TheVariants.Write, declared.reason.Reason.Reason, declared.reason.Reason.TheVariants.Faulted}
 
 -- a match that is over by a failed write to S has a reason that says so
 pub unwritten : (S : Colour) (reason : Reason) → Over (Faulted S Write) ≡ Over reason → is_write_fault_of reason S ≡ true

@@ -1,21 +1,13 @@
 -- Why a match ended: by the board's verdict.
 use Rattle.std.proofs.Common.{◌≡◌, ◌⊎◌, ℕ, Bool, true, false, List, [], refl, sym, ◌∙◌, subst, inl, inr, None, Some, arith}
-use Rattle.chess_base.specs.declared.man.Colour.{Colour}
-use Rattle.chess_base.specs.declared.man.Colour.TheVariants.{White}
-use Rattle.chess_base.specs.declared.man.Move.{Move}
-use Rattle.chess_game.specs.declared.verdicts.Verdict.{Verdict}
+use Rattle.chess_base.specs.{declared.man.Colour.Colour, declared.man.Colour.TheVariants.White, declared.man.Move.Move}
+use Rattle.chess_game.specs.{declared.verdicts.Verdict.Verdict, Ends.verdict}
 use Rattle.cecp_engine.specs.EngineLines.{LineKind}
-use Rattle.chess_match.specs.laws.Laws.{line_kind, VerdictsEndMatches}
+use Rattle.chess_match.specs.{laws.Laws.line_kind, laws.Laws.VerdictsEndMatches, Events.Silent, Rules.Rules, declared.reason.Reason.Reason, declared.reason.Reason.TheVariants.Decided, declared.reason.Reason.TheVariants.Faulted, declared.reason.MatchFault.MatchFault}
 use Rattle.chess_match.specs.Acts.{Act, IsMatch, awaits_line, blocks_from, is_over}
 use Rattle.chess_match.specs.Effects.{Match, Phase, Handshake, Setup, Opening, Over, beginning, effect, line_row}
-use Rattle.chess_match.specs.Events.{Silent}
-use Rattle.chess_match.specs.Rules.{Rules}
-use Rattle.chess_match.specs.declared.reason.Reason.{Reason}
-use Rattle.chess_match.specs.declared.reason.Reason.TheVariants.{Decided, Faulted}
 use Rattle.chess_match.proofs.shared.LineCases.{in_turn, is_decided, is_fault, line_cases, silence_cases}
 use Rattle.chess_match.proofs.shared.MatchCases.{by_cases, on_when_read}
-use Rattle.chess_game.specs.Ends.{verdict}
-use Rattle.chess_match.specs.declared.reason.MatchFault.{MatchFault}
 
 -- no move was played, or the board has no verdict
 abbrev Undecided : Rules → List Move → Type 0

@@ -1,12 +1,10 @@
 -- Parts of effects, and what is due after a line, by names that proofs use, also those of chess_match_laws and of
 -- match_runner.
-use Rattle.std.specs.Prelude.{ℕ, if◌then◌else◌, List, [], ◌∷◌, ◌++◌, map, codes, Option, Some}
+use Rattle.std.specs.Prelude.{ℕ, if◌then◌else◌, List, [], ◌∷◌, ◌++◌, codes, Option, Some}
 use Rattle.chess_base.specs.declared.man.Colour.{Colour}
 use Rattle.chess_base.specs.declared.man.Colour.TheVariants.{White}
-use Rattle.chess_base.specs.Men.{same_colour}
 use Rattle.chess_base.specs.Options.{list_if}
 use Rattle.cecp_engine.specs.EngineLines.{LineKind, Features}
-use Rattle.cecp_engine.specs.Items.{Item, is_known}
 use Rattle.chess_match.specs.Acts.{Block, blocks_from, is_over}
 use Rattle.chess_match.specs.Effects.{Effect, Match, Phase, is_owed_move, move_line}
 use Rattle.chess_game.specs.Ends.{result_text, verdict}
@@ -28,16 +26,6 @@ since_counted _ moment since = since
 -- the match `m`, once a line of this kind came at this moment in a handshake
 abbrev pub counted : LineKind → ℕ → Match → Match
 counted kind moment m = record m { since = since_counted kind moment m.since }
-
--- the lines that answer these items of `feature` lines, one for each, in their order, whatever the item's value:
--- `accepted` and its name, such as `accepted ping`, if the arbiter knows the name (`is_known`); otherwise `rejected`
--- and the name
-abbrev pub answers_to : List Item → List SentLine
-answers_to items = map (λ i. Says ((if is_known i.name then codes "accepted " else codes "rejected ") ++ i.name)) items
-
--- the effect `e`, except that the engine of this side is sent, before all else, an answer to each of these items
-abbrev pub with_answers : Colour → List Item → Effect → Effect
-with_answers side items e = record e { to = λ S. list_if (same_colour side S) (answers_to items) ++ e.to S }
 
 -- the blocks that are due after a line of the side `S` had the effect `done`: first the one for `S`, then the other
 -- side's; but if the match is over after it, first White's, then Black's

@@ -15,12 +15,11 @@ use Rattle.cecp_engine.specs.Items.{Item, last_said}
 use Rattle.cecp_engine.specs.Seen.{features_of}
 use Rattle.cecp_engine.specs.Levels.{LevelSeen}
 use Rattle.chess_match.specs.Acts.{is_over}
-use Rattle.chess_match.specs.Effects.{Match, Phase, Handshake, Setup, Opening, BeforeMove, AfterMove, Over, Effect, handshake_lines, is_owed_move, move_line, opening, ping_number}
+use Rattle.chess_match.specs.Effects.{Match, Phase, Handshake, Setup, Opening, BeforeMove, AfterMove, Over, Effect, handshake_lines, is_owed_move, move_line, opening, ping_number, answers_to}
 use Rattle.chess_match.specs.laws.Laws.{items_in_line}
 use Rattle.chess_match.specs.Events.{Seat}
 use Rattle.chess_match.specs.Rules.{Rules}
 use Rattle.chess_match.specs.Lines.{SentLine, Says, ping, setup_lines}
-use Rattle.chess_match.specs.shared.Parts.{answers_to}
 use Rattle.chess_match.specs.Reasons.{is_write_fault_of, reported_reason, result_of}
 use Rattle.chess_match.specs.declared.phase.Phase.{Phase as CorePhase}
 use Rattle.chess_match.specs.declared.phase.Phase.TheVariants as core_in

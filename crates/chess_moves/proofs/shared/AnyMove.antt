@@ -1,17 +1,11 @@
 -- For texts of moves and games: a test of the legal moves, made once for each start square.
 use Rattle.std.proofs.Common.{◌≡◌, ◌≢◌, ℕ, zero, suc, ◌<◌, inl, inr, Bool, true, false, ◌&&◌, ◌||◌, ◌==◌, Option, Some, None, List, [], ◌∷◌, map, refl, sym, ap, ◌∙◌, arith}
-use Rattle.std.proofs.Math.Path.{fun_ext}
+use Rattle.std.proofs.{Math.Path.fun_ext, lemmas.List.Folds.list_any-append}
 use Rattle.std.proofs.lemmas.Bool.{cases_Bool, and_parts, false_from_ne_true, or_left, or_right, eqb-true, eqb-false}
-use Rattle.std.proofs.lemmas.List.Folds.{list_any-append}
 use Rattle.std.specs.List.{filter, flat_map, list_any}
-use Rattle.chess_base.specs.declared.man.Kind.{Kind}
+use Rattle.chess_base.specs.{declared.man.Kind.Kind, declared.man.Move.Move, declared.setup.Setup.Setup, Moves.is_legal, Squares.squares, shared.Below.from_below}
 use Rattle.chess_base.specs.declared.man.Kind.TheVariants.{Queen, Rook, Bishop, Knight}
-use Rattle.chess_base.specs.declared.man.Move.{Move}
-use Rattle.chess_base.specs.declared.setup.Setup.{Setup}
-use Rattle.chess_base.specs.Moves.{is_legal}
 use Rattle.chess_base.specs.MoveList.{promotions, move_of, all_moves, moves}
-use Rattle.chess_base.specs.Squares.{squares}
-use Rattle.chess_base.specs.shared.Below.{from_below}
 
 -- ---- over lists
 

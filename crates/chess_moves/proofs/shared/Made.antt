@@ -1,16 +1,7 @@
 -- For boards: what follows from a move that was made for the position before it.
 use Rattle.std.proofs.Common.{◌≡◌, ◌<◌, IsTrue}
-use Rattle.chess_base.specs.declared.man.Move.{Move}
-use Rattle.chess_base.specs.declared.setup.Setup.{Setup}
-use Rattle.chess_base.specs.declared.setup.Saved.{Saved}
-use Rattle.chess_base.specs.Squares.{is_at}
-use Rattle.chess_base.specs.Men.{forward}
-use Rattle.chess_base.specs.Sound.{IsSound}
-use Rattle.chess_base.specs.Moves.{after}
-use Rattle.chess_base.specs.Before.{saved_of, before}
-use Rattle.chess_base.proofs.shared.Changes.{at_target}
-use Rattle.chess_base.proofs.shared.Men.{in_board}
-use Rattle.chess_base.proofs.shared.LegalMoves.{before-after}
+use Rattle.chess_base.specs.{declared.man.Move.Move, declared.setup.Setup.Setup, declared.setup.Saved.Saved, Squares.is_at, Men.forward, Sound.IsSound, Moves.after, Before.saved_of, Before.before}
+use Rattle.chess_base.proofs.{shared.Changes.at_target, shared.Men.in_board, shared.LegalMoves.before-after}
 use Rattle.chess_moves.specs.Made.{WasMade, IsMade}
 
 -- the position before a move that was made

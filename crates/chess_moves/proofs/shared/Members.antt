@@ -2,8 +2,7 @@
 use mathlib.Core.Bool.{and-true}
 use Rattle.std.proofs.Common.{◌≡◌, ℕ, zero, suc, ◌<◌, ◌≤◌, ◌+◌, inl, inr, Bool, true, false, not, ◌&&◌, ◌==◌, refl, sym, ◌∙◌, ap, arith, List, [], ◌∷◌, length}
 use Rattle.std.proofs.lemmas.Bool.{cases_Bool, lt-ltb, eq-eqb, ne_eqb, cases_lt}
-use Rattle.std.proofs.lemmas.List.Sums.{count_by-le-length, length-filter}
-use Rattle.std.proofs.lemmas.Nat.Bits.{bit_at-zero}
+use Rattle.std.proofs.{lemmas.List.Sums.count_by-le-length, lemmas.List.Sums.length-filter, lemmas.Nat.Bits.bit_at-zero}
 use Rattle.std.specs.List.{range_with_len, filter, flat_map}
 use Rattle.chess_base.specs.Squares.{squares}
 use Rattle.chess_moves.specs.Sets.{contains, IsNearest, members}

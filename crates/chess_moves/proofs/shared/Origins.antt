@@ -1,11 +1,7 @@
 -- For boards: from where pieces go to a square.
 use Rattle.std.proofs.Common.{◌≡◌, ℕ, ◌<◌, true, ◌∙◌, arith}
 use Rattle.std.proofs.lemmas.Bool.Decides.{nat_tests}
-use Rattle.chess_base.specs.declared.man.Kind.{Kind}
-use Rattle.chess_base.specs.declared.man.Move.{Move}
-use Rattle.chess_base.specs.declared.setup.Setup.{Setup}
-use Rattle.chess_base.specs.Men.{man_at, is_man}
-use Rattle.chess_base.specs.Moves.{is_legal, is_pseudo_legal}
+use Rattle.chess_base.specs.{declared.man.Kind.Kind, declared.man.Move.Move, declared.setup.Setup.Setup, Men.man_at, Men.is_man, Moves.is_legal, Moves.is_pseudo_legal}
 use Rattle.chess_moves.specs.Sets.{contains, HasOrigins}
 
 -- a legal move begins on one of the 64 squares

@@ -1,18 +1,11 @@
 -- For boards that keep their hash: exclusive or over keys, as pieces come and go.
 use Rattle.std.proofs.Common.{◌≡◌, ◌≢◌, ℕ, zero, suc, ◌+◌, ◌<◌, ◌≤◌, inl, inr, List, [], ◌∷◌, ◌++◌, length, refl, sym, ◌∙◌, ap, arith, add-one, bit_xor, fold, Option, Some, None, set, get_or-set_same, get_or-set_other}
 use lib.Bits.{xor_assoc, xor_comm, xor_self, xor_zero_r}
-use Rattle.std.proofs.lemmas.Bool.{cases_lt}
-use Rattle.std.proofs.lemmas.List.Sums.{fold-append}
+use Rattle.std.proofs.{lemmas.Bool.cases_lt, lemmas.List.Sums.fold-append}
 use Rattle.std.specs.List.{flat_map, range_with_len}
-use Rattle.chess_base.specs.declared.man.Colour.{Colour}
-use Rattle.chess_base.specs.declared.man.Colour.TheVariants.{White, Black}
-use Rattle.chess_base.specs.declared.man.Man.{Man}
-use Rattle.chess_base.specs.declared.man.Rights.{Rights}
-use Rattle.chess_base.specs.Men.{Men, man_at}
-use Rattle.chess_base.specs.Squares.{squares}
+use Rattle.chess_base.specs.{declared.man.Colour.Colour, declared.man.Colour.TheVariants.White, declared.man.Colour.TheVariants.Black, declared.man.Man.Man, declared.man.Rights.Rights, Men.Men, Men.man_at, Squares.squares}
 use Rattle.chess_moves.specs.PositionHash.{man_key, square_keys, keys_on, men_keys, side_keys, right_keys, rights_keys, xor_of, position_hash}
-use Rattle.chess_moves.proofs.Gathered.{numbers, gathered-more}
-use Rattle.chess_moves.proofs.shared.Members.{by_range}
+use Rattle.chess_moves.proofs.{Gathered.numbers, Gathered.gathered-more, shared.Members.by_range}
 
 -- ---- lists
 

@@ -1,11 +1,11 @@
 -- What code adds to a log, and a log before as a text.
-use Rattle.std.specs.Prelude.{◌≡◌, ℕ, ◌==◌, Bool, true, false, if◌then◌else◌, List, [], ◌∷◌, ◌++◌, codes, decimal, Option, Some, None}
+use Rattle.std.specs.Prelude.{◌≡◌, ℕ, ◌==◌, nat_lt, Bool, true, false, if◌then◌else◌, List, [], ◌∷◌, ◌++◌, length, codes, decimal, Option, Some, None}
 use Rattle.byte_devices.specs.Bytes.{byte}
 use Rattle.chess_base.specs.declared.man.Colour.{Colour}
 use Rattle.chess_base.specs.declared.man.Colour.TheVariants.{White, Black}
 use Rattle.chess_base.specs.Men.{same_colour}
 use Rattle.byte_devices.specs.Devices.{OutputState}
-use Rattle.byte_devices.specs.Transfers.{ToOutput, OutputTook, all_for}
+use Rattle.byte_devices.specs.Transfers.{ToOutput, OutputTook, all_flushed}
 use Rattle.chess_match.specs.Notes.{Note}
 use Rattle.match_runner.specs.declared.log.Log.{Log}
 use Rattle.match_runner.specs.declared.log.Pending.{Pending}
@@ -23,7 +23,7 @@ line_head moment mark is_first = decimal moment ++ (byte " " ∷ mark ∷ []) ++
 -- flags say whether the log was broken before and is now; `o` and `o'` are the output before and after
 abbrev pub LogsPending : Bool → Bool → OutputState → OutputState → List ℕ → List ℕ → Type 0
 LogsPending false false o o' pending text =
-    (written : List ℕ) × OutputTook o o' (all_for written written) × (written ++ pending ≡ text)
+    (written : List ℕ) × OutputTook o o' (all_flushed (nat_lt 0 (length written)) written) × (written ++ pending ≡ text)
 LogsPending false true o o' pending text = (t : ToOutput) × OutputTook o o' t × LogsText true text t
 LogsPending true broken o o' pending text = (broken ≡ true) × (o' ≡ o)
 

@@ -6,7 +6,7 @@ use Rattle.byte_devices.specs.Bytes.{new_line}
 use Rattle.chess_base.specs.Men.{other}
 use Rattle.chess_base.specs.declared.man.Colour.{Colour}
 use Rattle.byte_devices.specs.Devices.{OutputState, CutShort, Sent}
-use Rattle.byte_devices.specs.Transfers.{ToOutput, OutputTook, all_for}
+use Rattle.byte_devices.specs.Transfers.{ToOutput, OutputTook}
 use Rattle.chess_game.specs.Results.{same_outcome}
 use Rattle.chess_game.specs.declared.results.Outcome.{Outcome}
 use Rattle.chess_game.specs.declared.results.Outcome.TheVariants.{Draw, Unfinished}
@@ -17,7 +17,7 @@ use Rattle.match_runner.specs.declared.fault.GamesFault.{GamesFault}
 use Rattle.match_runner.specs.declared.fault.GamesFault.TheVariants.{WriteFailed, NoMemory, CanNotStart}
 use Rattle.match_runner.specs.declared.games.GamesPlayed.{GamesPlayed}
 use Rattle.match_runner.specs.declared.score.Score.{Score}
-use Rattle.match_runner.specs.Games.{first_side, GameRecord, IsOfPlan, game_text, game_log, IsStartFault, game_texts, LogsGames, WritesGames, count_of, AreAllGames}
+use Rattle.match_runner.specs.Games.{first_side, GameRecord, IsOfPlan, game_text, game_log, IsStartFault, games_flushed, LogsGames, WritesGames, count_of, AreAllGames}
 use Rattle.match_runner.specs.GamesTable.{BeginsAt, ComeInTurn, GamesFuture, Outputs, StepsPass, WriteFails, Writes, games_steps, steps_by, unstarted_steps}
 
 -- ---- the score, as it is counted
@@ -106,7 +106,7 @@ abbrev pub HasPlayed : GamesPlan → (ℕ → Option ℕ) → GamesFuture → Ga
     → LogSeen → Result GamesPlayed GamesFault → Type 0
 HasPlayed plan c p p' w w' l l' (Ok played) =
     (games : List GameRecord) × AreAllGames plan games played.fault × (played.score ≡ score_of games)
-    × OutputTook w w' (all_for games (game_texts plan games)) × LogsGames plan l l' games
+    × OutputTook w w' (games_flushed plan games) × LogsGames plan l l' games
     × StepsPass p p' (games_steps plan games) × ComeInTurn c games
 HasPlayed plan c p p' w w' l l' (Err WriteFailed) = (games : List GameRecord) × (unwritten : GameRecord)
     × PlaysThese plan (Err WriteFailed) games (Some unwritten)

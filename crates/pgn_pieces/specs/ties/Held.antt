@@ -38,6 +38,11 @@ pub record SameKind (line line' : List ℕ) : Type 0 where
   pub event : is_event_line line ≡ is_event_line line'
   pub moves : is_moves_line line ≡ is_moves_line line'
 
+-- both lines are tag lines alike
+pub record SameTag (line line' : List ℕ) : Type 0 where
+  pub tag : is_tag_line line ≡ is_tag_line line'
+  pub event : is_event_line line ≡ is_event_line line'
+
 -- the kind of a line that begins with these bytes is known, however it continues
 abbrev pub IsDecided : List ℕ → Type 0
 IsDecided line = (more : List ℕ) → SameKind (line ++ more) line

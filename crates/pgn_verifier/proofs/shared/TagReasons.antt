@@ -1,8 +1,6 @@
 -- The reason for a fault is the one that the function gives: what a bad tag lacks is found part by part.
-use Rattle.std.proofs.Common.{◌≡◌, ℕ, ◌<◌, Bool, true, false, cond, eqb, List, [], ◌∷◌, ◌++◌, length, Option, Some, None, refl, sym, ap, subst, ◌∙◌, arith}
-use Rattle.std.specs.Prelude.{codes, is_some}
-use Rattle.std.specs.List.{list_all}
-use Rattle.std.specs.Option.{option_map_or}
+use Rattle.std.proofs.Common.{◌≡◌, ℕ, ◌<◌, Bool, true, false, cond, eqb, List, [], ◌∷◌, ◌++◌, length, Option, Some, None, refl, sym, ap, subst, ◌∙◌, arith, codes, is_some}
+use Rattle.std.specs.{List.list_all, Option.option_map_or}
 use Rattle.std.proofs.lemmas.Bool.{and_parts, eqb-true}
 use Rattle.chess_game.specs.declared.verdicts.Verdict.{Verdict}
 use Rattle.byte_devices.specs.Bytes.{is_name_byte}
@@ -10,10 +8,9 @@ use Rattle.chess_pgn.specs.Split.{IsGap}
 use Rattle.chess_pgn.specs.Tokens.{after_gap, after_next, name_at, string_at}
 use Rattle.chess_pgn.specs.declared.read.PgnFaultKind.TheVariants as pgn
 use Rattle.chess_pgn.proofs.shared.Tags.{name_comes, opening_read, NameIs, name_is, name_after_gap, opening_is, string_read, StringLeaves, string_leaves}
-use Rattle.pgn_verifier.specs.Explanations.{IsReason}
+use Rattle.pgn_verifier.specs.{Explanations.IsReason, declared.game_fault.FaultKind.FaultKind}
 use Rattle.pgn_verifier.specs.WrongParts.{HasName, HasOpening, HasString, IsTagReason, no_name, no_value, not_closed, no_bracket}
-use Rattle.pgn_verifier.specs.declared.game_fault.FaultKind.{FaultKind}
-use Rattle.pgn_verifier.specs.declared.game_fault.FaultKind.TheVariants.{Pgn, ResultDiffers, BoardSaysOtherwise}
+use Rattle.pgn_verifier.specs.declared.game_fault.FaultKind.TheVariants.{Pgn, InVariation, UnknownVariant, ResultDiffers, BoardSaysOtherwise}
 use Rattle.pgn_verifier.specs.laws.Reasons.{string_reason, value_reason, name_reason, tag_reason, reason}
 
 -- ---- the parts of a tag that a text has are those that are read
@@ -136,5 +133,16 @@ reason_is (Pgn pgn.TooLong) text verdict = refl
 reason_is (Pgn pgn.UnclosedComment) text verdict = refl
 reason_is (Pgn pgn.UnclosedVariation) text verdict = refl
 reason_is (Pgn pgn.NoResult) text verdict = refl
+reason_is (InVariation pgn.BadTag) text verdict = refl
+reason_is (InVariation (pgn.BadFen fault)) text verdict = refl
+reason_is (InVariation pgn.BadToken) text verdict = refl
+reason_is (InVariation pgn.IllegalMove) text verdict = refl
+reason_is (InVariation pgn.AmbiguousMove) text verdict = refl
+reason_is (InVariation pgn.AfterEnd) text verdict = refl
+reason_is (InVariation pgn.TooLong) text verdict = refl
+reason_is (InVariation pgn.UnclosedComment) text verdict = refl
+reason_is (InVariation pgn.UnclosedVariation) text verdict = refl
+reason_is (InVariation pgn.NoResult) text verdict = refl
+reason_is UnknownVariant text verdict = refl
 reason_is (ResultDiffers tag_len outcome) text verdict = refl
 reason_is BoardSaysOtherwise text verdict = refl

@@ -2,7 +2,6 @@
 -- `reports_are_the_only_ones` says that each fault that is reported has just this reason.
 use Rattle.std.specs.Prelude.{ℕ, ◌++◌, if◌then◌else◌, List, take, codes, is_some, Option, Some, None}
 use Rattle.std.specs.Option.{option_map, option_map_or}
-use Rattle.chess_base.specs.Faults.{fen_fault_name}
 use Rattle.byte_devices.specs.Bytes.{byte}
 use Rattle.chess_game.specs.Ends.{verdict_result, result_text}
 use Rattle.chess_game.specs.Game.{State, verdict_now}
@@ -11,9 +10,9 @@ use Rattle.chess_game.specs.declared.verdicts.Verdict.{Verdict}
 use Rattle.chess_pgn.specs.Tokens.{after_byte, after_gap, after_next, name_at, string_at}
 use Rattle.chess_pgn.specs.declared.read.PgnFaultKind.TheVariants.{BadTag, BadFen, BadToken, IllegalMove, AfterEnd}
 use Rattle.pgn_verifier.specs.Explanations.{explanation, shown}
-use Rattle.pgn_verifier.specs.WrongParts.{move_reason, token_reason}
+use Rattle.pgn_verifier.specs.WrongParts.{fen_reason, move_reason, token_reason}
 use Rattle.pgn_verifier.specs.declared.game_fault.FaultKind.{FaultKind}
-use Rattle.pgn_verifier.specs.declared.game_fault.FaultKind.TheVariants.{Pgn, ResultDiffers, BoardSaysOtherwise}
+use Rattle.pgn_verifier.specs.declared.game_fault.FaultKind.TheVariants.{Pgn, InVariation, UnknownVariant, ResultDiffers, BoardSaysOtherwise}
 
 -- ---- tags
 
@@ -43,10 +42,13 @@ tag_reason text = option_map_or name_reason (after_byte (byte "[") text) (codes 
 -- `verdict` is the board's where reading stopped
 abbrev pub reason : FaultKind → List ℕ → Option Verdict → Option (List ℕ)
 reason (Pgn BadTag) text verdict = Some (tag_reason text)
-reason (Pgn (BadFen fault)) text verdict = Some (fen_fault_name fault)
+reason (Pgn (BadFen fault)) text verdict = Some (fen_reason fault)
 reason (Pgn BadToken) text verdict = Some (token_reason text)
 reason (Pgn IllegalMove) text verdict = move_reason text
 reason (Pgn AfterEnd) text verdict = option_map (λ v. result_text (verdict_result v)) verdict
+reason (InVariation BadToken) text verdict = Some (token_reason text)
+reason UnknownVariant text verdict =
+    Some (codes "neither normal chess nor Chess960, by a name that is known")
 reason (ResultDiffers tag_len outcome) text verdict =
     Some (codes "Result " ++ (shown (take tag_len text) ++ (codes ", ended " ++ outcome_text outcome)))
 reason BoardSaysOtherwise text verdict = option_map (λ v. result_text (verdict_result v)) verdict

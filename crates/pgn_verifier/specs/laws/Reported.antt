@@ -1,22 +1,25 @@
 -- What is reported of the games of texts, as functions: a text is cut into tokens one after another, and its games are
 -- read one after another. The law `reports_are_the_only_ones` says that just these are the reports. They come first
 -- without their spans, and then with them.
-use Rattle.std.specs.Prelude.{ℕ, zero, suc, ◌+◌, Bool, nat_le, if◌then◌else◌, List, [], ◌∷◌, length, drop, Option, Some, None, Result, Ok, Err}
+use Rattle.std.specs.Prelude.{ℕ, zero, suc, ◌+◌, Bool, true, false, nat_le, if◌then◌else◌, List, [], ◌∷◌, length, drop, Option, Some, None, Result, Ok, Err}
 use Rattle.std.specs.List.{flat_map}
+use Rattle.std.specs.Option.{option_map, option_map_or, unwrap_or}
 use Rattle.chess_game.specs.Game.{State, verdict_now}
 use Rattle.chess_game.specs.declared.game.TheConstants.{MOST_MOVES}
 use Rattle.chess_pgn.specs.GameRead.{GameRead, pgn_read}
 use Rattle.chess_pgn.specs.LastTags.{result_tag_of}
+use Rattle.chess_pgn.specs.UnknownVariants.{unknown_variant_in}
 use Rattle.chess_pgn.specs.Tokens.{tokens_from}
 use Rattle.byte_devices.specs.Bytes.{after_byte_order_mark}
 use Rattle.chess_pgn.specs.declared.read.PgnEnd.{PgnEnd}
 use Rattle.chess_pgn.specs.declared.read.PgnFaultKind.TheVariants.{TooLong}
+use Rattle.pgn_verifier.specs.declared.options.Strictness.{Strictness}
 use Rattle.pgn_verifier.specs.declared.game_fault.FaultKind.TheVariants.{Pgn}
 use Rattle.pgn_pieces.specs.Stream.{Piece, pieces}
 use Rattle.pgn_pieces.specs.declared.pieces.TheConstants.{PIECE_LEN}
-use Rattle.pgn_verifier.specs.Explanations.{wrong_part, shown}
-use Rattle.pgn_verifier.specs.GameFaults.{judged}
-use Rattle.pgn_verifier.specs.Reports.{Report, Game, Faulty, Placed, game_begin, names_of}
+use Rattle.pgn_verifier.specs.Explanations.{shown}
+use Rattle.pgn_verifier.specs.GameFaults.{judged, variation_in}
+use Rattle.pgn_verifier.specs.Reports.{Report, Game, Faulty, Placed, fault_in, game_begin, names_of, next_begin, unread_from}
 use Rattle.pgn_verifier.specs.declared.game_fault.GameFault.{GameFault}
 use Rattle.pgn_verifier.specs.laws.Reasons.{explanation_of}
 
@@ -25,36 +28,51 @@ abbrev pub read_at : List ℕ → ℕ → GameRead
 read_at = pgn_read MOST_MOVES
 
 -- what is reported of the game from the offset `at` on: its end, its fault, or `None` if the text has no more games.
--- `strict`: results are compared
-abbrev pub judged_at : Bool → List ℕ → ℕ → Result (Option PgnEnd) GameFault
+-- `strict`: what is looked for at a game's end
+abbrev pub judged_at : Strictness → List ℕ → ℕ → Result (Option PgnEnd) GameFault
 judged_at strict text at =
     let read = read_at text at in
-    let tag = result_tag_of (length text) (tokens_from text (after_byte_order_mark text at)) in
-    judged strict tag (verdict_now read.state) read.answer
+    let tokens = tokens_from text (after_byte_order_mark text at) in
+    judged strict (variation_in tokens_from text at read.state.start) (unknown_variant_in (length text) tokens)
+    (result_tag_of (length text) tokens) (verdict_now read.state) read.answer
+
+-- where reading goes on after the game from the offset `at` on, if that has a fault (`next_begin`)
+abbrev pub next_at : Bool → List ℕ → ℕ → Option ℕ
+next_at goes_on text at = next_begin goes_on (length text) (tokens_from text (after_byte_order_mark text at))
 
 -- the report on a game of a text, from how it was judged and the game that was read (`s`), and then what `later` gives
--- for the offset of its end; a fault is the last. `start` is the input's offset at which the text begins
-abbrev pub report_then : ℕ → List ℕ → Result (Option PgnEnd) GameFault → State → (ℕ → List Report) → List Report
-report_then start text (Ok None) s later = []
-report_then start text (Ok (Some end)) s later =
+-- for the offset of its end; after a fault what it gives for `next`, if that is some offset. `start` is the input's
+-- offset at which the text begins
+abbrev pub report_then : ℕ → List ℕ → Option ℕ → Result (Option PgnEnd) GameFault → State → (ℕ → List Report)
+    → List Report
+report_then start text next (Ok None) s later = []
+report_then start text next (Ok (Some end)) s later =
     Game (length s.moves) end.outcome end.termination ∷ later end.offset
-report_then start text (Err fault) s later =
-    Faulty (record fault { offset = start + fault.offset })
-    (start + fault.offset + (wrong_part fault.kind (drop fault.offset text)).0)
-    (explanation_of s (drop fault.offset text) fault.kind) ∷ []
+report_then start text next (Err fault) s later =
+    fault_in start text fault (explanation_of s (drop fault.offset text) fault.kind) ∷ option_map_or later next []
 
--- the reports on at most n games (the third argument) of a text from its offset `at` on, up to its first fault. The
--- text begins at the offset `start` of the input; `strict`: results are compared
-unfoldable pub reports_from : Bool → ℕ → ℕ → List ℕ → ℕ → List Report
-reports_from strict start zero text at = []
-reports_from strict start (suc n) text at =
-    report_then start text (judged_at strict text at) (read_at text at).state
-    (λ next. reports_from strict start n text next)
+-- the reports on at most n games (the fourth argument) of a text from its offset `at` on, up to its first fault, or if
+-- `goes_on` also after faults. The text begins at the offset `start` of the input; `strict`: what is looked for at a
+-- game's end
+unfoldable pub games_from : Bool → Strictness → ℕ → ℕ → List ℕ → ℕ → List Report
+games_from goes_on strict start zero text at = []
+games_from goes_on strict start (suc n) text at =
+    report_then start text (next_at goes_on text at) (judged_at strict text at) (read_at text at).state
+    (λ next. games_from goes_on strict start n text next)
+
+-- these reports up to the first fault
+abbrev pub reports_from : Strictness → ℕ → ℕ → List ℕ → ℕ → List Report
+reports_from = games_from false
+
+-- the reports on all games of a text, up to its first fault, or if `goes_on` also after faults. Each game has at least
+-- one byte, so `length text + 1` games are enough
+abbrev pub games_of : Bool → Strictness → ℕ → List ℕ → List Report
+games_of goes_on strict start text = games_from goes_on strict start (length text + 1) text 0
 
 -- the reports on all games of a text up to its first fault. The text begins at the offset `start` of the input;
--- `strict`: results are compared. Each game has at least one byte, so `length text + 1` games are enough
-abbrev pub reports_on : Bool → ℕ → List ℕ → List Report
-reports_on strict start text = reports_from strict start (length text + 1) text 0
+-- `strict`: what is looked for at a game's end
+abbrev pub reports_on : Strictness → ℕ → List ℕ → List Report
+reports_on = games_of false
 
 -- the report on a piece that is too long
 abbrev pub too_long_report : Piece → Report
@@ -62,14 +80,14 @@ too_long_report piece =
     Faulty (record { kind = Pgn TooLong; offset = piece.offset }) piece.offset (shown piece.bytes)
 
 -- the reports on the games of a piece, which is read as a text of its own; a piece that is too long has one report.
--- `strict`: results are compared
-abbrev pub reports_in : Bool → Piece → List Report
-reports_in strict piece = if nat_le (length piece.bytes) PIECE_LEN then reports_on strict piece.offset piece.bytes
+-- `strict`: what is looked for at a game's end
+abbrev pub reports_in : Strictness → Piece → List Report
+reports_in strict piece = if nat_le (length piece.bytes) PIECE_LEN then games_of true strict piece.offset piece.bytes
     else too_long_report piece ∷ []
 
 -- the reports on the games of a collection of which this text was read: on all its pieces, if the text is all of it
--- (`ended`), otherwise on all but the last. `strict`: results are compared
-abbrev pub collection_reports : Bool → Bool → List ℕ → List Report
+-- (`ended`), otherwise on all but the last. `strict`: what is looked for at a game's end
+abbrev pub collection_reports : Strictness → Bool → List ℕ → List Report
 collection_reports strict ended text = flat_map (reports_in strict) (pieces ended 0 text)
 
 -- ---- with their spans
@@ -78,49 +96,67 @@ collection_reports strict ended text = flat_map (reports_in strict) (pieces ende
 abbrev pub names_at : List ℕ → ℕ → List ℕ
 names_at text at = names_of (tokens_from text (after_byte_order_mark text at))
 
--- the report on the game of a text from its offset `at` on, with its span and names, as `report_then` gives it without
-abbrev pub placed_then : ℕ → List ℕ → ℕ → Result (Option PgnEnd) GameFault → State → (ℕ → List Placed) → List Placed
-placed_then start text at (Ok None) s later = []
-placed_then start text at (Ok (Some end)) s later = record {
+-- the report on a game without a fault
+abbrev pub game_placed : ℕ → List ℕ → ℕ → PgnEnd → State → Placed
+game_placed start text at end s = record {
   begin = start + game_begin text at;
   end = start + end.offset;
+  first = shown (drop (game_begin text at) text);
+  unread = None;
   names = Some (names_at text at);
   report = Game (length s.moves) end.outcome end.termination;
-} ∷ later end.offset
-placed_then start text at (Err fault) s later = record {
-  begin = start + game_begin text at;
-  end = start + length text;
-  names = Some (names_at text at);
-  report = Faulty (record fault { offset = start + fault.offset })
-      (start + fault.offset + (wrong_part fault.kind (drop fault.offset text)).0)
-      (explanation_of s (drop fault.offset text) fault.kind);
-} ∷ []
+}
 
--- the reports of `reports_from`, with their spans
-unfoldable pub placed_from : Bool → ℕ → ℕ → List ℕ → ℕ → List Placed
-placed_from strict start zero text at = []
-placed_from strict start (suc n) text at =
-    placed_then start text at (judged_at strict text at) (read_at text at).state
-    (λ next. placed_from strict start n text next)
+-- the report on a game with this fault, after which reading goes on at `next`
+abbrev pub fault_placed : Bool → ℕ → List ℕ → ℕ → Option ℕ → GameFault → State → Placed
+fault_placed goes_on start text at next fault s = record {
+  begin = start + game_begin text at;
+  end = start + unwrap_or next (length text);
+  first = shown (drop (game_begin text at) text);
+  unread = option_map (λ offset. start + offset) (unread_from goes_on (length text) fault.offset next);
+  names = Some (names_at text at);
+  report = fault_in start text fault (explanation_of s (drop fault.offset text) fault.kind);
+}
+
+-- the report on the game of a text from its offset `at` on, with its span and names, as `report_then` gives it without
+abbrev pub placed_then : Bool → ℕ → List ℕ → ℕ → Option ℕ → Result (Option PgnEnd) GameFault → State
+    → (ℕ → List Placed) → List Placed
+placed_then goes_on start text at next (Ok None) s later = []
+placed_then goes_on start text at next (Ok (Some end)) s later = game_placed start text at end s ∷ later end.offset
+placed_then goes_on start text at next (Err fault) s later =
+    fault_placed goes_on start text at next fault s ∷ option_map_or later next []
+
+-- the reports of `games_from`, with their spans
+unfoldable pub placed_from : Bool → Strictness → ℕ → ℕ → List ℕ → ℕ → List Placed
+placed_from goes_on strict start zero text at = []
+placed_from goes_on strict start (suc n) text at =
+    placed_then goes_on start text at (next_at goes_on text at) (judged_at strict text at) (read_at text at).state
+    (λ next. placed_from goes_on strict start n text next)
+
+-- the reports of `games_of`, with their spans
+abbrev pub placed_of : Bool → Strictness → ℕ → List ℕ → List Placed
+placed_of goes_on strict start text = placed_from goes_on strict start (length text + 1) text 0
 
 -- the reports of `reports_on`, with their spans
-abbrev pub placed_on : Bool → ℕ → List ℕ → List Placed
-placed_on strict start text = placed_from strict start (length text + 1) text 0
+abbrev pub placed_on : Strictness → ℕ → List ℕ → List Placed
+placed_on = placed_of false
 
 -- the report on a piece that is too long, with its span, which is the piece
 abbrev pub too_long_placed : Piece → Placed
 too_long_placed piece = record {
   begin = piece.offset;
   end = piece.offset + length piece.bytes;
+  first = [];
+  unread = Some piece.offset;
   names = None;
   report = too_long_report piece;
 }
 
 -- the reports of `reports_in`, with their spans
-abbrev pub placed_in : Bool → Piece → List Placed
-placed_in strict piece = if nat_le (length piece.bytes) PIECE_LEN then placed_on strict piece.offset piece.bytes
+abbrev pub placed_in : Strictness → Piece → List Placed
+placed_in strict piece = if nat_le (length piece.bytes) PIECE_LEN then placed_of true strict piece.offset piece.bytes
     else too_long_placed piece ∷ []
 
 -- the reports of `collection_reports`, with their spans
-abbrev pub collection_placed : Bool → Bool → List ℕ → List Placed
+abbrev pub collection_placed : Strictness → Bool → List ℕ → List Placed
 collection_placed strict ended text = flat_map (placed_in strict) (pieces ended 0 text)

@@ -4,6 +4,7 @@ use Rattle.std.specs.Prelude.{◌≡◌, ◌<◌, ℕ, true, false, List, [], �
 use Rattle.std.specs.List.{flat_map, fold}
 use Rattle.std.specs.Option.{option_map_or}
 use Rattle.chess_pgn.specs.declared.read.PgnFaultKind.TheVariants.{TooLong}
+use Rattle.pgn_verifier.specs.declared.options.Strictness.{Strictness}
 use Rattle.pgn_verifier.specs.Explanations.{shown}
 use Rattle.pgn_verifier.specs.GameFaults.{fault_name}
 use Rattle.chess_game.specs.Results.{outcome_text}
@@ -25,7 +26,7 @@ use Rattle.pgn_verifier.specs.declared.tally.Tally.{Tally}
 use Rattle.pgn_verifier.specs.declared.tally.Verified.{Verified}
 use Rattle.pgn_verifier.specs.Reports.{Report, Game, Faulty, Placed, counts_of, verified, report_line, report_lines, without_spans, counts_line}
 use Rattle.pgn_verifier.specs.Collection.{VerifiesCollection}
-use Rattle.pgn_verifier.specs.laws.Reported.{placed_on, collection_placed}
+use Rattle.pgn_verifier.specs.laws.Reported.{placed_of, placed_on, collection_placed}
 use Rattle.pgn_verifier.specs.declared.label.Span.{Span}
 use Rattle.pgn_verifier.specs.declared.start.TextStart.{TextStart}
 
@@ -82,18 +83,28 @@ abbrev pub too_long_seen : PieceSeen → Placed
 too_long_seen piece = record {
   begin = piece.offset;
   end = piece.end;
+  first = [];
+  unread = Some piece.offset;
   names = None;
   report = Faulty (record { kind = Pgn TooLong; offset = piece.offset }) piece.offset (shown piece.beginning);
 }
 
--- the reports on the games of a piece (`placed_in`), from what is seen of it; `strict`: results are compared
-abbrev pub reports_seen : Bool → PieceSeen → List Placed
-reports_seen strict piece = option_map_or (placed_on strict piece.offset) piece.bytes (too_long_seen piece ∷ [])
+-- the reports on the games of a piece (`placed_in`), from what is seen of it; `strict`: what is looked for at a game's
+-- end
+abbrev pub reports_seen : Strictness → PieceSeen → List Placed
+reports_seen strict piece =
+    option_map_or (placed_of true strict piece.offset) piece.bytes (too_long_seen piece ∷ [])
 
 -- the end of a line, from the span that it is to show, if any
 abbrev pub span_written : Option Span → List ℕ
 span_written None = []
 span_written (Some span) = codes ", bytes " ++ (decimal span.begin ++ (codes " to " ++ decimal span.end))
+
+-- the end of a fault's explanation, from the part of the input that is not read, if any
+abbrev pub unread_written : Option Span → List ℕ
+unread_written None = []
+unread_written (Some span) =
+    codes " | bytes " ++ (decimal span.begin ++ (codes " to " ++ (decimal span.end ++ codes " not read")))
 
 -- the line of a game without a fault; `number` is the game's number, `plies` how many half-moves it has, and `span` the
 -- end of the line
@@ -106,8 +117,8 @@ abbrev pub fault_line : ℕ → GameFault → List ℕ → List ℕ → List ℕ
 fault_line number fault span names =
     report_line number (fault_name fault.kind ++ (codes " at byte " ++ (decimal fault.offset ++ (span ++ names))))
 
--- the reports on the games of these pieces, in order; `strict`: results are compared
-abbrev pub reports_of : Bool → List PieceSeen → List Placed
+-- the reports on the games of these pieces, in order; `strict`: what is looked for at a game's end
+abbrev pub reports_of : Strictness → List PieceSeen → List Placed
 reports_of strict pieces = flat_map (reports_seen strict) pieces
 
 -- the counts `t` with one more report: it adds a game and its half-moves, or a fault

@@ -3,8 +3,7 @@
 -- (Readings.planned_reading).
 use Rattle.std.proofs.Common.{rules, ◌≡◌, ap, sym, subst, map, Some, None, Ok}
 use Rattle.arbiter_grammar.specs.Grammar.{IsParsed, asked}
-use Rattle.arbiter_cli.specs.Plans.{said_by}
-use Rattle.arbiter_cli.specs.ties.Requests.{IsRequestOf}
+use Rattle.arbiter_cli.specs.{Plans.said_by, ties.Requests.IsRequestOf}
 use Rattle.arbiter_cli.proofs.Readings.{refused_reading, planned_reading, none_asked, some_asked, entered_well}
 use Rattle.arbiter_cli.proofs.reading.read_words.Goals as goal
 use Rattle.arbiter_cli.proofs.reading.read_words.Goals.{in-None, in-Some+in-Ok-request_in}

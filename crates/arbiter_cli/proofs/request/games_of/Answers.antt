@@ -1,6 +1,5 @@
 -- A value that was given is a number from 1 to 1,000 (accepts-Accepts), and without one there is one game.
-use Rattle.std.proofs.Common.{rules, ◌≡◌, ◌∙◌, ◌≤◌, ℕ, ap, codes, Option, Some, None, option_map, refl, sym, arith, true, false, subst}
-use Rattle.std.specs.Prelude.{unwrap_or}
+use Rattle.std.proofs.Common.{rules, ◌≡◌, ◌∙◌, ◌≤◌, ℕ, ap, codes, Option, Some, None, option_map, refl, sym, arith, true, false, subst, unwrap_or}
 use Rattle.std.specs.Option.{option_map_or}
 use Rattle.clap.specs.Words.{Text, first_of, found_of, rows_of}
 use Rattle.clap.specs.ValueTests.{is_unsigned_in}

@@ -3,8 +3,7 @@
 use Rattle.std.proofs.Common.{rules, ◌≡◌, ◌∙◌, ◌≤◌, ◌<◌, ◌^◌, ℕ, ap, Option, Some, None, option_map, sym, arith, false}
 use Rattle.clap.specs.Words.{Text, first_of, first_value, found_of, rows_of}
 use Rattle.clap.specs.declared.builder.value_parser.ValueParser.TheVariants as vp
-use Rattle.clap.proofs.WalkLemmas.{first_value-rows}
-use Rattle.clap.proofs.ValueTestLemmas.{accepts-Accepts}
+use Rattle.clap.proofs.{WalkLemmas.first_value-rows, ValueTestLemmas.accepts-Accepts}
 use Rattle.arbiter_cli.specs.Plans.{number_of}
 use Rattle.arbiter_cli.proofs.FoundTexts.{text_of}
 use Rattle.arbiter_cli.proofs.request.number_in.Goals as goal

@@ -1,7 +1,6 @@
 -- The grammar is built in the order of `arbiter_app`: a subcommand without global arguments is added as
 -- `with_subcommand` adds it. The names of the variants are those that `match_command` holds.
-use Rattle.std.proofs.Common.{◌∙◌, ap, ap₂}
-use Rattle.std.proofs.lemmas.Result.{IfOk-weaker}
+use Rattle.std.proofs.{Common.◌∙◌, Common.ap, Common.ap₂, lemmas.Result.IfOk-weaker}
 use Rattle.clap.specs.Words.{App, with_subcommand}
 use Rattle.arbiter_grammar.proofs.grammar.arbiter_command.Goals as goal
 

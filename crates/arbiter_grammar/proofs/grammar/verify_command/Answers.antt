@@ -3,7 +3,7 @@
 use Rattle.std.proofs.Common.{rules, ◌≡◌, ◌∙◌, ap₂, codes, Bool, ◌||◌}
 use Rattle.std.proofs.lemmas.Result.{IfOk-weaker}
 use Rattle.clap.specs.Words.{rule_of, with_rule}
-use Rattle.arbiter_grammar.specs.Grammar.{flag_rule}
+use Rattle.arbiter_grammar.specs.Grammar.{flag_rule, option_rule}
 use Rattle.arbiter_grammar.proofs.grammar.verify_command.Goals as goal
 
 pub returns-clause-app : goal.returns-clause-app
@@ -19,7 +19,11 @@ returns-clause-app c =
     let spans : rule_of c.flag-5.result ≡ flag_rule (codes "spans") = search rules in
     let e5 = c.in_ok-arg-5.ensures.shape c.flag-5.ensures.local ∙ ap₂ with_rule e4 spans in
     let names : rule_of c.flag-6.result ≡ flag_rule (codes "names") = search rules in
-    IfOk-weaker c.arg-6.result _ _ (λ r h. h.shape c.flag-6.ensures.local ∙ ap₂ with_rule e5 names) c.arg-6.ensures
+    let e6 = c.in_ok-arg-6.ensures.shape c.flag-6.ensures.local ∙ ap₂ with_rule e5 names in
+    let variations : rule_of c.flag-7.result ≡ flag_rule (codes "variations") = search rules in
+    let e7 = c.in_ok-arg-7.ensures.shape c.flag-7.ensures.local ∙ ap₂ with_rule e6 variations in
+    let ignore : rule_of c.option.result ≡ option_rule (codes "ignore") = search rules in
+    IfOk-weaker c.arg-8.result _ _ (λ r h. h.shape c.option.ensures.local ∙ ap₂ with_rule e7 ignore) c.arg-8.ensures
 
 pub returns-clause-local : goal.returns-clause-local
 returns-clause-local c =
@@ -29,4 +33,6 @@ returns-clause-local c =
     let e3 = c.in_ok-arg-3.ensures.globals ∙ ap₂ or e2 c.flag-3.ensures.local in
     let e4 = c.in_ok-arg-4.ensures.globals ∙ ap₂ or e3 c.flag-4.ensures.local in
     let e5 = c.in_ok-arg-5.ensures.globals ∙ ap₂ or e4 c.flag-5.ensures.local in
-    IfOk-weaker c.arg-6.result _ _ (λ r h. h.globals ∙ ap₂ or e5 c.flag-6.ensures.local) c.arg-6.ensures
+    let e6 = c.in_ok-arg-6.ensures.globals ∙ ap₂ or e5 c.flag-6.ensures.local in
+    let e7 = c.in_ok-arg-7.ensures.globals ∙ ap₂ or e6 c.flag-7.ensures.local in
+    IfOk-weaker c.arg-8.result _ _ (λ r h. h.globals ∙ ap₂ or e7 c.option.ensures.local) c.arg-8.ensures

@@ -2,9 +2,7 @@
 -- there was no memory for the grammar, any names will do (without_grammar).
 use Rattle.std.proofs.Common.{rules, IsErr, ◌≡◌, ◌∙◌, ap, map, [], ◌∷◌, codes, IfOk, IfErr, IfSome, List, Option, Result, Ok, Err, Bor, inl, refl, subst, true, sym}
 use Rattle.clap.specs.Words.{App, FailsBy, HasKind, HasMatchesOf, Row, Text, fault_of, is_simple, is_simple_and_free, kind_of, subcommand_of, subcommand_rows_of}
-use Rattle.clap.specs.declared.error.Error.{Error}
-use Rattle.clap.specs.declared.error.kind.ErrorKind.TheVariants.{OutOfMemory}
-use Rattle.clap.specs.declared.parser.matches.ArgMatches.{ArgMatches}
+use Rattle.clap.specs.{declared.error.Error.Error, declared.error.kind.ErrorKind.TheVariants.OutOfMemory, declared.parser.matches.ArgMatches.ArgMatches}
 use Rattle.arbiter_grammar.specs.Grammar.{IsComplete, IsParsed, IsParsedBy, OptionNames, arbiter_app}
 use Rattle.arbiter_grammar.proofs.Required.{required_there}
 use Rattle.arbiter_grammar.proofs.parsing.parse.Goals as goal

@@ -1,6 +1,5 @@
-use Rattle.std.proofs.Common.{length, drop, take, ◌-◌, ◌≡◌, ◌≤◌}
+use Rattle.std.proofs.Common.{length, drop, take, ◌-◌, ◌≡◌, ◌≤◌, bytes_eq}
 use Rattle.std.specs.List.{list_any, slice_split}
-use Rattle.std.specs.Str.{bytes_eq}
 use Rattle.cecp_engine.proofs.Pieces.{is_comma_or_blank, has_word_after}
 use Rattle.cecp_engine.proofs.item.has_word.Given as goal
 

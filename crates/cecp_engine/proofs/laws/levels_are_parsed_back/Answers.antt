@@ -1,5 +1,4 @@
-use Rattle.cecp_engine.proofs.LevelRanges.{read_back}
-use Rattle.cecp_engine.proofs.LevelTexts.{level_back}
+use Rattle.cecp_engine.proofs.{LevelRanges.read_back, LevelTexts.level_back}
 use Rattle.cecp_engine.proofs.laws.levels_are_parsed_back.Goals as goal
 
 pub returns-clause-parsed : goal.returns-clause-parsed

@@ -1,7 +1,6 @@
 -- Without memory nothing was read or written; else the session ran from its opening on.
 use Rattle.std.proofs.Common.{Ok, Err, inl, inr, refl}
-use Rattle.chess_cecp.specs.Held.{opened_session}
-use Rattle.chess_cecp.specs.Session.{session_response}
+use Rattle.chess_cecp.specs.{Held.opened_session, Session.session_response}
 use Rattle.pgn_writer.specs.Tags.{default_tags}
 use Rattle.chess_game.specs.declared.game.TheConstants.{MOST_MOVES}
 use Rattle.chess_arbiter.proofs.Serving.{failed_status, server_ran}

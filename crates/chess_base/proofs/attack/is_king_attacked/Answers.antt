@@ -1,7 +1,6 @@
 -- The king that is found is the only one (KingChecks).
 use Rattle.std.proofs.Common.{arith, rules, ◌≡◌, length}
-use Rattle.chess_base.proofs.KingChecks.{check_at_king, no_check_without_king}
-use Rattle.chess_base.proofs.shared.Men.{in_board}
+use Rattle.chess_base.proofs.{KingChecks.check_at_king, KingChecks.no_check_without_king, shared.Men.in_board}
 use Rattle.chess_base.proofs.attack.is_king_attacked.Goals as goal
 
 pub returns-in-None : goal.returns-in-None

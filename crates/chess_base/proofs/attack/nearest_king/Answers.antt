@@ -1,8 +1,6 @@
 -- The search from the king's own side of the board looks at each square (KingChecks).
-use Rattle.std.proofs.Common.{arith, ◌≡◌, true}
-use Rattle.std.proofs.lemmas.Grind.{common_steps}
-use Rattle.chess_base.specs.declared.man.Kind.TheVariants.{King}
-use Rattle.chess_base.specs.Men.{man_at, is_man}
+use Rattle.std.proofs.{Common.arith, Common.◌≡◌, Common.true, lemmas.Grind.common_steps}
+use Rattle.chess_base.specs.{declared.man.Kind.TheVariants.King, Men.man_at, Men.is_man}
 use Rattle.chess_base.proofs.KingChecks.{none_from_side}
 use Rattle.chess_base.proofs.attack.nearest_king.Goals as goal
 

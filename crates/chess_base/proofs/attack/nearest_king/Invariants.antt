@@ -1,7 +1,5 @@
 use Rattle.std.proofs.Common.{◌≡◌, ℕ, ◌<◌, false}
-use Rattle.chess_base.specs.declared.man.Kind.TheVariants.{King}
-use Rattle.chess_base.specs.Men.{man_at, is_man}
-use Rattle.chess_base.specs.ties.Lines.{square_from_side}
+use Rattle.chess_base.specs.{declared.man.Kind.TheVariants.King, Men.man_at, Men.is_man, ties.Lines.square_from_side}
 use Rattle.chess_base.proofs.attack.nearest_king.Given as goal
 
 abbrev pub invariant-loop-number : goal.invariant-loop-number

@@ -1,6 +1,5 @@
 use Rattle.std.proofs.Common.{◌≡◌, ℕ, ◌<◌, true, not, ◌||◌, is_none}
-use Rattle.chess_base.specs.Men.{man_at}
-use Rattle.chess_base.specs.shared.Parts.{castling_needs_empty}
+use Rattle.chess_base.specs.{Men.man_at, Castling.castling_needs_empty}
 use Rattle.chess_base.proofs.castling.castling_way_is_empty.Given as goal
 
 abbrev pub invariant-loop-number : goal.invariant-loop-number

@@ -1,7 +1,5 @@
 use Rattle.std.proofs.Common.{◌≡◌, ℕ, ◌<◌, true, not, ◌||◌}
-use Rattle.chess_base.specs.Men.{other}
-use Rattle.chess_base.specs.Attacks.{is_attacked}
-use Rattle.chess_base.specs.Castling.{is_on_way}
+use Rattle.chess_base.specs.{Men.other, Attacks.is_attacked, Castling.is_on_way}
 use Rattle.chess_base.proofs.castling.castling_way_is_safe.Given as goal
 
 abbrev pub invariant-loop-number : goal.invariant-loop-number

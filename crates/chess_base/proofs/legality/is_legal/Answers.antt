@@ -1,8 +1,6 @@
 -- A pseudo-legal move of a sound position leaves its side one king (CountsAfter).
 use Rattle.std.proofs.Common.{sym, ◌∙◌}
-use Rattle.chess_base.proofs.CastlingChange.{change_of}
-use Rattle.chess_base.proofs.CountsAfter.{one_king_after}
-use Rattle.chess_base.proofs.shared.Kings.{one_king_of}
+use Rattle.chess_base.proofs.{CastlingChange.change_of, CountsAfter.one_king_after, shared.Kings.one_king_of}
 use Rattle.chess_base.proofs.legality.is_legal.Goals as goal
 
 pub is_king_attacked-requires : goal.is_king_attacked-requires

@@ -1,6 +1,5 @@
 use Rattle.std.proofs.Common.{take}
-use Rattle.chess_base.specs.declared.man.Colour.TheVariants.{White, Black}
-use Rattle.chess_base.specs.ties.Tallies.{IsTally}
+use Rattle.chess_base.specs.{declared.man.Colour.TheVariants.White, declared.man.Colour.TheVariants.Black, ties.Tallies.IsTally}
 use Rattle.chess_base.proofs.sound.census_of.Given as goal
 
 abbrev pub invariant-loop-man : goal.invariant-loop-man

@@ -1,8 +1,7 @@
 -- What lies between two squares lies between them the other way round (between_back, of chess_base).
 use Rattle.std.proofs.Common.{◌∙◌}
 use Rattle.chess_base.specs.shared.Lines.{line_number}
-use Rattle.chess_base.proofs.shared.Geometry.{between_back}
-use Rattle.chess_base.proofs.shared.MenAfter.{eqb_comm}
+use Rattle.chess_base.proofs.{shared.Geometry.between_back, shared.MenAfter.eqb_comm}
 use Rattle.chess_bits.proofs.between.between_by_rays.Goals as goal
 
 pub returns : goal.returns

@@ -1,6 +1,5 @@
-use Rattle.std.proofs.Common.{◌≡◌, ◌+◌, ◌*◌, ◌≤◌, ◌++◌, ◌∷◌, take}
+use Rattle.std.proofs.Common.{◌≡◌, ◌+◌, ◌*◌, ◌≤◌, ◌++◌, ◌∷◌, take, flat_map}
 use Rattle.arrayvec.specs.ArrayVec.{array_vec_len}
-use Rattle.std.specs.List.{flat_map}
 use Rattle.byte_devices.specs.Bytes.{space}
 use Rattle.chess_text.specs.San.{shown_move}
 use Rattle.chess_cecp.proofs.answer.write_each.Given as goal

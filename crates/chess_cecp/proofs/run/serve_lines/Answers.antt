@@ -1,10 +1,9 @@
 -- All lines so far were answered, and the server ended with none of them (RunLemmas.SoFar). An answer more keeps that
 -- (RunLemmas.go_on), and each way out has a lemma on what passed at the devices (RunLemmas.by_line and those after it).
-use Rattle.std.proofs.Common.{[], subst, sym}
+use Rattle.std.proofs.{Common.[], Common.subst, Common.sym, lemmas.Result.err_from_is_err_and}
 use Rattle.text_lines.specs.Lines.{Held}
 use Rattle.byte_devices.specs.declared.traits.ReadFault.{ReadFault}
 use Rattle.chess_cecp.proofs.RunLemmas.{SoFar, start, reached, go_on, by_line, by_write, by_last, by_end, by_read, over_said, on_said}
-use Rattle.std.proofs.lemmas.Result.{err_from_is_err_and}
 use Rattle.chess_cecp.proofs.run.serve_lines.Goals as goal
 
 pub loop-server-init : goal.loop-server-init

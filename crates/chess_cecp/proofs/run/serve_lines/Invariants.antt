@@ -1,6 +1,5 @@
 use Rattle.std.proofs.Common.{List, ℕ}
-use Rattle.text_lines.specs.Lines.{LineSeen}
-use Rattle.text_lines.specs.Next.{work}
+use Rattle.text_lines.specs.{Lines.LineSeen, Next.work}
 use Rattle.chess_cecp.proofs.RunLemmas.{SoFar}
 use Rattle.chess_cecp.proofs.run.serve_lines.Given as goal
 

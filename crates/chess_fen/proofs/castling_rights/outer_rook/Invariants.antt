@@ -1,6 +1,5 @@
 use Rattle.std.proofs.Common.{◌≡◌}
-use Rattle.chess_fen.specs.ties.Reader.{outer_rook}
-use Rattle.chess_fen.specs.ties.Loops.{rook_among}
+use Rattle.chess_fen.specs.{ties.Reader.outer_rook, ties.Loops.rook_among}
 use Rattle.chess_fen.proofs.castling_rights.outer_rook.Given as goal
 
 -- what is left gives the whole

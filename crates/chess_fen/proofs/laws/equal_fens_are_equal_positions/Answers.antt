@@ -1,6 +1,5 @@
 use Rattle.std.proofs.Common.{IsTrue, refl, sym, subst, ◌&&◌, nat_eq}
-use Rattle.std.proofs.lemmas.Bool.{and_parts}
-use Rattle.std.proofs.lemmas.Cmp.{nat_list_eq_equiv}
+use Rattle.std.proofs.{lemmas.Bool.and_parts, lemmas.Cmp.nat_list_eq_equiv}
 use Rattle.std.specs.Cmp.Lexicographic.{pointwise, same_text}
 use Rattle.chess_base.specs.contracts.man.VariantPartialEq.TheImpl.{eq-value}
 use Rattle.chess_fen.specs.Writing.{fen}

@@ -1,20 +1,10 @@
-use Rattle.std.proofs.Common.{◌≡◌, refl, Ok}
-use Rattle.std.specs.Prelude.{◌∷◌, ◌++◌, replicate, codes, None}
-use Rattle.chess_base.specs.declared.man.Colour.TheVariants.{White}
-use Rattle.chess_base.specs.declared.man.Kind.TheVariants.{Pawn}
+use Rattle.std.specs.Prelude.{◌∷◌, ◌++◌, replicate, codes, None, ◌≡◌, refl, Ok}
+use Rattle.chess_base.specs.{declared.man.Colour.TheVariants.White, declared.man.Kind.TheVariants.Pawn, Castling.king_square, Castling.right_is_sound, Faults.rights_are_sound, Men.is_of, Men.is_man, Initial.man_of, declared.man.Variant.TheVariants.Normal}
 use Rattle.chess_base.specs.Attacks.{is_clear, could_capture, attacks, is_attacked, is_in_check}
-use Rattle.chess_base.specs.Castling.{king_square, right_is_sound}
-use Rattle.chess_base.specs.Faults.{rights_are_sound}
-use Rattle.chess_base.specs.Men.{is_of, is_man}
 use Rattle.chess_base.specs.Sound.{has_one_king, no_pawn_on_end_ranks, has_at_most_16, target_is_sound}
 use Rattle.chess_base.specs.Squares.{squares, some_square, each_square, is_between}
-use Rattle.chess_fen.specs.Reading.{fen_reading_as}
-use Rattle.chess_fen.specs.laws.Examples.{kings_and_pawn}
-use Rattle.chess_base.specs.Initial.{man_of}
-use Rattle.chess_fen.specs.Texts.{may_name_right}
-use Rattle.chess_base.specs.declared.man.Variant.TheVariants.{Normal}
-use Rattle.chess_fen.proofs.DenotedFen.{text_outcome}
-use Rattle.chess_fen.proofs.OneRankText.{rank_text_is}
+use Rattle.chess_fen.specs.{Reading.fen_reading_as, laws.Examples.kings_and_pawn, Texts.may_name_right}
+use Rattle.chess_fen.proofs.{DenotedFen.text_outcome, OneRankText.rank_text_is}
 use Rattle.chess_fen.proofs.laws.fens_are_worked_out.Goals as goal
 
 -- by computing each condition of a sound position

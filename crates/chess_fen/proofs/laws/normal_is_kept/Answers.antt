@@ -1,5 +1,4 @@
-use Rattle.chess_fen.proofs.NormalRead.{reading_kept}
-use Rattle.chess_fen.proofs.NormalWritten.{fen_kept}
+use Rattle.chess_fen.proofs.{NormalRead.reading_kept, NormalWritten.fen_kept}
 use Rattle.chess_fen.proofs.laws.normal_is_kept.Goals as goal
 
 pub returns-clause-read : goal.returns-clause-read

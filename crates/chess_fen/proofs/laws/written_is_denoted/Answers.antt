@@ -1,6 +1,5 @@
 -- What is written denotes its position and no other (WrittenFen), and what denotes a sound position is read as it.
-use Rattle.chess_fen.proofs.DenotedFen.{reading-denoted}
-use Rattle.chess_fen.proofs.WrittenFen.{fen-denoted, no_other}
+use Rattle.chess_fen.proofs.{DenotedFen.reading-denoted, WrittenFen.fen-denoted, WrittenFen.no_other}
 use Rattle.chess_fen.specs.Writing.{fen}
 use Rattle.chess_fen.proofs.laws.written_is_denoted.Goals as goal
 

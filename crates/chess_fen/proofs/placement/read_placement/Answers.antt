@@ -1,6 +1,5 @@
 -- The ranks so far are the upper part of the board, and what the rest of the text stands for gives the whole (Placing).
-use Rattle.std.proofs.Common.{◌≡◌, Option, Some, None, subst, arith}
-use Rattle.std.specs.Prelude.{IfNone}
+use Rattle.std.proofs.Common.{◌≡◌, Option, Some, None, subst, arith, IfNone}
 use Rattle.chess_fen.specs.ties.Runs.{Ends}
 use Rattle.chess_fen.proofs.Placing.{no_rank, no_more, placed_on, placed_whole, too_many}
 use Rattle.chess_fen.proofs.placement.read_placement.Goals as goal

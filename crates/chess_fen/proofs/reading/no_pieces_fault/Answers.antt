@@ -1,6 +1,5 @@
 use Rattle.std.proofs.Common.{ap, ◌∙◌}
-use Rattle.chess_fen.specs.ties.Reader.{setup_in}
-use Rattle.chess_fen.specs.Texts.{fields_of}
+use Rattle.chess_fen.specs.{ties.Reader.setup_in, Texts.fields_of}
 use Rattle.chess_fen.proofs.FirstField.{setup-menless}
 use Rattle.chess_fen.proofs.reading.no_pieces_fault.Goals as goal
 

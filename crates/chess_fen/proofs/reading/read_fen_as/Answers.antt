@@ -1,14 +1,8 @@
 -- The result is what the function of the definition reads. DenotedFen says that this is the sound position that the
 -- text denotes, if there is one, and else the one fault that is true of the text.
-use Rattle.std.proofs.Common.{◌≡◌, Result, Ok, Err, List, ℕ, sym, ◌∙◌}
-use Rattle.std.specs.Prelude.{IfOk, IfErr}
-use Rattle.chess_base.specs.declared.man.Variant.{Variant}
-use Rattle.chess_base.specs.declared.setup.Setup.{Setup}
-use Rattle.chess_base.specs.Sound.{IsSound}
-use Rattle.chess_base.specs.declared.fen_fault.FenFault.{FenFault}
-use Rattle.chess_fen.specs.Reading.{fen_reading_as}
-use Rattle.chess_fen.specs.Denotation.{DenotesFenAs}
-use Rattle.chess_fen.specs.FenFaults.{IsFaultAs}
+use Rattle.std.proofs.Common.{◌≡◌, Result, Ok, Err, List, ℕ, sym, ◌∙◌, IfOk, IfErr}
+use Rattle.chess_base.specs.{declared.man.Variant.Variant, declared.setup.Setup.Setup, Sound.IsSound, declared.fen_fault.FenFault.FenFault}
+use Rattle.chess_fen.specs.{Reading.fen_reading_as, Denotation.DenotesFenAs, FenFaults.IsFaultAs}
 use Rattle.chess_fen.proofs.DenotedFen.{found, faulty, fault-read, reading-denoted}
 use Rattle.chess_fen.proofs.reading.read_fen_as.Goals as goal
 

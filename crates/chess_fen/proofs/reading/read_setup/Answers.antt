@@ -1,11 +1,8 @@
 -- The first field is read while the text is cut (FirstField); after it the text is cut into the others.
-use Rattle.std.proofs.Common.{ap, sym, ◌∙◌}
-use Rattle.std.specs.Prelude.{◌==◌}
+use Rattle.std.proofs.Common.{ap, sym, ◌∙◌, ◌==◌}
 use Rattle.std.specs.List.{before_first}
-use Rattle.chess_fen.specs.ties.Reader.{setup_in}
-use Rattle.chess_fen.specs.Texts.{fields_of}
-use Rattle.chess_fen.proofs.FirstField.{first_is_menless, fields-read, setup-with}
-use Rattle.chess_fen.proofs.CutFields.{fields_of-skip}
+use Rattle.chess_fen.specs.{ties.Reader.setup_in, Texts.fields_of}
+use Rattle.chess_fen.proofs.{FirstField.first_is_menless, FirstField.fields-read, FirstField.setup-with, CutFields.fields_of-skip}
 use Rattle.chess_fen.proofs.reading.read_setup.Goals as goal
 
 pub no_pieces_fault-requires : goal.no_pieces_fault-requires

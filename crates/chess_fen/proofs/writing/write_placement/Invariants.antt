@@ -1,7 +1,6 @@
 use Rattle.std.proofs.Common.{◌≡◌, ◌+◌, ◌*◌, ◌≤◌, ◌++◌}
 use Rattle.arrayvec.specs.ArrayVec.{array_vec_len}
-use Rattle.chess_fen.specs.Writing.{placement_text}
-use Rattle.chess_fen.specs.ties.Loops.{ranks_text}
+use Rattle.chess_fen.specs.{Writing.placement_text, ties.Loops.ranks_text}
 use Rattle.chess_fen.proofs.writing.write_placement.Given as goal
 
 -- what is left completes the text

@@ -1,7 +1,6 @@
 use Rattle.std.proofs.Common.{◌≡◌, ◌+◌, ◌≤◌, ◌++◌, drop}
 use Rattle.arrayvec.specs.ArrayVec.{array_vec_len}
-use Rattle.chess_fen.specs.Writing.{fen_rank}
-use Rattle.chess_fen.specs.ties.Loops.{row_text}
+use Rattle.chess_fen.specs.{Writing.fen_rank, ties.Loops.row_text}
 use Rattle.chess_fen.proofs.writing.write_rank.Given as goal
 
 -- what is left completes the text

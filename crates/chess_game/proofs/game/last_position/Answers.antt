@@ -1,9 +1,7 @@
 -- The last played move holds the position at the end of the line (at_end of Kept); without moves that is the start.
 use Rattle.std.proofs.Common.{◌≡◌, ◌<◌, length, sym, ap, arith}
-use Rattle.std.proofs.lemmas.List.{nil_from_length}
-use Rattle.std.proofs.lemmas.Grind.{common_steps}
-use Rattle.chess_game.specs.Line.{position_after}
-use Rattle.chess_game.specs.ties.PlayedMoves.{moves_of}
+use Rattle.std.proofs.{lemmas.List.nil_from_length, lemmas.Grind.common_steps}
+use Rattle.chess_game.specs.{Line.position_after, ties.PlayedMoves.moves_of}
 use Rattle.chess_game.proofs.Kept.{at_end}
 use Rattle.chess_game.proofs.game.last_position.Goals as goal
 

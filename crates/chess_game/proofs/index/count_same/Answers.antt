@@ -2,8 +2,7 @@
 -- missed, and the first that is found keeps how many there are up to it (Walk).
 use Rattle.std.proofs.Common.{◌≡◌, ◌∙◌, ◌+◌, ◌-◌, ap, sym, subst, arith}
 use Rattle.std.proofs.lemmas.Bool.Decides.{nat_tests}
-use Rattle.chess_game.specs.ties.PlayedMoves.{IsKnown}
-use Rattle.chess_game.specs.declared.game.PlayedMove.{PlayedMove}
+use Rattle.chess_game.specs.{ties.PlayedMoves.IsKnown, declared.game.PlayedMove.PlayedMove}
 use Rattle.chess_game.proofs.Kept.{at_place}
 use Rattle.chess_game.proofs.Walk.{is_sought, walk_begins, walk_goes_on, walk_smaller, walk_found, walk_few, walk_ends, walk_ends_at_start, walk_stops}
 use Rattle.chess_game.proofs.index.count_same.Goals as goal

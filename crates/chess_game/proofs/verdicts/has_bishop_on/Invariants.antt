@@ -1,8 +1,5 @@
 use Rattle.std.proofs.Common.{◌≡◌, ◌+◌, ◌%◌, ◌==◌, ◌&&◌}
-use Rattle.chess_base.specs.declared.man.Kind.TheVariants.{Bishop}
-use Rattle.chess_base.specs.Men.{man_at}
-use Rattle.chess_base.specs.Squares.{file, rank}
-use Rattle.chess_base.specs.shared.Below.{some_below}
+use Rattle.chess_base.specs.{declared.man.Kind.TheVariants.Bishop, Men.man_at, Squares.file, Squares.rank, shared.Below.some_below}
 use Rattle.chess_game.specs.Ends.{is_kind}
 use Rattle.chess_game.proofs.verdicts.has_bishop_on.Given as goal
 

@@ -1,7 +1,6 @@
 -- Both clocks come before the last move (Sends.joined_after).
 use Rattle.std.proofs.Common.{◌∙◌, ap, ◌++◌, List, ℕ}
-use Rattle.chess_match.specs.Lines.{bytes_of}
-use Rattle.chess_match.specs.ties.Delivering.{clocks, last_move}
+use Rattle.chess_match.specs.{Lines.bytes_of, ties.Delivering.clocks, ties.Delivering.last_move}
 use Rattle.chess_match.proofs.Sends.{joined_after}
 use Rattle.chess_match.proofs.compose.add_later_opening.Goals as goal
 

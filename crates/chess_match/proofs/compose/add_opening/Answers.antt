@@ -1,12 +1,8 @@
 -- A side's clock counts the moves that it made in the match (CoreSteps.clocks_moves): with none, its opening is the
 -- first, which has the move before the clocks and `go` after them.
-use Rattle.std.proofs.Common.{◌≡◌, ◌++◌, ◌∷◌, [], append_assoc, true, false, length, arith, lt-ltb, le-ltb}
-use Rattle.std.specs.Prelude.{nat_lt, codes}
-use Rattle.chess_match.specs.Lines.{Says}
-use Rattle.chess_match.specs.ties.Delivering.{clocks, last_move}
-use Rattle.chess_match.proofs.CoreSteps.{clocks_moves}
-use Rattle.chess_match.proofs.shared.Lines.{bytes_of-append}
-use Rattle.chess_match.proofs.Sends.{go_line}
+use Rattle.std.proofs.Common.{◌≡◌, ◌++◌, ◌∷◌, [], append_assoc, true, false, length, arith, lt-ltb, le-ltb, nat_lt, codes}
+use Rattle.chess_match.specs.{Lines.Says, ties.Delivering.clocks, ties.Delivering.last_move}
+use Rattle.chess_match.proofs.{CoreSteps.clocks_moves, shared.Lines.bytes_of-append, Sends.go_line}
 use Rattle.chess_match.proofs.compose.add_opening.Goals as goal
 
 pub returns-then-moves-gt0-clause-text : goal.returns-then-moves-gt0-clause-text

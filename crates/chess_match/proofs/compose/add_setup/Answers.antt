@@ -1,12 +1,9 @@
 -- The bytes of the setup are those of its lines in their order (Sends.setup_bytes), each put by a call of its own; the
 -- level is that of the side's clock.
 use Rattle.std.proofs.Common.{◌≡◌, ◌∙◌, ap, append_assoc, refl}
-use Rattle.chess_base.specs.declared.man.Colour.{Colour}
-use Rattle.chess_base.specs.declared.man.Colour.TheVariants.{White, Black}
+use Rattle.chess_base.specs.{declared.man.Colour.Colour, declared.man.Colour.TheVariants.White, declared.man.Colour.TheVariants.Black}
 use Rattle.cecp_engine.specs.Clocks.{ClocksSeen, side_clock}
-use Rattle.chess_match.specs.Effects.{Match}
-use Rattle.chess_match.specs.Rules.{Rules}
-use Rattle.chess_match.specs.ties.Represents.{clocks_of}
+use Rattle.chess_match.specs.{Effects.Match, Rules.Rules, ties.Represents.clocks_of}
 use Rattle.chess_match.proofs.Sends.{setup_bytes}
 use Rattle.chess_match.proofs.compose.add_setup.Goals as goal
 

@@ -1,16 +1,9 @@
 -- At the end both blocks are sent; before it the first call fails, or the second, or neither.
 use Rattle.std.proofs.Common.{◌≡◌, [], ap, refl, sym, ◌∙◌, true, false}
-use Rattle.chess_base.specs.declared.man.Colour.{Colour}
-use Rattle.chess_base.specs.declared.man.Colour.TheVariants.{White, Black}
-use Rattle.chess_base.specs.Men.{other}
-use Rattle.chess_match.specs.Acts.{block_of, is_over}
-use Rattle.chess_match.specs.Lines.{bytes_of}
-use Rattle.chess_match.specs.shared.Parts.{answers_to}
-use Rattle.chess_match.specs.ties.Driving.{giving}
+use Rattle.chess_base.specs.{declared.man.Colour.Colour, declared.man.Colour.TheVariants.White, declared.man.Colour.TheVariants.Black, Men.other}
+use Rattle.chess_match.specs.{Acts.block_of, Acts.is_over, Lines.bytes_of, Effects.answers_to, ties.Driving.giving}
 use Rattle.chess_match.proofs.Deliveries.{delivered_both, delivered_broken, first_failed, first_sent, last_failed, none_failed, none_sent, second_failed}
-use Rattle.chess_match.proofs.Leading.{over_first}
-use Rattle.chess_match.proofs.Passings.{passed_as, passed_more}
-use Rattle.chess_match.proofs.Sends.{no_answers_of}
+use Rattle.chess_match.proofs.{Leading.over_first, Passings.passed_as, Passings.passed_more, Sends.no_answers_of}
 use Rattle.chess_match.proofs.run.deliver.Goals as goal
 
 pub returns-in-White-clause-delivered : goal.returns-in-White-clause-delivered

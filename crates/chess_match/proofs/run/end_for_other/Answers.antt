@@ -1,13 +1,8 @@
 -- The core goes over to the end, and the block that this gives is sent.
 use Rattle.std.proofs.Common.{◌<◌, length, ap, subst, ◌∙◌}
 use Rattle.chess_base.specs.declared.man.Colour.{Colour}
-use Rattle.chess_match.specs.Acts.{is_over}
-use Rattle.chess_match.specs.Effects.{Effect, effect}
-use Rattle.chess_match.specs.Events.{FailsToWrite}
-use Rattle.chess_match.specs.ties.Driving.{giving, steps_of}
-use Rattle.chess_match.specs.ties.Represents.{nothing_said}
-use Rattle.chess_match.proofs.Passings.{passed_as, passed_more}
-use Rattle.chess_match.proofs.Sends.{no_answers}
+use Rattle.chess_match.specs.{Acts.is_over, Effects.Effect, Effects.effect, Events.FailsToWrite, ties.Driving.giving, ties.Driving.steps_of, ties.Represents.nothing_said}
+use Rattle.chess_match.proofs.{Passings.passed_as, Passings.passed_more, Sends.no_answers}
 use Rattle.chess_match.proofs.run.end_for_other.Goals as goal
 
 pub returns-clause-ended : goal.returns-clause-ended

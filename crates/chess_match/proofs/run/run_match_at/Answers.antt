@@ -1,20 +1,10 @@
 -- The loop keeps a match that has come so far, the steps that led to it, and what agrees with it.
 use Rattle.std.proofs.Common.{List, [], ◌∷◌, refl, ap, sym, ◌∙◌, subst, ℕ}
-use Rattle.chess_base.specs.declared.man.Colour.{Colour}
-use Rattle.chess_base.specs.declared.man.Move.{Move}
-use Rattle.chess_base.specs.declared.setup.Setup.{Setup}
+use Rattle.chess_base.specs.{declared.man.Colour.Colour, declared.man.Move.Move, declared.setup.Setup.Setup}
 use Rattle.chess_game.specs.Game as game
-use Rattle.chess_match.specs.Acts.{awaits_line}
-use Rattle.chess_match.specs.Effects.{Match, Phase, beginning}
-use Rattle.chess_match.specs.Events.{Opened}
-use Rattle.chess_match.specs.Notes.{Happened}
-use Rattle.chess_match.specs.Rules.{Rules}
-use Rattle.chess_match.specs.Table.{ReadsClock, Notes}
-use Rattle.chess_match.specs.ties.Represents.{Represents, nothing_said}
+use Rattle.chess_match.specs.{Acts.awaits_line, Effects.Match, Effects.Phase, Effects.beginning, Events.Opened, Notes.Happened, Rules.Rules, Table.ReadsClock, Table.Notes, ties.Represents.Represents, ties.Represents.nothing_said}
 use Rattle.chess_match.proofs.OnTheWay.{begins, begun, limited, opened_less, opened_on, played_at, plays_anew, plays_on, rules_in, went_less, went_on}
-use Rattle.chess_match.proofs.Passings.{passed_more}
-use Rattle.chess_match.proofs.Sends.{no_answers}
-use Rattle.chess_match.proofs.StaysSane.{fine_after}
+use Rattle.chess_match.proofs.{Passings.passed_more, Sends.no_answers, StaysSane.fine_after}
 use Rattle.chess_match.proofs.run.run_match_at.Goals as goal
 
 pub events-init : goal.events-init

@@ -1,8 +1,7 @@
 -- White's block, and then Black's.
 use Rattle.std.proofs.Common.{◌≡◌, ◌<◌, length, true}
 use Rattle.chess_base.specs.ByColour.{by_colour}
-use Rattle.chess_match.proofs.Delivers.{both_sides}
-use Rattle.chess_match.proofs.Passings.{passed_more}
+use Rattle.chess_match.proofs.{Delivers.both_sides, Passings.passed_more}
 use Rattle.chess_match.proofs.run.send_last.Goals as goal
 
 pub returns-clause-sent : goal.returns-clause-sent

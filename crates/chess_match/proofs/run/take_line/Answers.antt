@@ -1,15 +1,8 @@
 -- The clock is read, the line is noted, and the core takes over what the line says.
 use Rattle.std.proofs.Common.{◌∷◌, [], List, ℕ, Option, ap, sym, subst, ◌∙◌}
 use Rattle.cecp_engine.specs.Seen.{seen}
-use Rattle.chess_match.specs.Events.{Line}
-use Rattle.chess_match.specs.Notes.{Happened}
-use Rattle.chess_match.specs.Run.{text_read}
-use Rattle.chess_match.specs.Table.{Passes, ReadsClock, Notes}
-use Rattle.chess_match.specs.ties.Represents.{items_in}
-use Rattle.chess_match.specs.Acts.{awaits_line}
-use Rattle.chess_match.specs.Effects.{Phase}
-use Rattle.chess_match.proofs.Sends.{none_to_other}
-use Rattle.chess_match.proofs.Passings.{passed_more}
+use Rattle.chess_match.specs.{Events.Line, Notes.Happened, Run.text_read, Table.Passes, Table.ReadsClock, Table.Notes, ties.Represents.items_in, Acts.awaits_line, Effects.Phase}
+use Rattle.chess_match.proofs.{Sends.none_to_other, Passings.passed_more}
 use Rattle.chess_match.proofs.run.take_line.Goals as goal
 
 pub returns-clause-taken : goal.returns-clause-taken

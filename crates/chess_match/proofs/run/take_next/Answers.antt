@@ -1,18 +1,11 @@
 -- A line, a silence, the end, or a read that failed.
-use Rattle.std.proofs.Common.{◌∷◌, [], ℕ, Bool, Option, Ok, Some, refl, ap, sym, subst, ◌∙◌, ◌<◌}
-use Rattle.std.specs.Prelude.{is_some}
+use Rattle.std.proofs.Common.{◌∷◌, [], ℕ, Bool, Option, Ok, Some, refl, ap, sym, subst, ◌∙◌, ◌<◌, is_some}
 use Rattle.chess_base.proofs.shared.Men.{same_colour-self}
-use Rattle.chess_match.specs.Acts.{Happens}
+use Rattle.chess_match.specs.{Acts.Happens, Notes.Happened, Run.text_read, ties.Driving.after_line, ties.Driving.after_silence, ties.Represents.nothing_said}
 use Rattle.chess_match.specs.Events.{FailsToRead, Line, OutputEnds, Silent}
-use Rattle.chess_match.specs.Notes.{Happened}
-use Rattle.chess_match.specs.Run.{text_read}
 use Rattle.chess_match.specs.Table.{Does, FindsNoLine, LooksFor, ReadsLine, Notes}
-use Rattle.chess_match.specs.ties.Driving.{after_line, after_silence}
-use Rattle.chess_match.specs.ties.Represents.{nothing_said}
-use Rattle.chess_match.proofs.Passings.{passed_more}
-use Rattle.chess_match.proofs.Sends.{no_answers}
+use Rattle.chess_match.proofs.{Passings.passed_more, Sends.no_answers, shared.MatchCases.on_when_read}
 use Rattle.chess_match.proofs.Takings.{as_fault, as_last, as_line, as_none, as_silence, bare, line_falls}
-use Rattle.chess_match.proofs.shared.MatchCases.{on_when_read}
 use Rattle.chess_match.proofs.run.take_next.Goals as goal
 
 pub returns-in-Err-clause-taken : goal.returns-in-Err-clause-taken

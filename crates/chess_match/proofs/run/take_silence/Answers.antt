@@ -1,8 +1,6 @@
 -- The clock is read, the silence is noted, and the core takes note of it.
 use Rattle.std.proofs.Common.{◌∷◌, []}
-use Rattle.chess_match.specs.Events.{Silent}
-use Rattle.chess_match.specs.Notes.{Happened}
-use Rattle.chess_match.specs.Table.{ReadsClock, Notes}
+use Rattle.chess_match.specs.{Events.Silent, Notes.Happened, Table.ReadsClock, Table.Notes}
 use Rattle.chess_match.proofs.Passings.{passed_more}
 use Rattle.chess_match.proofs.run.take_silence.Goals as goal
 

@@ -1,8 +1,7 @@
 -- What is not empty is noted, and then sent.
 use Rattle.std.proofs.Common.{◌∷◌, [], Bool, false, subst, sym}
 use Rattle.chess_match.specs.Table.{Does, Passes, sending}
-use Rattle.chess_match.proofs.Due.{is_nil, is_some_text}
-use Rattle.chess_match.proofs.Passings.{given_lines, given_nothing}
+use Rattle.chess_match.proofs.{Due.is_nil, Due.is_some_text, Passings.given_lines, Passings.given_nothing}
 use Rattle.chess_match.proofs.send.note_and_put.Goals as goal
 
 pub returns-then-is_empty-clause-passes : goal.returns-then-is_empty-clause-passes

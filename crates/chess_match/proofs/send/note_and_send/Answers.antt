@@ -1,9 +1,7 @@
 -- The answers wait, and the rest of the block is put after them.
 use Rattle.std.proofs.Common.{◌++◌, List, ℕ, ap, sym, ◌∙◌}
-use Rattle.chess_match.specs.Lines.{bytes_of}
-use Rattle.chess_match.specs.ties.Represents.{after_answers}
-use Rattle.chess_match.proofs.Due.{some_lines}
-use Rattle.chess_match.proofs.Sends.{given_bytes}
+use Rattle.chess_match.specs.{Lines.bytes_of, ties.Represents.after_answers}
+use Rattle.chess_match.proofs.{Due.some_lines, Sends.given_bytes}
 use Rattle.chess_match.proofs.send.note_and_send.Goals as goal
 
 pub returns-clause-sends : goal.returns-clause-sends

@@ -1,6 +1,5 @@
 use Rattle.chess_match_laws.specs.OfActs.{ClocksDoNotUnderflow}
-use Rattle.chess_match_laws.proofs.ClockLaw.{clocks_do_not_underflow}
-use Rattle.chess_match_laws.proofs.Points.{in_each}
+use Rattle.chess_match_laws.proofs.{ClockLaw.clocks_do_not_underflow, Points.in_each}
 use Rattle.chess_match_laws.proofs.laws.clocks_do_not_underflow.Goals as goal
 
 pub returns-clause-whole : goal.returns-clause-whole

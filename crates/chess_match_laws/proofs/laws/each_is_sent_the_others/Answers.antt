@@ -1,6 +1,5 @@
 use Rattle.chess_match_laws.specs.OfActs.{ItemsAreSaid}
-use Rattle.chess_match_laws.proofs.Points.{in_each}
-use Rattle.chess_match_laws.proofs.SentByLinesLaw.{each_is_sent_so_far, each_is_sent_the_others, items_are_said}
+use Rattle.chess_match_laws.proofs.{Points.in_each, SentByLinesLaw.each_is_sent_so_far, SentByLinesLaw.each_is_sent_the_others, SentByLinesLaw.items_are_said}
 use Rattle.chess_match_laws.proofs.laws.each_is_sent_the_others.Goals as goal
 
 pub returns-clause-said : goal.returns-clause-said

@@ -1,5 +1,4 @@
-use Rattle.chess_match_laws.proofs.GoLaw.{go_is_sent_once, was_sent_go}
-use Rattle.chess_match_laws.proofs.Points.{in_each}
+use Rattle.chess_match_laws.proofs.{GoLaw.go_is_sent_once, GoLaw.was_sent_go, Points.in_each}
 use Rattle.chess_match_laws.specs.Rows.{GoIsSentOnce}
 use Rattle.chess_match_laws.proofs.laws.go_is_sent_once.Goals as goal
 

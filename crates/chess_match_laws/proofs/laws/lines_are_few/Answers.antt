@@ -1,6 +1,5 @@
 use Rattle.chess_match_laws.specs.OfActs.{LinesAreFew}
-use Rattle.chess_match_laws.proofs.LineLaw.{lines_are_few}
-use Rattle.chess_match_laws.proofs.Points.{in_each}
+use Rattle.chess_match_laws.proofs.{LineLaw.lines_are_few, Points.in_each}
 use Rattle.chess_match_laws.proofs.laws.lines_are_few.Goals as goal
 
 pub returns-clause-whole : goal.returns-clause-whole

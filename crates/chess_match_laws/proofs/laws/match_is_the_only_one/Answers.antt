@@ -1,6 +1,4 @@
-use Rattle.chess_match_laws.proofs.EndLinesLaw.{one_match_but_for_end_lines}
-use Rattle.chess_match_laws.proofs.OneLaw.{only_one_match}
-use Rattle.chess_match_laws.proofs.OneRunLaw.{only_one_of_a_run}
+use Rattle.chess_match_laws.proofs.{EndLinesLaw.one_match_but_for_end_lines, OneLaw.only_one_match, OneRunLaw.only_one_of_a_run}
 use Rattle.chess_match_laws.proofs.laws.match_is_the_only_one.Goals as goal
 
 pub returns-clause-of_streams : goal.returns-clause-of_streams

@@ -1,6 +1,5 @@
 use Rattle.chess_match_laws.specs.OfActs.{MovesAreRead}
-use Rattle.chess_match_laws.proofs.Points.{in_each}
-use Rattle.chess_match_laws.proofs.ReadLaw.{moves_are_read}
+use Rattle.chess_match_laws.proofs.{Points.in_each, ReadLaw.moves_are_read}
 use Rattle.chess_match_laws.proofs.laws.moves_are_read.Goals as goal
 
 pub returns-clause-whole : goal.returns-clause-whole

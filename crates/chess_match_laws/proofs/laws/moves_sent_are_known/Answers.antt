@@ -1,5 +1,4 @@
-use Rattle.chess_match_laws.proofs.MoveLaw.{moves_sent_are_known}
-use Rattle.chess_match_laws.proofs.Points.{end_after_acts}
+use Rattle.chess_match_laws.proofs.{MoveLaw.moves_sent_are_known, Points.end_after_acts}
 use Rattle.chess_match_laws.proofs.laws.moves_sent_are_known.Goals as goal
 
 pub returns-clause-whole : goal.returns-clause-whole

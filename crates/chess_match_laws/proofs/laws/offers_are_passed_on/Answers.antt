@@ -1,5 +1,4 @@
-use Rattle.chess_match_laws.proofs.OfferedLaw.{draws_are_offered}
-use Rattle.chess_match_laws.proofs.PassingLaw.{draws_are_few, offers_are_passed_on}
+use Rattle.chess_match_laws.proofs.{OfferedLaw.draws_are_offered, PassingLaw.draws_are_few, PassingLaw.offers_are_passed_on}
 use Rattle.chess_match_laws.proofs.laws.offers_are_passed_on.Goals as goal
 
 pub returns-clause-passed : goal.returns-clause-passed

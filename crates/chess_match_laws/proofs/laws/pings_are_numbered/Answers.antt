@@ -1,5 +1,4 @@
-use Rattle.chess_match_laws.proofs.PingLaw.{pings_are_numbered}
-use Rattle.chess_match_laws.proofs.Points.{in_each}
+use Rattle.chess_match_laws.proofs.{PingLaw.pings_are_numbered, Points.in_each}
 use Rattle.chess_match_laws.specs.Rows.{PingsAreNumbered}
 use Rattle.chess_match_laws.proofs.laws.pings_are_numbered.Goals as goal
 

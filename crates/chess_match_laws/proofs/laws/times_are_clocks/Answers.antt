@@ -1,6 +1,5 @@
 use Rattle.chess_match_laws.specs.OfActs.{OtherTimesAreClocks, TimesAreClocks}
-use Rattle.chess_match_laws.proofs.Points.{in_each}
-use Rattle.chess_match_laws.proofs.TimeLaw.{other_times_are_clocks, times_are_clocks}
+use Rattle.chess_match_laws.proofs.{Points.in_each, TimeLaw.other_times_are_clocks, TimeLaw.times_are_clocks}
 use Rattle.chess_match_laws.proofs.laws.times_are_clocks.Goals as goal
 
 pub returns-clause-own : goal.returns-clause-own

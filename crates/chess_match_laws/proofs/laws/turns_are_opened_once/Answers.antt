@@ -1,6 +1,5 @@
 use Rattle.chess_match_laws.specs.Rows.{TurnsAreOpenedOnce}
-use Rattle.chess_match_laws.proofs.OpeningLaw.{turns_are_opened_once}
-use Rattle.chess_match_laws.proofs.Points.{in_each}
+use Rattle.chess_match_laws.proofs.{OpeningLaw.turns_are_opened_once, Points.in_each}
 use Rattle.chess_match_laws.proofs.laws.turns_are_opened_once.Goals as goal
 
 pub returns-clause-whole : goal.returns-clause-whole

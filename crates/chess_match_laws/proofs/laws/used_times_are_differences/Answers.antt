@@ -1,6 +1,5 @@
 use Rattle.chess_match_laws.specs.OfActs.{UsedTimesAreDifferences}
-use Rattle.chess_match_laws.proofs.Points.{in_each}
-use Rattle.chess_match_laws.proofs.UsedLaw.{used_times_are_differences}
+use Rattle.chess_match_laws.proofs.{Points.in_each, UsedLaw.used_times_are_differences}
 use Rattle.chess_match_laws.proofs.laws.used_times_are_differences.Goals as goal
 
 pub returns-clause-whole : goal.returns-clause-whole

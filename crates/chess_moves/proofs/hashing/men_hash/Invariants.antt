@@ -1,5 +1,4 @@
-use Rattle.std.proofs.Common.{◌≡◌}
-use Rattle.std.specs.List.{flat_map}
+use Rattle.std.proofs.Common.{◌≡◌, flat_map}
 use Rattle.chess_moves.specs.PositionHash.{keys_on, xor_of}
 use Rattle.chess_moves.proofs.Gathered.{numbers}
 use Rattle.chess_moves.proofs.hashing.men_hash.Given as goal

@@ -1,7 +1,5 @@
 use Rattle.std.proofs.Common.{◌≡◌, ℕ, ◌&&◌, None, nat_lt}
-use Rattle.chess_base.specs.Men.{man_at, is_man}
-use Rattle.chess_base.specs.MoveList.{move_of}
-use Rattle.chess_base.specs.Moves.{is_legal}
+use Rattle.chess_base.specs.{Men.man_at, Men.is_man, MoveList.move_of, Moves.is_legal}
 use Rattle.chess_moves.specs.Sets.{contains}
 use Rattle.chess_moves.proofs.plain.legal_starts.Given as goal
 

@@ -2,9 +2,7 @@
 -- (GameReads.normal_on).
 use Rattle.std.proofs.Common.{sym, ◌∙◌}
 use Rattle.chess_pgn.specs.ties.Seen.{found_seen, token_seen}
-use Rattle.chess_pgn.proofs.GameReads.{first_normal, more_normal, normal_on}
-use Rattle.chess_pgn.proofs.LeftTokens.{tags_left}
-use Rattle.chess_pgn.proofs.TokenPlaces.{token_within}
+use Rattle.chess_pgn.proofs.{GameReads.first_normal, GameReads.more_normal, GameReads.normal_on, LeftTokens.tags_left, TokenPlaces.token_within}
 use Rattle.chess_pgn.proofs.read.read_normal_tags.Goals as goal
 
 pub loop-next-init : goal.loop-next-init

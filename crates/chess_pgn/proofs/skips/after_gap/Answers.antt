@@ -2,8 +2,7 @@
 -- and white space (Skipped.gap_line_more, gap_blank_more).
 use Rattle.std.proofs.Common.{sym, ap, ◌∙◌, false}
 use Rattle.chess_pgn.specs.shared.Gaps.{gap_left}
-use Rattle.chess_pgn.proofs.Gaps.{gap_same}
-use Rattle.chess_pgn.proofs.Skipped.{gap_line_more, gap_blank_more}
+use Rattle.chess_pgn.proofs.{Gaps.gap_same, Skipped.gap_line_more, Skipped.gap_blank_more}
 use Rattle.chess_pgn.proofs.skips.after_gap.Goals as goal
 use Rattle.chess_pgn.proofs.skips.after_gap.Goals.{then-line_begins+then-byte-eq37, else-line_begins+then-is_white_space}
 

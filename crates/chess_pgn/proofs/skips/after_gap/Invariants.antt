@@ -1,6 +1,5 @@
 use Rattle.std.proofs.Common.{◌≡◌, length, false}
-use Rattle.chess_pgn.specs.Tokens.{after_gap}
-use Rattle.chess_pgn.specs.shared.Gaps.{gap_left}
+use Rattle.chess_pgn.specs.{Tokens.after_gap, shared.Gaps.gap_left}
 use Rattle.chess_pgn.proofs.skips.after_gap.Given as goal
 
 abbrev pub invariant-loop-rest : goal.invariant-loop-rest

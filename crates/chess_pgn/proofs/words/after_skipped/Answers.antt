@@ -1,7 +1,6 @@
 -- Each comment and the white space after it leave the rest read alike (GameReads.alike_on).
 use Rattle.std.proofs.Common.{arith}
-use Rattle.chess_pgn.proofs.GameReads.{alike_on}
-use Rattle.chess_pgn.proofs.SkippedTokens.{skips_alike}
+use Rattle.chess_pgn.proofs.{GameReads.alike_on, SkippedTokens.skips_alike}
 use Rattle.chess_pgn.proofs.words.after_skipped.Goals as goal
 
 pub loop-comment_end-init : goal.loop-comment_end-init

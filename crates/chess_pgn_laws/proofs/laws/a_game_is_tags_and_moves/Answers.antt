@@ -1,9 +1,7 @@
 use Rattle.std.proofs.Common.{ℕ, List, refl}
-use Rattle.chess_pgn.specs.GameRead.{IsRead, pgn_read}
-use Rattle.chess_pgn.specs.Tokens.{tokens_from}
+use Rattle.chess_pgn.specs.{GameRead.IsRead, GameRead.pgn_read, Tokens.tokens_from}
 use Rattle.byte_devices.specs.Bytes.{after_byte_order_mark}
-use Rattle.chess_pgn.proofs.shared.Games.{only_read, reads_alike}
-use Rattle.chess_pgn.proofs.shared.Tokens.{read_split}
+use Rattle.chess_pgn.proofs.{shared.Games.only_read, shared.Games.reads_alike, shared.Tokens.read_split}
 use Rattle.chess_pgn_laws.proofs.laws.a_game_is_tags_and_moves.Goals as goal
 
 -- what is read is what the only split of the text says

@@ -1,6 +1,6 @@
 use Rattle.std.proofs.Common.{subst, ◌∙◌}
 use Rattle.chess_base.specs.Sound.{IsSound}
-use Rattle.chess_pgn_laws.proofs.PgnWhole.{pgn_law, result_law}
+use Rattle.chess_pgn_laws.proofs.PgnWhole.{pgn_law, result_law, variant_law}
 use Rattle.chess_pgn_laws.proofs.laws.pgn_is_read_back.Goals as goal
 
 pub returns-clause-read : goal.returns-clause-read
@@ -9,3 +9,6 @@ returns-clause-read c = pgn_law c.after_is_sound.ensures c.written_is_denoted.en
 
 pub returns-clause-result : goal.returns-clause-result
 returns-clause-result c = result_law
+
+pub returns-clause-variant : goal.returns-clause-variant
+returns-clause-variant c = variant_law

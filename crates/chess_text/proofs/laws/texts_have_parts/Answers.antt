@@ -1,8 +1,6 @@
 -- Each part shows by its first byte, but for a file, which is the start's just where a square follows: so parts and
 -- their texts fit one to one (Grammar). Else a text denotes castling or nothing (Alone).
-use Rattle.chess_text.proofs.OneMoveFits.{shaped_by_text}
-use Rattle.chess_text.proofs.Denotations.{denoted_by_text}
-use Rattle.chess_text.proofs.Grammar.{denoted-parts, parts-denoted}
+use Rattle.chess_text.proofs.{OneMoveFits.shaped_by_text, Denotations.denoted_by_text, Grammar.denoted-parts, Grammar.parts-denoted}
 use Rattle.chess_text.proofs.laws.texts_have_parts.Goals as goal
 
 pub returns-clause-read : goal.returns-clause-read

@@ -1,12 +1,9 @@
 -- The first square is all of them where none is left (more_found and last_found of Origins).
-use Rattle.std.proofs.Common.{sym, ap, ◌∙◌}
-use Rattle.std.proofs.lemmas.Bool.{eqb-true}
-use Rattle.std.specs.List.{flat_map}
+use Rattle.std.proofs.Common.{sym, ap, ◌∙◌, eqb-true, flat_map}
 use Rattle.chess_moves.specs.Sets.{members}
 use Rattle.chess_moves.proofs.shared.Members.{members_none}
-use Rattle.chess_text.specs.Moves.{one_of}
+use Rattle.chess_text.specs.{Moves.one_of, ties.Forms.denoted_start}
 use Rattle.chess_text.specs.declared.reading.Reading.TheVariants as reads
-use Rattle.chess_text.specs.ties.Forms.{denoted_start}
 use Rattle.chess_text.proofs.Origins.{last_found, more_found, one_found}
 use Rattle.chess_text.proofs.reading.denoted_among.Goals as goal
 

@@ -1,10 +1,8 @@
 -- The moves that the parts denote are those from the squares with such a piece that has the legal move (by_starts of
 -- Starts).
-use Rattle.std.proofs.Common.{ap, ◌∙◌}
-use Rattle.std.specs.List.{flat_map}
+use Rattle.std.proofs.Common.{ap, ◌∙◌, flat_map}
 use Rattle.chess_moves.specs.Sets.{members}
-use Rattle.chess_text.specs.Moves.{one_of}
-use Rattle.chess_text.specs.ties.Forms.{denoted_start}
+use Rattle.chess_text.specs.{Moves.one_of, ties.Forms.denoted_start}
 use Rattle.chess_text.proofs.MovesFromStarts.{by_starts}
 use Rattle.chess_text.proofs.reading.denoted_by_kind.Goals as goal
 

@@ -1,5 +1,4 @@
-use Rattle.std.proofs.Common.{◌≡◌, length}
-use Rattle.std.specs.List.{filter, flat_map}
+use Rattle.std.proofs.Common.{◌≡◌, length, filter, flat_map}
 use Rattle.chess_base.specs.MoveList.{promotions, moves}
 use Rattle.chess_moves.specs.Sets.{members}
 use Rattle.chess_text.specs.Moves.{one_of}

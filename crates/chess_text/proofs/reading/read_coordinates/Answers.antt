@@ -2,8 +2,7 @@
 -- CoordinateLaw); a mark after it changes nothing (reading_unmarked of FormFacts).
 use Rattle.std.proofs.Common.{◌≡◌, ◌<◌, sym, ap, subst, ◌∙◌}
 use Rattle.chess_text.specs.Moves.{reading}
-use Rattle.chess_text.proofs.CoordinateLaw.{coordinate_read, coordinate_of_none}
-use Rattle.chess_text.proofs.FormFacts.{reading_unmarked}
+use Rattle.chess_text.proofs.{CoordinateLaw.coordinate_read, CoordinateLaw.coordinate_of_none, FormFacts.reading_unmarked}
 use Rattle.chess_text.proofs.reading.read_coordinates.Goals as goal
 
 pub returns-then-is_legal : goal.returns-then-is_legal

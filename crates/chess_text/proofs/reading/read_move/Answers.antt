@@ -2,11 +2,8 @@
 -- and denotes what these denote (reading_denoted of FormFacts). What is read is in the list of legal moves
 -- (reads_legal), and decides whether the text has a move's shape (Shapes.read_shape).
 use Rattle.std.proofs.Common.{ap, sym, ◌∙◌}
-use Rattle.chess_text.specs.Moves.{has_shape}
-use Rattle.chess_text.specs.declared.form.Form.TheVariants.{Piece}
-use Rattle.chess_text.proofs.Shapes.{read_shape}
-use Rattle.chess_text.proofs.FormFacts.{reading_denoted, reads_legal}
-use Rattle.chess_text.proofs.UsualForms.{usual_form, usual_one_kind}
+use Rattle.chess_text.specs.{Moves.has_shape, declared.form.Form.TheVariants.Piece}
+use Rattle.chess_text.proofs.{Shapes.read_shape, FormFacts.reading_denoted, FormFacts.reads_legal, UsualForms.usual_form, UsualForms.usual_one_kind}
 use Rattle.chess_text.proofs.reading.read_move.Goals as goal
 
 pub denoted_usual-requires : goal.denoted_usual-requires

@@ -1,8 +1,6 @@
-use Rattle.std.proofs.Common.{◌≡◌, length}
-use Rattle.std.specs.List.{flat_map}
+use Rattle.std.proofs.Common.{◌≡◌, length, flat_map}
 use Rattle.chess_moves.specs.Sets.{members}
-use Rattle.chess_text.specs.Moves.{one_of}
-use Rattle.chess_text.specs.ties.Forms.{denoted_start, with_moves}
+use Rattle.chess_text.specs.{Moves.one_of, ties.Forms.denoted_start, ties.Forms.with_moves}
 use Rattle.chess_text.proofs.reading.with_starts.Given as goal
 
 -- the squares that are left give the whole

@@ -2,10 +2,7 @@
 -- game more keeps that (GamesWritten.one_more), and one with a fault is the last (GamesWritten.with_fault).
 use Rattle.std.proofs.Common.{◌≡◌, ◌∙◌, ◌≤◌, ◌<◌, ◌+◌, ◌++◌, ◌∷◌, [], Ok, None, Some, subst, sym, ap, arith, rules}
 use Rattle.chess_match.specs.declared.run.MatchEnd.{MatchEnd}
-use Rattle.match_runner.specs.Games.{first_side}
-use Rattle.match_runner.specs.ties.Playing.{HasPlayed, score_after}
-use Rattle.match_runner.specs.Log.{log_seen}
-use Rattle.match_runner.specs.declared.score.Score.{Score}
+use Rattle.match_runner.specs.{Games.first_side, ties.Playing.HasPlayed, ties.Playing.score_after, Log.log_seen, declared.score.Score.Score}
 use Rattle.match_runner.proofs.GamesWritten.{SoFar, start, one_more, with_fault, broke_off, all_played}
 use Rattle.std.proofs.lemmas.Result.{err_from_is_err_and}
 use Rattle.match_runner.proofs.games.play_each.Goals as goal

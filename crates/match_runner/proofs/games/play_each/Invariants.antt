@@ -1,6 +1,5 @@
 use Rattle.std.proofs.Common.{◌≡◌, ◌+◌, ◌-◌, List}
-use Rattle.match_runner.specs.Games.{GameRecord}
-use Rattle.match_runner.specs.Log.{log_seen}
+use Rattle.match_runner.specs.{Games.GameRecord, Log.log_seen}
 use Rattle.match_runner.proofs.GamesWritten.{SoFar}
 use Rattle.match_runner.proofs.games.play_each.Given as goal
 use Rattle.chess_game.specs.declared.game.TheConstants.{MOST_MOVES}

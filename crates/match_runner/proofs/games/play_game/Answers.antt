@@ -2,8 +2,7 @@
 -- started (GamesWritten.was_not_started). The match leaves the game its limit (GamesWritten.limit_kept).
 use Rattle.std.proofs.Common.{◌≡◌, ◌∙◌, ap, refl, subst}
 use Rattle.chess_game.specs.Game.{Seen}
-use Rattle.chess_match.specs.Played.{PlayedNoting, World}
-use Rattle.chess_match.specs.declared.run.Setup.{Setup}
+use Rattle.chess_match.specs.{Played.PlayedNoting, Played.World, declared.run.Setup.Setup}
 use Rattle.match_runner.proofs.GamesWritten.{limit_kept, was_not_started, was_not_written, was_written}
 use Rattle.std.proofs.lemmas.Result.{err_from_is_err_and}
 use Rattle.match_runner.proofs.games.play_game.Goals as goal

@@ -2,8 +2,7 @@
 use Rattle.std.proofs.Common.{◌≡◌, Option, None, Some, refl, rules, subst, sym}
 use Rattle.chess_base.specs.declared.man.Colour.{Colour}
 use Rattle.chess_match.specs.laws.Laws.{notes_given}
-use Rattle.match_runner.specs.Games.{LogsGame}
-use Rattle.match_runner.specs.Log.{log_seen}
+use Rattle.match_runner.specs.{Games.LogsGame, Log.log_seen}
 use Rattle.match_runner.proofs.host_table.relay.Goals as goal
 
 pub returns-in_default : goal.returns-in_default

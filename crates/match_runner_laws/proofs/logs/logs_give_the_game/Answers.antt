@@ -1,5 +1,4 @@
-use Rattle.match_runner_laws.proofs.LogsRead.{logs_give_the_game, logs_show}
-use Rattle.match_runner_laws.proofs.PgnOfLogs.{logs_give_the_output, logs_give_the_pgn}
+use Rattle.match_runner_laws.proofs.{LogsRead.logs_give_the_game, LogsRead.logs_show, PgnOfLogs.logs_give_the_output, PgnOfLogs.logs_give_the_pgn}
 use Rattle.match_runner_laws.proofs.logs.logs_give_the_game.Goals as goal
 
 pub returns : goal.returns

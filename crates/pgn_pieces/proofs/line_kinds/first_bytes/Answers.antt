@@ -1,5 +1,4 @@
-use Rattle.std.proofs.Common.{sym, arith}
-use Rattle.std.proofs.lemmas.List.{length-take-le, take_all}
+use Rattle.std.proofs.Common.{sym, arith, length-take-le, take_all}
 use Rattle.pgn_pieces.proofs.line_kinds.first_bytes.Goals as goal
 
 pub slice_bounds-result-end : goal.slice_bounds-result-end

@@ -1,10 +1,9 @@
 -- The lines of the text's reports were written, from the first byte on (Finished.whole_lines), and then flushed.
-use Rattle.std.proofs.Common.{subst}
+use Rattle.std.proofs.{Common.subst, lemmas.Result.err_from_is_err_and}
 use Rattle.byte_devices.specs.Devices.{Took, CutShort}
 use Rattle.byte_devices.proofs.shared.Devices.{sent_on}
 use Rattle.pgn_verifier.specs.ties.OnTheWay.{text_lines}
 use Rattle.pgn_verifier.proofs.Finished.{whole_there, whole_lines, whole_counted, not_flushed}
-use Rattle.std.proofs.lemmas.Result.{err_from_is_err_and}
 use Rattle.pgn_verifier.proofs.buffered.finish.Goals as goal
 
 pub returns-in_err-tally : goal.returns-in_err-tally

@@ -1,6 +1,5 @@
 use Rattle.std.proofs.Common.{◌≤◌, false, length}
-use Rattle.pgn_pieces.specs.Pieces.{HasRead}
-use Rattle.pgn_pieces.specs.declared.pieces.TheConstants.{PIECE_LEN}
+use Rattle.pgn_pieces.specs.{Pieces.HasRead, declared.pieces.TheConstants.PIECE_LEN}
 use Rattle.pgn_verifier.proofs.buffered.read_all.Given as goal
 
 -- the text is what was read so far

@@ -1,9 +1,6 @@
 -- Each way out gives what passed at the devices (Verifying.not_all_exit and those after it).
-use Rattle.std.proofs.Common.{rules, Ok}
-use Rattle.std.specs.Prelude.{IfErr}
-use Rattle.std.proofs.lemmas.Result.{err_from_is_err_and}
-use Rattle.byte_devices.specs.Devices.{CutShort}
-use Rattle.byte_devices.specs.declared.traits.WriteFault.{WriteFault}
+use Rattle.std.proofs.{Common.rules, Common.Ok, Common.IfErr, lemmas.Result.err_from_is_err_and}
+use Rattle.byte_devices.specs.{Devices.CutShort, declared.traits.WriteFault.WriteFault}
 use Rattle.pgn_verifier.specs.ties.OnTheWay.{IsNotAll, WritesText, text_lines}
 use Rattle.pgn_verifier.proofs.Verifying.{not_all_exit, no_memory, text_verified, text_broke_off}
 use Rattle.pgn_verifier.proofs.buffered.verify.Goals as goal

@@ -1,10 +1,9 @@
 -- The pieces up to here were reported (CollectionVerified.SoFar). A piece more keeps that; the last one, a read that
 -- gave nothing and a failed write each end it by one lemma.
-use Rattle.std.proofs.Common.{sym, subst, arith}
+use Rattle.std.proofs.{Common.sym, Common.subst, Common.arith, lemmas.Result.err_from_is_err_and}
 use Rattle.pgn_pieces.specs.Stream.{State}
 use Rattle.pgn_verifier.specs.declared.tally.Tally.{Tally}
 use Rattle.pgn_verifier.proofs.CollectionVerified.{SoFar, begun, written_on, write_failed, all_written, stopped}
-use Rattle.std.proofs.lemmas.Result.{err_from_is_err_and}
 use Rattle.pgn_verifier.proofs.collection.verify_pieces.Goals as goal
 
 pub loop-tally-init : goal.loop-tally-init

@@ -1,24 +1,16 @@
--- Both faults are in the text (FaultsInText.first_found). The tag is that of the text's only split.
-use Rattle.std.proofs.Common.{◌≡◌, length, ap, ◌∙◌, arith}
-use Rattle.std.proofs.lemmas.Grind.{common_steps}
-use Rattle.chess_pgn.specs.LastTags.{result_tag_of}
-use Rattle.chess_pgn.specs.Tokens.{tokens_from}
-use Rattle.byte_devices.specs.Bytes.{after_byte_order_mark}
-use Rattle.chess_pgn.proofs.shared.Tokens.{split_read}
-use Rattle.pgn_verifier.proofs.FaultsInText.{first_found}
+-- Both faults are in the text (FaultsInText), so the first of them is.
+use Rattle.std.proofs.Common.{length, sym, subst}
+use Rattle.chess_game.specs.Game.{verdict_now}
+use Rattle.pgn_verifier.specs.GameFaults.{board_says_otherwise}
+use Rattle.pgn_verifier.proofs.FaultsInText.{InText, first_within, board_within, looked_within}
 use Rattle.pgn_verifier.proofs.contradiction.contradiction.Goals as goal
 
 pub returns-clause-within : goal.returns-clause-within
 returns-clause-within g c =
-    first_found (length c.args.text.now) c.result_tag.result c.verdict.result c.args.end c.result_differs.result
-    c.board_says_otherwise.result c.or.result c.result_differs.ensures c.board_says_otherwise.ensures
-    c.or.ensures c.result_tag.ensures.within c.requires.end
-
-pub returns-clause-fault : goal.returns-clause-fault
-returns-clause-fault g c =
-    let (tokens, split, is) = c.result_tag.ensures.tag in
-    let text = c.args.text.now in
-    let tag : c.result_tag.result
-    ≡ result_tag_of (length text) (tokens_from text (after_byte_order_mark text c.args.at)) =
-    is ∙ ap (result_tag_of (length text)) (split_read text split) in
-    grind (arith, common_steps, tag)
+    let len = length c.args.text.now in
+    let verdict = verdict_now c.args.game.now.state in
+    subst (InText len) (sym c.or.ensures)
+    (first_within len c.result_fault.result c.board_fault.result c.result_fault.ensures.within
+    (subst (InText len) (sym c.board_fault.ensures)
+    (looked_within len c.args.strict.board (board_says_otherwise verdict c.args.end)
+    (board_within len verdict c.args.end c.requires.end))))

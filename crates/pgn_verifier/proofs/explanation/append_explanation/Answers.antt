@@ -1,20 +1,14 @@
 -- The parts were put one after the other, and the definition groups them to the right.
 use Rattle.std.proofs.Common.{append_assoc}
-use Rattle.pgn_verifier.specs.Explanations.{explanation_line}
 use Rattle.pgn_verifier.proofs.explanation.append_explanation.Goals as goal
 
-pub returns : goal.returns
-unfolding explanation_line
-returns g c input offset line column =
+pub returns-clause-text : goal.returns-clause-text
+returns-clause-text g c =
     rw (
-      c.push.ensures.items,
       c.append_reason.ensures.text,
       c.verdict.ensures,
       c.append_position.ensures.text,
       c.append.ensures.text,
       c.as_slice.ensures.value,
       c.shown_part.ensures,
-      c.append_place.ensures.text,
-      line,
-      column,
     ) (simp append_assoc)

@@ -8,13 +8,12 @@ unfolding report_line
 returns-clause-text c =
     rw (
       c.push.ensures.items,
-      c.append-5.ensures.text,
+      c.append-4.ensures.text,
       c.as_slice.ensures.value,
       c.append_span.ensures.text,
       c.append_number-2.ensures.text,
-      c.append-4.ensures.text,
       c.append-3.ensures.text,
-      c.fault_name.ensures.value,
+      c.append_fault_name.ensures.text,
       c.append-2.ensures.text,
       c.append_number.ensures.text,
       c.append.ensures.text,

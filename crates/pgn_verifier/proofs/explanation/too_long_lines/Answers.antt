@@ -12,6 +12,7 @@ returns-then-explain c input stands =
       here.line,
       here.column,
       c.push.ensures.items,
+      c.append_unread.ensures.text,
       c.append.ensures.text,
       c.as_slice.ensures.value,
       c.shown.ensures.text,

@@ -1,30 +1,44 @@
--- The games up to here were reported (TextVerified.SoFar). A game more keeps that; no game, a fault and a failed write
--- each end it by one lemma.
-use Rattle.std.proofs.Common.{◌≡◌, ◌+◌, ◌∙◌, ◌++◌, ◌∷◌, [], Ok, length, drop, sym, ap, subst}
-use Rattle.std.specs.Prelude.{if◌then◌else◌}
-use Rattle.byte_devices.specs.Devices.{Took, CutShort}
-use Rattle.byte_devices.specs.declared.traits.WriteFault.{WriteFault}
-use Rattle.pgn_verifier.specs.declared.tally.Tally.{Tally}
-use Rattle.pgn_verifier.specs.Explanations.{wrong_part, explanation_line}
-use Rattle.pgn_verifier.specs.laws.Reasons.{explanation_of}
-use Rattle.pgn_verifier.specs.laws.Reported.{placed_on}
-use Rattle.pgn_verifier.specs.ties.OnTheWay.{Writes, moved, game_line, fault_line, next_number, span_written}
-use Rattle.pgn_verifier.proofs.TextVerified.{SoFar, begun, span_at, game_report, all_written, game_written, game_broke, fault_written, fault_broke}
+-- The games up to here were reported (TextVerified.SoFar). A game more keeps that, and so does a fault after which
+-- reading goes on; no game, any other fault and a failed write each end it by one lemma (for the lines on a fault:
+-- FaultLines).
+use Rattle.std.proofs.Common.{◌≡◌, ◌+◌, ◌∙◌, ◌++◌, ℕ, List, ◌∷◌, [], Ok, length, sym, ap, subst, arith, if◌then◌else◌}
+use Rattle.byte_devices.specs.{Devices.Took, Devices.CutShort, declared.traits.WriteFault.WriteFault}
+use Rattle.pgn_verifier.specs.{declared.tally.Tally.Tally, declared.place.Place.Place, declared.start.TextStart.TextStart, ties.Counting.Known, ties.OnTheWay.StandsIf, ties.OnTheWay.Writes, ties.OnTheWay.game_line}
+use Rattle.pgn_verifier.specs.laws.Reported.{next_at, game_placed, fault_placed, placed_of}
+use Rattle.pgn_verifier.proofs.{FaultLines.fault_lines_are, Placed.known_at_start}
+use Rattle.pgn_verifier.proofs.TextVerified.{SoFar, begun, span_at, all_written, game_written, game_broke, fault_passed, fault_written, fault_broke}
 use Rattle.std.proofs.lemmas.Result.{err_from_is_err_and}
 use Rattle.pgn_verifier.proofs.games.verify_text.Goals as goal
 
 pub loop-end-init : goal.loop-end-init
 loop-end-init g c = (
   c.requires.limit,
-  ([], begun c.args.options c.args.start.offset c.args.text.now c.args.before (g.W.Output.seen c.args.output.now)),
+  ([], begun c.args.options c.args.start c.args.text.now c.args.before (g.W.Output.seen c.args.output.now)),
+  ap (λ (p : Place). p.start) c.at_start-place.ensures,
+  subst (Known c.args.options.explain c.args.text.now) (sym c.at_start-place.ensures)
+      (known_at_start c.args.options.explain c.args.text.now c.args.start),
 )
+
+pub counted_to-place-requires-clause-few_lines : goal.counted_to-place-requires-clause-few_lines
+counted_to-place-requires-clause-few_lines g c =
+    let same = ap (λ (t : TextStart). t.line) c.loop-end.invariant.2 in
+    let few = c.requires.few_lines in omega (arith, same, few)
+
+pub fault_lines-lines-requires-clause-few : goal.fault_lines-lines-requires-clause-few
+fault_lines-lines-requires-clause-few g c =
+    let same = ap (λ (t : TextStart). t.offset) (c.counted_to-place.ensures.start ∙ c.loop-end.invariant.2) in
+    let few = c.requires.few in omega (arith, same, few)
+
+pub fault_lines-lines-requires-clause-there : goal.fault_lines-lines-requires-clause-there
+fault_lines-lines-requires-clause-there g c explains =
+    c.counted_to-place.ensures.there explains ∙ c.explained_at-explained.ensures.value
 
 pub returns-in-Ok-None-clause-written : goal.returns-in-Ok-None-clause-written
 returns-in-Ok-None-clause-written g c input stands =
     let judged = sym (rw c.in-Ok-None.field-0-is at c.in-Ok-None.ensures.judged) in
-    all_written c.args.options c.args.start.offset c.args.text.now c.args.before (g.W.Output.seen c.args.output.now)
+    all_written c.args.options c.args.start c.args.text.now c.args.before (g.W.Output.seen c.args.output.now)
     (g.W.Output.seen c.loop-end.output) (g.W.Output.seen c.loop-end.output) c.loop-end.at c.loop-end.tally
-    c.loop-end.invariant.1.0 c.loop-end.invariant.1.1 WriteFault input judged
+    c.loop-end.invariant.1.0 c.loop-end.invariant.1.1 WriteFault input stands judged
 
 pub returns-in_err-write_game-in-Ok-Some-clause-written : goal.returns-in_err-write_game-in-Ok-Some-clause-written
 returns-in_err-write_game-in-Ok-Some-clause-written g c input stands =
@@ -35,10 +49,10 @@ returns-in_err-write_game-in-Ok-Some-clause-written g c input stands =
     let span = span_at c.args.options c.args.start.offset c.args.text.now c.loop-end.at end.offset in
     let judged = sym (rw c.in-Ok-Some.field-0-is at c.in-Ok-Some.ensures.judged) in
     let p = err_from_is_err_and c.from_residual.result c.from_residual.ensures.1 in
-    rw p.1 (game_broke c.args.options c.args.start.offset c.args.text.now c.args.before (g.W.Output.seen c.args.output.now) w'
+    rw p.1 (game_broke c.args.options c.args.start c.args.text.now c.args.before (g.W.Output.seen c.args.output.now) w'
     w''
     c.loop-end.at c.loop-end.tally c.loop-end.invariant.1.0 c.loop-end.invariant.1.1
-    c.in_err-write_game-in-Ok-Some.field-0.0 input end s
+    c.in_err-write_game-in-Ok-Some.field-0.0 input stands end s
     judged c.in-Ok-Some.ensures.game
     (subst (λ n. CutShort w' w'' (if c.args.options.quiet then [] else game_line n (length s.moves) end.outcome
     end.termination span))
@@ -63,7 +77,7 @@ loop-end-preserved g c =
     let within = rw c.in-Ok-Some.field-0-is at c.in-Ok-Some.ensures.within in
     let few = rw c.in-Ok-Some.field-0-is at c.in-Ok-Some.ensures.few in
     let done = c.loop-end.invariant.1.0
-    ++ game_report c.args.start.offset c.args.text.now c.loop-end.at end s ∷ [] in
+    ++ game_placed c.args.start.offset c.args.text.now c.loop-end.at end s ∷ [] in
     let counts : c.with_game-tally.result ≡ record {
       games = c.loop-end.tally.games + 1;
       half_moves = c.loop-end.tally.half_moves + length s.moves;
@@ -76,10 +90,10 @@ loop-end-preserved g c =
       c.in-Ok-Some.ensures.limit,
       (
         done,
-        subst (λ (t : Tally). SoFar c.args.options c.args.start.offset c.args.text.now c.args.before w w''
+        subst (λ (t : Tally). SoFar c.args.options c.args.start c.args.text.now c.args.before w w''
             end.offset t done)
             (sym counts)
-            (game_written c.args.options c.args.start.offset c.args.text.now c.args.before w w' w'' c.loop-end.at
+            (game_written c.args.options c.args.start c.args.text.now c.args.before w w' w'' c.loop-end.at
             c.loop-end.tally c.loop-end.invariant.1.0 c.loop-end.invariant.1.1 end s judged
             c.in-Ok-Some.ensures.game few
             further within
@@ -92,55 +106,98 @@ loop-end-preserved g c =
             game_line c.of_game-label.result.number c.ply-plies.result end.outcome end.termination t))
             c.of_game-label.ensures.span c.in_ok-write_game-in-Ok-Some.ensures)))),
       ),
+      c.loop-end.invariant.2,
+      c.loop-end.invariant.3,
     )
 
-pub returns-in-Err-clause-written : goal.returns-in-Err-clause-written
-returns-in-Err-clause-written g c input stands =
+-- a fault after which reading goes on
+pub loop-end-preserved-in-Some : goal.loop-end-preserved-in-Some
+loop-end-preserved-in-Some g c =
     let w = g.W.Output.seen c.args.output.now in
     let w' = g.W.Output.seen c.loop-end.output in
     let w'' = g.W.Output.seen c.put.new.writer in
-    let start = c.args.start.offset in
     let text = c.args.text.now in
     let fault = c.in-Err.fault in
     let s = c.judge_game.new.game.state in
-    let more = if c.args.options.explain then explanation_line input
-    (start + fault.offset + (wrong_part fault.kind (drop fault.offset text)).0) (explanation_of s (drop fault.offset text) fault.kind) else [] in
-    let span = span_at c.args.options start text c.loop-end.at (length text) in
-    let unread = c.of_game-unread.result in
-    let lines = c.as_slice.ensures.value ∙ c.fault_lines-lines.ensures input stands
-    ∙ ap (λ n. fault_line n (moved start fault) (span_written unread.game.span) unread.names.items ++ more)
-    (c.of_game-unread.ensures.number ∙ c.next_number-number.ensures)
-    ∙ ap (λ t. fault_line (next_number c.loop-end.tally) (moved start fault) t unread.names.items ++ more)
-    c.of_game-unread.ensures.span
-    ∙ ap (λ t. fault_line (next_number c.loop-end.tally) (moved start fault) span t ++ more)
-    c.of_game-unread.ensures.names in
+    let after = c.of_game-after.ensures in
+    let same = c.counted_to-place.ensures.start ∙ c.loop-end.invariant.2 in
+    let written = λ (input : List ℕ) (stands : StandsIf c.args.options.explain c.args.start input text).
+    (rw same at (c.fault_lines-lines.ensures input (c.counted_to-place.ensures.known.here input
+    (subst (λ (t : TextStart). StandsIf c.args.options.explain t input text) (sym same) stands)))) in
+    let next = sym after.next ∙ c.in-Some.is in
+    let further = rw c.in-Some.is at after.further in
+    let within = rw c.in-Some.is at after.within in
+    let lines = fault_lines_are c.args.options c.args.start text c.loop-end.at fault s c.loop-end.tally
+    c.of_game-faulty.result c.of_game-after.result after.next after.unread
+    (c.of_game-faulty.ensures.number ∙ c.next_number-number.ensures) c.of_game-faulty.ensures.span
+    c.of_game-faulty.ensures.names c.of_game-faulty.ensures.begin c.of_game-faulty.ensures.first
+    c.of_game-faulty.ensures.unread in
+    let done = c.loop-end.invariant.1.0
+    ++ fault_placed c.args.start.goes_on c.args.start.offset text c.loop-end.at
+    (next_at c.args.start.goes_on text c.loop-end.at) fault s ∷ [] in (
+      c.in-Err.ensures.limit,
+      (
+        done,
+        subst (λ (t : Tally). SoFar c.args.options c.args.start text c.args.before w w'' c.in-Some.next t done)
+            (sym c.with_fault-tally.ensures)
+            (fault_passed c.args.options c.args.start text c.args.before w w' w'' c.loop-end.at c.loop-end.tally
+            c.loop-end.invariant.1.0 c.loop-end.invariant.1.1 fault s (sym c.in-Err.ensures.judged)
+            c.in-Err.ensures.game c.in-Some.next next further within
+            (λ input stands. subst (Took w' w'') (c.as_slice.ensures.value ∙ written input stands
+            ∙ lines input) c.in_ok-put-in-Err.ensures)),
+      ),
+      c.counted_to-place.ensures.start ∙ c.loop-end.invariant.2,
+      c.counted_to-place.ensures.known,
+    )
+
+-- one after which it doesn't
+pub returns-in-None-clause-written : goal.returns-in-None-clause-written
+returns-in-None-clause-written g c input stands =
+    let w = g.W.Output.seen c.args.output.now in
+    let w' = g.W.Output.seen c.loop-end.output in
+    let w'' = g.W.Output.seen c.put.new.writer in
+    let text = c.args.text.now in
+    let fault = c.in-Err.fault in
+    let s = c.judge_game.new.game.state in
+    let after = c.of_game-after.ensures in
+    let same = c.counted_to-place.ensures.start ∙ c.loop-end.invariant.2 in
+    let written = λ (input : List ℕ) (stands : StandsIf c.args.options.explain c.args.start input text).
+    (rw same at (c.fault_lines-lines.ensures input (c.counted_to-place.ensures.known.here input
+    (subst (λ (t : TextStart). StandsIf c.args.options.explain t input text) (sym same) stands)))) in
+    let lines = fault_lines_are c.args.options c.args.start text c.loop-end.at fault s c.loop-end.tally
+    c.of_game-faulty.result c.of_game-after.result after.next after.unread
+    (c.of_game-faulty.ensures.number ∙ c.next_number-number.ensures) c.of_game-faulty.ensures.span
+    c.of_game-faulty.ensures.names c.of_game-faulty.ensures.begin c.of_game-faulty.ensures.first
+    c.of_game-faulty.ensures.unread in
     subst (λ (t : Tally). Writes {E = WriteFault} c.args.options input c.args.before w w'' (Ok t)
-    (placed_on c.args.options.strict start text)) (sym c.with_fault.ensures)
-    (fault_written c.args.options start text c.args.before w w' w'' c.loop-end.at c.loop-end.tally
-    c.loop-end.invariant.1.0 c.loop-end.invariant.1.1 WriteFault input fault s (sym c.in-Err.ensures.judged)
-    c.in-Err.ensures.game (subst (Took w' w'') lines c.in_ok-put-in-Err.ensures))
+    (placed_of c.args.start.goes_on c.args.options.strict c.args.start.offset text)) (sym c.with_fault-tally.ensures)
+    (fault_written c.args.options c.args.start text c.args.before w w' w'' c.loop-end.at c.loop-end.tally
+    c.loop-end.invariant.1.0 c.loop-end.invariant.1.1 fault s (sym c.in-Err.ensures.judged) c.in-Err.ensures.game
+    WriteFault input stands (sym after.next ∙ c.in-None.is)
+    (subst (Took w' w'') (c.as_slice.ensures.value ∙ written input stands ∙ lines input)
+    c.in_ok-put-in-Err.ensures))
 
 pub returns-in_err-put-in-Err-clause-written : goal.returns-in_err-put-in-Err-clause-written
 returns-in_err-put-in-Err-clause-written g c input stands =
     let w = g.W.Output.seen c.args.output.now in
     let w' = g.W.Output.seen c.loop-end.output in
     let w'' = g.W.Output.seen c.put.new.writer in
-    let start = c.args.start.offset in
     let text = c.args.text.now in
     let fault = c.in-Err.fault in
     let s = c.judge_game.new.game.state in
-    let more = if c.args.options.explain then explanation_line input
-    (start + fault.offset + (wrong_part fault.kind (drop fault.offset text)).0) (explanation_of s (drop fault.offset text) fault.kind) else [] in
-    let span = span_at c.args.options start text c.loop-end.at (length text) in
-    let unread = c.of_game-unread.result in
-    let lines = c.as_slice.ensures.value ∙ c.fault_lines-lines.ensures input stands
-    ∙ ap (λ n. fault_line n (moved start fault) (span_written unread.game.span) unread.names.items ++ more)
-    (c.of_game-unread.ensures.number ∙ c.next_number-number.ensures)
-    ∙ ap (λ t. fault_line (next_number c.loop-end.tally) (moved start fault) t unread.names.items ++ more)
-    c.of_game-unread.ensures.span
-    ∙ ap (λ t. fault_line (next_number c.loop-end.tally) (moved start fault) span t ++ more)
-    c.of_game-unread.ensures.names in
+    let after = c.of_game-after.ensures in
+    let same = c.counted_to-place.ensures.start ∙ c.loop-end.invariant.2 in
+    let written = λ (input : List ℕ) (stands : StandsIf c.args.options.explain c.args.start input text).
+    (rw same at (c.fault_lines-lines.ensures input (c.counted_to-place.ensures.known.here input
+    (subst (λ (t : TextStart). StandsIf c.args.options.explain t input text) (sym same) stands)))) in
+    let lines = fault_lines_are c.args.options c.args.start text c.loop-end.at fault s c.loop-end.tally
+    c.of_game-faulty.result c.of_game-after.result after.next after.unread
+    (c.of_game-faulty.ensures.number ∙ c.next_number-number.ensures) c.of_game-faulty.ensures.span
+    c.of_game-faulty.ensures.names c.of_game-faulty.ensures.begin c.of_game-faulty.ensures.first
+    c.of_game-faulty.ensures.unread in
     let p = err_from_is_err_and c.from_residual-in_err-put-in-Err.result c.from_residual-in_err-put-in-Err.ensures.1 in
-    rw p.1 (fault_broke c.args.options start text c.args.before w w' w'' c.loop-end.at c.loop-end.tally
-    c.loop-end.invariant.1.0 c.loop-end.invariant.1.1 c.in_err-put-in-Err.field-0.0 input fault s (sym c.in-Err.ensures.judged)
-    c.in-Err.ensures.game (subst (CutShort w' w'') lines c.in_err-put-in-Err.ensures))
+    rw p.1 (fault_broke c.args.options c.args.start text c.args.before w w' w'' c.loop-end.at c.loop-end.tally
+    c.loop-end.invariant.1.0 c.loop-end.invariant.1.1 fault s (sym c.in-Err.ensures.judged) c.in-Err.ensures.game
+    c.in_err-put-in-Err.field-0.0 input stands
+    (subst (CutShort w' w'') (c.as_slice.ensures.value ∙ written input stands ∙ lines input)
+    c.in_err-put-in-Err.ensures))

@@ -1,6 +1,5 @@
 -- What is shown is of the last tag with this name (NamesShown).
-use Rattle.std.proofs.Common.{◌++◌, sym, ap, ◌∙◌}
-use Rattle.std.specs.Option.{option_map}
+use Rattle.std.proofs.Common.{◌++◌, sym, ap, ◌∙◌, option_map}
 use Rattle.byte_devices.specs.Bytes.{after_byte_order_mark}
 use Rattle.pgn_verifier.proofs.NamesShown.{shown_or, shown_is}
 use Rattle.pgn_verifier.proofs.names.append_tag.Goals as goal

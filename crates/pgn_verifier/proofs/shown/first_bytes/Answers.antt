@@ -1,6 +1,5 @@
 -- A text with at most so many bytes has no others.
-use Rattle.std.proofs.Common.{ap, ◌∙◌, take}
-use Rattle.std.proofs.lemmas.List.{take_min}
+use Rattle.std.proofs.{Common.ap, Common.◌∙◌, Common.take, lemmas.List.take_min}
 use Rattle.pgn_verifier.proofs.shown.first_bytes.Goals as goal
 
 pub returns-clause-value : goal.returns-clause-value

@@ -1,8 +1,5 @@
 use Rattle.std.proofs.Common.{◌∙◌, subst}
-use Rattle.chess_base.specs.Initial.{initial_setup_of}
-use Rattle.chess_base.specs.Sound.{IsSound}
-use Rattle.chess_base.specs.declared.man.Variant.{Variant}
-use Rattle.chess_base.specs.declared.man.Variant.TheVariants.{Normal, Fischerandom}
+use Rattle.chess_base.specs.{Initial.initial_setup_of, Sound.IsSound, declared.man.Variant.Variant, declared.man.Variant.TheVariants.Normal, declared.man.Variant.TheVariants.Fischerandom}
 use Rattle.pgn_verifier_laws.proofs.CountedGames.{counted_games, counted_games_of_pieces}
 use Rattle.pgn_verifier_laws.proofs.laws.counted_games_are_games.Goals as goal
 

@@ -2,4 +2,6 @@ use Rattle.pgn_verifier_laws.proofs.WrittenGames.{written_games}
 use Rattle.pgn_verifier_laws.proofs.laws.written_games_have_no_fault.Goals as goal
 
 pub returns : goal.returns
-returns c = written_games c.pgn_is_read_back.ensures.read c.pgn_is_read_back.ensures.result
+returns c =
+    written_games c.pgn_is_read_back.ensures.read
+    (c.pgn_is_read_back.ensures.result, c.pgn_is_read_back.ensures.variant)

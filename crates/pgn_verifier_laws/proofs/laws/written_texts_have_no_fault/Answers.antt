@@ -4,4 +4,4 @@ use Rattle.pgn_verifier_laws.proofs.laws.written_texts_have_no_fault.Goals as go
 pub returns : goal.returns
 returns c =
     written_texts c.a_game_is_tags_and_moves.ensures.token_by_token c.pgn_is_read_back.ensures.read
-    c.pgn_is_read_back.ensures.result
+    (c.pgn_is_read_back.ensures.result, c.pgn_is_read_back.ensures.variant)

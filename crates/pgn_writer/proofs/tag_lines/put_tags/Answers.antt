@@ -1,8 +1,7 @@
 -- The lines that were put so far are those of the first tags. A tag more is a line more (TagLines.tags_more), and a
 -- line that breaks off is a beginning of all of them (TagLines.tags_break).
 use Rattle.std.proofs.Common.{◌∙◌}
-use Rattle.pgn_writer.proofs.Added.{adds_exit}
-use Rattle.pgn_writer.proofs.TagLines.{tags_more, tags_break}
+use Rattle.pgn_writer.proofs.{Added.adds_exit, TagLines.tags_more, TagLines.tags_break}
 use Rattle.pgn_writer.proofs.tag_lines.put_tags.Goals as goal
 
 pub returns-in_err-put_line-clause-added : goal.returns-in_err-put_line-clause-added

@@ -1,7 +1,5 @@
 use Rattle.std.proofs.Common.{◌≡◌, take}
-use Rattle.pgn_writer.specs.ties.Waiting.{TookSome}
-use Rattle.pgn_writer.specs.Written.{ended}
-use Rattle.pgn_writer.specs.ties.TagLines.{tag_lines_of}
+use Rattle.pgn_writer.specs.{ties.Waiting.TookSome, Written.ended, ties.TagLines.tag_lines_of}
 use Rattle.pgn_writer.proofs.tag_lines.put_tags.Given as goal
 
 abbrev pub invariant-loop-tag : goal.invariant-loop-tag

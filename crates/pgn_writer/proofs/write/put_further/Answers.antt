@@ -1,7 +1,6 @@
 -- The tags after the seven are those of the start and then the last ones, so their lines come one after the other
 -- (GameTexts.further_put).
-use Rattle.pgn_writer.proofs.Added.{adds_exit}
-use Rattle.pgn_writer.proofs.GameTexts.{start_broke, further_put}
+use Rattle.pgn_writer.proofs.{Added.adds_exit, GameTexts.start_broke, GameTexts.further_put}
 use Rattle.pgn_writer.proofs.write.put_further.Goals as goal
 
 pub returns-in_err-put_start-clause-added : goal.returns-in_err-put_start-clause-added

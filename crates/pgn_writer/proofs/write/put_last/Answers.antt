@@ -1,8 +1,6 @@
 -- In each variant the tags of the array are those of the definition, whose termination is named by its text.
 use Rattle.std.proofs.Common.{sym, subst, codes, [], ◌∷◌}
-use Rattle.pgn_writer.specs.shared.TagGroups.{last_lines}
-use Rattle.pgn_writer.specs.ties.Waiting.{Adds}
-use Rattle.pgn_writer.specs.Written.{tag_line, ended}
+use Rattle.pgn_writer.specs.{shared.TagGroups.last_lines, ties.Waiting.Adds, Written.tag_line, Written.ended}
 use Rattle.pgn_writer.proofs.write.put_last.Goals as goal
 
 pub returns-in-Normal-clause-added : goal.returns-in-Normal-clause-added

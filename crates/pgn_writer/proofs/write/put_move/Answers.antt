@@ -1,8 +1,7 @@
 -- The tokens of a move are its number, where it has one, and then its SAN, at the column to which the number came
 -- (GameTexts.move_put).
 use Rattle.std.proofs.Common.{◌∙◌}
-use Rattle.pgn_writer.proofs.Added.{adds_exit}
-use Rattle.pgn_writer.proofs.GameTexts.{number_broke, move_broke, move_put}
+use Rattle.pgn_writer.proofs.{Added.adds_exit, GameTexts.number_broke, GameTexts.move_broke, GameTexts.move_put}
 use Rattle.pgn_writer.proofs.write.put_move.Goals as goal
 
 pub returns-in_err-put_number-clause-added : goal.returns-in_err-put_number-clause-added

@@ -1,8 +1,6 @@
 use Rattle.std.proofs.Common.{◌≡◌, take, true}
 use Rattle.chess_game.specs.Line.{position_after}
-use Rattle.pgn_writer.specs.shared.NumberedMoves.{numbered_moves}
-use Rattle.pgn_writer.specs.shared.Lines.{placed_all, column_after_all}
-use Rattle.pgn_writer.specs.ties.Waiting.{TookSome}
+use Rattle.pgn_writer.specs.{shared.NumberedMoves.numbered_moves, shared.Lines.placed_all, shared.Lines.column_after_all, ties.Waiting.TookSome}
 use Rattle.pgn_writer.proofs.write.put_moves.Given as goal
 
 abbrev pub invariant-loop-ply : goal.invariant-loop-ply

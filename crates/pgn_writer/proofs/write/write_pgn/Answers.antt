@@ -2,8 +2,7 @@
 use Rattle.std.proofs.Common.{rules}
 use Rattle.byte_devices.specs.Devices.{Puts}
 use Rattle.pgn_writer.specs.GameText.{pgn}
-use Rattle.pgn_writer.proofs.GameTexts.{game_written}
-use Rattle.pgn_writer.proofs.LaidOut.{only_written}
+use Rattle.pgn_writer.proofs.{GameTexts.game_written, LaidOut.only_written}
 use Rattle.pgn_writer.proofs.write.write_pgn.Goals as goal
 
 pub returns-clause-written : goal.returns-clause-written

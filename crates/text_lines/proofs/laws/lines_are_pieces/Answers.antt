@@ -1,5 +1,4 @@
-use Rattle.text_lines.proofs.shared.Lines.{nothing_left}
-use Rattle.text_lines.proofs.Reading.{law_ended, law_last, law_not_at_end}
+use Rattle.text_lines.proofs.{shared.Lines.nothing_left, Reading.law_ended, Reading.law_last, Reading.law_not_at_end}
 use Rattle.text_lines.proofs.laws.lines_are_pieces.Goals as goal
 
 pub returns : goal.returns

@@ -1,5 +1,4 @@
-use Rattle.std.proofs.Common.{arith, sym}
-use Rattle.std.proofs.lemmas.List.{length-take-le}
+use Rattle.std.proofs.Common.{arith, sym, length-take-le}
 use Rattle.text_lines.proofs.lines.beginning.Goals as goal
 
 pub slice_bounds-result-end : goal.slice_bounds-result-end

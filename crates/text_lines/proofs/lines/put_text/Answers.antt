@@ -1,6 +1,5 @@
 -- What is kept of a line that is too long is no more than came, and trimming makes no line longer: so it has room.
-use Rattle.std.proofs.Common.{arith, ◌≤◌, ◌+◌, length, ap}
-use Rattle.std.specs.Result.{IsOk}
+use Rattle.std.proofs.Common.{arith, ◌≤◌, ◌+◌, length, ap, IsOk}
 use Rattle.text_lines.proofs.lines.put_text.Goals as goal
 use Rattle.text_lines.proofs.lines.put_text.Goals.{then-is_too_long, else-is_too_long}
 

@@ -1,6 +1,5 @@
 use Rattle.std.proofs.Common.{length, take, drop, ◌-◌, ◌≡◌, ◌++◌, ◌≤◌}
-use Rattle.text_lines.specs.Lines.{without_front_blanks}
-use Rattle.text_lines.specs.Words.{word_of}
+use Rattle.text_lines.specs.{Lines.without_front_blanks, Words.word_of}
 use Rattle.text_lines.proofs.words.split_word.Given as goal
 
 abbrev pub invariant-loop-end : goal.invariant-loop-end

@@ -1,6 +1,5 @@
 -- The text is that of the definition, and of it all bytes are ASCII (LevelTexts.level_ascii).
-use Rattle.std.proofs.Common.{◌≡◌, sym, subst, append_assoc, arith}
-use Rattle.std.specs.Str.{IsAscii}
+use Rattle.std.proofs.Common.{◌≡◌, sym, subst, append_assoc, arith, IsAscii}
 use Rattle.cecp_engine.specs.Levels.{level_text}
 use Rattle.cecp_engine.proofs.LevelTexts.{level_ascii}
 use Rattle.cecp_engine.proofs.level.Level.text.Goals as goal

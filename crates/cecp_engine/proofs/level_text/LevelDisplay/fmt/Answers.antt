@@ -1,7 +1,5 @@
 -- A text of ASCII is UTF-8.
-use Rattle.std.proofs.Common.{sym, subst}
-use Rattle.std.specs.Str.{IsUtf8}
-use Rattle.std.proofs.lemmas.Str.{IsUtf8-from_ascii}
+use Rattle.std.proofs.{Common.sym, Common.subst, Common.IsUtf8, lemmas.Str.IsUtf8-from_ascii}
 use Rattle.cecp_engine.proofs.level_text.LevelDisplay.fmt.Goals as goal
 
 pub unreachable-requires : goal.unreachable-requires

@@ -1,8 +1,7 @@
 -- The own pieces have all legal moves (from_men of Listed), and all moves of a sound position fit into a list
 -- (fits_from).
 use Rattle.std.proofs.Common.{◌≡◌, ◌<◌, ℕ}
-use Rattle.chess_base.specs.Men.{man_at, is_of}
-use Rattle.chess_base.specs.Sound.{IsSound}
+use Rattle.chess_base.specs.{Men.man_at, Men.is_of, Sound.IsSound}
 use Rattle.chess_moves.specs.Sets.{contains}
 use Rattle.chess_bits.proofs.Listed.{from_men, fits_from}
 use Rattle.chess_bits.proofs.bits.Bits.add_moves.Goals as goal

@@ -1,8 +1,7 @@
 -- There is one move for each promotion.
 use Rattle.std.proofs.Common.{◌≡◌, ◌++◌, List, length, sym, ap, ◌∙◌, arith}
 use Rattle.std.proofs.lemmas.List.{length-map}
-use Rattle.chess_base.specs.declared.man.Move.{Move}
-use Rattle.chess_base.specs.MoveList.{move_of}
+use Rattle.chess_base.specs.{declared.man.Move.Move, MoveList.move_of}
 use Rattle.chess_moves.specs.shared.MovesBySquares.{moves_between}
 use Rattle.chess_bits.proofs.bits.Bits.add_moves_between.Goals as goal
 

@@ -1,7 +1,5 @@
-use Rattle.std.proofs.Common.{◌≡◌, ◌++◌, length, true}
-use Rattle.std.specs.List.{flat_map}
-use Rattle.chess_moves.specs.shared.MovesBySquares.{moves_between, moves_from}
-use Rattle.chess_moves.specs.Sets.{members}
+use Rattle.std.proofs.Common.{◌≡◌, ◌++◌, length, true, flat_map}
+use Rattle.chess_moves.specs.{shared.MovesBySquares.moves_between, shared.MovesBySquares.moves_from, Sets.members}
 use Rattle.chess_bits.specs.ties.Goes.{goes}
 use Rattle.chess_bits.proofs.Listed.{Each}
 use Rattle.chess_bits.proofs.bits.Bits.add_moves_to.Given as goal

@@ -2,9 +2,7 @@
 -- legal move to each target (free_listed of Freely).
 use Rattle.std.proofs.Common.{◌<◌, ◌++◌, List, None, length, sym, ap, subst, ◌∙◌, arith}
 use Rattle.std.proofs.lemmas.List.{length-map}
-use Rattle.chess_base.specs.declared.man.Move.{Move}
-use Rattle.chess_base.specs.MoveList.{move_of}
-use Rattle.chess_base.specs.Sound.{IsSound}
+use Rattle.chess_base.specs.{declared.man.Move.Move, MoveList.move_of, Sound.IsSound}
 use Rattle.chess_moves.specs.Sets.{members}
 use Rattle.chess_bits.proofs.Freely.{ordinary_from, free_listed}
 use Rattle.chess_bits.proofs.bits.Bits.add_ordinary_moves.Goals as goal

@@ -3,15 +3,10 @@
 use Rattle.chess_base.proofs.shared.Kings.{one_king_of}
 use Rattle.std.proofs.Common.{◌≡◌, ◌<◌, inl, inr, true, sym, subst, ap, ◌∙◌}
 use Rattle.std.proofs.lemmas.Bool.{eqb-true, or_left, or_right}
-use Rattle.chess_base.specs.Attacks.{is_clear}
-use Rattle.chess_base.specs.declared.man.Kind.TheVariants.{King}
-use Rattle.chess_base.specs.Men.{man_at, is_man}
-use Rattle.chess_bits.specs.ties.Pins.{aims_from}
-use Rattle.chess_bits.specs.ties.Goes.{lifted}
+use Rattle.chess_base.specs.{Attacks.is_clear, declared.man.Kind.TheVariants.King, Men.man_at, Men.is_man}
+use Rattle.chess_bits.specs.{ties.Pins.aims_from, ties.Goes.lifted}
 use Rattle.chess_moves.specs.Sets.{contains}
-use Rattle.chess_bits.proofs.Pins.{aims_hit, answered, taken_out}
-use Rattle.chess_bits.proofs.TargetsOf.{ends_below}
-use Rattle.chess_bits.proofs.OneKing.{alone}
+use Rattle.chess_bits.proofs.{Pins.aims_hit, Pins.answered, Pins.taken_out, TargetsOf.ends_below, OneKing.alone}
 use Rattle.chess_bits.proofs.bits.Bits.add_pin.Goals as goal
 
 pub returns-in-Some-clause-evasions : goal.returns-in-Some-clause-evasions

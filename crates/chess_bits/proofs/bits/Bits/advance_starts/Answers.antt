@@ -1,12 +1,9 @@
 -- A pawn steps ahead onto an empty square, or from its home rank across one (none_onto, advances_are of PawnStarts).
 use mathlib.Core.Bool.{not-not}
 use Rattle.std.proofs.Common.{◌≡◌, ◌<◌, ◌==◌, ◌||◌, false, true, not, is_none, sym, ap, subst, ◌∙◌}
-use Rattle.chess_base.specs.Men.{man_at}
-use Rattle.chess_base.specs.Squares.{rank}
+use Rattle.chess_base.specs.{Men.man_at, Squares.rank, Sound.no_pawn_on_end_ranks}
 use Rattle.chess_base.proofs.shared.Squares.{each_square-at}
-use Rattle.chess_base.specs.Sound.{no_pawn_on_end_ranks}
-use Rattle.chess_bits.proofs.OriginsOf.{off_lowest}
-use Rattle.chess_bits.proofs.PawnStarts.{none_onto, advances_are}
+use Rattle.chess_bits.proofs.{OriginsOf.off_lowest, PawnStarts.none_onto, PawnStarts.advances_are}
 use Rattle.chess_moves.specs.Sets.{contains}
 use Rattle.chess_bits.proofs.bits.Bits.advance_starts.Goals as goal
 

@@ -2,13 +2,9 @@
 use mathlib.Core.Bool.{not-not}
 use Rattle.std.proofs.Common.{◌≡◌, ◌<◌, ◌≤◌, ◌==◌, ◌&&◌, ℕ, not, true, is_none, sym, arith, ◌∙◌}
 use Rattle.chess_base.specs.Men.{forward, is_man, man_at, pawn_rank}
-use Rattle.chess_base.specs.Sound.{IsSound, no_pawn_on_end_ranks}
-use Rattle.chess_base.specs.Squares.{rank, some_square}
-use Rattle.chess_base.specs.declared.man.Kind.TheVariants.{Pawn}
-use Rattle.chess_base.specs.declared.setup.Setup.{Setup}
+use Rattle.chess_base.specs.{Sound.IsSound, Sound.no_pawn_on_end_ranks, Squares.rank, Squares.some_square, declared.man.Kind.TheVariants.Pawn, declared.setup.Setup.Setup}
 use Rattle.chess_base.proofs.shared.Squares.{each_square-at}
-use Rattle.chess_bits.specs.ties.Goes.{IsAhead}
-use Rattle.chess_bits.specs.ties.Occupancy.{IsOccupied}
+use Rattle.chess_bits.specs.{ties.Goes.IsAhead, ties.Occupancy.IsOccupied}
 use Rattle.chess_bits.proofs.OriginsOf.{off_lowest, on_board}
 use Rattle.chess_bits.proofs.TargetsOf.{next_is, second_is, met_is, blocked, one_only, two_too}
 use Rattle.chess_moves.specs.Sets.{contains}

@@ -1,7 +1,6 @@
 -- The king and the piece aimed at it are on one line (by_line of BetweenSquares).
 use Rattle.std.proofs.Common.{◌<◌, refl, subst, ◌∙◌}
-use Rattle.chess_bits.proofs.BetweenSquares.{by_line}
-use Rattle.chess_bits.proofs.Pins.{aims_on_line}
+use Rattle.chess_bits.proofs.{BetweenSquares.by_line, Pins.aims_on_line}
 use Rattle.chess_bits.proofs.bits.Bits.blockers.Goals as goal
 
 pub returns : goal.returns

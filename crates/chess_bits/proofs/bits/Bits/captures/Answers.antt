@@ -1,9 +1,7 @@
 -- A pawn captures on the squares it attacks that hold an enemy or are the target (captures_is of TargetsOf).
 use Rattle.std.proofs.Common.{◌≡◌, ◌∙◌, true}
-use Rattle.chess_base.specs.declared.man.Kind.TheVariants.{Pawn}
-use Rattle.chess_base.specs.Men.{man_at, is_man}
-use Rattle.chess_bits.proofs.Reached.{pawn_from}
-use Rattle.chess_bits.proofs.TargetsOf.{captures_is}
+use Rattle.chess_base.specs.{declared.man.Kind.TheVariants.Pawn, Men.man_at, Men.is_man}
+use Rattle.chess_bits.proofs.{Reached.pawn_from, TargetsOf.captures_is}
 use Rattle.chess_bits.proofs.bits.Bits.captures.Goals as goal
 
 pub returns : goal.returns

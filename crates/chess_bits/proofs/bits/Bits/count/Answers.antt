@@ -3,8 +3,7 @@
 use Rattle.std.proofs.Common.{◌≡◌, ◌<◌, ℕ, length, ap, arith}
 use Rattle.chess_base.specs.Men.{man_at, is_of}
 use Rattle.chess_moves.specs.Sets.{contains}
-use Rattle.chess_bits.proofs.Counted.{some_fit}
-use Rattle.chess_bits.proofs.Listed.{from_men}
+use Rattle.chess_bits.proofs.{Counted.some_fit, Listed.from_men}
 use Rattle.chess_bits.proofs.bits.Bits.count.Goals as goal
 
 pub count_each-others-requires-clause-few : goal.count_each-others-requires-clause-few

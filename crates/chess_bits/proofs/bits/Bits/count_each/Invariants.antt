@@ -1,7 +1,5 @@
-use Rattle.std.proofs.Common.{◌≡◌, ◌+◌, length}
-use Rattle.std.specs.List.{flat_map}
-use Rattle.chess_moves.specs.shared.MovesBySquares.{moves_from}
-use Rattle.chess_moves.specs.Sets.{members}
+use Rattle.std.proofs.Common.{◌≡◌, ◌+◌, length, flat_map}
+use Rattle.chess_moves.specs.{shared.MovesBySquares.moves_from, Sets.members}
 use Rattle.chess_bits.proofs.bits.Bits.count_each.Given as goal
 
 -- the moves counted and those of the pieces that are left are all

@@ -1,10 +1,7 @@
 -- The pieces fall into those taken and those left, and their legal moves fall so too (split of KindsCounted).
-use Rattle.std.proofs.Common.{◌+◌, length, ap, ◌∙◌}
-use Rattle.std.specs.List.{flat_map}
-use Rattle.chess_moves.specs.shared.MovesBySquares.{moves_from}
-use Rattle.chess_moves.specs.Sets.{members}
-use Rattle.chess_bits.proofs.Counted.{some_fit}
-use Rattle.chess_bits.proofs.KindsCounted.{split}
+use Rattle.std.proofs.Common.{◌+◌, length, ap, ◌∙◌, flat_map}
+use Rattle.chess_moves.specs.{shared.MovesBySquares.moves_from, Sets.members}
+use Rattle.chess_bits.proofs.{Counted.some_fit, KindsCounted.split}
 use Rattle.chess_bits.proofs.bits.Bits.count_kind.Goals as goal
 
 pub count_officers-requires-clause-few : goal.count_officers-requires-clause-few

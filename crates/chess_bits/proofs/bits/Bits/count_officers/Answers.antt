@@ -2,8 +2,7 @@
 use Rattle.std.proofs.Common.{◌≡◌, true, refl}
 use Rattle.chess_base.specs.Men.{man_at, is_man}
 use Rattle.chess_bits.specs.ties.Goes.{IsFree}
-use Rattle.chess_bits.proofs.Counted.{none_counted}
-use Rattle.chess_bits.proofs.Listed.{each_member}
+use Rattle.chess_bits.proofs.{Counted.none_counted, Listed.each_member}
 use Rattle.chess_bits.proofs.bits.Bits.count_officers.Goals as goal
 
 pub loop-from-init : goal.loop-from-init

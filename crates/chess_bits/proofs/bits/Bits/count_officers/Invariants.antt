@@ -1,10 +1,8 @@
-use Rattle.std.proofs.Common.{◌≡◌, ◌+◌, length, true}
-use Rattle.std.specs.List.{flat_map}
+use Rattle.std.proofs.Common.{◌≡◌, ◌+◌, length, true, flat_map}
 use Rattle.chess_base.specs.Men.{man_at, is_man}
 use Rattle.chess_bits.specs.ties.Goes.{IsFree}
 use Rattle.chess_bits.proofs.Listed.{Each}
-use Rattle.chess_moves.specs.shared.MovesBySquares.{moves_from}
-use Rattle.chess_moves.specs.Sets.{members}
+use Rattle.chess_moves.specs.{shared.MovesBySquares.moves_from, Sets.members}
 use Rattle.chess_bits.proofs.bits.Bits.count_officers.Given as goal
 
 -- the moves counted and those of the pieces that are left are all, and each of these is free

@@ -1,9 +1,7 @@
 -- Each pawn has as many legal moves as ways are open to it (pawns_counted of PawnsCounted), and the sets computed are
 -- those of the pawns to which each way is open (ways_are).
 use Rattle.std.proofs.Common.{◌≡◌, ◌<◌, ◌==◌, ℕ, true, false, ap, ◌∙◌}
-use Rattle.chess_base.specs.declared.man.Kind.TheVariants.{Pawn}
-use Rattle.chess_base.specs.Men.{man_at, is_of}
-use Rattle.chess_base.specs.Squares.{rank}
+use Rattle.chess_base.specs.{declared.man.Kind.TheVariants.Pawn, Men.man_at, Men.is_of, Squares.rank}
 use Rattle.chess_moves.specs.Sets.{contains}
 use Rattle.chess_bits.specs.ties.Goes.{goes_specially, AreFree}
 use Rattle.chess_bits.proofs.PawnsCounted.{AreSets, summed, ways_are, pawns_counted}

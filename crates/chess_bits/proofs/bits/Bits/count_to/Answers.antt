@@ -1,8 +1,7 @@
 -- Each legal move of the piece ends on one of the squares, so the moves to these are all (from_targets of Listed).
 use Rattle.std.proofs.Common.{◌≡◌, length, true, ap}
 use Rattle.chess_bits.specs.ties.Goes.{goes}
-use Rattle.chess_bits.proofs.Counted.{none_counted}
-use Rattle.chess_bits.proofs.Listed.{from_targets, each_member}
+use Rattle.chess_bits.proofs.{Counted.none_counted, Listed.from_targets, Listed.each_member}
 use Rattle.chess_bits.proofs.bits.Bits.count_to.Goals as goal
 
 pub loop-to-init : goal.loop-to-init

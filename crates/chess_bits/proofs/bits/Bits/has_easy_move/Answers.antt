@@ -1,7 +1,6 @@
 -- The legal moves of some pieces are among all legal moves (some_of of Counted).
 use Rattle.std.proofs.Common.{nat_lt, length, sym, ap, ◌∙◌, rules}
-use Rattle.chess_moves.specs.shared.MovesBySquares.{moves_from}
-use Rattle.chess_moves.specs.Sets.{members}
+use Rattle.chess_moves.specs.{shared.MovesBySquares.moves_from, Sets.members}
 use Rattle.chess_bits.proofs.Counted.{any_of, some_of}
 use Rattle.chess_bits.proofs.bits.Bits.has_easy_move.Goals as goal
 

@@ -1,12 +1,9 @@
 -- A legal move of a free knight or pawn is one, and so is one of the king; where none is found all own pieces are looked
 -- at, and they have all legal moves (from_men of Listed).
-use Rattle.std.proofs.Common.{◌≡◌, ◌<◌, ℕ, nat_lt, length, refl, sym, ap, subst, ◌∙◌, rules}
-use Rattle.std.proofs.lemmas.Bool.{eq-eqb}
+use Rattle.std.proofs.Common.{◌≡◌, ◌<◌, ℕ, nat_lt, length, refl, sym, ap, subst, ◌∙◌, rules, eq-eqb}
 use Rattle.chess_base.specs.Men.{man_at, is_of}
-use Rattle.chess_moves.specs.shared.MovesBySquares.{moves_from}
-use Rattle.chess_moves.specs.Sets.{contains, members}
-use Rattle.chess_bits.proofs.Counted.{any_of, some_from}
-use Rattle.chess_bits.proofs.Listed.{from_men}
+use Rattle.chess_moves.specs.{shared.MovesBySquares.moves_from, Sets.contains, Sets.members}
+use Rattle.chess_bits.proofs.{Counted.any_of, Counted.some_from, Listed.from_men}
 use Rattle.chess_bits.proofs.bits.Bits.has_move.Goals as goal
 
 pub returns-then-has_easy_move : goal.returns-then-has_easy_move

@@ -1,9 +1,7 @@
 -- A move that is neither the king's nor en passant changes its two squares alone (StepsPlainly).
 use Rattle.std.proofs.Common.{not, ◌&&◌, sym, ◌∙◌}
 use Rattle.std.proofs.lemmas.Bool.{and_parts, not-true}
-use Rattle.chess_base.specs.Men.{is_man, man_at}
-use Rattle.chess_base.specs.Squares.{is_at}
-use Rattle.chess_base.specs.declared.man.Kind.TheVariants.{King, Pawn}
+use Rattle.chess_base.specs.{Men.is_man, Men.man_at, Squares.is_at, declared.man.Kind.TheVariants.King, declared.man.Kind.TheVariants.Pawn}
 use Rattle.chess_bits.proofs.bits.Bits.is_safe_after.Goals as goal
 
 pub returns-then-steps_plainly : goal.returns-then-steps_plainly

@@ -1,8 +1,7 @@
 -- After the move all pieces are as before on the squares that it leaves alone, and own pieces on those that it fills
 -- (later_after of AfterSets); check is then an attack on the king's square (check_after of KingAfter).
 use Rattle.std.proofs.Common.{not, sym, ap, ◌∙◌}
-use Rattle.chess_base.specs.Attacks.{is_attacked}
-use Rattle.chess_base.specs.Moves.{men_after}
+use Rattle.chess_base.specs.{Attacks.is_attacked, Moves.men_after}
 use Rattle.chess_bits.specs.ties.Occupancy.{IsOccupied, IsLater}
 use Rattle.chess_bits.proofs.AfterSets.{later_after}
 use Rattle.chess_bits.proofs.KingAfter.{mover_some, mover_own, check_after, legal_is}

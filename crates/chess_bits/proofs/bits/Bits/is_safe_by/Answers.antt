@@ -1,7 +1,6 @@
 -- The squares that the steps change and fill are those of the move.
 use Rattle.std.proofs.Common.{◌≡◌, ◌==◌, ◌||◌, ℕ, ◌<◌, refl, ap, ◌∙◌}
-use Rattle.chess_base.specs.declared.steps.Steps.{Steps}
-use Rattle.chess_base.specs.Squares.{is_at}
+use Rattle.chess_base.specs.{declared.steps.Steps.Steps, Squares.is_at}
 use Rattle.chess_moves.specs.Sets.{contains}
 use Rattle.chess_bits.specs.ties.Changes.{is_changed, is_filled}
 use Rattle.chess_bits.proofs.bits.Bits.is_safe_by.Goals as goal

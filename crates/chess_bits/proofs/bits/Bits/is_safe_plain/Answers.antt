@@ -5,9 +5,7 @@ use Rattle.chess_base.specs.MoveList.{move_of}
 use Rattle.chess_base.proofs.shared.MoveKinds.{moves_from_pattern}
 use Rattle.chess_moves.specs.Sets.{contains}
 use Rattle.chess_bits.specs.ties.Changes.{is_changed, is_filled}
-use Rattle.chess_bits.proofs.Pins.{no_king_arrives}
-use Rattle.chess_bits.proofs.KingAfter.{king_stays}
-use Rattle.chess_bits.proofs.Quiet.{fills_end, changes_both}
+use Rattle.chess_bits.proofs.{Pins.no_king_arrives, KingAfter.king_stays, Quiet.fills_end, Quiet.changes_both}
 use Rattle.chess_bits.proofs.bits.Bits.is_safe_plain.Goals as goal
 
 pub returns : goal.returns

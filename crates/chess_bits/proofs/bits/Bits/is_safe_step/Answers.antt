@@ -1,14 +1,11 @@
 -- A step is legal where nothing attacks its end once the king is off the board (step_is of KingSteps); with the king
 -- off it, the enemy's sets are the same and only its square is empty (Lifted).
 use Rattle.std.proofs.Common.{◌≡◌, ◌<◌, false, not, ◌&&◌, subst, ap, ◌∙◌}
-use Rattle.chess_base.specs.declared.man.Kind.TheVariants.{King}
-use Rattle.chess_base.specs.Attacks.{is_attacked}
-use Rattle.chess_base.specs.Men.{man_at, is_of}
+use Rattle.chess_base.specs.{declared.man.Kind.TheVariants.King, Attacks.is_attacked, Men.man_at, Men.is_of}
 use Rattle.chess_base.proofs.shared.Men.{no_other}
 use Rattle.chess_moves.specs.Sets.{contains}
 use Rattle.chess_bits.specs.ties.Goes.{lifted}
-use Rattle.chess_bits.proofs.KingSteps.{step_is}
-use Rattle.chess_bits.proofs.Lifted.{lifted_kinds, lifted_occupied}
+use Rattle.chess_bits.proofs.{KingSteps.step_is, Lifted.lifted_kinds, Lifted.lifted_occupied}
 use Rattle.chess_bits.proofs.bits.Bits.is_safe_step.Goals as goal
 
 pub returns : goal.returns

@@ -1,7 +1,6 @@
 -- The way is safe where no square of it is attacked (none_of of CastlingBySets).
 use Rattle.std.proofs.Common.{rules, ◌≡◌, ℕ, Bool, not, ap, ◌∙◌}
-use Rattle.chess_base.specs.Attacks.{is_attacked}
-use Rattle.chess_base.specs.Men.{other}
+use Rattle.chess_base.specs.{Attacks.is_attacked, Men.other}
 use Rattle.chess_bits.proofs.CastlingBySets.{none_of}
 use Rattle.chess_bits.proofs.bits.Bits.is_safe_way.Goals as goal
 

@@ -1,8 +1,6 @@
 -- A king that moves is where the mover lands (king_lands); when another piece moves it stays (king_stays).
 use Rattle.std.proofs.Common.{◌≡◌, ◌<◌, true, false, sym, ap, ◌∙◌, subst}
-use Rattle.chess_base.specs.declared.man.Kind.TheVariants.{King}
-use Rattle.chess_base.specs.declared.steps.Steps.{Steps}
-use Rattle.chess_base.specs.Men.{is_man}
+use Rattle.chess_base.specs.{declared.man.Kind.TheVariants.King, declared.steps.Steps.Steps, Men.is_man}
 use Rattle.chess_bits.proofs.KingAfter.{king_stays, king_lands}
 use Rattle.chess_bits.proofs.bits.Bits.king_after.Goals as goal
 

@@ -1,10 +1,8 @@
 -- A king's legal move is a step or a castling (steps_or_castles of KingListed).
 use Rattle.std.proofs.Common.{◌≡◌, ◌&&◌, ◌||◌, inl, inr, None, ap, rules, ◌∙◌, ◌<◌, subst, sym, true}
 use Rattle.std.proofs.lemmas.Bool.{cases_Bool}
-use Rattle.chess_base.specs.MoveList.{move_of}
-use Rattle.chess_base.specs.Moves.{is_legal, man_moves}
-use Rattle.chess_bits.proofs.KingListed.{steps_or_castles}
-use Rattle.chess_bits.proofs.KingSteps.{steps_are}
+use Rattle.chess_base.specs.{MoveList.move_of, Moves.is_legal, Moves.man_moves}
+use Rattle.chess_bits.proofs.{KingListed.steps_or_castles, KingSteps.steps_are}
 use Rattle.chess_moves.specs.Sets.{contains}
 use Rattle.chess_bits.proofs.bits.Bits.king_ends.Goals as goal
 

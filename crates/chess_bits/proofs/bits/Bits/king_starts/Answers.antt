@@ -1,6 +1,5 @@
 -- The side on move has one king (king_start of ByKind).
-use Rattle.std.proofs.Common.{ap, refl, ◌&&◌, ◌==◌, ◌∙◌}
-use Rattle.std.proofs.lemmas.Bool.{eq-eqb}
+use Rattle.std.proofs.Common.{ap, refl, ◌&&◌, ◌==◌, ◌∙◌, eq-eqb}
 use Rattle.chess_bits.proofs.ByKind.{king_start}
 use Rattle.chess_bits.proofs.bits.Bits.king_starts.Goals as goal
 

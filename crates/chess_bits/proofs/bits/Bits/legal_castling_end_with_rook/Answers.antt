@@ -1,15 +1,8 @@
 -- With king and right there, the move is the castling with these squares (castle_told of CastlingAtHome), and no other
 -- end square names it (castles_onto_end); a piece that is no king never castles (no_king_castles).
 use Rattle.std.proofs.Common.{rules, ◌≡◌, ◌==◌, ◌&&◌, true, false, None, Some, sym, ap, ◌∙◌}
-use Rattle.chess_base.specs.declared.castling.Castle.{Castle}
-use Rattle.chess_base.specs.declared.man.Kind.TheVariants.{King}
-use Rattle.chess_base.specs.Castling.{castle_from}
-use Rattle.chess_base.specs.laws.Castles.{named_square}
-use Rattle.chess_base.specs.Men.{man_at, is_man}
-use Rattle.chess_base.specs.MoveList.{move_of}
-use Rattle.chess_base.specs.Sound.{IsSound}
-use Rattle.chess_bits.proofs.CastlingAtHome.{castle_told, castles_onto_end}
-use Rattle.chess_bits.proofs.TargetsOf.{no_king_castles}
+use Rattle.chess_base.specs.{declared.castling.Castle.Castle, declared.man.Kind.TheVariants.King, Castling.castle_from, laws.Castles.named_square, Men.man_at, Men.is_man, MoveList.move_of, Sound.IsSound}
+use Rattle.chess_bits.proofs.{CastlingAtHome.castle_told, CastlingAtHome.castles_onto_end, TargetsOf.no_king_castles}
 use Rattle.chess_bits.proofs.bits.Bits.legal_castling_end_with_rook.Goals as goal
 
 pub returns-then-not-is_man : goal.returns-then-not-is_man

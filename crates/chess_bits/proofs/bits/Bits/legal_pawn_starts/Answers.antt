@@ -1,8 +1,7 @@
 -- A pawn that goes to a square which is not the en passant target, nor on its last rank, changes its two squares alone
 -- (pawns_plain of PawnStarts).
 use Rattle.std.proofs.Common.{◌≡◌, ◌<◌, ◌==◌, false, sym, subst, ◌∙◌}
-use Rattle.chess_base.specs.Men.{first_rank, other}
-use Rattle.chess_base.specs.Squares.{is_at, rank}
+use Rattle.chess_base.specs.{Men.first_rank, Men.other, Squares.is_at, Squares.rank}
 use Rattle.chess_bits.proofs.PawnStarts.{pawns_plain}
 use Rattle.chess_bits.proofs.bits.Bits.legal_pawn_starts.Goals as goal
 

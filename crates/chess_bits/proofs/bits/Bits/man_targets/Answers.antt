@@ -1,12 +1,9 @@
 -- An officer goes where it attacks what is no own piece (officer_is of TargetsOf); so does a king, or it castles
 -- (king_goes of KingSteps).
 use Rattle.std.proofs.Common.{rules, ◌≡◌, ◌||◌, true, ap, sym, ◌∙◌, Some, None}
-use Rattle.chess_base.specs.declared.man.Kind.TheVariants.{King}
-use Rattle.chess_base.specs.Men.{man_at, same_kind}
-use Rattle.chess_base.specs.Sound.{IsSound}
+use Rattle.chess_base.specs.{declared.man.Kind.TheVariants.King, Men.man_at, Men.same_kind, Sound.IsSound}
 use Rattle.chess_moves.specs.Sets.{contains}
-use Rattle.chess_bits.proofs.KingSteps.{king_goes, king_told, steps_are}
-use Rattle.chess_bits.proofs.TargetsOf.{officer_is, no_own}
+use Rattle.chess_bits.proofs.{KingSteps.king_goes, KingSteps.king_told, KingSteps.steps_are, TargetsOf.officer_is, TargetsOf.no_own}
 use Rattle.chess_bits.proofs.bits.Bits.man_targets.Goals as goal
 
 pub returns-then-is_king : goal.returns-then-is_king

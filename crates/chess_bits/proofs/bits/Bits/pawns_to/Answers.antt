@@ -1,9 +1,6 @@
 -- A pawn goes straight ahead, or captures (captures_are of PawnStarts).
 use Rattle.std.proofs.Common.{◌≡◌, ◌&&◌, ◌||◌, None, refl, ap, ◌∙◌}
-use Rattle.chess_base.specs.Men.{is_man, man_at}
-use Rattle.chess_base.specs.declared.man.Kind.TheVariants.{Pawn}
-use Rattle.chess_base.specs.MoveList.{move_of}
-use Rattle.chess_base.specs.Moves.{pawn_advances, pawn_captures}
+use Rattle.chess_base.specs.{Men.is_man, Men.man_at, declared.man.Kind.TheVariants.Pawn, MoveList.move_of, Moves.pawn_advances, Moves.pawn_captures}
 use Rattle.chess_moves.specs.Sets.{contains}
 use Rattle.chess_bits.proofs.PawnStarts.{captures_are, held}
 use Rattle.chess_bits.proofs.bits.Bits.pawns_to.Goals as goal

@@ -1,14 +1,10 @@
 -- Where nothing attacks the king it is not in check (attacked_is of Attackers); else each move of another piece meets the
 -- first attack (check_met of Pins).
 use Rattle.std.proofs.Common.{◌≡◌, ◌<◌, ◌&&◌, ℕ, not, sym, ap, ◌∙◌}
-use Rattle.chess_base.specs.Attacks.{attacks}
+use Rattle.chess_base.specs.{Attacks.attacks, declared.man.Kind.TheVariants.King}
 use Rattle.chess_base.specs.Men.{man_at, is_of, is_man, other}
-use Rattle.chess_base.specs.declared.man.Kind.TheVariants.{King}
 use Rattle.chess_moves.specs.Sets.{contains}
-use Rattle.chess_bits.proofs.AfterSets.{check_is}
-use Rattle.chess_bits.proofs.Attackers.{attacked_is}
-use Rattle.chess_bits.proofs.Pins.{check_met}
-use Rattle.chess_bits.proofs.TargetsOf.{ends_below}
+use Rattle.chess_bits.proofs.{AfterSets.check_is, Attackers.attacked_is, Pins.check_met, TargetsOf.ends_below}
 use Rattle.chess_bits.proofs.bits.Bits.pins.Goals as goal
 
 pub pins_without_check-requires-clause-calm : goal.pins_without_check-requires-clause-calm

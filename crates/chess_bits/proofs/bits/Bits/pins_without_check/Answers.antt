@@ -4,16 +4,11 @@
 use Rattle.chess_base.proofs.shared.Kings.{one_king_of}
 use Rattle.std.proofs.Common.{◌≡◌, ◌<◌, ◌==◌, ◌&&◌, ◌||◌, ℕ, inl, inr, not, false, true, sym, ap, refl, subst, ◌∙◌}
 use Rattle.std.proofs.lemmas.Bool.{and_parts, and_from, or_right, cases_Bool, both_ways, eqb-true, not-true}
-use Rattle.chess_base.specs.Attacks.{is_in_check}
-use Rattle.chess_base.specs.declared.man.Kind.TheVariants.{King}
-use Rattle.chess_base.specs.Men.{man_at, is_man, is_of}
+use Rattle.chess_base.specs.{Attacks.is_in_check, declared.man.Kind.TheVariants.King, Men.man_at, Men.is_man, Men.is_of}
 use Rattle.chess_bits.specs.ties.Pins.{aims_from, KeepsClosed}
 use Rattle.chess_moves.specs.Sets.{contains}
 use Rattle.chess_moves.proofs.shared.LegalMoves.{own_man_moves}
-use Rattle.chess_bits.proofs.Freely.{freed}
-use Rattle.chess_bits.proofs.Listed.{each_member, each_first}
-use Rattle.chess_bits.proofs.OneKing.{alone}
-use Rattle.chess_bits.proofs.Starts.{taken_first, none_left}
+use Rattle.chess_bits.proofs.{Freely.freed, Listed.each_member, Listed.each_first, OneKing.alone, Starts.taken_first, Starts.none_left}
 use Rattle.chess_bits.proofs.bits.Bits.pins_without_check.Goals as goal
 
 pub loop-from-init : goal.loop-from-init

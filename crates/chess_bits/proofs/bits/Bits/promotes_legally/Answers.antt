@@ -3,15 +3,11 @@
 use Rattle.chess_base.proofs.shared.Men.{is_man-kind}
 use Rattle.std.proofs.Common.{◌≡◌, ◌==◌, true, Some, sym, subst, refl}
 use Rattle.std.proofs.lemmas.Bool.{and_parts, and_right, eqb-true}
-use Rattle.chess_base.specs.declared.man.Kind.TheVariants.{Pawn, King}
+use Rattle.chess_base.specs.{declared.man.Kind.TheVariants.Pawn, declared.man.Kind.TheVariants.King, Moves.promotion_fits, Squares.is_at, Squares.rank, MoveList.move_of}
 use Rattle.chess_base.specs.Men.{first_rank, man_at, is_man, other}
-use Rattle.chess_base.specs.Moves.{promotion_fits}
-use Rattle.chess_base.specs.Squares.{is_at, rank}
 use Rattle.chess_moves.specs.Promoting.{would_promote}
 use Rattle.chess_bits.specs.ties.Goes.{goes}
-use Rattle.chess_bits.proofs.Pins.{no_target_there}
-use Rattle.chess_base.specs.MoveList.{move_of}
-use Rattle.chess_bits.proofs.Patterns.{pattern_from}
+use Rattle.chess_bits.proofs.{Pins.no_target_there, Patterns.pattern_from}
 use Rattle.chess_bits.proofs.bits.Bits.promotes_legally.Goals as goal
 
 pub returns : goal.returns

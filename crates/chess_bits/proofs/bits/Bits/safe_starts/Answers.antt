@@ -2,8 +2,7 @@
 use mathlib.Core.Bool.{and-true}
 use Rattle.std.proofs.Common.{◌≡◌, ℕ, ◌<◌, ◌==◌, ◌&&◌, ◌||◌, not, Bool, inl, inr, true, false, None, refl, sym, ap, ◌∙◌}
 use Rattle.std.proofs.lemmas.Bool.{cases_Bool, eqb-true, or_right}
-use Rattle.chess_base.specs.MoveList.{move_of}
-use Rattle.chess_base.specs.Moves.{is_legal}
+use Rattle.chess_base.specs.{MoveList.move_of, Moves.is_legal}
 use Rattle.chess_moves.specs.Sets.{contains}
 use Rattle.chess_bits.proofs.Starts.{first_gone, first_in, none_left, taken_first}
 use Rattle.chess_base.proofs.shared.MenAfter.{eqb_comm}

@@ -4,8 +4,7 @@ use Rattle.std.proofs.Common.{◌≡◌, ◌<◌, ◌==◌, ◌&&◌, ℕ, not, 
 use Rattle.std.proofs.lemmas.Bool.{both_ways}
 use Rattle.chess_base.proofs.shared.Squares.{some_square-none}
 use Rattle.chess_moves.specs.Sets.{contains}
-use Rattle.chess_bits.proofs.Attackers.{none_there}
-use Rattle.chess_bits.proofs.Pins.{none_hides, one_hides, many_hide}
+use Rattle.chess_bits.proofs.{Attackers.none_there, Pins.none_hides, Pins.one_hides, Pins.many_hide}
 use Rattle.chess_bits.proofs.bits.Bits.shield.Goals as goal
 
 pub returns-then-is_empty : goal.returns-then-is_empty

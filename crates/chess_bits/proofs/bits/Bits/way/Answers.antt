@@ -1,8 +1,6 @@
 -- Two squares of one rank are on one line.
-use Rattle.std.proofs.Common.{refl, ◌∙◌}
-use Rattle.std.proofs.lemmas.Bool.{eq-eqb}
-use Rattle.chess_base.specs.Squares.{rank}
-use Rattle.chess_base.specs.declared.line.Line.TheVariants.{Rank}
+use Rattle.std.proofs.Common.{refl, ◌∙◌, eq-eqb}
+use Rattle.chess_base.specs.{Squares.rank, declared.line.Line.TheVariants.Rank}
 use Rattle.chess_bits.proofs.bits.Bits.way.Goals as goal
 
 pub returns : goal.returns

@@ -1,7 +1,6 @@
 use Rattle.std.proofs.Common.{◌≡◌, ℕ, ◌<◌, ◌&&◌, not, refl, sym, ◌∙◌}
 use Rattle.std.proofs.lemmas.Bool.{and_parts, not-true}
-use Rattle.chess_base.specs.Men.{man_at, is_man}
-use Rattle.chess_base.specs.declared.man.Kind.TheVariants.{Pawn}
+use Rattle.chess_base.specs.{Men.man_at, Men.is_man, declared.man.Kind.TheVariants.Pawn}
 use Rattle.chess_moves.specs.Sets.{contains}
 use Rattle.chess_bits.specs.ties.Goes.{goes_specially}
 use Rattle.chess_bits.proofs.bits.Bits.without_special_pawns.Goals as goal

@@ -1,6 +1,5 @@
 use Rattle.std.proofs.lemmas.List.Elements.{filter_passes}
-use Rattle.chess_base.specs.Moves.{is_legal}
-use Rattle.chess_base.specs.MoveList.{moves, all_moves}
+use Rattle.chess_base.specs.{Moves.is_legal, MoveList.moves, MoveList.all_moves}
 use Rattle.chess_bits.proofs.bits.BitsBoard.legal_moves.Goals as goal
 
 pub returns-clause-legal : goal.returns-clause-legal

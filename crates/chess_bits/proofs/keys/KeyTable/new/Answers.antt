@@ -1,6 +1,5 @@
 -- The entry that is written is the key of its number, and those below stay.
-use Rattle.std.proofs.Common.{arith, ◌∙◌, length-set}
-use Rattle.std.proofs.lemmas.List.Edits.{fill_by_more}
+use Rattle.std.proofs.{Common.arith, Common.◌∙◌, Common.length-set, lemmas.List.Edits.fill_by_more}
 use Rattle.chess_moves.specs.PositionHash.{key}
 use Rattle.chess_bits.proofs.keys.KeyTable.new.Goals as goal
 

@@ -1,7 +1,6 @@
 -- A piece attacks a square just where one of its kind on that square would attack it back, a pawn where one of the
 -- other colour would (attackers_are of Attackers).
-use Rattle.chess_base.specs.Men.{man_at}
-use Rattle.chess_base.specs.Attacks.{attacks}
+use Rattle.chess_base.specs.{Men.man_at, Attacks.attacks}
 use Rattle.chess_base.specs.declared.man.Kind.TheVariants.{King, Queen, Rook, Bishop, Knight, Pawn}
 use Rattle.chess_bits.proofs.Attackers.{attackers_are, open_is_clear}
 use Rattle.chess_bits.proofs.kinds.Kinds.attackers.Goals as goal

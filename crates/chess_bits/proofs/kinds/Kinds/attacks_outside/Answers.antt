@@ -1,7 +1,6 @@
 -- On a square that doesn't change the sets give the piece there later, and on one that does there is no such piece
 -- (left_out of KindSets).
-use Rattle.chess_bits.proofs.Attackers.{attacked_is}
-use Rattle.chess_bits.proofs.KindSets.{left_out}
+use Rattle.chess_bits.proofs.{Attackers.attacked_is, KindSets.left_out}
 use Rattle.chess_bits.proofs.kinds.Kinds.attacks_outside.Goals as goal
 
 pub returns : goal.returns

@@ -1,7 +1,6 @@
 -- The square leaves the kind's set and that of all (lift_kinds of KindSets, all_lift of BoardSets).
 use Rattle.std.proofs.Common.{rules, refl, ◌∙◌}
-use Rattle.chess_bits.proofs.BoardSets.{all_lift}
-use Rattle.chess_bits.proofs.KindSets.{lift_kinds}
+use Rattle.chess_bits.proofs.{BoardSets.all_lift, KindSets.lift_kinds}
 use Rattle.chess_bits.proofs.kinds.Kinds.lift.Goals as goal
 
 pub returns-clause-kinds : goal.returns-clause-kinds

@@ -1,7 +1,6 @@
 -- The square comes into the kind's set and that of all (put_kinds of KindSets, all_put of BoardSets).
 use Rattle.std.proofs.Common.{rules, refl, ◌∙◌}
-use Rattle.chess_bits.proofs.BoardSets.{all_put}
-use Rattle.chess_bits.proofs.KindSets.{put_kinds}
+use Rattle.chess_bits.proofs.{BoardSets.all_put, KindSets.put_kinds}
 use Rattle.chess_bits.proofs.kinds.Kinds.put.Goals as goal
 
 pub returns-clause-kinds : goal.returns-clause-kinds

@@ -1,8 +1,7 @@
 -- The square is taken out of the kind's set and that of all, and the other one put in (shift_kinds of KindSets,
 -- all_lift and all_put of BoardSets).
 use Rattle.std.proofs.Common.{◌∙◌, None, length-set, rules, refl, slice_set}
-use Rattle.chess_bits.proofs.BoardSets.{all_lift, all_put}
-use Rattle.chess_bits.proofs.KindSets.{shift_kinds}
+use Rattle.chess_bits.proofs.{BoardSets.all_lift, BoardSets.all_put, KindSets.shift_kinds}
 use Rattle.chess_bits.proofs.kinds.Kinds.shift.Goals as goal
 
 pub returns-clause-kinds : goal.returns-clause-kinds

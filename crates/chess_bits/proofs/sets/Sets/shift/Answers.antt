@@ -1,8 +1,7 @@
 -- The piece's square leaves the sets of its colour and the other comes into them; no set of the other colour gets or
 -- loses one (BoardSets).
 use Rattle.std.proofs.Common.{◌≡◌, slice_set, length, length-set, Some, None, refl, sym, ◌∙◌, subst}
-use Rattle.chess_base.specs.declared.man.Colour.TheVariants.{White, Black}
-use Rattle.chess_base.specs.Men.{man_at}
+use Rattle.chess_base.specs.{declared.man.Colour.TheVariants.White, declared.man.Colour.TheVariants.Black, Men.man_at}
 use Rattle.chess_bits.specs.ties.KindSets.{IsKinds}
 use Rattle.chess_bits.proofs.BoardSets.{kinds_kept, all_kept, none_of, theirs_at, theirs_of, own_of, as_own, still_empty}
 use Rattle.chess_moves.proofs.shared.PositionHash.{hash_put, hash_lifted}

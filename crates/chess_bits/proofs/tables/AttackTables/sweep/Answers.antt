@@ -2,8 +2,7 @@
 -- (swept_to of Blockers).
 use Rattle.std.proofs.Common.{◌≡◌, ℕ, ◌<◌, ◌&&◌, ap, ◌∙◌}
 use Rattle.chess_moves.specs.Sets.{contains}
-use Rattle.chess_bits.specs.ties.Shapes.{in_shape}
-use Rattle.chess_bits.specs.ties.Rays.{is_on_ray}
+use Rattle.chess_bits.specs.{ties.Shapes.in_shape, ties.Rays.is_on_ray}
 use Rattle.chess_bits.proofs.Blockers.{swept_to}
 use Rattle.chess_bits.proofs.tables.AttackTables.sweep.Goals as goal
 

@@ -1,10 +1,8 @@
 -- A line that is answered by the legal moves or by the game's text has a row of its own: the text is the answer,
 -- nothing changes, and it is no quit (OwnRows.by_moves, OwnRows.by_pgn). The text of all other answers is put together
 -- by `obey_line`.
-use Rattle.std.proofs.Common.{◌∙◌}
-use Rattle.std.proofs.lemmas.Result.{err_from_is_err_and}
-use Rattle.chess_cecp.proofs.OwnRows.{by_moves, by_pgn, text_go}
-use Rattle.chess_cecp.proofs.Rows.{refused, tags_and_limit_stay}
+use Rattle.std.proofs.{Common.◌∙◌, lemmas.Result.err_from_is_err_and}
+use Rattle.chess_cecp.proofs.{OwnRows.by_moves, OwnRows.by_pgn, OwnRows.text_go, Rows.refused, Rows.tags_and_limit_stay}
 use Rattle.chess_cecp.proofs.session.Session.answer.Goals as goal
 
 pub returns-in_err-send-in-Text-clause-refused : goal.returns-in_err-send-in-Text-clause-refused

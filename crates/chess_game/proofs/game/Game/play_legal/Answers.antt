@@ -2,16 +2,10 @@
 -- so its played move follows there (added of Kept). The game was not over, so no verdict came before this one
 -- (unended_more of Judged), nor was it full, so there is room (room of Kept).
 use Rattle.std.proofs.Common.{◌≡◌, ◌<◌, ◌-◌, ◌++◌, ◌∷◌, [], false, is_err, length, List, refl, sym, ap, subst, ◌∙◌, arith}
-use Rattle.chess_base.specs.declared.man.Move.{Move}
-use Rattle.chess_base.specs.declared.setup.Saved.{Saved}
-use Rattle.chess_game.specs.Game.{is_over, is_full}
-use Rattle.chess_game.specs.ties.Buckets.{IsIndexed}
-use Rattle.chess_game.specs.ties.PlayedMoves.{moves_of, IsKept}
-use Rattle.chess_game.specs.declared.game.PlayedMove.{PlayedMove}
-use Rattle.chess_game.specs.declared.repetition.Hashed.{Hashed}
+use Rattle.chess_base.specs.{declared.man.Move.Move, declared.setup.Saved.Saved}
+use Rattle.chess_game.specs.{Game.is_over, Game.is_full, ties.Buckets.IsIndexed, ties.PlayedMoves.moves_of, ties.PlayedMoves.IsKept, declared.game.PlayedMove.PlayedMove, declared.repetition.Hashed.Hashed}
 use Rattle.chess_game.proofs.Kept.{added, made_at_end, hashes_more, pushed_last, split_last, with_entry, shown_more, room}
-use Rattle.chess_game.proofs.Judged.{unended_more, no_verdict}
-use Rattle.chess_game.proofs.Playable.{may_play}
+use Rattle.chess_game.proofs.{Judged.unended_more, Judged.no_verdict, Playable.may_play}
 use Rattle.chess_game.proofs.game.Game.play_legal.Goals as goal
 
 pub make-saved-requires : goal.make-saved-requires

@@ -1,9 +1,7 @@
 -- Each move that is kept was made in the position before it, so the moves are a line (kept_line of Kept); what else
 -- makes a game playable is its invariant.
-use Rattle.std.proofs.Common.{◌≡◌, length, arith}
-use Rattle.std.proofs.lemmas.List.{length-map}
-use Rattle.chess_game.specs.ties.PlayedMoves.{moves_of}
-use Rattle.chess_game.specs.declared.game.PlayedMove.{PlayedMove}
+use Rattle.std.proofs.{Common.◌≡◌, Common.length, Common.arith, lemmas.List.length-map}
+use Rattle.chess_game.specs.{ties.PlayedMoves.moves_of, declared.game.PlayedMove.PlayedMove}
 use Rattle.chess_game.proofs.Kept.{kept_line}
 use Rattle.chess_game.proofs.game.Game.position.Goals as goal
 

@@ -2,9 +2,7 @@
 -- they reach.
 use Rattle.std.proofs.Common.{List, take, sym, ap, subst, ◌∙◌}
 use Rattle.std.proofs.lemmas.List.{take-map}
-use Rattle.chess_game.specs.Line.{position_after}
-use Rattle.chess_game.specs.ties.PlayedMoves.{moves_of, Follows}
-use Rattle.chess_game.specs.declared.game.PlayedMove.{PlayedMove}
+use Rattle.chess_game.specs.{Line.position_after, ties.PlayedMoves.moves_of, ties.PlayedMoves.Follows, declared.game.PlayedMove.PlayedMove}
 use Rattle.chess_game.proofs.Kept.{follows_take}
 use Rattle.chess_game.proofs.game.Game.position_at.Goals as goal
 

@@ -1,12 +1,8 @@
 -- The last played move holds the position that its move left, so the board goes back to that one (taken of Kept). No
 -- verdict came before the last move, so none before the one that is now the last (unended_fewer of Judged).
 use Rattle.std.proofs.Common.{List, sym, ap, subst, ◌∙◌, arith}
-use Rattle.chess_game.specs.Line.{position_after}
-use Rattle.chess_game.specs.ties.Buckets.{IsIndexed}
-use Rattle.chess_game.specs.ties.PlayedMoves.{moves_of, Follows}
-use Rattle.chess_game.specs.declared.game.PlayedMove.{PlayedMove}
-use Rattle.chess_game.proofs.Kept.{taken, fewer, hashes_fewer}
-use Rattle.chess_game.proofs.Judged.{unended_fewer, last_is}
+use Rattle.chess_game.specs.{Line.position_after, ties.Buckets.IsIndexed, ties.PlayedMoves.moves_of, ties.PlayedMoves.Follows, declared.game.PlayedMove.PlayedMove}
+use Rattle.chess_game.proofs.{Kept.taken, Kept.fewer, Kept.hashes_fewer, Judged.unended_fewer, Judged.last_is}
 use Rattle.chess_game.proofs.game.Game.take_back.Goals as goal
 
 pub take_back-requires : goal.take_back-requires

@@ -1,7 +1,6 @@
 -- Going back, each played move's link becomes the head of its bucket (heads_back of Indexed), and at last the start's
 -- bucket is empty (cleared).
-use Rattle.std.proofs.Common.{◌∙◌, ap, length, refl, arith}
-use Rattle.std.proofs.lemmas.List.{length-set}
+use Rattle.std.proofs.Common.{◌∙◌, ap, length, refl, arith, length-set}
 use Rattle.chess_game.specs.ties.Buckets.{bucket}
 use Rattle.chess_game.proofs.Indexed.{heads_back, cleared}
 use Rattle.chess_game.proofs.index.Index.clear.Goals as goal

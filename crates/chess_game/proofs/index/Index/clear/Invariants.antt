@@ -1,6 +1,5 @@
 use Rattle.std.proofs.Common.{◌≡◌, ◌≤◌, length, suc}
-use Rattle.chess_game.specs.ties.Buckets.{HaveHeads}
-use Rattle.chess_game.specs.declared.index.TheConstants.{BUCKETS}
+use Rattle.chess_game.specs.{ties.Buckets.HaveHeads, declared.index.TheConstants.BUCKETS}
 use Rattle.chess_game.proofs.index.Index.clear.Given as goal
 
 -- the heads are those of the start and the played moves that are left

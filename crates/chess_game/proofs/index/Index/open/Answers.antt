@@ -1,6 +1,5 @@
 -- Each head is 0.
-use Rattle.std.proofs.Common.{ℕ, subst, sym}
-use Rattle.std.proofs.lemmas.List.{get_or-replicate, length-replicate}
+use Rattle.std.proofs.{Common.ℕ, Common.subst, Common.sym, lemmas.List.get_or-replicate, lemmas.List.length-replicate}
 use Rattle.chess_game.specs.ties.Buckets.{IsEmpty}
 use Rattle.chess_game.proofs.index.Index.open.Goals as goal
 

@@ -1,6 +1,5 @@
 -- The clock was read.
-use Rattle.chess_match.proofs.AtDesk.{clock_moves}
-use Rattle.chess_match.proofs.ClockAsked.{asked_one}
+use Rattle.chess_match.proofs.{AtDesk.clock_moves, ClockAsked.asked_one}
 use Rattle.chess_match.proofs.desk.DeskMatchTable.moment.Goals as goal
 
 pub returns-clause-passes : goal.returns-clause-passes

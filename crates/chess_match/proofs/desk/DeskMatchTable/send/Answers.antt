@@ -1,9 +1,7 @@
 -- The text was written and flushed at one pipe, or a call failed; the others stay as they were.
-use Rattle.std.proofs.Common.{refl}
-use Rattle.std.specs.Result.{is_err}
+use Rattle.std.proofs.Common.{refl, is_err}
 use Rattle.chess_base.specs.declared.man.Colour.TheVariants.{White, Black}
-use Rattle.chess_match.proofs.AtDesk.{send_moves}
-use Rattle.chess_match.proofs.SentNow.{sent_now}
+use Rattle.chess_match.proofs.{AtDesk.send_moves, SentNow.sent_now}
 use Rattle.chess_match.proofs.desk.DeskMatchTable.send.Goals as goal
 
 pub returns-in-White-clause-passes : goal.returns-in-White-clause-passes

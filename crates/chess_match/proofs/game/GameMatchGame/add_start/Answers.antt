@@ -1,7 +1,6 @@
 -- The start that is sent is that of the rules, and its line is put in three parts.
 use Rattle.std.proofs.Common.{◌≡◌, ℕ, List, [], ◌∷◌, ◌++◌, ap, sym, ◌∙◌, append_assoc, Some}
-use Rattle.chess_match.specs.Rules.{Rules, start_fen}
-use Rattle.chess_match.specs.Lines.{bytes_of}
+use Rattle.chess_match.specs.{Rules.Rules, Rules.start_fen, Lines.bytes_of}
 use Rattle.chess_match.proofs.game.GameMatchGame.add_start.Goals as goal
 
 in_parts : (items front text : List ℕ) → ((items ++ front) ++ text) ++ 10 ∷ [] ≡ items ++ ((front ++ text) ++ 10 ∷ [])

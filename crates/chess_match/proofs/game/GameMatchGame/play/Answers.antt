@@ -1,16 +1,12 @@
 -- The move is legal, so it can be written before it is played; its mark is that of the position that it gives
 -- (LastMoves.texts_of_last).
 use Rattle.std.proofs.Common.{◌≡◌, List, [], ◌∷◌, ◌++◌, ap, sym, ◌∙◌}
-use Rattle.chess_base.specs.declared.man.Move.{Move}
-use Rattle.chess_base.specs.declared.setup.Setup.{Setup}
-use Rattle.chess_base.specs.Moves.{after}
+use Rattle.chess_base.specs.{declared.man.Move.Move, declared.setup.Setup.Setup, Moves.after}
 use Rattle.chess_game.specs.Game as game
 use Rattle.chess_game.specs.Game.{current}
 use Rattle.chess_text.specs.San.{check_mark, san, shown_move}
-use Rattle.chess_match.specs.Rules.{Rules}
-use Rattle.chess_match.specs.Rules.{text_of_last}
-use Rattle.chess_match.proofs.LastMoves.{texts_of_last}
-use Rattle.chess_match.proofs.Playing.{legal_read, playable}
+use Rattle.chess_match.specs.Rules.{Rules, text_of_last}
+use Rattle.chess_match.proofs.{LastMoves.texts_of_last, Playing.legal_read, Playing.playable}
 use Rattle.chess_match.proofs.game.GameMatchGame.play.Goals as goal
 
 pub play_legal-requires : goal.play_legal-requires

@@ -1,11 +1,8 @@
 -- The core and its game stand for the match, and so does what each row of the definition leaves; the side's clock knows
 -- its moves, and so the number of the ping that it is to answer (CoreSteps.clocks_moves).
-use Rattle.std.proofs.Common.{◌≡◌, true, false, ◌∙◌, ap, arith, length, eq-eqb, ne_eqb}
-use Rattle.std.specs.Prelude.{◌==◌}
-use Rattle.chess_match.specs.Acts.{is_over}
-use Rattle.chess_match.specs.Effects.{ping_number}
-use Rattle.chess_match.proofs.CoreSteps.{clocks_moves}
-use Rattle.chess_match.proofs.OtherLines.{after_other}
+use Rattle.std.proofs.Common.{◌≡◌, true, false, ◌∙◌, ap, arith, length, eq-eqb, ne_eqb, ◌==◌}
+use Rattle.chess_match.specs.{Acts.is_over, Effects.ping_number}
+use Rattle.chess_match.proofs.{CoreSteps.clocks_moves, OtherLines.after_other}
 use Rattle.chess_match.proofs.state.MatchState.after_line.Goals as goal
 
 pub returns-in-Move : goal.returns-in-Move

@@ -1,10 +1,8 @@
 -- The clock and the opening's moment are those of the match (CoreSteps.clocks_left), so the flag falls here where it
 -- falls there. In time, `move_line` and `turn_line` go on as the table says for the line.
 use Rattle.std.proofs.Common.{◌-◌, ap}
-use Rattle.chess_match.specs.Acts.{is_over}
-use Rattle.chess_match.specs.Effects.{awaited_since}
-use Rattle.chess_match.proofs.CoreSteps.{flag_kept}
-use Rattle.chess_match.proofs.OtherLines.{before_other}
+use Rattle.chess_match.specs.{Acts.is_over, Effects.awaited_since}
+use Rattle.chess_match.proofs.{CoreSteps.flag_kept, OtherLines.before_other}
 use Rattle.chess_match.proofs.state.MatchState.before_line.Goals as goal
 
 pub returns-then-is_flagged-clause-goes : goal.returns-then-is_flagged-clause-goes

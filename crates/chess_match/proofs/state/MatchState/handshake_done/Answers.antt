@@ -1,8 +1,7 @@
 -- What is kept of an engine is what its items say, so the same is missing: White is judged first, then Black.
 use Rattle.std.proofs.Common.{◌≡◌, sym, ◌∙◌, ap, Some, None}
 use Rattle.chess_base.specs.declared.man.Colour.TheVariants.{White, Black}
-use Rattle.chess_match.specs.Acts.{is_over}
-use Rattle.chess_match.specs.Effects.{is_owed_move, missing}
+use Rattle.chess_match.specs.{Acts.is_over, Effects.is_owed_move, Effects.missing}
 use Rattle.chess_match.proofs.CoreSteps.{recounted}
 use Rattle.chess_match.proofs.state.MatchState.handshake_done.Goals as goal
 

@@ -1,13 +1,10 @@
 -- With the line's items parsed, the core stands for the match that parsed them. What comes next is sent after the
 -- answers (CoreSteps.answered_goes).
-use Rattle.std.proofs.Common.{◌≡◌, ◌+◌, true, false, sym, ap, arith, le-leb}
+use Rattle.std.proofs.Common.{◌≡◌, ◌+◌, true, false, sym, ap, arith, le-leb, nat_le}
 use Rattle.std.specs.List.{list_any}
 use Rattle.std.proofs.lemmas.Bool.{lt-leb}
-use Rattle.std.specs.Prelude.{nat_le}
-use Rattle.cecp_engine.specs.Items.{ends_handshake}
-use Rattle.cecp_engine.specs.Seen.{seen}
-use Rattle.chess_match.specs.Acts.{is_over}
-use Rattle.chess_match.specs.laws.Laws.{items_in_line}
+use Rattle.cecp_engine.specs.{Items.ends_handshake, Seen.seen}
+use Rattle.chess_match.specs.{Acts.is_over, laws.Laws.items_in_line}
 use Rattle.chess_match.proofs.CoreSteps.{answered_goes, counted_goes}
 use Rattle.chess_match.proofs.state.MatchState.handshake_line.Goals as goal
 

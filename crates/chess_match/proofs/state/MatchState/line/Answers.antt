@@ -2,8 +2,7 @@
 -- an opening or at the end no line is read.
 use Rattle.std.proofs.Common.{ap, ◌∙◌}
 use Rattle.chess_match.specs.ties.Represents.{phase_of}
-use Rattle.chess_match.proofs.CoreSteps.{row_goes, shaken_goes}
-use Rattle.chess_match.proofs.Sends.{answers_own}
+use Rattle.chess_match.proofs.{CoreSteps.row_goes, CoreSteps.shaken_goes, Sends.answers_own}
 use Rattle.chess_match.proofs.state.MatchState.line.Goals as goal
 
 pub returns-in-Handshake-clause-goes : goal.returns-in-Handshake-clause-goes

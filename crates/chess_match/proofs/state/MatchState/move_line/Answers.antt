@@ -1,11 +1,8 @@
 -- The moves of the game are those of the match, so both find the game full, the text illegal or the match over by its position. A move
 -- that is played leaves a core that stands for the match with that move (CoreSteps.moved_stands).
-use Rattle.std.proofs.Common.{◌≡◌, ◌∙◌, ap, [], ◌∷◌, ◌++◌, true, false, refl, sym, Some, None, length}
-use Rattle.std.specs.Prelude.{nat_le}
-use Rattle.chess_match.specs.Effects.{moved, over_by_position}
-use Rattle.chess_match.specs.declared.state.MatchState.{MatchState}
-use Rattle.chess_match.proofs.CoreSteps.{moved_stands, over_by_goes, pinged_goes}
-use Rattle.chess_match.proofs.OtherLines.{illegal_move}
+use Rattle.std.proofs.Common.{◌≡◌, ◌∙◌, ap, [], ◌∷◌, ◌++◌, true, false, refl, sym, Some, None, length, nat_le}
+use Rattle.chess_match.specs.{Effects.moved, Effects.over_by_position, declared.state.MatchState.MatchState}
+use Rattle.chess_match.proofs.{CoreSteps.moved_stands, CoreSteps.over_by_goes, CoreSteps.pinged_goes, OtherLines.illegal_move}
 use Rattle.chess_match.proofs.state.MatchState.move_line.Goals as goal
 use Rattle.chess_game.specs.Line.{position_after}
 use Rattle.chess_text.specs.Moves.{reading}

@@ -1,10 +1,8 @@
 -- The open offers are those of the match, and what is kept of the other engine says whether it takes draws, so
 -- that it is sent a new offer exactly where the match says so (CoreSteps.offered_goes).
-use Rattle.std.proofs.Common.{◌≡◌, true, false, ◌∙◌, ap}
-use Rattle.std.specs.Prelude.{codes}
+use Rattle.std.proofs.Common.{◌≡◌, true, false, ◌∙◌, ap, codes}
 use Rattle.chess_base.specs.Men.{other}
-use Rattle.cecp_engine.specs.Items.{takes}
-use Rattle.cecp_engine.specs.declared.features.Features.{Features}
+use Rattle.cecp_engine.specs.{Items.takes, declared.features.Features.Features}
 use Rattle.chess_match.proofs.CoreSteps.{features-draw, kept, offered_goes}
 use Rattle.chess_match.proofs.state.MatchState.offer.Goals as goal
 

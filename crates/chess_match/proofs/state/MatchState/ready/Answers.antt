@@ -1,8 +1,7 @@
 -- The game and its position are those of the match: after White's setup comes Black's, and after that the end by the
 -- start or the turn of the side on move there.
 use Rattle.std.proofs.Common.{◌≡◌, ap, sym, ◌∙◌, Some, None}
-use Rattle.chess_match.specs.Acts.{is_over}
-use Rattle.chess_match.specs.Effects.{is_owed_move, over_by_position}
+use Rattle.chess_match.specs.{Acts.is_over, Effects.is_owed_move, Effects.over_by_position}
 use Rattle.chess_match.proofs.CoreSteps.{first_opens, over_by_goes}
 use Rattle.chess_match.proofs.state.MatchState.ready.Goals as goal
 

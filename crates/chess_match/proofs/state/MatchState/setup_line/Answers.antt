@@ -1,8 +1,6 @@
 -- Only the answer to `ping 1` makes the side ready; any other line is ignored.
-use Rattle.std.proofs.Common.{◌≡◌, true, false, ap, eq-eqb, ne_eqb}
-use Rattle.std.specs.Prelude.{◌==◌}
-use Rattle.chess_match.specs.Acts.{is_over}
-use Rattle.chess_match.specs.Effects.{awaited_since}
+use Rattle.std.proofs.Common.{◌≡◌, true, false, ap, eq-eqb, ne_eqb, ◌==◌}
+use Rattle.chess_match.specs.{Acts.is_over, Effects.awaited_since}
 use Rattle.chess_match.proofs.OtherLines.{setup_other}
 use Rattle.chess_match.proofs.state.MatchState.setup_line.Goals as goal
 

@@ -2,11 +2,8 @@
 use Rattle.std.proofs.Common.{ap, sym, ◌∙◌}
 use Rattle.chess_base.specs.declared.man.Colour.{Colour}
 use Rattle.chess_base.proofs.shared.Men.{same_colour-true}
-use Rattle.chess_match.specs.Acts.{awaits_line, is_over}
-use Rattle.chess_match.specs.Effects.{BeforeMove, Phase}
-use Rattle.chess_match.specs.ties.Represents.{phase_of}
-use Rattle.chess_match.proofs.CoreSteps.{owed_goes, silence_goes}
-use Rattle.chess_match.proofs.shared.MatchCases.{on_when_read}
+use Rattle.chess_match.specs.{Acts.awaits_line, Acts.is_over, Effects.BeforeMove, Effects.Phase, ties.Represents.phase_of}
+use Rattle.chess_match.proofs.{CoreSteps.owed_goes, CoreSteps.silence_goes, shared.MatchCases.on_when_read}
 use Rattle.chess_match.proofs.state.MatchState.silent.Goals as goal
 
 pub returns-in-Handshake : goal.returns-in-Handshake

@@ -1,10 +1,8 @@
 -- A `feature` line's items are taken over, and the time for the next one runs from it; taking over none leaves what the
 -- core stands for (CoreSteps.no_items_stand).
 use Rattle.std.proofs.Common.{ℕ, [], ◌++◌, Option, subst, sym}
-use Rattle.chess_match.specs.Effects.{awaited_since, with_seat}
-use Rattle.chess_match.specs.ties.Represents.{Represents}
-use Rattle.chess_match.proofs.CoreSteps.{no_items_stand}
-use Rattle.chess_match.proofs.OtherLines.{no_items_said, uncounted}
+use Rattle.chess_match.specs.{Effects.awaited_since, Effects.with_seat, ties.Represents.Represents}
+use Rattle.chess_match.proofs.{CoreSteps.no_items_stand, OtherLines.no_items_said, OtherLines.uncounted}
 use Rattle.chess_match.proofs.state.MatchState.take_line_items.Goals as goal
 
 pub returns-in-Features-clause-taken : goal.returns-in-Features-clause-taken

@@ -1,10 +1,8 @@
 -- The game's claim, the offers and the count of moves are those of the match that core and game stand for, so each
 -- kind of line has here the row that it has there.
-use Rattle.std.proofs.Common.{◌≡◌, true, false, sym, ◌∙◌, Some, None, arith, length, lt-ltb, le-ltb}
-use Rattle.std.specs.Prelude.{nat_lt}
+use Rattle.std.proofs.Common.{◌≡◌, true, false, sym, ◌∙◌, Some, None, arith, length, lt-ltb, le-ltb, nat_lt}
 use Rattle.chess_base.specs.Men.{other, same_colour}
-use Rattle.chess_match.proofs.CoreSteps.{clocks_moves}
-use Rattle.chess_match.proofs.OtherLines.{ignored_other}
+use Rattle.chess_match.proofs.{CoreSteps.clocks_moves, OtherLines.ignored_other}
 use Rattle.chess_match.proofs.state.MatchState.turn_line.Goals as goal
 use Rattle.chess_game.specs.Ends.{claims, draw_claim}
 

@@ -1,6 +1,5 @@
 -- The SAN of a legal move is ASCII (san_is_ascii of SanAscii).
-use Rattle.std.proofs.Common.{subst, sym}
-use Rattle.std.specs.Str.{IsAscii}
+use Rattle.std.proofs.Common.{subst, sym, IsAscii}
 use Rattle.chess_text.proofs.SanAscii.{san_is_ascii}
 use Rattle.chess_text.proofs.san_text.San.of.Goals as goal
 

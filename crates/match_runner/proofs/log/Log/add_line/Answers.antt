@@ -1,8 +1,7 @@
 -- The line was logged, and nothing of it waits.
 use Rattle.std.proofs.Common.{Bool, [], ◌∷◌, ◌++◌, map, subst}
 use Rattle.byte_devices.specs.Bytes.{new_line, shown_byte}
-use Rattle.match_runner.specs.Log.{Logged, log_seen}
-use Rattle.match_runner.specs.ties.Logging.{line_head}
+use Rattle.match_runner.specs.{Log.Logged, Log.log_seen, ties.Logging.line_head}
 use Rattle.match_runner.proofs.Logged.{line_logged}
 use Rattle.match_runner.proofs.log.Log.add_line.Goals as goal
 

@@ -1,9 +1,8 @@
 -- At first nothing was logged; then a line more, and again.
-use Rattle.std.proofs.Common.{◌≡◌, ℕ, List, [], ◌++◌, ◌∙◌, length, refl, subst, sym, true}
-use Rattle.std.specs.Prelude.{◌==◌}
+use Rattle.std.proofs.Common.{◌≡◌, ℕ, List, [], ◌++◌, ◌∙◌, length, refl, subst, sym, true, ◌==◌}
 use Rattle.byte_devices.specs.Bytes.{byte}
 use Rattle.chess_base.specs.declared.man.Colour.{Colour}
-use Rattle.match_runner.specs.Log.{Logged, log_line, log_seen}
+use Rattle.match_runner.specs.Log.{Logged, engine_name, log_line, log_seen}
 use Rattle.match_runner.proofs.Logged.{given_all, given_more, logged_more, logs_none}
 use Rattle.match_runner.proofs.log.Log.note_given.Goals as goal
 
@@ -23,7 +22,7 @@ loop-rest-preserved g c =
     let old = log_seen (g.E.Output.seen c.args.self.now.output) c.args.self.now.broken in
     let mid = log_seen (g.E.Output.seen c.loop-rest.self.output) c.loop-rest.self.broken in
     let new = log_seen (g.E.Output.seen c.add_line.new.self.output) c.add_line.new.self.broken in
-    let text = λ (m : ℕ) (f : Colour). log_line f m (byte ">") c.args.side line in (
+    let text = λ (m : ℕ) (f : Colour). log_line m (byte ">") (engine_name f c.args.side) line in (
       done ++ text c.args.self.now.moment c.args.self.now.first,
       logged_more old mid new done (text c.args.self.now.moment c.args.self.now.first) logged
           (subst (λ (m : ℕ). Logged mid new (text m c.args.self.now.first)) moment

@@ -1,10 +1,8 @@
 -- The line was logged, if the engine was killed; otherwise nothing was.
-use Rattle.std.proofs.Common.{ℕ, Bool, List, ◌++◌, subst, sym}
-use Rattle.std.specs.Prelude.{codes, decimal}
+use Rattle.std.proofs.Common.{ℕ, Bool, List, ◌++◌, subst, sym, codes, decimal}
 use Rattle.chess_base.specs.Options.{list_if}
 use Rattle.chess_match.specs.Reasons.{colour_name}
-use Rattle.match_runner.specs.Games.{killed_line}
-use Rattle.match_runner.specs.Log.{Logged, log_seen}
+use Rattle.match_runner.specs.{Games.killed_line, Log.Logged, Log.log_seen}
 use Rattle.match_runner.proofs.Logged.{line_logged, logs_none}
 use Rattle.match_runner.proofs.log.Log.note_if_killed.Goals as goal
 

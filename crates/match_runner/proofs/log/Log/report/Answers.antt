@@ -1,6 +1,5 @@
 -- The line was written, and nothing of it waits.
-use Rattle.std.proofs.Common.{List, ℕ, ◌++◌}
-use Rattle.std.specs.Prelude.{codes}
+use Rattle.std.proofs.Common.{List, ℕ, ◌++◌, codes}
 use Rattle.match_runner.specs.Games.{fault_text}
 use Rattle.match_runner.proofs.Logged.{line_logged}
 use Rattle.match_runner.proofs.log.Log.report.Goals as goal

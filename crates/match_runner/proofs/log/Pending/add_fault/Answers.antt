@@ -1,6 +1,5 @@
 -- The command of the engine that can't be started.
-use Rattle.std.proofs.Common.{List, ℕ, ◌++◌, ap}
-use Rattle.std.specs.Prelude.{codes}
+use Rattle.std.proofs.Common.{List, ℕ, ◌++◌, ap, codes}
 use Rattle.match_runner.proofs.Logged.{adds_as, adds_more}
 use Rattle.match_runner.proofs.log.Pending.add_fault.Goals as goal
 

@@ -1,6 +1,5 @@
 -- The number, the mark, and which engine.
-use Rattle.std.proofs.Common.{ℕ, List, [], ◌∷◌, ◌++◌, ap}
-use Rattle.std.specs.Prelude.{decimal}
+use Rattle.std.proofs.Common.{ℕ, List, [], ◌∷◌, ◌++◌, ap, decimal}
 use Rattle.match_runner.proofs.Logged.{adds_as, adds_more}
 use Rattle.match_runner.proofs.log.Pending.add_head.Goals as goal
 

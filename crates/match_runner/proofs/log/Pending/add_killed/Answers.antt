@@ -1,6 +1,5 @@
 -- The parts of the line, one after another.
-use Rattle.std.proofs.Common.{ℕ, List, [], ◌∷◌, ◌++◌, ap}
-use Rattle.std.specs.Prelude.{codes, decimal}
+use Rattle.std.proofs.Common.{ℕ, List, [], ◌∷◌, ◌++◌, ap, codes, decimal}
 use Rattle.chess_match.specs.Reasons.{colour_name}
 use Rattle.match_runner.proofs.Logged.{adds_as, adds_more}
 use Rattle.match_runner.proofs.log.Pending.add_killed.Goals as goal

@@ -1,6 +1,5 @@
 -- Both engines were started, with their texts, or none.
-use Rattle.std.proofs.Common.{refl}
-use Rattle.std.proofs.lemmas.Result.{err_from_is_err_and}
+use Rattle.std.proofs.{Common.refl, lemmas.Result.err_from_is_err_and}
 use Rattle.match_runner.proofs.MemorySteps.{both_start, none_starts}
 use Rattle.match_runner.proofs.memory_host.MemoryHostHost.start.Goals as goal
 

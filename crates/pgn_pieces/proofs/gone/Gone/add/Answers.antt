@@ -1,9 +1,7 @@
 -- The bytes are kept or counted (Kept.counts_added).
 use Rattle.std.proofs.Common.{◌≡◌, ◌≤◌, ◌+◌, ◌-◌, ◌⊎◌, ◌++◌, length, take, drop, refl, sym, ap, subst, inl, inr, ◌∙◌, arith}
-use Rattle.std.proofs.lemmas.Bool.{cases_lt}
-use Rattle.std.proofs.lemmas.List.{take_rest}
-use Rattle.pgn_pieces.specs.Places.{line_ends}
-use Rattle.pgn_pieces.specs.ties.Held.{SameCounts}
+use Rattle.std.proofs.{lemmas.Bool.cases_lt, lemmas.List.take_rest}
+use Rattle.pgn_pieces.specs.{Places.line_ends, ties.Held.SameCounts}
 use Rattle.pgn_pieces.proofs.Kept.{known, counts_added}
 use Rattle.pgn_pieces.proofs.gone.Gone.add.Goals as goal
 

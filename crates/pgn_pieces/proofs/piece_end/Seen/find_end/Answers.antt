@@ -1,6 +1,5 @@
 -- Each way on is a lemma of proofs/SeenLines.
-use Rattle.std.proofs.Common.{arith}
-use Rattle.std.proofs.lemmas.List.{take_rest}
+use Rattle.std.proofs.{Common.arith, lemmas.List.take_rest}
 use Rattle.pgn_pieces.proofs.SeenLines.{look_on, look_ends, look_waits, look_all}
 use Rattle.pgn_pieces.proofs.piece_end.Seen.find_end.Goals as goal
 

@@ -1,11 +1,8 @@
 -- Each way out is a lemma of proofs/SeenLines.
 use Rattle.std.proofs.Common.{refl, sym, ◌∙◌, arith}
-use Rattle.std.proofs.lemmas.Bool.{not-true, not-false}
-use Rattle.pgn_pieces.specs.ties.Held.{IsDecided}
-use Rattle.pgn_pieces.proofs.LineKinds.{decided_long, decided_tag}
+use Rattle.pgn_pieces.proofs.LineKinds.{decided_long}
 use Rattle.pgn_pieces.proofs.SeenLines.{open_inside, open_ends, open_waits, open_comes}
 use Rattle.pgn_pieces.proofs.piece_end.Seen.see_open.Goals as goal
-use Rattle.pgn_pieces.proofs.piece_end.Seen.see_open.Goals.{else-not-kind-via-then-not-kind+else-line-lt-FRONT_LEN, else-not-kind-via-else-not-kind}
 
 pub returns-then-self : goal.returns-then-self
 returns-then-self c = (
@@ -25,20 +22,17 @@ returns-then-line-lt-FRONT_LEN c = (
   refl,
   λ piece h. (let k = c.kind_of-kind.ensures in
       open_waits c.args.self.now c.if-self.false c.kind_of-kind.result c.args.line.now k.tag k.event piece h
-      c.requires.plain.1 (not-true c.kind_of-kind.result.is_tag c.if-not-kind.true)),
+      c.requires.plain.1 (sym c.ends_at.ensures ∙ c.if-ends_at.false)),
 )
 
 pub returns : goal.returns
 returns c =
     let k = c.kind_of-kind.ensures in
     let new = c.add.ensures in
-    let told : IsDecided c.args.line.now = elim c.else-not-kind.branch [
-      | else-not-kind-via-then-not-kind+else-line-lt-FRONT_LEN w ↦ let long = w.if-line-lt-FRONT_LEN.false in decided_long c.args.line.now (omega (arith, long))
-      | else-not-kind-via-else-not-kind w ↦ decided_tag c.args.line.now (sym k.tag ∙ not-false c.kind_of-kind.result.is_tag w.if-not-kind.false)
-    ] in (
+    let long = c.if-line-lt-FRONT_LEN.false in (
       c.requires.plain.0,
       omega arith,
       λ piece h. open_comes c.args.self.now c.if-self.false c.kind_of-kind.result c.args.line.now k.tag k.event piece h
           c.add.new.self k.moves (sym c.ends_at.ensures ∙ c.if-ends_at.false) new.moves new.event
-          c.requires.plain.1 told new.inside,
+          c.requires.plain.1 (decided_long c.args.line.now (omega (arith, long))) new.inside,
     )

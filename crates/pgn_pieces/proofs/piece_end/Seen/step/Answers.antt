@@ -1,6 +1,5 @@
 -- The line with which a text begins (PlainLengths.line_of), or all of it (PlainLengths.none_in).
-use Rattle.std.proofs.Common.{◌+◌, drop, sym, subst, ◌∙◌, arith}
-use Rattle.std.proofs.lemmas.List.{length-take-le, take-append-drop}
+use Rattle.std.proofs.Common.{◌+◌, drop, sym, subst, ◌∙◌, arith, length-take-le, take-append-drop}
 use Rattle.pgn_pieces.specs.ties.Held.{Ends}
 use Rattle.pgn_pieces.proofs.PlainLengths.{none_in, line_of}
 use Rattle.pgn_pieces.proofs.piece_end.Seen.step.Goals as goal

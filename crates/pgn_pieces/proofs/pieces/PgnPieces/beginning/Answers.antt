@@ -1,7 +1,6 @@
 -- The first bytes are those that are held, or those that were kept of what was let go.
 use Rattle.std.proofs.Common.{◌≡◌, ◌<◌, ◌++◌, [], length, take, drop, sym, ap, ◌∙◌, arith}
-use Rattle.std.proofs.lemmas.Bool.Decides.{nat_tests}
-use Rattle.std.proofs.lemmas.List.{take-append-le, nil_from_length}
+use Rattle.std.proofs.{lemmas.Bool.Decides.nat_tests, lemmas.List.take-append-le, lemmas.List.nil_from_length}
 use Rattle.pgn_pieces.specs.Stream.{State}
 use Rattle.pgn_pieces.proofs.Kept.{first_held}
 use Rattle.pgn_pieces.proofs.pieces.PgnPieces.beginning.Goals as goal

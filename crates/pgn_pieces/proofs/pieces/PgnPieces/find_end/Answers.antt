@@ -1,7 +1,6 @@
 -- The bytes up to the piece's end are added to it, or those of lines whose kind is known (Views.passed_on).
 use Rattle.std.proofs.Common.{◌+◌, ap, subst, ◌∙◌}
-use Rattle.pgn_pieces.specs.Stream.{State}
-use Rattle.pgn_pieces.specs.ties.Held.{Looks, passed}
+use Rattle.pgn_pieces.specs.{Stream.State, ties.Held.Looks, ties.Held.passed}
 use Rattle.pgn_pieces.proofs.Views.{passed_on, slice_is}
 use Rattle.pgn_pieces.proofs.pieces.PgnPieces.find_end.Goals as goal
 

@@ -1,8 +1,7 @@
 -- The piece is too long, so that only its counts matter (Views.let_gone).
 use Rattle.std.proofs.Common.{◌<◌, ◌+◌, length, subst, arith}
 use Rattle.std.proofs.lemmas.Bool.Decides.{nat_tests}
-use Rattle.pgn_pieces.specs.Stream.{State}
-use Rattle.pgn_pieces.specs.ties.Held.{LetGo}
+use Rattle.pgn_pieces.specs.{Stream.State, ties.Held.LetGo}
 use Rattle.pgn_pieces.proofs.Views.{viewed, let_gone}
 use Rattle.pgn_pieces.proofs.pieces.PgnPieces.let_go.Goals as goal
 use Rattle.pgn_pieces.proofs.pieces.PgnPieces.let_go.Goals.{then-not-is_empty-via-then-not-is_empty, then-not-is_empty-via-else-not-is_empty+then-self-gt-PIECE_LEN}

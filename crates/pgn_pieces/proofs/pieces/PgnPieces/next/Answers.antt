@@ -1,8 +1,7 @@
 -- What was looked through belongs to the piece (Steps.Looked). Each way out is one lemma: the end is found, the last
 -- piece, or a read that gave nothing.
 use Rattle.std.proofs.Common.{◌≡◌, false, true, sym, ap, subst, ◌∙◌}
-use Rattle.pgn_pieces.specs.Stream.{State}
-use Rattle.pgn_pieces.specs.ties.Held.{with_more}
+use Rattle.pgn_pieces.specs.{Stream.State, ties.Held.with_more}
 use Rattle.pgn_pieces.proofs.Steps.{Looked, looked_at_nothing, looked_on, next_found, next_last, next_stopped, found_some, kept_on}
 use Rattle.std.proofs.lemmas.Result.{err_from_is_err_and}
 use Rattle.pgn_pieces.proofs.pieces.PgnPieces.next.Goals as goal

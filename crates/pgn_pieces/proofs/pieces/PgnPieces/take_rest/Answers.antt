@@ -1,7 +1,6 @@
 -- All bytes that are held come to the piece (Views.passed_on).
 use Rattle.std.proofs.Common.{◌≡◌, ◌+◌, ◌-◌, length, drop, ap, ◌∙◌, length-drop, arith}
-use Rattle.pgn_pieces.specs.Stream.{State}
-use Rattle.pgn_pieces.specs.ties.Held.{passed}
+use Rattle.pgn_pieces.specs.{Stream.State, ties.Held.passed}
 use Rattle.pgn_pieces.proofs.Views.{viewed, passed_on}
 use Rattle.pgn_pieces.proofs.pieces.PgnPieces.take_rest.Goals as goal
 

@@ -1,8 +1,7 @@
 -- Up to the first byte 10 all bytes go to the part (LineEnds.none_held, LineEnds.line_held).
 use Rattle.std.proofs.Common.{arith, ◌≡◌, ◌≤◌, ◌<◌, ◌++◌, List, ℕ, true, Some, None, length, take, ap, subst, ◌∙◌}
 use Rattle.std.proofs.lemmas.List.{drop_all}
-use Rattle.text_lines.specs.Lines.{Held, line_of}
-use Rattle.text_lines.specs.ties.Kept.{SameLines, HeldLine}
+use Rattle.text_lines.specs.{Lines.Held, Lines.line_of, ties.Kept.SameLines, ties.Kept.HeldLine}
 use Rattle.text_lines.proofs.LineEnds.{line_len, none_held, line_held}
 use Rattle.text_lines.proofs.lines.Lines.held_line.Goals as goal
 

@@ -2,8 +2,7 @@
 -- (Reading.piece_on). At the input's end the part that is left, if any, is the last line (Reading.at_the_end).
 use Rattle.std.proofs.Common.{arith, sym, subst, None, ◌∙◌}
 use Rattle.byte_devices.specs.declared.traits.ReadFault.{ReadFault}
-use Rattle.text_lines.specs.Lines.{Held}
-use Rattle.text_lines.specs.ties.Kept.{HeldLine}
+use Rattle.text_lines.specs.{Lines.Held, ties.Kept.HeldLine}
 use Rattle.text_lines.proofs.Reading.{piece_on, at_the_end}
 use Rattle.std.proofs.lemmas.List.{nil_from_length}
 use Rattle.text_lines.proofs.lines.Lines.read_line.Goals as goal

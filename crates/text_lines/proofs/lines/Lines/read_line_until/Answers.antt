@@ -2,8 +2,7 @@
 -- wait that found something leaves the input as it was (Reading.found).
 use Rattle.std.proofs.Common.{arith, sym, subst, None, ◌∙◌}
 use Rattle.byte_devices.specs.declared.traits.ReadFault.{ReadFault}
-use Rattle.text_lines.specs.Lines.{Held}
-use Rattle.text_lines.specs.ties.Kept.{HeldLine}
+use Rattle.text_lines.specs.{Lines.Held, ties.Kept.HeldLine}
 use Rattle.text_lines.proofs.Reading.{found, fault_until, piece_on, at_the_end}
 use Rattle.std.proofs.lemmas.List.{nil_from_length}
 use Rattle.text_lines.proofs.lines.Lines.read_line_until.Goals as goal

@@ -1,5 +1,4 @@
-use Rattle.std.proofs.Common.{◌≤◌, length, drop, ap, ◌∙◌}
-use Rattle.std.specs.Prelude.{slice_range}
+use Rattle.std.proofs.Common.{◌≤◌, length, drop, ap, ◌∙◌, slice_range}
 use Rattle.text_lines.proofs.LineEnds.{window_left}
 use Rattle.text_lines.proofs.lines.Window.remove.Goals as goal
 

@@ -1,0 +1,2 @@
+-- Definitions for private contracts and proofs of this crate and of crates above: equal to those at the top of specs/.
+pub mod Values

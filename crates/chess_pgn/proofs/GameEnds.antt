@@ -1,0 +1,260 @@
+-- Where a game ends, token by token: what is left gives the whole.
+use Rattle.std.proofs.Common.{◌≡◌, ◌≤◌, ◌<◌, ℕ, zero, suc, ◌+◌, ◌-◌, Bool, true, false, cond, List, [], ◌∷◌, length, drop, Option, Some, None, IfSome, refl, sym, ap, subst, ◌∙◌, one-add, arith, rules, option_map, length-drop, slice_get, ◌==◌}
+use Rattle.std.specs.List.{cons_option, filter_map, prefix_len}
+use Rattle.byte_devices.specs.Bytes.{after_byte_order_mark}
+use Rattle.chess_game.specs.declared.results.Outcome.{Outcome}
+use Rattle.chess_pgn.specs.{GameEnds.ends_at, GameEnds.after_tags, GameEnds.game_end, LastTags.may_precede_tags, declared.token.TokenFault.TokenFault, ties.GameSteps.IsWithin, ties.Seen.fault_seen, ties.TagsPassed.IsAfterTags}
+use Rattle.chess_pgn.specs.Tokens.{Token, Skip, Tag, Word, Bad_tag, Unclosed_comment, Unclosed_variation, Bad, token_at, tokens_of, begins_line, tokens_from}
+use Rattle.chess_pgn.specs.declared.token.TokenFault.TheVariants as fault
+use Rattle.chess_pgn.proofs.{FaultPlaces.not_before, TokenPlaces.within, Walk.no_token, Walk.shorter}
+use Rattle.pgn_writer.specs.Outcomes.{outcome_of}
+
+outcome_has_bytes : (word : List ℕ) (o : Outcome) → Some o ≡ outcome_of word → 0 < length word
+outcome_has_bytes [] o h = cc
+outcome_has_bytes (c ∷ word) o h = search rules
+
+-- ---- the tags
+
+-- one more
+tags_on : (t : ℕ × Token) (rest : List (ℕ × Token)) → true ≡ may_precede_tags t.1
+    → after_tags (t ∷ rest) ≡ after_tags rest
+tags_on t rest may =
+    let n = prefix_len (λ u. may_precede_tags u.1) rest in
+    ap (λ b. drop (cond b (1 + n) 0) (t ∷ rest)) (sym may) ∙ ap (λ k. drop k (t ∷ rest)) (one-add n)
+
+-- no more
+tags_end : (t : ℕ × Token) (rest : List (ℕ × Token)) → may_precede_tags t.1 ≡ false
+    → after_tags (t ∷ rest) ≡ t ∷ rest
+tags_end t rest h =
+    ap (λ b. drop (cond b (1 + prefix_len (λ u. may_precede_tags u.1) rest) 0) (t ∷ rest)) h
+
+-- as code passes over them
+pub record PassesTags (text : List ℕ) (from here : ℕ) : Type 0 where
+  pub offset : here ≤ length text
+  pub whole : after_tags (tokens_from text here) ≡ after_tags (tokens_from text from)
+
+pub passes_on : (text : List ℕ) (from here tail : ℕ) (t : Token) → PassesTags text from here
+    → tokens_from text here ≡ (length text - here, t) ∷ tokens_from text tail → tail ≤ length text
+    → true ≡ may_precede_tags t → PassesTags text from tail
+passes_on text from here tail t r is inside may = record {
+  offset = inside;
+  whole = sym (ap after_tags is ∙ tags_on (length text - here, t) (tokens_from text tail) may) ∙ r.whole;
+}
+
+-- a token ends them
+pub passed_all : (text : List ℕ) (from here : ℕ) (t : Token) (rest : List (ℕ × Token)) → PassesTags text from here
+    → tokens_from text here ≡ (length text - here, t) ∷ rest → may_precede_tags t ≡ false → IsAfterTags text from here
+passed_all text from here t rest r is no =
+    sym r.whole ∙ ap after_tags is ∙ tags_end (length text - here, t) rest no ∙ sym is
+
+-- the text's end does
+pub passed_to_end : (text : List ℕ) (from here : ℕ) → PassesTags text from here → tokens_from text here ≡ []
+    → IsAfterTags text from here
+passed_to_end text from here r is = sym r.whole ∙ ap after_tags is ∙ sym is
+
+-- what can't be read does
+pub no_tag : (f : TokenFault) → may_precede_tags (fault_seen f) ≡ false
+no_tag fault.BadTag = refl
+no_tag (fault.UnclosedComment left) = refl
+no_tag fault.UnclosedVariation = refl
+no_tag fault.BadByte = refl
+
+-- ---- the end
+
+-- the first end among tokens
+abbrev pub first_end : ℕ → List (ℕ × Token) → Option ℕ
+first_end total tokens = slice_get (filter_map (ends_at total) tokens) 0
+
+-- from `here` on the first end is that of the tokens from `begin` on
+pub record Seeks (text : List ℕ) (begin here : ℕ) : Type 0 where
+  pub offset : here ≤ length text
+  pub whole : first_end (length text) (tokens_from text here) ≡ first_end (length text) (tokens_from text begin)
+
+module _ (text : List ℕ) (begin here : ℕ) (r : Seeks text begin here) where
+  module _ (t : Token) (rest : List (ℕ × Token)) (is : tokens_from text here ≡ (length text - here, t) ∷ rest) where
+    here_on : first_end (length text) (tokens_from text begin)
+        ≡ slice_get (cons_option (ends_at (length text) (length text - here, t))
+        (filter_map (ends_at (length text)) rest)) 0
+    here_on = sym r.whole ∙ ap (first_end (length text)) is
+
+    -- the token ends the game
+    pub found : (end : ℕ) → ends_at (length text) (length text - here, t) ≡ Some end
+        → first_end (length text) (tokens_from text begin) ≡ Some end
+    found end ends = here_on
+        ∙ ap (λ o. slice_get (cons_option o (filter_map (ends_at (length text)) rest)) 0) ends
+
+    -- it does not
+    passed_over : ends_at (length text) (length text - here, t) ≡ None
+        → first_end (length text) rest ≡ first_end (length text) (tokens_from text begin)
+    passed_over none = sym (here_on
+        ∙ ap (λ o. slice_get (cons_option o (filter_map (ends_at (length text)) rest)) 0) none)
+
+  pub seeks_on : (tail : ℕ) (t : Token)
+      → tokens_from text here ≡ (length text - here, t) ∷ tokens_from text tail → tail ≤ length text
+      → ends_at (length text) (length text - here, t) ≡ None → Seeks text begin tail
+  seeks_on tail t is inside none = record {
+    offset = inside;
+    whole = passed_over t (tokens_from text tail) is none;
+  }
+
+  -- none is found up to the text's end
+  pub none_to_end : tokens_from text here ≡ [] → first_end (length text) (tokens_from text begin) ≡ None
+  none_to_end is = sym r.whole ∙ ap (first_end (length text)) is
+
+  -- or up to what can't be read
+  pub none_readable : (f : TokenFault) → tokens_from text here ≡ (length text - here, fault_seen f) ∷ []
+      → first_end (length text) (tokens_from text begin) ≡ None
+  none_readable f is = here_on (fault_seen f) [] is ∙ by_fault f
+    where
+      by_fault : (f : TokenFault)
+          → slice_get (cons_option (ends_at (length text) (length text - here, fault_seen f)) []) 0 ≡ None
+      by_fault fault.BadTag = refl
+      by_fault (fault.UnclosedComment left) = refl
+      by_fault fault.UnclosedVariation = refl
+      by_fault fault.BadByte = refl
+
+-- the tokens after the tags
+pub end_is : (text : List ℕ) (from begin : ℕ) (end : Option ℕ) → IsAfterTags text from begin
+    → end ≡ first_end (length text) (tokens_from text begin)
+    → end ≡ game_end (length text) (tokens_from text from)
+end_is text from begin end after is = is ∙ ap (first_end (length text)) (sym after)
+
+-- ---- in the text
+
+abbrev EndsFrom : ℕ → ℕ → Option ℕ → Type 0
+EndsFrom low total end = IfSome end (λ e. (low ≤ e) × (e ≤ total))
+
+raised : (low high total : ℕ) (end : Option ℕ) → low ≤ high → EndsFrom high total end → EndsFrom low total end
+raised low high total None h k = tt
+raised low high total (Some e) h k = let there = k.0 in (omega (arith, h, there), k.1)
+
+first_of : (low total : ℕ) (end : Option ℕ) (later : List ℕ) → EndsFrom low total end
+    → EndsFrom low total (slice_get later 0) → EndsFrom low total (slice_get (cons_option end later) 0)
+first_of low total None later h k = k
+first_of low total (Some e) later h k = h
+
+token_ends : (total left : ℕ) (t : Token) → left ≤ total → IsWithin left t
+    → EndsFrom (total - left) total (ends_at total (left, t))
+token_ends total left Skip h w = tt
+token_ends total left (Tag name text n) h w = (omega arith, omega (arith, h))
+token_ends total left (Word word) h w = by_outcome (outcome_of word)
+  where
+    by_outcome : (o : Option Outcome)
+        → EndsFrom (total - left) total (option_map (λ outcome. total - left + length word) o)
+    by_outcome None = tt
+    by_outcome (Some o) = (omega arith, omega (arith, h, w))
+token_ends total left Bad_tag h w = tt
+token_ends total left (Unclosed_comment n) h w = tt
+token_ends total left Unclosed_variation h w = tt
+token_ends total left Bad h w = tt
+
+-- a token that can't be among a game's tags ends the game after its own first byte
+begun_ends : (total left : ℕ) (t : Token) → left ≤ total → IsWithin left t → may_precede_tags t ≡ false
+    → EndsFrom (total - left + 1) total (ends_at total (left, t))
+begun_ends total left Skip h w no = tt
+begun_ends total left (Tag name text n) h w no = absurd (cc)
+begun_ends total left (Word word) h w no = by_outcome (outcome_of word) refl
+  where
+    by_outcome : (o : Option Outcome) → o ≡ outcome_of word
+        → EndsFrom (total - left + 1) total (option_map (λ outcome. total - left + length word) o)
+    by_outcome None e = tt
+    by_outcome (Some o) e =
+        let some = outcome_has_bytes word o e in (omega (arith, some), omega (arith, h, w))
+begun_ends total left Bad_tag h w no = tt
+begun_ends total left (Unclosed_comment n) h w no = tt
+begun_ends total left Unclosed_variation h w no = tt
+begun_ends total left Bad h w no = tt
+
+tokens_end : (total most : ℕ) (b : Bool) (rest : List ℕ) → length rest ≤ total
+    → EndsFrom (total - length rest) total (first_end total (tokens_of most b rest))
+unfolding tokens_of
+tokens_end total zero b rest h = tt
+tokens_end total (suc most) b [] h = tt
+tokens_end total (suc most) b (c ∷ rest) h =
+    let t : Token × List ℕ = token_at b c rest in
+    let few = shorter b c rest in
+    let later : List (ℕ × Token) = tokens_of most (c == 10) t.1 in
+    first_of (total - suc (length rest)) total (ends_at total (suc (length rest), t.0))
+    (filter_map (ends_at total) later)
+    (token_ends total (suc (length rest)) t.0 h (within b c rest))
+    (raised (total - suc (length rest)) (total - length t.1) total (first_end total later) (omega (arith, few))
+    (tokens_end total most (c == 10) t.1 (omega (arith, h, few))))
+
+game_ends : (total most : ℕ) (b : Bool) (rest : List ℕ) → length rest ≤ total
+    → EndsFrom (total - length rest + 1) total (first_end total (after_tags (tokens_of most b rest)))
+unfolding tokens_of
+game_ends total zero b rest h = tt
+game_ends total (suc most) b [] h = tt
+game_ends total (suc most) b (c ∷ rest) h = by_test (may_precede_tags t.0) refl
+  where
+    t : Token × List ℕ
+    t = token_at b c rest
+
+    low : ℕ
+    low = total - suc (length rest) + 1
+
+    later : List (ℕ × Token)
+    later = tokens_of most (c == 10) t.1
+
+    by_test : (may : Bool) → may_precede_tags t.0 ≡ may
+        → EndsFrom low total (first_end total (after_tags ((suc (length rest), t.0) ∷ later)))
+    by_test true e =
+        let few = shorter b c rest in
+        subst (λ ts. EndsFrom low total (first_end total ts)) (sym (tags_on (suc (length rest), t.0) later (sym e)))
+        (raised low (total - length t.1 + 1) total (first_end total (after_tags later)) (omega (arith, few))
+        (game_ends total most (c == 10) t.1 (omega (arith, h, few))))
+    by_test false e =
+        let few = shorter b c rest in
+        subst (λ ts. EndsFrom low total (first_end total ts)) (sym (tags_end (suc (length rest), t.0) later e))
+        (first_of low total (ends_at total (suc (length rest), t.0)) (filter_map (ends_at total) later)
+        (begun_ends total (suc (length rest)) t.0 h (within b c rest) e)
+        (raised low (total - length t.1) total (first_end total later) (omega (arith, few, h))
+        (tokens_end total most (c == 10) t.1 (omega (arith, h, few)))))
+
+-- a game's end is in the text, after the offset where the game begins
+pub end_in_text : (text : List ℕ) (at : ℕ) → at ≤ length text
+    → IfSome (game_end (length text) (tokens_from text (after_byte_order_mark text at)))
+    (λ e. (at < e) × (e ≤ length text))
+unfolding tokens_from
+end_in_text text at h =
+    let begin : ℕ = after_byte_order_mark text at in
+    let marked = not_before text at h in
+    let left = length-drop begin text in
+    by_end (game_end (length text) (tokens_from text begin))
+    (game_ends (length text) (length text) (begins_line text begin) (drop begin text) (omega (arith, left)))
+  where
+    by_end : (end : Option ℕ)
+        → EndsFrom (length text - length (drop (after_byte_order_mark text at) text) + 1) (length text) end
+        → IfSome end (λ e. (at < e) × (e ≤ length text))
+    by_end None k = tt
+    by_end (Some e) k =
+        let marked = not_before text at h in
+        let left = length-drop (after_byte_order_mark text at) text in
+        let low = k.0 in (omega (arith, marked.0, marked.1, left, low), k.1)
+
+-- from a text's end on there is no token
+pub none_from_end : (text : List ℕ) → tokens_from text (after_byte_order_mark text (length text)) ≡ []
+none_from_end text =
+    let marked = not_before text (length text) (omega arith) in
+    let left = length-drop (after_byte_order_mark text (length text)) text in
+    no_token text (after_byte_order_mark text (length text)) (omega (arith, marked.0, left))
+
+module _ (text : List ℕ) (at : ℕ) (end : Option ℕ) (h : at ≤ length text)
+    (is : end ≡ game_end (length text) (tokens_from text (after_byte_order_mark text at)))
+  where
+    there : IfSome end (λ e. (at < e) × (e ≤ length text))
+    there = subst (λ o. IfSome o (λ e. (at < e) × (e ≤ length text))) (sym is) (end_in_text text at h)
+
+    pub is_later : IfSome end (λ e. at < e)
+    is_later = by_end end there
+      where
+        by_end : (o : Option ℕ) → IfSome o (λ e. (at < e) × (e ≤ length text)) → IfSome o (λ e. at < e)
+        by_end None k = tt
+        by_end (Some e) k = k.0
+
+    pub is_within : IfSome end (λ e. e ≤ length text)
+    is_within = by_end end there
+      where
+        by_end : (o : Option ℕ) → IfSome o (λ e. (at < e) × (e ≤ length text)) → IfSome o (λ e. e ≤ length text)
+        by_end None k = tt
+        by_end (Some e) k = k.1

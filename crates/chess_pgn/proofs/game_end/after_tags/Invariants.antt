@@ -1,0 +1,9 @@
+use Rattle.std.proofs.Common.{length, ◌-◌}
+use Rattle.chess_pgn.proofs.GameEnds.{PassesTags}
+use Rattle.chess_pgn.proofs.game_end.after_tags.Given as goal
+
+abbrev pub invariant-loop-token : goal.invariant-loop-token
+invariant-loop-token l = PassesTags l.text l.at l.offset
+
+abbrev pub decreases-loop-token : goal.decreases-loop-token
+decreases-loop-token l = length l.text - l.offset

@@ -1,0 +1,16 @@
+-- The tag is the last tag Variant of the text's split (Splits.read_split).
+use Rattle.chess_pgn.specs.Tokens.{tokens_from}
+use Rattle.byte_devices.specs.Bytes.{after_byte_order_mark}
+use Rattle.chess_pgn.proofs.Splits.{read_split}
+use Rattle.std.proofs.Common.{rules}
+use Rattle.chess_pgn.proofs.unknown_variant.unknown_variant.Goals as goal
+
+pub returns-in_err-tag-clause-offset : goal.returns-in_err-tag-clause-offset
+returns-in_err-tag-clause-offset c =
+    let begin = after_byte_order_mark c.args.text.now c.args.at in
+    (tokens_from c.args.text.now begin, read_split c.args.text.now begin, search rules)
+
+pub returns-clause-offset : goal.returns-clause-offset
+returns-clause-offset c =
+    let begin = after_byte_order_mark c.args.text.now c.args.at in
+    (tokens_from c.args.text.now begin, read_split c.args.text.now begin, search rules)

@@ -1,0 +1,89 @@
+-- What is read of the variations of a game (PGN standard of 1994, section 8.2.5). A variation replaces the move just
+-- before it, so its moves begin in the position before that move; a variation in it replaces one of its own moves. A
+-- *line* is a game's own moves, or those of a variation. This project's own: which words are taken; that a result and a
+-- tag are passed over in a variation; that no draw ends one; and how deep they may be nested.
+use Rattle.std.specs.Prelude.{ℕ, zero, suc, ◌+◌, ◌-◌, Bool, false, ◌||◌, if◌then◌else◌, List, [], ◌∷◌, codes, length, take, drop, slice_index, Option, Some, None, is_some, Result, Ok, Err, ◌==◌}
+use Rattle.std.specs.List.{list_all}
+use Rattle.std.specs.Option.{option_map_or, option_or}
+use Rattle.std.specs.Str.{bytes_eq}
+use Rattle.byte_devices.specs.Bytes.{byte, is_digit}
+use Rattle.chess_base.specs.declared.man.Move.{Move}
+use Rattle.chess_base.specs.declared.setup.Setup.{Setup}
+use Rattle.chess_base.specs.Moves.{after}
+use Rattle.chess_text.specs.declared.reading.Reading.{Reading}
+use Rattle.chess_text.specs.declared.reading.Reading.TheVariants as reads
+use Rattle.chess_text.specs.Moves.{reading}
+use Rattle.pgn_writer.specs.Outcomes.{outcome_of}
+use Rattle.chess_pgn.specs.declared.read.PgnFault.{PgnFault}
+use Rattle.chess_pgn.specs.declared.read.PgnFaultKind.{PgnFaultKind}
+use Rattle.chess_pgn.specs.declared.read.PgnFaultKind.TheVariants.{BadToken, IllegalMove, AmbiguousMove, TooLong}
+use Rattle.chess_pgn.specs.declared.variations.TheConstants.{MOST_NESTED}
+use Rattle.chess_pgn.specs.Split.{lacks}
+use Rattle.chess_pgn.specs.Tokens.{Token, Skip, Tag, Word, Bad}
+use Rattle.chess_pgn.specs.Words.{is_marks}
+
+-- ---- one token of a line
+
+-- what a word that is taken as a move does, by what it denotes in the line's position: a legal move is made, anything
+-- else is a fault
+abbrev pub word_move : Reading → Result (Option Move) PgnFaultKind
+word_move (reads.Move m) = Ok (Some m)
+word_move reads.NotAMove = Err BadToken
+word_move reads.Ambiguous = Err AmbiguousMove
+word_move reads.NoSuch = Err IllegalMove
+
+-- what a token does in a line whose position is `p`: the move to be made, if it is one; a fault, if it can't be read.
+-- Any other is passed over: what is skipped, a tag, a result, a number, and marks such as `!?`
+abbrev pub token_move : Setup → Token → Result (Option Move) PgnFaultKind
+token_move p Skip = Ok None
+token_move p (Tag name text to_end) = Ok None
+token_move p (Word word) = if is_some (outcome_of word) || (list_all is_digit word || is_marks word) then Ok None
+    else word_move (reading p word)
+token_move p _ = Err BadToken
+
+-- whether a token, which begins at this offset of the text, is a variation: it is skipped, and begins with `(`
+abbrev pub is_variation : List ℕ → ℕ → Token → Bool
+is_variation text at Skip = slice_index text at == byte "("
+is_variation text at _ = false
+
+-- whether a token, which begins at this offset of the text, ends the line of a variation: a `)`, which begins no token
+abbrev pub is_end : List ℕ → ℕ → Token → Bool
+is_end text at Bad = bytes_eq (take 1 (drop at text)) (codes ")")
+is_end text at _ = false
+
+-- ---- lines
+
+-- the first fault of a line from a token at the offset `at` on, by what that token does in the position `p`: its own
+-- fault, or what `later` gives for the position before the last move (`before` if no move is made) and that after it
+abbrev pub after_token : ℕ → Option Setup → Setup → Result (Option Move) PgnFaultKind
+    → (Option Setup → Setup → Option PgnFault) → Option PgnFault
+after_token at before p (Ok None) later = later before p
+after_token at before p (Ok (Some m)) later = later (Some p) (after p m)
+after_token at before p (Err kind) later = Some (record { kind = kind; offset = at })
+
+-- the first fault of a line of the text from these tokens on, in the position `p`; the line of a variation ends at its
+-- `)`. `before` is the position before the line's last move, if it has one: there a variation begins, and without it
+-- the variation is a fault. `inside` gives the first fault of the variation at an offset
+abbrev pub line_fault : List ℕ → (Setup → ℕ → Option PgnFault) → Option Setup → Setup → List (ℕ × Token)
+    → Option PgnFault
+line_fault text inside before p [] = None
+line_fault text inside before p ((left, token) ∷ more) = let at = length text - left in
+    if is_variation text at token then option_or
+    (option_map_or (λ start. inside start at) before (Some (record { kind = BadToken; offset = at })))
+    (line_fault text inside before p more)
+    else if is_end text at token then None
+    else after_token at before p (token_move p token) (λ b q. line_fault text inside b q more)
+
+-- the first fault of the variation whose `(` is at the offset `at` of the text, and whose moves begin in the position
+-- `start`. At most so many variations may be open (the second argument). `tokens` gives the tokens of a text from an
+-- offset on
+unfoldable pub variation_fault : (List ℕ → ℕ → List (ℕ × Token)) → ℕ → List ℕ → Setup → ℕ → Option PgnFault
+variation_fault tokens zero text start at = Some (record { kind = TooLong; offset = at })
+variation_fault tokens (suc depth) text start at =
+    line_fault text (λ p from. variation_fault tokens depth text p from) None start (tokens text (at + 1))
+
+-- the first fault in the variations of a game without another fault, whose start is `start`, and whose text goes from
+-- the offset `at` to the end of this one; without a `(` it has none. At most 64 variations may be open
+abbrev pub variations_fault : (List ℕ → ℕ → List (ℕ × Token)) → List ℕ → Setup → ℕ → Option PgnFault
+variations_fault tokens text start at = if lacks (byte "(") (drop at text) then None
+    else line_fault text (λ p from. variation_fault tokens MOST_NESTED text p from) None start (tokens text at)

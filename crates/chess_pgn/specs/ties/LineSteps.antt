@@ -1,0 +1,48 @@
+-- What the reader of variations answers, step by step, in the words of the definitions.
+use Rattle.std.specs.Prelude.{◌≡◌, ◌⊎◌, ℕ, zero, suc, ◌-◌, ◌<◌, ◌≤◌, true, false, ◌∷◌, [], List, length, Option, Some, None, Result, Ok, Err}
+use Rattle.chess_base.specs.declared.setup.Setup.{Setup}
+use Rattle.chess_pgn.specs.declared.read.PgnFault.{PgnFault}
+use Rattle.chess_pgn.specs.declared.read.PgnFaultKind.TheVariants.{BadToken, TooLong}
+use Rattle.chess_pgn.specs.declared.token.Token as code
+use Rattle.chess_pgn.specs.Tokens.{Token, Skip, Tag, Word, tokens_from}
+use Rattle.chess_pgn.specs.Variations.{is_end, variation_fault}
+use Rattle.chess_pgn.specs.ties.Seen.{token_seen}
+
+-- whether a token can't be read
+abbrev pub IsUnread : Token → Type 0
+IsUnread Skip = ⊥
+IsUnread (Tag name text to_end) = ⊥
+IsUnread (Word word) = ⊥
+IsUnread _ = Unit {0}
+
+-- from the offset `at` on a line ends: at the text's end, or at a `)`, which can't be read
+abbrev pub EndsLine : List ℕ → ℕ → Type 0
+EndsLine text at = (tokens_from text at ≡ []) ⊎ ((t : Token) × (tokens_from text at ≡ (length text - at, t) ∷ [])
+    × IsUnread t × (is_end text at t ≡ true))
+
+-- what code returned for the token of a line from `at` on is the first of the definitions' tokens; `None`: the line
+-- ends; a fault is a bad token there, and the last token
+abbrev pub IsLineToken : List ℕ → ℕ → Result (Option (code.Token × ℕ)) PgnFault → Type 0
+IsLineToken text at (Ok None) = EndsLine text at
+IsLineToken text at (Ok (Some r)) = (tokens_from text at ≡ (length text - at, token_seen r.0) ∷ tokens_from text r.1)
+    × (at < r.1) × (r.1 ≤ length text)
+IsLineToken text at (Err fault) = (fault ≡ record { kind = BadToken; offset = at })
+    × ((t : Token) × (tokens_from text at ≡ (length text - at, t) ∷ []) × IsUnread t × (is_end text at t ≡ false))
+
+-- the first fault of a line from a token on, by what the code did with it: `q` is the position after it
+abbrev pub played : Option Setup → Result (Option Setup) PgnFault → Setup → (Option Setup → Setup → Option PgnFault)
+    → Option PgnFault
+played before (Ok None) q later = later before q
+played before (Ok (Some p)) q later = later (Some p) q
+played before (Err fault) q later = Some fault
+
+-- where a variation at the offset `at` begins, and how many may be open in it: `before` is the position before the move
+-- that it replaces, and `depth` how many may be open in the line that it is in
+abbrev pub opening : ℕ → Option Setup → ℕ → Result (Setup × ℕ) PgnFault
+opening depth None at = Err (record { kind = BadToken; offset = at })
+opening zero (Some start) at = Err (record { kind = TooLong; offset = at })
+opening (suc depth) (Some start) at = Ok (start, depth)
+
+-- the first fault of the variation of a line at an offset, where so many may be open
+abbrev pub inside : ℕ → List ℕ → Setup → ℕ → Option PgnFault
+inside depth text = λ p from. variation_fault tokens_from depth text p from

@@ -1,0 +1,220 @@
+//! Reads the variations of a game (PGN standard of 1994, section 8.2.5). `variation` skips them; here their moves are
+//! read, too.
+
+ghost use Rattle.std.specs.Prelude.{◌≡◌, ◌≤◌, ◌+◌, ◌||◌, IsTrue, IfErr, IfOk, Option, is_some, length, None};
+ghost use Rattle.std.specs.List.{list_all};
+ghost use Rattle.std.specs.Option.{IfSome};
+ghost use Rattle.std.specs.Result.{result_err};
+ghost use Rattle.chess_base.specs.Moves.{is_legal};
+ghost use Rattle.chess_pgn.specs.Split.{lacks};
+ghost use Rattle.chess_pgn.specs.Tokens.{tokens_from};
+ghost use Rattle.chess_base.specs.declared.setup.Setup.{Setup};
+ghost use Rattle.chess_pgn.specs.declared.read.PgnFault.{PgnFault};
+ghost use Rattle.chess_pgn.specs.Variations.{after_token, is_end, is_variation, line_fault, token_move, variations_fault, word_move};
+ghost use Rattle.byte_devices.specs.Bytes.{byte, is_digit};
+ghost use Rattle.pgn_writer.specs.Outcomes.{outcome_of};
+ghost use Rattle.chess_pgn.specs.Words.{is_marks};
+ghost use Rattle.chess_text.specs.Moves.{reading};
+ghost use Rattle.chess_pgn.specs.ties.Seen.{fault_seen, token_seen};
+ghost use Rattle.chess_pgn.specs.ties.LineSteps.{IsLineToken, inside, opening, played};
+
+use crate::read::{PgnFault, PgnFaultKind};
+use crate::token::{Token, TokenFault, next_token};
+use crate::word_kind::{WordKind, word_kind};
+use chess_base::{Move, Position};
+use chess_moves::Board;
+use chess_text::{Reading, read_move};
+
+/// How many variations may be open at a place of a game's text.
+pub const MOST_NESTED: usize = 64;
+
+// The move that a word denotes in the board's position, or why it denotes none.
+fn word_move<B: Board>(board: &B, word: &[u8]) -> Result<Option<Move>, PgnFaultKind>
+    ensures value { result ≡ word_move (reading (B.position board.now) word.now) }
+    ensures legal { IfOk result (λ o. IfSome o (λ m. IsTrue (is_legal (B.position board.now) m))) }
+{
+    match read_move(board, word) {
+        Reading::Move(m) => Ok(Some(m)),
+        Reading::NotAMove => Err(PgnFaultKind::BadToken),
+        Reading::Ambiguous => Err(PgnFaultKind::AmbiguousMove),
+        Reading::NoSuch => Err(PgnFaultKind::IllegalMove),
+    }
+}
+
+// Whether a word of a line is passed over: it is an outcome, a number or marks.
+fn is_passed(word: &[u8]) -> bool
+    ensures { result ≡ (is_some (outcome_of word.now) || (list_all is_digit word.now || is_marks word.now)) }
+{
+    match word_kind(word) {
+        WordKind::Move => false,
+        WordKind::End(_) | WordKind::Number | WordKind::Marks => true,
+    }
+}
+
+// The move that a token of a line denotes in the board's position; `None` if it is passed over.
+fn token_move<B: Board>(board: &B, token: &Token<'_>) -> Result<Option<Move>, PgnFaultKind>
+    ensures value { result ≡ token_move (B.position board.now) (token_seen token.now) }
+    ensures legal { IfOk result (λ o. IfSome o (λ m. IsTrue (is_legal (B.position board.now) m))) }
+{
+    let Token::Word(word) = token else {
+        return Ok(None);
+    };
+    if is_passed(word) {
+        return Ok(None);
+    }
+    word_move(board, word)
+}
+
+// Whether a token, which begins at the offset `at`, is a variation.
+fn is_variation(text: &[u8], at: usize, token: &Token<'_>) -> bool
+    requires { at + 1 ≤ length text.now }
+    ensures { result ≡ is_variation text.now at (token_seen token.now) }
+{
+    match token {
+        Token::Skip => text[at] == b'(',
+        Token::Tag(_) | Token::Word(_) => false,
+    }
+}
+
+// Whether what can't be read at the offset `at` ends the line of a variation: it is a `)`.
+fn is_end(text: &[u8], at: usize, fault: TokenFault) -> bool
+    requires { at ≤ length text.now }
+    ensures { result ≡ is_end text.now at (fault_seen fault) }
+{
+    match fault {
+        TokenFault::BadByte => text[at..].starts_with(b")"),
+        TokenFault::BadTag | TokenFault::UnclosedVariation => false,
+        TokenFault::UnclosedComment { .. } => false,
+    }
+}
+
+// The token of a line that begins at the offset `at`, and the offset after it, as `next_token` gives them; `None` at
+// the text's end, and at the `)` of a variation. Anything else that can't be read is a bad token.
+fn token_at(text: &[u8], at: usize) -> Result<Option<(Token<'_>, usize)>, PgnFault>
+    requires { at ≤ length text.now }
+    ensures { IsLineToken text.now at result }
+{
+    match next_token(text, at) {
+        Ok(next) => Ok(next),
+        Err(fault) => {
+            if is_end(text, at, fault) {
+                return Ok(None);
+            }
+            Err(PgnFault {
+                kind: PgnFaultKind::BadToken,
+                offset: at,
+            })
+        }
+    }
+}
+
+// Makes the move that a token at the offset `at` denotes in the board's position; returns the position before it.
+// `None` if the token is passed over.
+fn play_token<B: Board>(
+    board: &mut B,
+    at: usize,
+    token: &Token<'_>,
+) -> Result<Option<Position>, PgnFault>
+    ensures { (before : Option Setup) (later : Option Setup → Setup → Option PgnFault)
+        → after_token at before (B.position board.old) (token_move (B.position board.old) (token_seen token.now)) later
+        ≡ played before result (B.position board.new) later }
+{
+    let kind = match token_move(board, token) {
+        Ok(None) => return Ok(None),
+        Ok(Some(m)) => {
+            let before = board.position();
+            board.make(m);
+            return Ok(Some(before));
+        }
+        Err(kind) => kind,
+    };
+    Err(PgnFault { kind, offset: at })
+}
+
+// Where the variation at the offset `at` begins, and how many may be open in it. `before` is the position before the
+// last move of the line that it is in, and `depth` how many variations may be open in that.
+fn opening(depth: usize, before: Option<Position>, at: usize) -> Result<(Position, usize), PgnFault>
+    ensures { result ≡ opening depth before at }
+{
+    let Some(start) = before else {
+        return Err(PgnFault {
+            kind: PgnFaultKind::BadToken,
+            offset: at,
+        });
+    };
+    match depth.checked_sub(1) {
+        Some(inner) => Ok((start, inner)),
+        None => Err(PgnFault {
+            kind: PgnFaultKind::TooLong,
+            offset: at,
+        }),
+    }
+}
+
+// Reads a line (a game's own moves, or those of a variation) from the offset `at` on, whose moves begin in the position
+// `start`: to the text's end, or to the variation's `)`. The board may be at any position before and after. At most
+// `depth` variations may be open in the line.
+fn read_line<B: Board>(
+    depth: usize,
+    text: &[u8],
+    at: usize,
+    start: &Position,
+    board: &mut B,
+) -> Result<(), PgnFault>
+    requires { at ≤ length text.now }
+    ensures { result_err result ≡ line_fault text.now (inside depth text.now) None start.now (tokens_from text.now at) }
+{
+    board.set(start);
+    // The position before the line's last move.
+    let mut before = None;
+    let mut offset = at;
+    loop {
+        let Some((token, token_end)) = token_at(text, offset)? else {
+            return Ok(());
+        };
+        if is_variation(text, offset, &token) {
+            let (first, inner_depth) = opening(depth, before, offset)?;
+            let here = board.position();
+            read_line(inner_depth, text, offset + 1, &first, board)?;
+            board.set(&here);
+        } else if let Some(left) = play_token(board, offset, &token)? {
+            before = Some(left);
+        }
+        offset = token_end;
+    }
+}
+
+// Whether a text has no `(`.
+fn lacks_parenthesis(text: &[u8]) -> bool
+    ensures { result ≡ lacks (byte "(") text.now }
+{
+    text.iter().all(|byte| *byte != b'(')
+}
+
+/// Reads the variations of the game that begins at the offset `at` and ends where the text ends, right after its
+/// termination marker. The game is one that `read_pgn` reads without a fault, from the position `start`. The moves of a
+/// variation begin in the position before the move that it replaces, which is the one just before it in the game, or in
+/// the variation of which it is a part. Each is to be legal, as `read_pgn` asks it of the game's own, but no draw ends
+/// a variation. The board is only room for the positions. A byte order mark at `at` is to be skipped by the caller.
+///
+/// The contract says: by the only split of each text into tokens (the law `a_text_has_one_split`) the fault is the
+/// first in the variations.
+///
+/// # Errors
+/// The first fault. A variation with no move before it is one (`BadToken`), and so is one in [`MOST_NESTED`] others
+/// (`TooLong`).
+pub fn read_variations<B: Board>(
+    text: &[u8],
+    at: usize,
+    start: &Position,
+    board: &mut B,
+) -> Result<(), PgnFault>
+    requires { at ≤ length text.now }
+    ensures fault { result_err result ≡ variations_fault tokens_from text.now start.now at }
+    ensures within { IfErr result (λ fault. fault.offset ≤ length text.now) }
+{
+    if lacks_parenthesis(&text[at..]) {
+        return Ok(());
+    }
+    read_line(MOST_NESTED, text, at, start, board)
+}

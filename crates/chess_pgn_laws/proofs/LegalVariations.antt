@@ -1,0 +1,126 @@
+-- Without a fault each move of each variation is legal: by how deep variations are nested, and then token by token.
+use Rattle.std.proofs.Common.{◌≡◌, ℕ, zero, suc, ◌+◌, ◌-◌, Bool, true, false, cond, List, [], ◌∷◌, length, drop, Option, Some, None, Result, Ok, Err, refl, ap, ◌||◌, is_some}
+use Rattle.std.specs.{List.list_all, Option.option_map_or, Option.option_or}
+use Rattle.byte_devices.specs.Bytes.{is_digit}
+use Rattle.chess_base.specs.{declared.man.Move.Move, declared.setup.Setup.Setup, Moves.after}
+use Rattle.chess_text.specs.{declared.reading.Reading.Reading, Moves.reading, laws.Laws.ReadMovesAreLegal}
+use Rattle.chess_text.specs.declared.reading.Reading.TheVariants as reads
+use Rattle.pgn_writer.specs.Outcomes.{outcome_of}
+use Rattle.chess_pgn.specs.{declared.read.PgnFault.PgnFault, declared.read.PgnFaultKind.PgnFaultKind, declared.read.PgnFaultKind.TheVariants.BadToken, declared.variations.TheConstants.MOST_NESTED, Split.lacks, Words.is_marks}
+use Rattle.chess_pgn.specs.Tokens.{Token, Skip, Tag, Word, Bad_tag, Unclosed_comment, Unclosed_variation, Bad}
+use Rattle.chess_pgn.specs.Variations.{word_move, token_move, is_end, is_variation, after_token, line_fault, variation_fault}
+use Rattle.chess_pgn_laws.specs.LegalVariations.{is_passed, IsLegalLine, no_more, closed, passed, move, variation, VariationsAreLegal}
+
+abbrev found : Move → Result (Option Move) PgnFaultKind
+found m = Ok (Some m)
+
+read_as : (r : Reading) (m : Move) → word_move r ≡ found m → r ≡ reads.Move m
+read_as (reads.Move n) m h = let same : n ≡ m = cc in ap reads.Move same
+read_as reads.NotAMove m h = absurd (cc)
+read_as reads.Ambiguous m h = absurd (cc)
+read_as reads.NoSuch m h = absurd (cc)
+
+none_of_two : (a b : Option PgnFault) → option_or a b ≡ None → (a ≡ None) × (b ≡ None)
+none_of_two None b h = (refl, h)
+none_of_two (Some f) b h = absurd (cc)
+
+none_found : Result (Option Move) PgnFaultKind
+none_found = Ok None
+
+never_none : (r : Reading) → word_move r ≡ none_found → ⊥
+never_none (reads.Move m) h = cc
+never_none reads.NotAMove h = cc
+never_none reads.Ambiguous h = cc
+never_none reads.NoSuch h = cc
+
+-- a token that makes no move is passed over
+over : (p : Setup) (token : Token) → token_move p token ≡ none_found → is_passed token ≡ true
+over p Skip h = refl
+over p (Tag name text left) h = refl
+over p (Word word) h = by_kind (is_some (outcome_of word) || (list_all is_digit word || is_marks word)) h
+  where
+    by_kind : (b : Bool) → cond b none_found (word_move (reading p word)) ≡ none_found → b ≡ true
+    by_kind true e = refl
+    by_kind false e = absurd (never_none (reading p word) e)
+over p Bad_tag h = absurd (cc)
+over p (Unclosed_comment left) h = absurd (cc)
+over p Unclosed_variation h = absurd (cc)
+over p Bad h = absurd (cc)
+
+-- a token that makes a move is a word that denotes it
+data Moves (p : Setup) (m : Move) : Token → Type 0 where
+  by_word : (word : List ℕ) → reading p word ≡ reads.Move m → Moves p m (Word word)
+
+moves : (p : Setup) (token : Token) (m : Move) → token_move p token ≡ found m → Moves p m token
+moves p Skip m h = absurd (cc)
+moves p (Tag name text left) m h = absurd (cc)
+moves p (Word word) m h = by_kind (is_some (outcome_of word) || (list_all is_digit word || is_marks word)) h
+  where
+    by_kind : (b : Bool) → cond b none_found (word_move (reading p word)) ≡ found m → Moves p m (Word word)
+    by_kind true e = absurd (cc)
+    by_kind false e = by_word word (read_as (reading p word) m e)
+moves p Bad_tag m h = absurd (cc)
+moves p (Unclosed_comment left) m h = absurd (cc)
+moves p Unclosed_variation m h = absurd (cc)
+moves p Bad m h = absurd (cc)
+
+module _ (law : ReadMovesAreLegal) (tokens : List ℕ → ℕ → List (ℕ × Token)) (text : List ℕ) where
+  line_legal : (inner : Setup → ℕ → Option PgnFault)
+      → ((p : Setup) (from : ℕ) → inner p from ≡ None → IsLegalLine (tokens text) text None p (tokens text (from + 1)))
+      → (all : List (ℕ × Token)) (before : Option Setup) (p : Setup) → line_fault text inner before p all ≡ None
+      → IsLegalLine (tokens text) text before p all
+  line_legal inner h [] before p e = no_more
+  line_legal inner h ((left, token) ∷ more) before p e =
+      by_kind (is_variation text (length text - left) token) (is_end text (length text - left) token) refl refl e
+    where
+      by_before : (o : Option Setup) → is_variation text (length text - left) token ≡ true
+          → option_or (option_map_or (λ start. inner start (length text - left)) o
+          (Some (record { kind = BadToken; offset = length text - left }))) (line_fault text inner o p more) ≡ None
+          → IsLegalLine (tokens text) text o p ((left, token) ∷ more)
+      by_before None v k = absurd (cc)
+      by_before (Some start) v k =
+          let both = none_of_two (inner start (length text - left)) (line_fault text inner (Some start) p more) k in
+          variation v (h start (length text - left) both.0) (line_legal inner h more (Some start) p both.1)
+
+      by_word_of : (m : Move) (t : Token) → Moves p m t → line_fault text inner (Some p) (after p m) more ≡ None
+          → IsLegalLine (tokens text) text before p ((left, t) ∷ more)
+      by_word_of m t (by_word word denoted) k =
+          move m denoted (law p word m denoted) (line_legal inner h more (Some p) (after p m) k)
+
+      by_move : (r : Result (Option Move) PgnFaultKind) → token_move p token ≡ r
+          → is_variation text (length text - left) token ≡ false
+          → after_token (length text - left) before p r (λ b q. line_fault text inner b q more) ≡ None
+          → IsLegalLine (tokens text) text before p ((left, token) ∷ more)
+      by_move (Ok None) is v k = passed v (over p token is) (line_legal inner h more before p k)
+      by_move (Ok (Some m)) is v k = by_word_of m token (moves p token m is) k
+      by_move (Err kind) is v k = absurd (cc)
+
+      by_kind : (opens ends : Bool) → is_variation text (length text - left) token ≡ opens
+          → is_end text (length text - left) token ≡ ends
+          → cond opens (option_or (option_map_or (λ start. inner start (length text - left)) before
+          (Some (record { kind = BadToken; offset = length text - left }))) (line_fault text inner before p more))
+          (cond ends None (after_token (length text - left) before p (token_move p token)
+          (λ b q. line_fault text inner b q more))) ≡ None
+          → IsLegalLine (tokens text) text before p ((left, token) ∷ more)
+      by_kind true ends v w k = by_before before v k
+      by_kind false true v w k = closed w
+      by_kind false false v w k = by_move (token_move p token) refl v k
+
+  variation_legal : (depth : ℕ) (p : Setup) (from : ℕ) → variation_fault tokens depth text p from ≡ None
+      → IsLegalLine (tokens text) text None p (tokens text (from + 1))
+  unfolding variation_fault
+  variation_legal zero p from h = absurd (cc)
+  variation_legal (suc depth) p from h =
+      line_legal (λ q i. variation_fault tokens depth text q i) (variation_legal depth) (tokens text (from + 1)) None p
+      h
+
+pub variations_legal : ReadMovesAreLegal → VariationsAreLegal
+variations_legal law tokens text start at some h =
+    line_legal law tokens text (λ p from. variation_fault tokens MOST_NESTED text p from)
+    (variation_legal law tokens text MOST_NESTED) (tokens text at) None start (by_test (lacks 40 (drop at text)) some h)
+  where
+    by_test : (b : Bool) → b ≡ false → cond b None (line_fault text
+        (λ p from. variation_fault tokens MOST_NESTED text p from) None start (tokens text at)) ≡ None
+        → line_fault text (λ p from. variation_fault tokens MOST_NESTED text p from) None start (tokens text at) ≡ None
+    by_test true e k = absurd (cc)
+    by_test false e k = k

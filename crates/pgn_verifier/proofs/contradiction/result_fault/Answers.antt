@@ -1,0 +1,22 @@
+-- The fault is in the text (FaultsInText.tag_within). The tag is that of the text's only split.
+use Rattle.std.proofs.Common.{◌≡◌, length, ap, sym, subst, ◌∙◌, arith}
+use Rattle.std.proofs.lemmas.Grind.{common_steps}
+use Rattle.chess_pgn.specs.{LastTags.result_tag_of, Tokens.tokens_from}
+use Rattle.byte_devices.specs.Bytes.{after_byte_order_mark}
+use Rattle.chess_pgn.proofs.shared.Tokens.{split_read}
+use Rattle.pgn_verifier.proofs.FaultsInText.{InText, tag_within}
+use Rattle.pgn_verifier.proofs.contradiction.result_fault.Goals as goal
+
+pub returns-clause-within : goal.returns-clause-within
+returns-clause-within c =
+    subst (InText (length c.args.text.now)) (sym c.result_differs.ensures)
+    (tag_within (length c.args.text.now) c.result_tag.result c.args.end c.result_tag.ensures.within)
+
+pub returns-clause-fault : goal.returns-clause-fault
+returns-clause-fault c =
+    let (tokens, split, is) = c.result_tag.ensures.tag in
+    let text = c.args.text.now in
+    let tag : c.result_tag.result
+    ≡ result_tag_of (length text) (tokens_from text (after_byte_order_mark text c.args.at)) =
+    is ∙ ap (result_tag_of (length text)) (split_read text split) in
+    grind (arith, common_steps, tag)

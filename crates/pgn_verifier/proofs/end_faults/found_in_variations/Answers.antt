@@ -1,0 +1,15 @@
+-- The fault is in the game's text, which is a beginning of the whole. Where that ends before its first byte it has no
+-- variation.
+use Rattle.std.proofs.Common.{length, take, sym, arith}
+use Rattle.pgn_verifier.proofs.FaultsInText.{err_weaker, none_without_bytes, take_few}
+use Rattle.pgn_verifier.proofs.end_faults.found_in_variations.Goals as goal
+
+pub returns-clause-within : goal.returns-clause-within
+returns-clause-within c =
+    err_weaker (length (take c.args.end.offset c.args.text.now)) (length c.args.text.now) c.read_variations.result
+    (take_few c.args.end.offset c.args.text.now) c.read_variations.ensures.within
+
+pub returns-then-end_offset-lt-first-clause-fault : goal.returns-then-end_offset-lt-first-clause-fault
+returns-then-end_offset-lt-first-clause-fault c =
+    let first = c.after_byte_order_mark-first.ensures.offset in
+    sym (none_without_bytes c.args.text.now c.args.at c.args.game.now.state.start c.args.end (omega (arith, first)))

@@ -1,0 +1,11 @@
+-- Of a fault in a variation two parts were put one after the other.
+use Rattle.std.proofs.Common.{append_assoc}
+use Rattle.pgn_verifier.proofs.explanation.append_fault_name.Goals as goal
+
+pub returns-in-InVariation-clause-text : goal.returns-in-InVariation-clause-text
+returns-in-InVariation-clause-text c =
+    rw (
+      c.append-3.ensures.text,
+      c.append-2.ensures.text,
+      c.pgn_fault_name-2.ensures.value,
+    ) (simp append_assoc)
