@@ -24,7 +24,7 @@ none_of_two : (a b : Option PgnFault) → option_or a b ≡ None → (a ≡ None
 none_of_two None b h = (refl, h)
 none_of_two (Some f) b h = absurd (cc)
 
-none_found : Result (Option Move) PgnFaultKind
+abbrev none_found : Result (Option Move) PgnFaultKind
 none_found = Ok None
 
 never_none : (r : Reading) → word_move r ≡ none_found → ⊥
@@ -71,48 +71,56 @@ module _ (law : ReadMovesAreLegal) (tokens : List ℕ → ℕ → List (ℕ × T
       → IsLegalLine (tokens text) text before p all
   line_legal inner h [] before p e = no_more
   line_legal inner h ((left, token) ∷ more) before p e =
-      by_kind (is_variation text (length text - left) token) (is_end text (length text - left) token) refl refl e
+      by_kind (λ b q k. line_legal inner h more b q k) (is_variation text (length text - left) token)
+      (is_end text (length text - left) token) refl refl e
     where
-      by_before : (o : Option Setup) → is_variation text (length text - left) token ≡ true
+      by_before : ((b : Option Setup) (q : Setup) → line_fault text inner b q more ≡ None
+          → IsLegalLine (tokens text) text b q more)
+          → (o : Option Setup) → is_variation text (length text - left) token ≡ true
           → option_or (option_map_or (λ start. inner start (length text - left)) o
           (Some (record { kind = BadToken; offset = length text - left }))) (line_fault text inner o p more) ≡ None
           → IsLegalLine (tokens text) text o p ((left, token) ∷ more)
-      by_before None v k = absurd (cc)
-      by_before (Some start) v k =
+      by_before rest None v k = absurd (cc)
+      by_before rest (Some start) v k =
           let both = none_of_two (inner start (length text - left)) (line_fault text inner (Some start) p more) k in
-          variation v (h start (length text - left) both.0) (line_legal inner h more (Some start) p both.1)
+          variation v (h start (length text - left) both.0) (rest (Some start) p both.1)
 
-      by_word_of : (m : Move) (t : Token) → Moves p m t → line_fault text inner (Some p) (after p m) more ≡ None
+      by_word_of : ((b : Option Setup) (q : Setup) → line_fault text inner b q more ≡ None
+          → IsLegalLine (tokens text) text b q more)
+          → (m : Move) (t : Token) → Moves p m t → line_fault text inner (Some p) (after p m) more ≡ None
           → IsLegalLine (tokens text) text before p ((left, t) ∷ more)
-      by_word_of m t (by_word word denoted) k =
-          move m denoted (law p word m denoted) (line_legal inner h more (Some p) (after p m) k)
+      by_word_of rest m t (by_word word denoted) k = move m denoted (law p word m denoted) (rest (Some p) (after p m) k)
 
-      by_move : (r : Result (Option Move) PgnFaultKind) → token_move p token ≡ r
+      by_move : ((b : Option Setup) (q : Setup) → line_fault text inner b q more ≡ None
+          → IsLegalLine (tokens text) text b q more)
+          → (r : Result (Option Move) PgnFaultKind) → token_move p token ≡ r
           → is_variation text (length text - left) token ≡ false
           → after_token (length text - left) before p r (λ b q. line_fault text inner b q more) ≡ None
           → IsLegalLine (tokens text) text before p ((left, token) ∷ more)
-      by_move (Ok None) is v k = passed v (over p token is) (line_legal inner h more before p k)
-      by_move (Ok (Some m)) is v k = by_word_of m token (moves p token m is) k
-      by_move (Err kind) is v k = absurd (cc)
+      by_move rest (Ok None) is v k = passed v (over p token is) (rest before p k)
+      by_move rest (Ok (Some m)) is v k = by_word_of rest m token (moves p token m is) k
+      by_move rest (Err kind) is v k = absurd (cc)
 
-      by_kind : (opens ends : Bool) → is_variation text (length text - left) token ≡ opens
+      by_kind : ((b : Option Setup) (q : Setup) → line_fault text inner b q more ≡ None
+          → IsLegalLine (tokens text) text b q more)
+          → (opens ends : Bool) → is_variation text (length text - left) token ≡ opens
           → is_end text (length text - left) token ≡ ends
           → cond opens (option_or (option_map_or (λ start. inner start (length text - left)) before
           (Some (record { kind = BadToken; offset = length text - left }))) (line_fault text inner before p more))
           (cond ends None (after_token (length text - left) before p (token_move p token)
           (λ b q. line_fault text inner b q more))) ≡ None
           → IsLegalLine (tokens text) text before p ((left, token) ∷ more)
-      by_kind true ends v w k = by_before before v k
-      by_kind false true v w k = closed w
-      by_kind false false v w k = by_move (token_move p token) refl v k
+      by_kind rest true ends v w k = by_before rest before v k
+      by_kind rest false true v w k = closed w
+      by_kind rest false false v w k = by_move rest (token_move p token) refl v k
 
   variation_legal : (depth : ℕ) (p : Setup) (from : ℕ) → variation_fault tokens depth text p from ≡ None
       → IsLegalLine (tokens text) text None p (tokens text (from + 1))
   unfolding variation_fault
   variation_legal zero p from h = absurd (cc)
   variation_legal (suc depth) p from h =
-      line_legal (λ q i. variation_fault tokens depth text q i) (variation_legal depth) (tokens text (from + 1)) None p
-      h
+      line_legal (λ q i. variation_fault tokens depth text q i) (λ q i k. variation_legal depth q i k)
+      (tokens text (from + 1)) None p h
 
 pub variations_legal : ReadMovesAreLegal → VariationsAreLegal
 variations_legal law tokens text start at some h =

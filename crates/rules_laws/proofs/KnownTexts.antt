@@ -2,7 +2,7 @@
 use Rattle.std.proofs.Common.{refl}
 use Rattle.std.specs.Fmt.{digits}
 use Rattle.chess_base.specs.Attacks.{is_clear, could_capture, attacks, is_attacked, is_in_check}
-use Rattle.chess_base.specs.Castling.{king_square, right_is_sound, is_castling_to, castling, castle_of, castling_way_is_empty, castling_way_is_safe, castles}
+use Rattle.chess_base.specs.Castling.{king_square, right_is_sound, is_castling_to, castling, castle_of, castling_needs_empty, castling_way_is_empty, castling_way_is_safe, castles}
 use Rattle.chess_base.specs.{Faults.rights_are_sound, Initial.initial_setup, Initial.initial_setup_of, Men.is_of, Men.is_man, MoveList.all_moves, MoveList.moves}
 use Rattle.chess_base.specs.Moves.{is_double_advance, is_en_passant, pawn_advances, pawn_captures, pawn_moves, man_moves, is_pseudo_legal, captured_square, men_after, rights_after, target_after, resets_clock, halfmove_after, after, is_legal}
 use Rattle.chess_base.specs.Sound.{has_one_king, no_pawn_on_end_ranks, has_at_most_16, target_is_sound}
@@ -15,7 +15,7 @@ use Rattle.rules_laws.specs.KnownTexts.{MovesAreNumbered, MovesAreWritten, Resul
 
 pub moves_are_written : MovesAreWritten
 unfolding squares some_square each_square is_between is_of is_man is_clear could_capture attacks is_attacked
-    is_in_check is_castling_to castling castle_of castling_way_is_empty castling_way_is_safe castles king_square
+    is_in_check is_castling_to castling castle_of castling_needs_empty castling_way_is_empty castling_way_is_safe castles king_square
     right_is_sound rights_are_sound has_one_king no_pawn_on_end_ranks has_at_most_16 target_is_sound may_name_right
     all_moves moves is_double_advance is_en_passant pawn_advances pawn_captures pawn_moves man_moves is_pseudo_legal
     captured_square men_after rights_after target_after resets_clock halfmove_after after is_legal described
@@ -55,7 +55,7 @@ results_are_worded = record {
 
 pub moves_are_numbered : MovesAreNumbered
 unfolding squares some_square each_square is_between is_of is_man is_clear could_capture attacks is_attacked
-    is_in_check is_castling_to castling castle_of castling_way_is_empty castling_way_is_safe castles initial_setup
+    is_in_check is_castling_to castling castle_of castling_needs_empty castling_way_is_empty castling_way_is_safe castles initial_setup
     initial_setup_of king_square right_is_sound rights_are_sound has_one_king no_pawn_on_end_ranks has_at_most_16
     target_is_sound may_name_right all_moves moves is_double_advance is_en_passant pawn_advances pawn_captures
     pawn_moves man_moves is_pseudo_legal captured_square men_after rights_after target_after resets_clock
@@ -65,7 +65,7 @@ moves_are_numbered = record { white_first = refl; black_first = refl }
 
 pub tags_are_in_order : TagsAreInOrder
 unfolding squares some_square each_square is_between is_of is_man is_clear could_capture attacks is_attacked
-    is_in_check is_castling_to castling castle_of castling_way_is_empty castling_way_is_safe castles initial_setup
+    is_in_check is_castling_to castling castle_of castling_needs_empty castling_way_is_empty castling_way_is_safe castles initial_setup
     initial_setup_of king_square right_is_sound rights_are_sound has_one_king no_pawn_on_end_ranks has_at_most_16
     target_is_sound may_name_right all_moves moves is_double_advance is_en_passant pawn_advances pawn_captures
     pawn_moves man_moves is_pseudo_legal captured_square men_after rights_after target_after resets_clock
