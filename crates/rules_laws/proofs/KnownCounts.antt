@@ -10,33 +10,33 @@ use Rattle.chess_fen.specs.Texts.{may_name_right}
 use Rattle.rules_laws.specs.KnownCounts.{HasMoves, MovesAreAsMany, pawn_blocked, rooks_beside, third_position, with_promotions}
 
 third : HasMoves Normal third_position 14
-unfolding squares some_square each_square is_between is_of is_man is_clear could_capture attacks is_attacked
-    is_in_check king_square right_is_sound rights_are_sound has_one_king no_pawn_on_end_ranks has_at_most_16
-    target_is_sound may_name_right is_castling_to castling castle_of castling_needs_empty castling_way_is_empty castling_way_is_safe
+unfolding squares some_square each_square is_between is_of is_man is_clear could_capture attacks is_attacked is_in_check
+    king_square right_is_sound rights_are_sound has_one_king no_pawn_on_end_ranks has_at_most_16 target_is_sound
+    may_name_right is_castling_to castling castle_of castling_needs_empty castling_way_is_empty castling_way_is_safe
     castles is_double_advance is_en_passant pawn_advances pawn_captures pawn_moves man_moves is_pseudo_legal
     captured_square men_after rights_after target_after resets_clock halfmove_after after is_legal all_moves moves
 third = refl
 
 promotions : HasMoves Normal with_promotions 24
-unfolding squares some_square each_square is_between is_of is_man is_clear could_capture attacks is_attacked
-    is_in_check king_square right_is_sound rights_are_sound has_one_king no_pawn_on_end_ranks has_at_most_16
-    target_is_sound may_name_right is_castling_to castling castle_of castling_needs_empty castling_way_is_empty castling_way_is_safe
+unfolding squares some_square each_square is_between is_of is_man is_clear could_capture attacks is_attacked is_in_check
+    king_square right_is_sound rights_are_sound has_one_king no_pawn_on_end_ranks has_at_most_16 target_is_sound
+    may_name_right is_castling_to castling castle_of castling_needs_empty castling_way_is_empty castling_way_is_safe
     castles is_double_advance is_en_passant pawn_advances pawn_captures pawn_moves man_moves is_pseudo_legal
     captured_square men_after rights_after target_after resets_clock halfmove_after after is_legal all_moves moves
 promotions = refl
 
 beside : HasMoves Fischerandom rooks_beside 20
-unfolding squares some_square each_square is_between is_of is_man is_clear could_capture attacks is_attacked
-    is_in_check king_square right_is_sound rights_are_sound has_one_king no_pawn_on_end_ranks has_at_most_16
-    target_is_sound may_name_right is_castling_to castling castle_of castling_needs_empty castling_way_is_empty castling_way_is_safe
+unfolding squares some_square each_square is_between is_of is_man is_clear could_capture attacks is_attacked is_in_check
+    king_square right_is_sound rights_are_sound has_one_king no_pawn_on_end_ranks has_at_most_16 target_is_sound
+    may_name_right is_castling_to castling castle_of castling_needs_empty castling_way_is_empty castling_way_is_safe
     castles is_double_advance is_en_passant pawn_advances pawn_captures pawn_moves man_moves is_pseudo_legal
     captured_square men_after rights_after target_after resets_clock halfmove_after after is_legal all_moves moves
 beside = refl
 
 blocked : HasMoves Normal pawn_blocked 2
-unfolding squares some_square each_square is_between is_of is_man is_clear could_capture attacks is_attacked
-    is_in_check king_square right_is_sound rights_are_sound has_one_king no_pawn_on_end_ranks has_at_most_16
-    target_is_sound may_name_right is_castling_to castling castle_of castling_needs_empty castling_way_is_empty castling_way_is_safe
+unfolding squares some_square each_square is_between is_of is_man is_clear could_capture attacks is_attacked is_in_check
+    king_square right_is_sound rights_are_sound has_one_king no_pawn_on_end_ranks has_at_most_16 target_is_sound
+    may_name_right is_castling_to castling castle_of castling_needs_empty castling_way_is_empty castling_way_is_safe
     castles is_double_advance is_en_passant pawn_advances pawn_captures pawn_moves man_moves is_pseudo_legal
     captured_square men_after rights_after target_after resets_clock halfmove_after after is_legal all_moves moves
 blocked = refl

@@ -11,9 +11,9 @@ use Rattle.chess_game.specs.Ends.{verdict, has_bishop_on, has_insufficient_mater
 use Rattle.rules_laws.specs.KnownCounts.{EndingsAreJudged}
 
 pub endings_are_judged : EndingsAreJudged
-unfolding squares some_square each_square is_between is_of is_man is_clear could_capture attacks is_attacked
-    is_in_check king_square right_is_sound rights_are_sound has_one_king no_pawn_on_end_ranks has_at_most_16
-    target_is_sound may_name_right is_castling_to castling castle_of castling_needs_empty castling_way_is_empty castling_way_is_safe
+unfolding squares some_square each_square is_between is_of is_man is_clear could_capture attacks is_attacked is_in_check
+    king_square right_is_sound rights_are_sound has_one_king no_pawn_on_end_ranks has_at_most_16 target_is_sound
+    may_name_right is_castling_to castling castle_of castling_needs_empty castling_way_is_empty castling_way_is_safe
     castles is_double_advance is_en_passant pawn_advances pawn_captures pawn_moves man_moves is_pseudo_legal
     captured_square men_after rights_after target_after resets_clock halfmove_after after is_legal all_moves moves
     verdict has_bishop_on has_insufficient_material

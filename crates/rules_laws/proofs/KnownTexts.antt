@@ -14,12 +14,12 @@ use Rattle.chess_text.specs.{Parts.unmarked, Moves.denotes, Moves.denotes_descri
 use Rattle.rules_laws.specs.KnownTexts.{MovesAreNumbered, MovesAreWritten, ResultsAreWorded, TagsAreInOrder, TextsDenoteMoves}
 
 pub moves_are_written : MovesAreWritten
-unfolding squares some_square each_square is_between is_of is_man is_clear could_capture attacks is_attacked
-    is_in_check is_castling_to castling castle_of castling_needs_empty castling_way_is_empty castling_way_is_safe castles king_square
-    right_is_sound rights_are_sound has_one_king no_pawn_on_end_ranks has_at_most_16 target_is_sound may_name_right
-    all_moves moves is_double_advance is_en_passant pawn_advances pawn_captures pawn_moves man_moves is_pseudo_legal
-    captured_square men_after rights_after target_after resets_clock halfmove_after after is_legal described
-    rival_starts check_mark san
+unfolding squares some_square each_square is_between is_of is_man is_clear could_capture attacks is_attacked is_in_check
+    is_castling_to castling castle_of castling_needs_empty castling_way_is_empty castling_way_is_safe castles
+    king_square right_is_sound rights_are_sound has_one_king no_pawn_on_end_ranks has_at_most_16 target_is_sound
+    may_name_right all_moves moves is_double_advance is_en_passant pawn_advances pawn_captures pawn_moves man_moves
+    is_pseudo_legal captured_square men_after rights_after target_after resets_clock halfmove_after after is_legal
+    described rival_starts check_mark san
 moves_are_written = record {
   file = refl;
   rank = refl;
@@ -54,21 +54,21 @@ results_are_worded = record {
 }
 
 pub moves_are_numbered : MovesAreNumbered
-unfolding squares some_square each_square is_between is_of is_man is_clear could_capture attacks is_attacked
-    is_in_check is_castling_to castling castle_of castling_needs_empty castling_way_is_empty castling_way_is_safe castles initial_setup
-    initial_setup_of king_square right_is_sound rights_are_sound has_one_king no_pawn_on_end_ranks has_at_most_16
-    target_is_sound may_name_right all_moves moves is_double_advance is_en_passant pawn_advances pawn_captures
-    pawn_moves man_moves is_pseudo_legal captured_square men_after rights_after target_after resets_clock
+unfolding squares some_square each_square is_between is_of is_man is_clear could_capture attacks is_attacked is_in_check
+    is_castling_to castling castle_of castling_needs_empty castling_way_is_empty castling_way_is_safe castles
+    initial_setup initial_setup_of king_square right_is_sound rights_are_sound has_one_king no_pawn_on_end_ranks
+    has_at_most_16 target_is_sound may_name_right all_moves moves is_double_advance is_en_passant pawn_advances
+    pawn_captures pawn_moves man_moves is_pseudo_legal captured_square men_after rights_after target_after resets_clock
     halfmove_after after is_legal described rival_starts check_mark san digits verdict has_bishop_on
     has_insufficient_material
 moves_are_numbered = record { white_first = refl; black_first = refl }
 
 pub tags_are_in_order : TagsAreInOrder
-unfolding squares some_square each_square is_between is_of is_man is_clear could_capture attacks is_attacked
-    is_in_check is_castling_to castling castle_of castling_needs_empty castling_way_is_empty castling_way_is_safe castles initial_setup
-    initial_setup_of king_square right_is_sound rights_are_sound has_one_king no_pawn_on_end_ranks has_at_most_16
-    target_is_sound may_name_right all_moves moves is_double_advance is_en_passant pawn_advances pawn_captures
-    pawn_moves man_moves is_pseudo_legal captured_square men_after rights_after target_after resets_clock
+unfolding squares some_square each_square is_between is_of is_man is_clear could_capture attacks is_attacked is_in_check
+    is_castling_to castling castle_of castling_needs_empty castling_way_is_empty castling_way_is_safe castles
+    initial_setup initial_setup_of king_square right_is_sound rights_are_sound has_one_king no_pawn_on_end_ranks
+    has_at_most_16 target_is_sound may_name_right all_moves moves is_double_advance is_en_passant pawn_advances
+    pawn_captures pawn_moves man_moves is_pseudo_legal captured_square men_after rights_after target_after resets_clock
     halfmove_after after is_legal placement_text digits verdict has_bishop_on has_insufficient_material same_men
     same_rights legal_en_passant_square is_same_position repetition_count
 tags_are_in_order = record { first = λ s. refl; mate = refl; chess960 = refl; normal = refl }
