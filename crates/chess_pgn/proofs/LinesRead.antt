@@ -129,7 +129,7 @@ module _ (depth : ℕ) (text : List ℕ) (start : Setup) (at : ℕ) (before : Op
           let first_is : first ≡ other = cc in
           let n_is : n ≡ m = cc in (
             ap (λ d. inside d text first here) (sym is_depth)
-            ∙ ap (λ d. line_fault text (inside d text) None first (tokens_from text (here + 1))) (sym n_is),
+                ∙ ap (λ d. line_fault text (inside d text) None first (tokens_from text (here + 1))) (sym n_is),
             sym same ∙ ap Some (sym first_is),
           )
 
