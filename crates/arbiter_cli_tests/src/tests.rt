@@ -304,7 +304,12 @@ const IGNORED: [(&[&str], bool, bool, bool); 9] = [
         false,
         true,
     ),
-    (&["verify", "--strict", "--ignore=variant"], false, true, true),
+    (
+        &["verify", "--strict", "--ignore=variant"],
+        false,
+        true,
+        true,
+    ),
     (
         &["verify", "--strict", "--ignore", "board,variant"],
         false,

@@ -195,10 +195,8 @@ fn name_a_file(arguments: &[&str]) -> bool {
     match arguments {
         [command, others @ ..] => {
             *command == "verify"
-                && arguments
-                    .iter()
-                    .zip(others)
-                    .any(|(before, word)| *before != "--ignore" && !word.starts_with("-"))
+                && arguments.iter().zip(others).any(|(before, word)| *before != "--ignore"
+                    && !word.starts_with("-"))
         }
         [] => false,
     }

@@ -214,16 +214,8 @@ const IGNORED: [(&str, &[u8], u8); 6] = [
         b"game 1: board says otherwise at byte 53\n",
         1,
     ),
-    (
-        "board,variant",
-        b"game 1: result differs at byte 28\n",
-        1,
-    ),
-    (
-        "board,variant,result",
-        b"game 1: 4 half-moves, *\n",
-        0,
-    ),
+    ("board,variant", b"game 1: result differs at byte 28\n", 1),
+    ("board,variant,result", b"game 1: 4 half-moves, *\n", 0),
 ];
 
 #[test]

@@ -1108,5 +1108,9 @@ fn games_end(rt: HostRuntime) {
     for (text, end) in &ENDS {
         is_equal(&rt, &game_end(text, 0), end);
     }
-    is_equal(&rt, &game_end(b"1. e4 * 1. d4 0-1".as_slice(), 7), &Some(17));
+    is_equal(
+        &rt,
+        &game_end(b"1. e4 * 1. d4 0-1".as_slice(), 7),
+        &Some(17),
+    );
 }

@@ -18,12 +18,28 @@ const VARIATIONS: [(&[u8], usize, Option<(PgnFaultKind, usize)>); 14] = [
     (b"1. e4 e5 (1... c5 (1... e6) 2. d4) 2. d4 *", 0, None),
     (b"1. e4 (1. e5) *", 0, Some((PgnFaultKind::IllegalMove, 10))),
     (b"1. e4 (1. e9) *", 0, Some((PgnFaultKind::BadToken, 10))),
-    (b"1. e4 (1. d4 -- 2. d5) *", 0, Some((PgnFaultKind::BadToken, 13))),
+    (
+        b"1. e4 (1. d4 -- 2. d5) *",
+        0,
+        Some((PgnFaultKind::BadToken, 13)),
+    ),
     (b"1. e4 (1. d4 ^) *", 0, Some((PgnFaultKind::BadToken, 13))),
     (b"(1. d4) 1. e4 *", 0, Some((PgnFaultKind::BadToken, 0))),
-    (b"1. e4 (1. d4 (1. d5)) *", 0, Some((PgnFaultKind::IllegalMove, 17))),
-    (b"1. e4 (1. d4 (1. c4) d5 (1... d4)) *", 0, Some((PgnFaultKind::IllegalMove, 30))),
-    (b"e4 e5 * 1. d4 (1. d5) *", 7, Some((PgnFaultKind::IllegalMove, 18))),
+    (
+        b"1. e4 (1. d4 (1. d5)) *",
+        0,
+        Some((PgnFaultKind::IllegalMove, 17)),
+    ),
+    (
+        b"1. e4 (1. d4 (1. c4) d5 (1... d4)) *",
+        0,
+        Some((PgnFaultKind::IllegalMove, 30)),
+    ),
+    (
+        b"e4 e5 * 1. d4 (1. d5) *",
+        7,
+        Some((PgnFaultKind::IllegalMove, 18)),
+    ),
 ];
 
 // Whether this is the first fault in the variations of the game from the offset `at` on.
@@ -65,6 +81,11 @@ fn variations_may_be_nested(rt: HostRuntime) -> Result<(), Fail> {
     is_found(&rt, deepest.as_slice(), 0, None);
     let deeper = nested(rt.alloc(), MOST_NESTED.saturating_add(1))?;
     let offset = 3 + 4 * MOST_NESTED;
-    is_found(&rt, deeper.as_slice(), 0, Some((PgnFaultKind::TooLong, offset)));
+    is_found(
+        &rt,
+        deeper.as_slice(),
+        0,
+        Some((PgnFaultKind::TooLong, offset)),
+    );
     Ok(())
 }

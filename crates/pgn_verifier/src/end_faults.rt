@@ -103,7 +103,8 @@ pub(crate) fn end_fault(
         (verdict_now game.now.state) end }
     ensures within { IfSome result (λ fault. fault.offset ≤ length text.now) }
 {
-    let found = variant_fault(strict.variant, text, at)
-        .or(contradiction(strict, text, at, game, end));
+    let found = variant_fault(strict.variant, text, at).or(contradiction(
+        strict, text, at, game, end,
+    ));
     variation_fault(strict.variations, text, at, game, end).or(found)
 }

@@ -154,7 +154,11 @@ const VARIANTS: [(&[u8], Verified, &[u8]); 8] = [
         Verified::FaultReported,
         b"game 1: unknown variant at byte 24\n",
     ),
-    (b"[Variant \"Atomic\"][Variant \"Normal\"] e4 *", Verified::EachGame, b""),
+    (
+        b"[Variant \"Atomic\"][Variant \"Normal\"] e4 *",
+        Verified::EachGame,
+        b"",
+    ),
     (
         b"[Variant \"Atomic\"] e4 e4 *",
         Verified::FaultReported,
@@ -171,8 +175,16 @@ fn unknown_variants_are_faults(rt: HostRuntime) {
 
 // Games with variations, and what is written of them. A variation replaces the move just before it.
 const VARIATION_TEXTS: [(&[u8], Verified, &[u8]); 22] = [
-    (b"1. e4 (1. d4 d5) e5 *", Verified::EachGame, b"game 1: 2 half-moves, *\n"),
-    (b"1. e4 e5 (1... c5 2. Nf3) 2. Nc3 *", Verified::EachGame, b"game 1: 3 half-moves, *\n"),
+    (
+        b"1. e4 (1. d4 d5) e5 *",
+        Verified::EachGame,
+        b"game 1: 2 half-moves, *\n",
+    ),
+    (
+        b"1. e4 e5 (1... c5 2. Nf3) 2. Nc3 *",
+        Verified::EachGame,
+        b"game 1: 3 half-moves, *\n",
+    ),
     // Two variations replace the same move, and one is in another.
     (
         b"1. e4 (1. d4) (1. c4 c5 (1... e5) 2. Nf3) 1... e5 *",
@@ -879,15 +891,7 @@ const READ_ON: [(&[u8], &[u8]); 11] = [
 #[test]
 fn games_after_a_fault_are_read(rt: HostRuntime) {
     for (text, lines) in &READ_ON {
-        check_cuts(
-            &rt,
-            &rt,
-            true,
-            SPANS,
-            text,
-            Verified::FaultReported,
-            lines,
-        );
+        check_cuts(&rt, &rt, true, SPANS, text, Verified::FaultReported, lines);
     }
 }
 
