@@ -18,7 +18,7 @@ mod TagParts
 mod TagScans
 mod TagsLeft
 mod TokenPlaces
-mod Variations
+mod VariationParts
 mod LinesRead
 mod PassedWords
 mod Walk

@@ -3,7 +3,7 @@ use Rattle.std.proofs.Common.{◌≡◌, ℕ, zero, suc, ◌≤◌, Bool, true, 
 use Rattle.std.specs.List.{list_any}
 use Rattle.std.proofs.{lemmas.Bool.or_parts, lemmas.Bool.Decides.nat_tests}
 use Rattle.chess_pgn.specs.Tokens.{Token, Skip, Unclosed_comment, Unclosed_variation, line_end, after_brace, variation_at}
-use Rattle.chess_pgn.proofs.Variations.{by_part, part_then}
+use Rattle.chess_pgn.proofs.VariationParts.{by_part, part_then}
 use Rattle.chess_pgn.specs.Split.{lacks, skips_line, IsInside, nothing, line, comment, variation, other, HasOpenComment, here, deeper}
 use Rattle.chess_pgn.proofs.ByteRuns.{differs, run_drop, LineSays, unended, line_then, line_says, brace_found, brace_missing, BraceSays, brace_says}
 

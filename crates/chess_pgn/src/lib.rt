@@ -21,7 +21,7 @@
 #![tactic(auto)]
 
 mod bytes;
-mod game_end;
+mod game_ends;
 mod last_tag;
 mod laws;
 mod progress;
@@ -33,18 +33,18 @@ mod tagged_result;
 mod termination;
 mod token;
 pub mod token_parts;
-mod unknown_variant;
+mod unknown_variants;
 mod variation;
 mod variations;
 mod word_kind;
 mod words;
 
 pub use chess_game::{HowEnded, TagText};
-pub use game_end::game_end;
+pub use game_ends::game_end;
 pub use laws::{faults_have_offsets, half_moves_have_bytes};
 pub use pgn_writer::{Tags, Termination, outcome_of, write_pgn};
 pub use read::{PgnEnd, PgnFault, PgnFaultKind, read_pgn};
 pub use tag_list::{GameTags, PgnTag, game_tags, tag_text};
 pub use tagged_result::{ResultTag, result_tag};
-pub use unknown_variant::unknown_variant;
+pub use unknown_variants::unknown_variant;
 pub use variations::{MOST_NESTED, read_variations};

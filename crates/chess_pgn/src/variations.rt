@@ -133,8 +133,12 @@ fn play_token<B: Board>(
 
 // Where the variation at the offset `at` begins, and how many may be open in it. `before` is the position before the
 // last move of the line that it is in, and `depth` how many variations may be open in that.
-fn opening(depth: usize, before: Option<Position>, at: usize) -> Result<(Position, usize), PgnFault>
-    ensures { result ≡ opening depth before at }
+fn opening(
+    depth: usize,
+    before: &Option<Position>,
+    at: usize,
+) -> Result<(Position, usize), PgnFault>
+    ensures { result ≡ opening depth before.now at }
 {
     let Some(start) = before else {
         return Err(PgnFault {
@@ -143,7 +147,7 @@ fn opening(depth: usize, before: Option<Position>, at: usize) -> Result<(Positio
         });
     };
     match depth.checked_sub(1) {
-        Some(inner) => Ok((start, inner)),
+        Some(inner) => Ok((*start, inner)),
         None => Err(PgnFault {
             kind: PgnFaultKind::TooLong,
             offset: at,
@@ -173,7 +177,7 @@ fn read_line<B: Board>(
             return Ok(());
         };
         if is_variation(text, offset, &token) {
-            let (first, inner_depth) = opening(depth, before, offset)?;
+            let (first, inner_depth) = opening(depth, &before, offset)?;
             let here = board.position();
             read_line(inner_depth, text, offset + 1, &first, board)?;
             board.set(&here);

@@ -4,7 +4,7 @@ use Rattle.std.proofs.Common.{◌≡◌, None, Some, refl, sym, ◌∙◌, rules
 use Rattle.chess_pgn.specs.ties.Seen.{token_seen}
 use Rattle.chess_pgn.proofs.GameEnds.{seeks_on, found, none_to_end, none_readable, end_is}
 use Rattle.chess_pgn.proofs.TokenPlaces.{token_within}
-use Rattle.chess_pgn.proofs.game_end.end_after_tags.Goals as goal
+use Rattle.chess_pgn.proofs.game_ends.end_after_tags.Goals as goal
 
 pub loop-token-init : goal.loop-token-init
 loop-token-init c = record { offset = c.requires; whole = refl }

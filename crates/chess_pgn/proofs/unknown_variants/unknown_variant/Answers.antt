@@ -3,7 +3,7 @@ use Rattle.chess_pgn.specs.Tokens.{tokens_from}
 use Rattle.byte_devices.specs.Bytes.{after_byte_order_mark}
 use Rattle.chess_pgn.proofs.Splits.{read_split}
 use Rattle.std.proofs.Common.{rules}
-use Rattle.chess_pgn.proofs.unknown_variant.unknown_variant.Goals as goal
+use Rattle.chess_pgn.proofs.unknown_variants.unknown_variant.Goals as goal
 
 pub returns-in_err-tag-clause-offset : goal.returns-in_err-tag-clause-offset
 returns-in_err-tag-clause-offset c =

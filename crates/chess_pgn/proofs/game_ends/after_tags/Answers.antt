@@ -3,7 +3,7 @@
 use Rattle.std.proofs.{Common.sym, Common.◌∙◌, Common.refl, lemmas.Bool.not-true}
 use Rattle.chess_pgn.specs.ties.Seen.{token_seen}
 use Rattle.chess_pgn.proofs.GameEnds.{passes_on, passed_all, passed_to_end, no_tag}
-use Rattle.chess_pgn.proofs.game_end.after_tags.Goals as goal
+use Rattle.chess_pgn.proofs.game_ends.after_tags.Goals as goal
 
 pub loop-token-init : goal.loop-token-init
 loop-token-init c = record { offset = c.requires; whole = refl }

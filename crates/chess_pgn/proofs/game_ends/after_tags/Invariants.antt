@@ -1,6 +1,6 @@
 use Rattle.std.proofs.Common.{length, ◌-◌}
 use Rattle.chess_pgn.proofs.GameEnds.{PassesTags}
-use Rattle.chess_pgn.proofs.game_end.after_tags.Given as goal
+use Rattle.chess_pgn.proofs.game_ends.after_tags.Given as goal
 
 abbrev pub invariant-loop-token : goal.invariant-loop-token
 invariant-loop-token l = PassesTags l.text l.at l.offset

@@ -2,7 +2,7 @@
 use Rattle.byte_devices.specs.Bytes.{after_byte_order_mark}
 use Rattle.chess_pgn.specs.Tokens.{tokens_from}
 use Rattle.chess_pgn.proofs.{GameEnds.is_later, GameEnds.is_within, Splits.read_split}
-use Rattle.chess_pgn.proofs.game_end.game_end.Goals as goal
+use Rattle.chess_pgn.proofs.game_ends.game_end.Goals as goal
 
 pub returns-clause-end : goal.returns-clause-end
 returns-clause-end c =
