@@ -5,7 +5,7 @@ use Rattle.chess_base.specs.{declared.man.Colour.Colour, declared.man.Colour.The
 use Rattle.cecp_engine.specs.{EngineLines.LineKind, Items.Item, Items.has_word, Items.is_known}
 use Rattle.chess_match.specs.Acts.{Block, Happens, IsMatchFrom, awaits_line}
 use Rattle.chess_match.specs.Effects.{Match, Phase, Handshake, Setup, Opening, BeforeMove, AfterMove, Over, beginning, handshake_lines, line_row, moved, opening}
-use Rattle.chess_match.specs.{Events.Line, shared.Parts.answers_to, Lines.SentLine, Lines.Says, Lines.setup_lines, Rules.Rules, laws.Laws.items_in_line}
+use Rattle.chess_match.specs.{Events.Line, Effects.answers_to, Lines.SentLine, Lines.Says, Lines.setup_lines, Rules.Rules, laws.Laws.items_in_line}
 use Rattle.chess_match.proofs.shared.LineCases.{line_cases, offering, said_by}
 use Rattle.chess_match_laws.specs.{OfActs.AtEachLine, Handshakes.ItemsAreAnswered, Handshakes.NamesAreKnown, Handshakes.name_answered}
 use Rattle.chess_match_laws.proofs.{Givings.lines_due, Points.Kept, Points.moved_items, Points.offered_items, SentByLinesLaw.items_are_said, Tellings.Tells, Tellings.told_at}

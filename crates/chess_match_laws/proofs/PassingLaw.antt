@@ -5,7 +5,7 @@ use Rattle.chess_base.specs.{declared.man.Colour.Colour, declared.man.Colour.The
 use Rattle.cecp_engine.specs.{EngineLines.LineKind, Items.Item, Items.takes}
 use Rattle.chess_match.specs.Acts.{Block, Happens, IsMatchFrom, awaits_line}
 use Rattle.chess_match.specs.Effects.{Match, Phase, Handshake, Setup, Opening, BeforeMove, AfterMove, Over, beginning, ends, handshake_lines, line_row, moved, opening}
-use Rattle.chess_match.specs.{Events.Line, shared.Parts.answers_to, Lines.SentLine, Lines.Says, Lines.setup_lines, Rules.Rules, declared.reason.Reason.Reason, declared.reason.Reason.TheVariants.Claimed, declared.reason.Reason.TheVariants.Decided}
+use Rattle.chess_match.specs.{Events.Line, Effects.answers_to, Lines.SentLine, Lines.Says, Lines.setup_lines, Rules.Rules, declared.reason.Reason.Reason, declared.reason.Reason.TheVariants.Claimed, declared.reason.Reason.TheVariants.Decided}
 use Rattle.chess_match.proofs.shared.LineCases.{in_turn, line_cases, offering, said_by, said_used}
 use Rattle.chess_match.proofs.shared.MatchCases.{both_not}
 use Rattle.chess_match_laws.specs.{OfActs.AtEachLine, OfActs.AtEachMoment, Rows.DrawsAreFew, Rows.OffersArePassedOn, Rows.draw_text}

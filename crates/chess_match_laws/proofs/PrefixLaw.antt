@@ -4,7 +4,7 @@ use Rattle.std.specs.List.{AllByRecursion, flat_map}
 use Rattle.std.proofs.lemmas.Grind.{flat_map-append}
 use Rattle.chess_base.specs.{declared.man.Colour.Colour, declared.man.Colour.TheVariants.White, declared.man.Colour.TheVariants.Black, Men.other, Men.same_colour, Options.list_if}
 use Rattle.cecp_engine.specs.{EngineLines.LineKind, Items.Item, Items.takes}
-use Rattle.chess_match.specs.{Acts.awaits_line, shared.Parts.answers_to, Reasons.is_write_fault_of, Reasons.reported_reason, Reasons.result_of, Rules.Rules, declared.reason.Reason.Reason, declared.reason.Reason.TheVariants.Claimed, declared.reason.Reason.TheVariants.Decided, laws.Laws.items_in_line}
+use Rattle.chess_match.specs.{Acts.awaits_line, Effects.answers_to, Reasons.is_write_fault_of, Reasons.reported_reason, Reasons.result_of, Rules.Rules, declared.reason.Reason.Reason, declared.reason.Reason.TheVariants.Claimed, declared.reason.Reason.TheVariants.Decided, laws.Laws.items_in_line}
 use Rattle.chess_match.specs.Effects.{Match, Phase, Handshake, Setup, Opening, BeforeMove, AfterMove, Over, beginning, clock, ends, handshake_lines, is_owed_move, line_row, move_line, moved, opening}
 use Rattle.chess_match.specs.Lines.{SentLine, Says, Time, Otim, setup_lines}
 use Rattle.chess_game.specs.Ends.{result_text, verdict}

@@ -44,8 +44,8 @@ passes_on text from here tail t r is inside may = record {
 -- a token ends them
 pub passed_all : (text : List ℕ) (from here : ℕ) (t : Token) (rest : List (ℕ × Token)) → PassesTags text from here
     → tokens_from text here ≡ (length text - here, t) ∷ rest → may_precede_tags t ≡ false → IsAfterTags text from here
-passed_all text from here t rest r is no =
-    sym r.whole ∙ ap after_tags is ∙ tags_end (length text - here, t) rest no ∙ sym is
+passed_all text from here t rest r is ends =
+    sym r.whole ∙ ap after_tags is ∙ tags_end (length text - here, t) rest ends ∙ sym is
 
 -- the text's end does
 pub passed_to_end : (text : List ℕ) (from here : ℕ) → PassesTags text from here → tokens_from text here ≡ []
@@ -151,19 +151,19 @@ token_ends total left Bad h w = tt
 -- a token that can't be among a game's tags ends the game after its own first byte
 begun_ends : (total left : ℕ) (t : Token) → left ≤ total → IsWithin left t → may_precede_tags t ≡ false
     → EndsFrom (total - left + 1) total (ends_at total (left, t))
-begun_ends total left Skip h w no = tt
-begun_ends total left (Tag name text n) h w no = absurd (cc)
-begun_ends total left (Word word) h w no = by_outcome (outcome_of word) refl
+begun_ends total left Skip h w ends = tt
+begun_ends total left (Tag name text n) h w ends = absurd (cc)
+begun_ends total left (Word word) h w ends = by_outcome (outcome_of word) refl
   where
     by_outcome : (o : Option Outcome) → o ≡ outcome_of word
         → EndsFrom (total - left + 1) total (option_map (λ outcome. total - left + length word) o)
     by_outcome None e = tt
     by_outcome (Some o) e =
         let some = outcome_has_bytes word o e in (omega (arith, some), omega (arith, h, w))
-begun_ends total left Bad_tag h w no = tt
-begun_ends total left (Unclosed_comment n) h w no = tt
-begun_ends total left Unclosed_variation h w no = tt
-begun_ends total left Bad h w no = tt
+begun_ends total left Bad_tag h w ends = tt
+begun_ends total left (Unclosed_comment n) h w ends = tt
+begun_ends total left Unclosed_variation h w ends = tt
+begun_ends total left Bad h w ends = tt
 
 tokens_end : (total most : ℕ) (b : Bool) (rest : List ℕ) → length rest ≤ total
     → EndsFrom (total - length rest) total (first_end total (tokens_of most b rest))
@@ -180,36 +180,31 @@ tokens_end total (suc most) b (c ∷ rest) h =
     (raised (total - suc (length rest)) (total - length t.1) total (first_end total later) (omega (arith, few))
     (tokens_end total most (c == 10) t.1 (omega (arith, h, few))))
 
+by_tags : (low total left : ℕ) (t : Token) (later : List (ℕ × Token)) (may : Bool) → may_precede_tags t ≡ may
+    → EndsFrom low total (first_end total (after_tags later))
+    → (may_precede_tags t ≡ false → EndsFrom low total (first_end total ((left, t) ∷ later)))
+    → EndsFrom low total (first_end total (after_tags ((left, t) ∷ later)))
+by_tags low total left t later true e more ends =
+    subst (λ ts. EndsFrom low total (first_end total ts)) (sym (tags_on (left, t) later (sym e))) more
+by_tags low total left t later false e more ends =
+    subst (λ ts. EndsFrom low total (first_end total ts)) (sym (tags_end (left, t) later e)) (ends e)
+
 game_ends : (total most : ℕ) (b : Bool) (rest : List ℕ) → length rest ≤ total
     → EndsFrom (total - length rest + 1) total (first_end total (after_tags (tokens_of most b rest)))
 unfolding tokens_of
 game_ends total zero b rest h = tt
 game_ends total (suc most) b [] h = tt
-game_ends total (suc most) b (c ∷ rest) h = by_test (may_precede_tags t.0) refl
-  where
-    t : Token × List ℕ
-    t = token_at b c rest
-
-    low : ℕ
-    low = total - suc (length rest) + 1
-
-    later : List (ℕ × Token)
-    later = tokens_of most (c == 10) t.1
-
-    by_test : (may : Bool) → may_precede_tags t.0 ≡ may
-        → EndsFrom low total (first_end total (after_tags ((suc (length rest), t.0) ∷ later)))
-    by_test true e =
-        let few = shorter b c rest in
-        subst (λ ts. EndsFrom low total (first_end total ts)) (sym (tags_on (suc (length rest), t.0) later (sym e)))
-        (raised low (total - length t.1 + 1) total (first_end total (after_tags later)) (omega (arith, few))
-        (game_ends total most (c == 10) t.1 (omega (arith, h, few))))
-    by_test false e =
-        let few = shorter b c rest in
-        subst (λ ts. EndsFrom low total (first_end total ts)) (sym (tags_end (suc (length rest), t.0) later e))
-        (first_of low total (ends_at total (suc (length rest), t.0)) (filter_map (ends_at total) later)
-        (begun_ends total (suc (length rest)) t.0 h (within b c rest) e)
-        (raised low (total - length t.1) total (first_end total later) (omega (arith, few, h))
-        (tokens_end total most (c == 10) t.1 (omega (arith, h, few)))))
+game_ends total (suc most) b (c ∷ rest) h =
+    let t : Token × List ℕ = token_at b c rest in
+    let few = shorter b c rest in
+    let later : List (ℕ × Token) = tokens_of most (c == 10) t.1 in
+    by_tags (total - suc (length rest) + 1) total (suc (length rest)) t.0 later (may_precede_tags t.0) refl
+    (raised (total - suc (length rest) + 1) (total - length t.1 + 1) total (first_end total (after_tags later))
+    (omega (arith, few, h)) (game_ends total most (c == 10) t.1 (omega (arith, h, few))))
+    (λ e. first_of (total - suc (length rest) + 1) total (ends_at total (suc (length rest), t.0))
+    (filter_map (ends_at total) later) (begun_ends total (suc (length rest)) t.0 h (within b c rest) e)
+    (raised (total - suc (length rest) + 1) (total - length t.1) total (first_end total later)
+    (omega (arith, few, h)) (tokens_end total most (c == 10) t.1 (omega (arith, h, few)))))
 
 -- a game's end is in the text, after the offset where the game begins
 pub end_in_text : (text : List ℕ) (at : ℕ) → at ≤ length text

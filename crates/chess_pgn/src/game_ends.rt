@@ -32,7 +32,8 @@ fn after_tags(text: &[u8], at: usize) -> usize
                 }
                 offset = token_end;
             }
-            Ok(None) | Err(_) => return offset,
+            Ok(None) => return offset,
+            Err(_) => return offset,
         }
     }
 }
@@ -69,7 +70,8 @@ fn end_after_tags(text: &[u8], at: usize) -> Option<usize>
                 }
                 offset = token_end;
             }
-            Ok(None) | Err(_) => return None,
+            Ok(None) => return None,
+            Err(_) => return None,
         }
     }
 }

@@ -47,7 +47,9 @@ fn is_passed(word: &[u8]) -> bool
 {
     match word_kind(word) {
         WordKind::Move => false,
-        WordKind::End(_) | WordKind::Number | WordKind::Marks => true,
+        WordKind::End(_) => true,
+        WordKind::Number => true,
+        WordKind::Marks => true,
     }
 }
 
