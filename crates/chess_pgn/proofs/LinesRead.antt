@@ -1,7 +1,7 @@
 -- Lines of moves (a game's own, or those of a variation), token by token: what is left gives the whole.
 use Rattle.std.proofs.Common.{◌≡◌, ℕ, zero, suc, ◌+◌, ◌-◌, ◌≤◌, Bool, true, false, cond, List, [], ◌∷◌, length, Option, Some, None, IfSome, IfErr, Result, Ok, Err, refl, sym, ap, ◌∙◌, inl, inr, arith}
 use Rattle.std.specs.{Option.option_map_or, Option.option_or, Result.result_err}
-use Rattle.chess_base.specs.{declared.man.Move.Move, declared.setup.Setup.Setup}
+use Rattle.chess_base.specs.{declared.man.Move.Move, declared.setup.Setup.Setup, Moves.after}
 use Rattle.chess_pgn.specs.{declared.read.PgnFault.PgnFault, declared.read.PgnFaultKind.PgnFaultKind, declared.read.PgnFaultKind.TheVariants.BadToken, declared.read.PgnFaultKind.TheVariants.TooLong, ties.Seen.token_seen}
 use Rattle.chess_pgn.specs.Tokens.{Token, Skip, Tag, Word, Bad_tag, Unclosed_comment, Unclosed_variation, Bad, tokens_from}
 use Rattle.chess_pgn.specs.Variations.{is_end, is_variation, after_token, token_move, line_fault, variation_fault}
@@ -25,6 +25,19 @@ begun depth text start p at h is = record {
 }
 
 -- ---- one token
+
+abbrev opened : Setup → ℕ → Result (Setup × ℕ) PgnFault
+opened first n = Ok (first, n)
+
+abbrev not_begun : PgnFault → Result (Setup × ℕ) PgnFault
+not_begun fault = Err fault
+
+-- where two variations begin alike, and how many may be open in them
+opened_alike : (first other : Setup) (n m : ℕ) → opened first n ≡ opened other m → (first ≡ other) × (n ≡ m)
+opened_alike first other n m e = let a : first ≡ other = cc in let b : n ≡ m = cc in (a, b)
+
+fault_alike : (fault other : PgnFault) → not_begun fault ≡ not_begun other → fault ≡ other
+fault_alike fault other e = cc
 
 -- what a token gives, by its offset, whether it is a variation, and whether it is a `)`
 abbrev by_kind : List ℕ → (Setup → ℕ → Option PgnFault) → Option Setup → Setup → Token → List (ℕ × Token) → ℕ
@@ -56,7 +69,7 @@ module _ (depth : ℕ) (text : List ℕ) (start : Setup) (at : ℕ) (before : Op
       sym (of_token text (inside depth text) before p token (tokens_from text tail) here opens closes r.offset v e)
       ∙ ap (line_fault text (inside depth text) before p) (sym is) ∙ r.whole
 
-  Plays : Result (Option Setup) PgnFault → Setup → Type 0
+  abbrev Plays : Result (Option Setup) PgnFault → Setup → Type 0
   Plays result q = (c : Option Setup) (later : Option Setup → Setup → Option PgnFault)
       → after_token here c p (token_move p token) later ≡ played c result q later
 
@@ -86,7 +99,7 @@ module _ (depth : ℕ) (text : List ℕ) (start : Setup) (at : ℕ) (before : Op
   faulty fault q v e plays = taken (Err fault) q v e plays
 
   -- what a variation gives, from where it begins
-  within : Option Setup → Option PgnFault
+  abbrev within : Option Setup → Option PgnFault
   within o = option_or (option_map_or (λ first. inside depth text first here) o
       (Some (record { kind = BadToken; offset = here })))
       (line_fault text (inside depth text) before p (tokens_from text tail))
@@ -104,10 +117,10 @@ module _ (depth : ℕ) (text : List ℕ) (start : Setup) (at : ℕ) (before : Op
       by_opening : (n : ℕ) (o : Option Setup) → Err fault ≡ opening n o here → n ≡ depth → o ≡ before
           → Some fault ≡ line_fault text (inside depth text) None start (tokens_from text at)
       by_opening n None e m same =
-          let is_bad : fault ≡ record { kind = BadToken; offset = here } = cc in
+          let is_bad = fault_alike fault (record { kind = BadToken; offset = here }) e in
           ap Some is_bad ∙ ap within same ∙ of_variation v
       by_opening zero (Some first) e m same =
-          let is_long : fault ≡ record { kind = TooLong; offset = here } = cc in
+          let is_long = fault_alike fault (record { kind = TooLong; offset = here }) e in
           ap Some is_long
           ∙ ap (λ d. option_or (inside d text first here) (line_fault text (inside depth text) before p
           (tokens_from text tail))) m ∙ ap within same ∙ of_variation v
@@ -126,11 +139,10 @@ module _ (depth : ℕ) (text : List ℕ) (start : Setup) (at : ℕ) (before : Op
       by_opening m None e is_depth same = absurd (cc)
       by_opening zero (Some other) e is_depth same = absurd (cc)
       by_opening (suc m) (Some other) e is_depth same =
-          let first_is : first ≡ other = cc in
-          let n_is : n ≡ m = cc in (
+          let alike = opened_alike first other n m e in (
             ap (λ d. inside d text first here) (sym is_depth)
-                ∙ ap (λ d. line_fault text (inside d text) None first (tokens_from text (here + 1))) (sym n_is),
-            sym same ∙ ap Some (sym first_is),
+                ∙ ap (λ d. line_fault text (inside d text) None first (tokens_from text (here + 1))) (sym alike.1),
+            sym same ∙ ap Some (sym alike.0),
           )
 
   -- a variation with a fault
@@ -215,33 +227,35 @@ line_within : (text : List ℕ) (inner : Setup → ℕ → Option PgnFault)
     → InText (length text) (line_fault text inner before p tokens)
 line_within text inner h [] before p = tt
 line_within text inner h ((n, token) ∷ more) before p =
-    by_kinds (is_variation text (length text - n) token) (is_end text (length text - n) token)
+    by_kinds (λ c q. line_within text inner h more c q) (is_variation text (length text - n) token)
+    (is_end text (length text - n) token)
   where
     by_before : (o : Option Setup) → InText (length text) (option_map_or
         (λ first. inner first (length text - n)) o (Some (record { kind = BadToken; offset = length text - n })))
     by_before None = omega arith
     by_before (Some first) = h first (length text - n) (omega arith)
 
-    by_move : (m : Result (Option Move) PgnFaultKind) → InText (length text)
-        (after_token (length text - n) before p m (λ c q. line_fault text inner c q more))
-    by_move (Ok None) = line_within text inner h more before p
-    by_move (Ok (Some m)) = line_within text inner h more (Some p) _
-    by_move (Err kind) = omega arith
+    by_move : ((c : Option Setup) (q : Setup) → InText (length text) (line_fault text inner c q more))
+        → (m : Result (Option Move) PgnFaultKind)
+        → InText (length text) (after_token (length text - n) before p m (λ c q. line_fault text inner c q more))
+    by_move rest (Ok None) = rest before p
+    by_move rest (Ok (Some m)) = rest (Some p) (after p m)
+    by_move rest (Err kind) = omega arith
 
-    by_kinds : (opens closes : Bool)
+    by_kinds : ((c : Option Setup) (q : Setup) → InText (length text) (line_fault text inner c q more))
+        → (opens closes : Bool)
         → InText (length text) (by_kind text inner before p token more (length text - n) opens closes)
-    by_kinds true closes =
-        first_within (length text) _ (line_fault text inner before p more) (by_before before)
-        (line_within text inner h more before p)
-    by_kinds false true = tt
-    by_kinds false false = by_move (token_move p token)
+    by_kinds rest true closes =
+        first_within (length text) _ (line_fault text inner before p more) (by_before before) (rest before p)
+    by_kinds rest false true = tt
+    by_kinds rest false false = by_move rest (token_move p token)
 
 variation_within : (depth : ℕ) (text : List ℕ) (p : Setup) (from : ℕ) → from ≤ length text
     → InText (length text) (inside depth text p from)
 unfolding variation_fault
 variation_within zero text p from h = h
 variation_within (suc depth) text p from h =
-    line_within text (inside depth text) (variation_within depth text) (tokens_from text (from + 1)) None p
+    line_within text (inside depth text) (λ q i k. variation_within depth text q i k) (tokens_from text (from + 1)) None p
 
 pub fault_within : (depth : ℕ) (text : List ℕ) (start : Setup) (at : ℕ)
     → InText (length text) (line_fault text (inside depth text) None start (tokens_from text at))

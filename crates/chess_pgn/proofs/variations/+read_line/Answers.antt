@@ -10,11 +10,11 @@ loop-token-init g c =
     c.set.ensures.position
 
 -- the line's end
-pub returns-in_ok-token-in-None : goal.returns-in_ok-token-in-None
-returns-in_ok-token-in-None g c =
+pub returns-in_default : goal.returns-in_default
+returns-in_default g c =
     ended c.args.depth c.args.text.now c.args.start.now c.args.at c.loop-token.before
     (g.B.Board.position c.loop-token.board) c.loop-token.offset c.loop-token.invariant
-    (rw c.in-None.is at c.in_ok-token.ensures)
+    (rw c.in_default.is at c.in_ok-token.ensures)
 
 -- what can't be read
 pub returns-in_err-token : goal.returns-in_err-token
@@ -44,8 +44,8 @@ returns-in_err-read_line g c =
     c.loop-token.invariant next.2 next.0 c.in_ok-first.first c.in_ok-first.inner_depth c.in_err-read_line.field-0.0
     (sym c.is_variation.ensures ∙ c.if-is_variation.true) c.in_ok-first.ensures c.in_err-read_line.ensures)
 
-pub loop-token-preserved-then-is_variation : goal.loop-token-preserved-then-is_variation
-loop-token-preserved-then-is_variation g c =
+pub loop-token-preserved-in_ok-read_line : goal.loop-token-preserved-in_ok-read_line
+loop-token-preserved-in_ok-read_line g c =
     let next = rw c.in-Some.is at c.in_ok-token.ensures in
     went_inside c.args.depth c.args.text.now c.args.start.now c.args.at c.loop-token.before
     (g.B.Board.position c.loop-token.board) c.loop-token.offset c.in-Some.token_end (token_seen c.in-Some.token)
@@ -64,8 +64,8 @@ returns-in_err-left g c =
     (sym c.is_variation.ensures ∙ c.if-is_variation.false)
     (goes_on c.args.text.now c.loop-token.offset c.in-Some.token) c.in_err-left.ensures)
 
-pub loop-token-preserved-in-Some : goal.loop-token-preserved-in-Some
-loop-token-preserved-in-Some g c =
+pub loop-token-preserved-in-Some-2 : goal.loop-token-preserved-in-Some-2
+loop-token-preserved-in-Some-2 g c =
     let next = rw c.in-Some.is at c.in_ok-token.ensures in
     moved_on c.args.depth c.args.text.now c.args.start.now c.args.at c.loop-token.before
     (g.B.Board.position c.loop-token.board) c.loop-token.offset c.in-Some.token_end (token_seen c.in-Some.token)
@@ -73,8 +73,8 @@ loop-token-preserved-in-Some g c =
     (sym c.is_variation.ensures ∙ c.if-is_variation.false)
     (goes_on c.args.text.now c.loop-token.offset c.in-Some.token) c.in_ok-left.ensures
 
-pub loop-token-preserved-in-None : goal.loop-token-preserved-in-None
-loop-token-preserved-in-None g c =
+pub loop-token-preserved : goal.loop-token-preserved
+loop-token-preserved g c =
     let next = rw c.in-Some.is at c.in_ok-token.ensures in
     passed_over c.args.depth c.args.text.now c.args.start.now c.args.at c.loop-token.before
     (g.B.Board.position c.loop-token.board) c.loop-token.offset c.in-Some.token_end (token_seen c.in-Some.token)
