@@ -54,7 +54,7 @@ is_one v = not v.quoted && bytes_eq v.text (codes "1")
 abbrev pub ends_handshake : Item → Bool
 ends_handshake i = bytes_eq i.name (codes "done") && is_one i.value
 
--- the items that a text begins with, at most n (the first argument), up to `done=1` or what is no item
+-- the items that a text begins with, at most n (the first argument), up to and with `done=1`, or up to what is no item
 abbrev pub first_items : ℕ → List ℕ → List Item
 first_items zero text = []
 first_items (suc n) text =
