@@ -78,7 +78,7 @@ MirrorMovesAlike = (p : Setup) (m : Move) → IsSound p → IsTrue (is_legal p m
     → record (after (mirrored_setup p) (mirrored_move m)) { fullmove = 1 }
     ≡ record (mirrored_setup (after p m)) { fullmove = 1 }
 
--- a sound position and its mirror are ended alike: by mate, by stalemate, and by insufficient material
+-- position p and its mirror are ended alike: by mate, by stalemate, and by insufficient material
 pub record EndsAreMirrored (p : Setup) : Type 0 where
   pub mate : IsMate (mirrored_setup p) ↔ IsMate p
   pub stalemate : IsStalemate (mirrored_setup p) ↔ IsStalemate p
