@@ -86,8 +86,8 @@ abbrev pub is_named_well : NamedRight → Bool
 is_named_well Wrong = false
 is_named_well _ = true
 
--- whether the letters of a castling field name no right wrongly. In Chess960 two letters for one right do, or a side's
--- letter without a rook; in normal chess no letters do
+-- whether the letters of a castling field name no right wrongly. Wrong, in Chess960 only, are two letters for one
+-- right, and a side's letter without a rook
 abbrev pub names_rights_well : Variant → Men → List ℕ → Bool
 names_rights_well v men letters = list_all (λ r. is_named_well (right_in v men letters r.0 r.1)) all_rights
 

@@ -60,7 +60,7 @@ pub record IsThere (n : ℕ) (start : Setup) (ms : List Move) : Type 0 where
 
 -- ---- moves without capture or pawn move
 
--- move m of position p is of no pawn, and no piece of the other side is on its end square
+-- move m of position p is no pawn move, and no piece of the other side is on its end square
 pub record IsQuiet (p : Setup) (m : Move) : Type 0 where
   pub pawn : is_man p.side Pawn (man_at p.men m.from) ≡ false
   pub capture : is_of (other p.side) (man_at p.men m.to) ≡ false

@@ -28,7 +28,8 @@ third_position = "8/2p5/3p4/KP5r/1R3p1k/8/4P1P1/8 w - - 0 1"
 abbrev pub with_promotions : Text
 with_promotions = "n1n5/PPPk4/8/8/8/8/4Kppp/5N1N b - - 0 1"
 
--- a position of Chess960 in which the kings are between rooks that stop them from castling
+-- a position of Chess960 with all rights, in which no castling is legal: enemy rooks attack the squares beside each
+-- king
 abbrev pub rooks_beside : Text
 rooks_beside = "2rkr3/8/8/8/8/8/8/2RKR3 w ECec - 0 1"
 
