@@ -47,6 +47,7 @@ is_name_byte c = is_letter c || (is_digit c || c == byte "_")
 abbrev pub shown_byte : ℕ → ℕ
 shown_byte c = if nat_lt c 32 || nat_lt 126 c then byte "?" else c
 
--- where reading from `at` on begins: at 3 if `at` is 0 and the text begins with a byte order mark (EF BB BF)
+-- the index at which reading a text from index `at` begins: 3 if `at` is 0 and the text begins with a byte order mark
+-- (EF BB BF), otherwise `at`
 abbrev pub after_byte_order_mark : List ℕ → ℕ → ℕ
 after_byte_order_mark text at = if (at == 0) && bytes_eq (take 3 text) (239 ∷ 187 ∷ 191 ∷ []) then 3 else at

@@ -37,7 +37,7 @@ pub record Devices : Type 0 where
 pub record InputGave (r r' : InputState) (i : FromInput) : Type 0 where
   -- if the bytes to come are known: they are `i.text`, and then those to come in `r'`
   pub bytes : Consumes r.known_bytes r'.known_bytes i.text
-  -- `i.early` lacks the bytes that the last successful read gave
+  -- `i.early` is `i.text` without the bytes that the last successful read gave
   pub early : i.early ≡ take (length i.text - r'.last_len) i.text
   -- after a reported end no known byte is left
   pub at_end : i.ended ≡ true → IsAtEnd r'.known_bytes
@@ -54,18 +54,18 @@ pub record OutputTook (w w' : OutputState) (o : ToOutput) : Type 0 where
   pub bytes : Appends w.known_bytes w'.known_bytes (o.flushed ++ o.left)
   -- if no flush succeeded, no bytes were flushed
   pub flushed : o.any_flush ≡ false → o.flushed ≡ []
-  -- as many bytes are unflushed in `w'` as `o.left` has, besides those of `w`, unless a flush succeeded
+  -- in `w'` the bytes of `o.left` are unflushed, and if no flush succeeded, also those that were so in `w`
   pub unflushed : w'.unflushed ≡ saturating_add (if o.any_flush then 0 else w.unflushed) (length o.left)
   -- a failure is counted
   pub failures : w'.failure_count ≡ (if o.failed then saturating_increment w.failure_count else w.failure_count)
 
--- from the devices' states `d` to `d'` there was a run, of which `P i o` holds for some `i` that the input gave and
--- some `o` that the output took. It may have waited for the input, as a match does
+-- there was a run, in which the devices went from the states `d` to `d'`: the input gave some `i`, the output took some
+-- `o`, and the claim `P i o` holds. It may have waited for the input, as a match does
 abbrev pub RanWithWaits : (FromInput → ToOutput → Type 0) → Devices → Devices → Type 0
 RanWithWaits P d d' =
     (i : FromInput) × (o : ToOutput) × InputGave d.input d'.input i × OutputTook d.output d'.output o × P i o
 
--- the same of a run that doesn't wait: there was no silence
+-- `RanWithWaits` of a run that doesn't wait for the input: there was no silence
 abbrev pub Ran : (FromInput → ToOutput → Type 0) → Devices → Devices → Type 0
 Ran P = RanWithWaits (λ i o. (i.silences ≡ 0) × P i o)
 
@@ -93,8 +93,8 @@ all_flushed flushes text = record { flushed = text; left = []; any_flush = flush
 abbrev pub all_unflushed : List ℕ → ToOutput
 all_unflushed text = record { flushed = []; left = text; any_flush = false; failed = false }
 
--- first went to the output what `before` says, and then a beginning of `text`, maybe nothing or all of it, which was
--- not flushed; then a write or a flush failed
+-- `o` is what went to the output: first what `before` says, and then a beginning of `text`, maybe nothing or all of it,
+-- which was not flushed; then a write or a flush failed
 abbrev pub BreaksOffIn : ToOutput → List ℕ → ToOutput → Type 0
 BreaksOffIn before text o =
     (start : List ℕ) × Begins start text × (o ≡ record before { left = before.left ++ start; failed = true })

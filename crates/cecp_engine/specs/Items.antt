@@ -54,14 +54,14 @@ is_one v = not v.quoted && bytes_eq v.text (codes "1")
 abbrev pub ends_handshake : Item → Bool
 ends_handshake i = bytes_eq i.name (codes "done") && is_one i.value
 
--- the items that a text begins with, at most n (the first argument), up to `done=1` or what is no item
+-- the items that a text begins with, at most n (the first argument), up to and with `done=1`, or up to what is no item
 abbrev pub first_items : ℕ → List ℕ → List Item
 first_items zero text = []
 first_items (suc n) text =
     option_map_or (λ p. if ends_handshake p.0 then p.0 ∷ [] else p.0 ∷ first_items n p.1) (item_of text) []
 
 -- the items of a `feature` line, from the text after `feature`. A malformed item and all after it are left out, and so
--- are all after `done=1`. There are no more than bytes
+-- are all after `done=1`. There are no more items than bytes, so none is cut off
 unfoldable pub items_of : List ℕ → List Item
 items_of text = first_items (length text) text
 
@@ -72,7 +72,7 @@ abbrev pub last_said : {A : Type 0} → (Value → A) → A → List ℕ → Lis
 last_said f default name items = fold (λ before i. if bytes_eq i.name name then f i.value else before) default items
 
 -- whether an engine that sent these items has the feature `name` on: the last item of that name has the value 1.
--- Without one, `time` and `draw` are on and others off, as in CECP
+-- Without one, `time` and `draw` are on and others off, as CECP says of `ping`, `setboard`, `san` and `usermove`
 unfoldable pub takes : List ℕ → List Item → Bool
 takes name items = last_said is_one (bytes_eq name (codes "time") || bytes_eq name (codes "draw")) name items
 

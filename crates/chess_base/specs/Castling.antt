@@ -138,8 +138,8 @@ unfoldable pub castling_way_is_safe : Men → Colour → Castle → Bool
 castling_way_is_safe men c k = each_square
     (λ x. not (is_on_way k.king_from k.king_to x) || not (is_attacked men x (other c)))
 
--- castling k, which move m is, is pseudo-legal. Whether the king is in check after it is not asked: in Chess960 its
--- rook may uncover an attack
+-- castling k, which move m is, is pseudo-legal: m names no promotion, the ways are empty, and the king's is not
+-- attacked. Whether the king is in check after it is not asked: in Chess960 its rook may uncover an attack
 unfoldable pub castles : Setup → Move → Castle → Bool
 castles p m k = is_none m.promotion && castling_way_is_empty p.men k && castling_way_is_safe p.men p.side k
 

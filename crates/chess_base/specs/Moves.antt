@@ -23,7 +23,8 @@ abbrev pub promotion_fits : Bool → Option Kind → Bool
 promotion_fits last None = not last
 promotion_fits last (Some k) = not (same_kind k King) && not (same_kind k Pawn) && last
 
--- a pawn of the side on move goes two squares straight ahead from its home rank, as e2e4 (3.7.2), even across a piece
+-- a pawn of the side on move goes two squares straight ahead from its home rank, as e2e4 (3.7.2), whatever is on the
+-- two squares
 unfoldable pub is_double_advance : Setup → Move → Bool
 is_double_advance p m = is_man p.side Pawn (man_at p.men m.from) && (rank m.from == pawn_rank p.side)
     && (m.to == forward p.side (forward p.side m.from))
@@ -47,13 +48,12 @@ unfoldable pub pawn_moves : Setup → Move → Bool
 pawn_moves p m =
     promotion_fits (rank m.to == first_rank (other p.side)) m.promotion && (pawn_advances p m || pawn_captures p m)
 
--- another piece's move, unless it is castling, goes to a square that the piece attacks and that holds no own piece
--- (3.1)
+-- the move of a piece other than a pawn, unless it is castling: it goes to a square that the piece attacks and that
+-- holds no own piece (3.1), and names no promotion
 unfoldable pub man_moves : Setup → Move → Bool
 man_moves p m = is_none m.promotion && attacks p.men m.from m.to && not (is_of p.side (man_at p.men m.to))
 
--- move m is pseudo-legal for the content of its start square (the last argument): a piece of the side on move can make
--- it
+-- move m is pseudo-legal if the last argument is what is on its start square: a piece of the side on move can make it
 abbrev pub moves_as : Setup → Move → Option Man → Bool
 moves_as p m None = false
 moves_as p m (Some x) = same_colour p.side x.colour

@@ -41,7 +41,7 @@ DenotesTarget text target = (text ≡ target_text target)
     × IfSome target (λ square. (rank square ≡ 2) ⊎ (rank square ≡ 5))
 
 -- the fields after the target denote the halfmove clock and the fullmove number: there are none (then 0 and 1), or
--- both; a fullmove number of 0 is read as 1
+-- both, each of 1 to 6 digits; a fullmove number of 0 is read as 1
 abbrev pub DenotesCounters : List (List ℕ) → ℕ → ℕ → Type 0
 DenotesCounters [] halfmove fullmove = (halfmove ≡ 0) × (fullmove ≡ 1)
 DenotesCounters (a ∷ []) halfmove fullmove = ⊥
@@ -66,8 +66,8 @@ abbrev pub DenotesText : Variant → List ℕ → List ℕ → Setup → Type 0
 DenotesText v text c p = (a : List ℕ) × (b : List ℕ) × (d : List ℕ) × (more : List (List ℕ))
     × (fields_of text ≡ a ∷ b ∷ c ∷ d ∷ more) × DenotesFields v a b c d more p
 
--- the text denotes position p as a FEN of variant v: its fields denote p, and the third names no castling right wrongly
--- (`names_rights_well`)
+-- the text denotes position p, sound or not, as a FEN of variant v: its fields denote p, and the third names no
+-- castling right wrongly (`names_rights_well`)
 abbrev pub DenotesFenAs : Variant → List ℕ → Setup → Type 0
 DenotesFenAs v text p = (castling : List ℕ) × DenotesText v text castling p
     × IsTrue (names_rights_well p.variant p.men castling)

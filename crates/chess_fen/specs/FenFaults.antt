@@ -28,7 +28,7 @@ DenotesSomeTarget text = (target : Option ℕ) × DenotesTarget text target
 
 -- the field that this fault is about denotes nothing, and each field before it does denote something: for `Castling`
 -- the third is wrong, the first two are right. a, b, c and d are the first four fields, `more` is the list of the two
--- counters or empty
+-- counters or empty. False for a fault that is about no field
 abbrev pub IsFieldFault : Variant → List ℕ → List ℕ → List ℕ → List ℕ → List (List ℕ) → FenFault → Type 0
 IsFieldFault v a b c d more Placement = (men : Men) → DenotesPlacement a men → ⊥
 IsFieldFault v a b c d more Side = DenotesSomeMen a × ((colour : Colour) → b ≢ side_text colour)

@@ -27,7 +27,7 @@ abbrev pub side_of : List ℕ → Option Colour
 side_of (c ∷ []) = if c == byte "w" then Some White else (if c == byte "b" then Some Black else None)
 side_of _ = None
 
--- the conditions that a position must meet where `letters` are the castling field of its FEN
+-- the conditions that a position must meet where `letters` are the castling field of its FEN, each with its fault
 abbrev pub conditions_of : List ℕ → Setup → List (FenFault × Bool)
 conditions_of letters p = conditions_if (names_rights_well p.variant p.men letters) p
 

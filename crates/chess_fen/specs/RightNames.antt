@@ -39,8 +39,8 @@ abbrev pub from_edge : Colour → CastlingSide → List ℕ
 from_edge c w = map (home_square c)
     (by_side (7 ∷ 6 ∷ 5 ∷ 4 ∷ 3 ∷ 2 ∷ 1 ∷ 0 ∷ []) (0 ∷ 1 ∷ 2 ∷ 3 ∷ 4 ∷ 5 ∷ 6 ∷ 7 ∷ []) w)
 
--- square s is on that side of the king's, if both are on one rank. King side is all that is not left of the king: also
--- the king's own square, and without a king (`None`) each square
+-- square s is on that side of the square `king`, if both are on one rank: queen side is left of it (towards file a),
+-- king side is all the rest, also the king's own square, and without a king (`None`) each square
 abbrev pub is_towards : CastlingSide → Option ℕ → ℕ → Bool
 is_towards QueenSide king s = option_map_or (λ k. nat_lt s k) king false
 is_towards KingSide king s = not (option_map_or (λ k. nat_lt s k) king false)
@@ -51,8 +51,9 @@ abbrev pub names_right : Men → Colour → CastlingSide → ℕ → Bool
 names_right men c w letter = letter == side_letter c w
     || names_file c letter && is_towards w (king_square men c) (home_square c (letter - first_letter c))
 
--- the rook's square by a letter that names the right. By a side's letter it is that of the rook of c on its first rank
--- that is nearest to that edge (`None`: there is none); by a file's letter the one on that file, even without a rook
+-- the rook's square that is given by a letter which names colour c's right on side w. A side's letter (K, Q, k or q)
+-- gives that of c's rook on its first rank that is nearest to that edge (`None`: there is none); a file's letter gives
+-- the square on that file, even without a rook
 abbrev pub rook_by : Men → Colour → CastlingSide → ℕ → Option ℕ
 rook_by men c w letter = if letter == side_letter c w then find (λ s. is_man c Rook (man_at men s)) (from_edge c w)
     else Some (home_square c (letter - first_letter c))
@@ -66,7 +67,7 @@ pub data NamedRight : Type 0 where
   -- it is named wrongly: by several letters, or by one for which there is no rook
   Wrong : NamedRight
 
--- a castling right of Chess960, from the rooks that the letters which name it give
+-- a castling right of Chess960, from the rooks' squares (`rook_by`) of all letters that name it
 abbrev pub right_by : List (Option ℕ) → NamedRight
 right_by [] = Absent
 right_by (Some s ∷ []) = At s
@@ -74,8 +75,8 @@ right_by _ = Wrong
 
 -- ---- both
 
--- colour c's castling right on side w by the letters of a castling field. In normal chess c has it if the side's letter
--- is among them, with the rook in the corner
+-- what the letters of a castling field say of colour c's right on side w. In normal chess it is there, with the rook in
+-- the corner, if the side's letter (K, Q, k or q) is among them; in Chess960 see `right_by`
 abbrev pub right_in : Variant → Men → List ℕ → Colour → CastlingSide → NamedRight
 right_in Normal men letters c w = if occurs (side_letter c w) letters then At (home_square c (rook_file w)) else Absent
 right_in Fischerandom men letters c w = right_by (map (rook_by men c w) (filter (names_right men c w) letters))
@@ -85,7 +86,8 @@ abbrev pub is_named_well : NamedRight → Bool
 is_named_well Wrong = false
 is_named_well _ = true
 
--- whether the letters of a castling field name no right wrongly
+-- whether the letters of a castling field name no right wrongly. Wrong, in Chess960 only, are two letters for one
+-- right, and a side's letter without a rook
 abbrev pub names_rights_well : Variant → Men → List ℕ → Bool
 names_rights_well v men letters = list_all (λ r. is_named_well (right_in v men letters r.0 r.1)) all_rights
 

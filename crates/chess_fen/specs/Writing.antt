@@ -37,8 +37,8 @@ placement_text men = join_with_byte (byte "/")
 abbrev pub side_text : Colour → List ℕ
 side_text = by_colour (codes "w") (codes "b")
 
--- a FEN's third field: the letters of the castling rights that are there, in normal chess KQkq; a dash if there are
--- none
+-- a FEN's third field: the letters of the castling rights that are there, in normal chess KQkq, in Chess960 those of
+-- the rooks' files; a dash if there are none
 abbrev pub rights_text : Variant → Rights → List ℕ
 rights_text v rights =
     let letters = filter_map (λ r. option_map (right_letter v r.0 r.1) (right_of rights r.0 r.1)) all_rights in

@@ -33,8 +33,8 @@ is_kind k o = option_map_or (λ x. same_kind k x.kind) o false
 unfoldable pub has_bishop_on : ℕ → Men → Bool
 has_bishop_on parity men = some_square (λ s. ((file s + rank s) % 2 == parity) && is_kind Bishop (man_at men s))
 
--- there is no pawn, rook or queen, and there is at most one bishop or knight, or there are only bishops, on squares of
--- one colour: no moves lead to mate (5.2.2). Other dead positions are not found
+-- there is no pawn, rook or queen, and there is at most one bishop or knight in all, or else no knight, and bishops
+-- only on squares of one colour: no moves lead to mate (5.2.2). Other dead positions are not found
 unfoldable pub has_insufficient_material : Men → Bool
 has_insufficient_material men = not (list_any (λ o. is_kind Pawn o || is_kind Rook o || is_kind Queen o) men)
     && (nat_le (count_by (λ o. is_kind Bishop o || is_kind Knight o) men) 1 || (not (list_any (is_kind Knight) men)

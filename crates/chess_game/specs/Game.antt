@@ -110,7 +110,7 @@ after_take_back g = if nat_le 1 (length g.state.moves) then with_state g (taken_
 abbrev pub contradicts_verdict : Option Verdict → Outcome → Bool
 contradicts_verdict verdict o = option_map_or (λ v. not (same_outcome (verdict_result v).outcome o)) verdict false
 
--- the game once the result d was to be declared: with d declared, or unchanged if a verdict has another outcome
+-- the game g after a call to declare the result d: with d declared, or unchanged if a verdict has another outcome
 abbrev pub after_declare : Seen → Declared → Seen
 after_declare g d = if contradicts_verdict (verdict_now g.state) d.outcome then g
     else with_state g (record g.state { declared = Some d })

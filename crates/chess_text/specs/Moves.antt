@@ -44,7 +44,7 @@ described p m =
 abbrev pub start_texts : ℕ → List (List ℕ)
 start_texts from = [] ∷ file_text (file from) ∷ rank_text (rank from) ∷ square_text from ∷ []
 
--- what may be written before the end square: nothing, or for a capture `x`
+-- what may be written before the end square: nothing, and for a capture also `x`
 abbrev pub capture_texts : Bool → List (List ℕ)
 capture_texts captures = [] ∷ list_if captures (codes "x" ∷ [])
 
@@ -103,7 +103,8 @@ denotes p text m = option_map_or (denotes_described text) (described p m) false
 
 -- ---- reading
 
--- what a text is read as that denotes just these legal moves
+-- what a text is read as that denotes just these legal moves: with none `NoSuch`, with one that move, with several
+-- `Ambiguous`
 abbrev pub one_of : List Move → Reading
 one_of [] = reads.NoSuch
 one_of (m ∷ []) = reads.Move m

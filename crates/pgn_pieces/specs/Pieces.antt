@@ -31,7 +31,7 @@ front_of line = let first = take 256 line in
 abbrev pub tag_name : List ℕ → List ℕ
 tag_name front = take_while is_name_byte (drop 1 front)
 
--- what comes after that name and any spaces and tabs
+-- what comes after the tag's name and any spaces and tabs in the front of a tag line
 abbrev pub after_name : List ℕ → List ℕ
 after_name front = without_blanks (drop (length (tag_name front)) (drop 1 front))
 
@@ -57,7 +57,7 @@ after_tag front = let value = drop 1 (after_name front) in
     if bytes_eq (take 2 close) (codes "\"]") then without_blanks (drop 2 close) else []
 
 -- whether a line counts as one of moves, even if it is in a `{` comment: one that is neither a tag line nor empty, or a
--- tag line with a letter, digit, `_` or `*` after its first tag
+-- tag line in which, after the first tag and any spaces and tabs, a letter, digit, `_` or `*` follows
 abbrev pub is_moves_line : List ℕ → Bool
 is_moves_line line = if is_tag_line line
     then list_any (λ c. is_name_byte c || c == byte "*") (take 1 (after_tag (front_of line)))
@@ -107,8 +107,8 @@ pub record GaveThenFailed (r r' : InputState) (text : List ℕ) : Type 0 where
   pub ends : r'.end_count ≡ r.end_count
   pub silences : r'.silence_count ≡ r.silence_count
 
--- why nothing was read after this text, between the input's states `r` and `r'`: a read failed, memory ran out, or
--- the text has nearly 2^63 bytes or more
+-- why nothing was read after this text, between the input's states `r` and `r'`: a read failed, memory ran out, or the
+-- text has at least 2^63 - 65,536 bytes
 abbrev pub IsCause : InputState → InputState → List ℕ → PieceFault → Type 0
 IsCause r r' text ReadFailed = GaveThenFailed r r' text
 IsCause r r' text NoMemory = HasRead false r r' text

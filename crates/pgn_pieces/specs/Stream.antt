@@ -34,8 +34,8 @@ with_offsets offset [] = []
 with_offsets offset (bytes ∷ rest) =
     record { offset = offset; bytes = bytes } ∷ with_offsets (offset + length bytes) rest
 
--- the pieces that are known (`known_pieces`) of a text of the input that begins at this offset, where a piece begins
--- (the first at 0)
+-- the pieces that are known (`known_pieces`) of a text of the input, each with its offset: the first begins with the
+-- text, at the given one. `ended`: the input ends with the text; if not, the last piece may go on and is left out
 unfoldable pub pieces : Bool → ℕ → List ℕ → List Piece
 pieces ended offset text = with_offsets offset (known_pieces ended text)
 
@@ -88,10 +88,10 @@ pub record IsStateOf (s : State) (r r' : InputState) (text : List ℕ) : Type 0 
   pub read : HasRead s.ended r r' text
   pub all : s.offset + (length s.part + length s.coming) ≡ length text
 
--- a call for the next piece takes the state `s` to `s'` and the input from `r` to `r'`; this text was read before,
--- and the call may read `more`. `Ok true`: `s'` has the next piece, and the pieces still to come before the call are
--- this one and then those still to come, however the input continues. `Ok false`: the input has ended, and no piece is
--- left. A fault: what was read contains the end of no further piece
+-- a call for the next piece, which takes the state `s` to `s'`, after this text was read; it may read `more`. `r` is
+-- the input's state before the text was read, `r'` the one after the call. `Ok true`: `s'` has the next piece, and the
+-- pieces still to come before the call are this one and then those still to come, however the input continues. `Ok
+-- false`: the input has ended, and no piece is left. A fault: what was read contains the end of no further piece
 abbrev pub Next : State → State → InputState → InputState → List ℕ → Result Bool PieceFault → Type 0
 Next s s' r r' text (Ok true) = (more : List ℕ) × IsStateOf s' r r' (text ++ more)
     × (s.ended ≡ true → (s'.ended ≡ true) × (more ≡ []))

@@ -74,8 +74,8 @@ safe_squares White QueenSide = square "c1" ∷ square "d1" ∷ square "e1" ∷ [
 safe_squares Black KingSide = square "e8" ∷ square "f8" ∷ square "g8" ∷ []
 safe_squares Black QueenSide = square "c8" ∷ square "d8" ∷ square "e8" ∷ []
 
--- the side on move may castle on side w: it has the right, and of the named squares those that must be are empty and
--- not attacked
+-- the side on move may castle on side w in normal chess: it has the right, the squares that must be empty are
+-- (`empty_squares`), and those that must not be attacked are not (`safe_squares`)
 pub record MayCastle (p : Setup) (w : CastlingSide) : Type 0 where
   pub right : right_of p.rights p.side w ≢ None
   pub empty : AllByRecursion (λ s. man_at p.men s ≡ None) (empty_squares p.side w)
@@ -85,8 +85,8 @@ pub record MayCastle (p : Setup) (w : CastlingSide) : Type 0 where
 abbrev pub castling_move : Colour → CastlingSide → Move
 castling_move c w = record { from = (castling_of c w).king_from; to = (castling_of c w).king_to; promotion = None }
 
--- normal chess: in a sound position with its king on e1 (or e8), the side on move can castle exactly if it may, by these
--- named squares
+-- normal chess: in a sound position with its king on e1 (or e8), the side on move can castle on side w exactly if it
+-- may, by the names of the squares (`MayCastle`)
 abbrev pub NormalCastlingIsLegal : Type 0
 NormalCastlingIsLegal = (p : Setup) (w : CastlingSide) → IsSound p → p.variant ≡ Normal
     → IsTrue (is_man p.side King (man_at p.men (castling_of p.side w).king_from))

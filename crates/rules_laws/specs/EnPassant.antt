@@ -23,8 +23,8 @@ pub record GoesTwoSquaresOver (c : Colour) (m : Move) (s : ℕ) : Type 0 where
   pub crosses : rank s ≡ by_colour 2 5 c
   pub ends : (file m.to ≡ file s) × (rank m.to ≡ by_colour 3 4 c)
 
--- the move before it was the double advance of a pawn over m's end square, and that pawn is what m captures: its square
--- is empty afterwards
+-- move `before` of position p was the double advance of a pawn over the end square of the next move, m, and that pawn
+-- is what m captures: its square is empty afterwards
 pub record FollowsDoubleAdvance (p : Setup) (before m : Move) : Type 0 where
   pub pawn : IsTrue (is_man p.side Pawn (man_at p.men before.from))
   pub over : GoesTwoSquaresOver p.side before m.to

@@ -31,7 +31,7 @@ pub record IsStalemate (p : Setup) : Type 0 where
   pub check : is_in_check p.men p.side ≡ false
   pub moves : HasNoMove p
 
--- a game is won by mate, and drawn by stalemate, exactly where the present position is such
+-- the verdict on the game from `start` by the moves ms is a mate, or stalemate, exactly if its present position is one
 pub record EndsByNoMove (start : Setup) (ms : List Move) : Type 0 where
   pub white_mates : (verdict start ms ≡ Some WhiteMates)
       ↔ (((position_after start ms).side ≡ Black) × IsMate (position_after start ms))
@@ -39,7 +39,7 @@ pub record EndsByNoMove (start : Setup) (ms : List Move) : Type 0 where
       ↔ (((position_after start ms).side ≡ White) × IsMate (position_after start ms))
   pub stalemate : (verdict start ms ≡ Some Stalemate) ↔ IsStalemate (position_after start ms)
 
--- this holds of each game
+-- `EndsByNoMove` holds of each game, of any moves from any start
 abbrev pub NoMoveEnds : Type 0
 NoMoveEnds = (start : Setup) (ms : List Move) → EndsByNoMove start ms
 
@@ -60,13 +60,13 @@ pub record IsThere (n : ℕ) (start : Setup) (ms : List Move) : Type 0 where
 
 -- ---- moves without capture or pawn move
 
--- move m of position p is of no pawn, and no piece of the other side is on its end square
+-- move m of position p is no pawn move, and no piece of the other side is on its end square
 pub record IsQuiet (p : Setup) (m : Move) : Type 0 where
   pub pawn : is_man p.side Pawn (man_at p.men m.from) ≡ false
   pub capture : is_of (other p.side) (man_at p.men m.to) ≡ false
 
--- for n half-moves nobody has captured or moved a pawn: the last n moves of the game are quiet; or, if it has fewer, all
--- are, and the start's halfmove clock makes up the rest
+-- for n half-moves nobody has captured or moved a pawn: the last n moves of the game are quiet; or, if it has fewer,
+-- all are, and the start's halfmove clock makes up the rest
 pub record IsQuietFor (n : ℕ) (start : Setup) (ms : List Move) : Type 0 where
   pub many : n ≤ start.halfmove + length ms
   pub quiet : (k : ℕ) (m : Move) → slice_get ms k ≡ Some m → length ms ≤ k + n → IsQuiet (position_at start ms k) m
@@ -89,7 +89,7 @@ pub record EndsByCounting (start : Setup) (ms : List Move) : Type 0 where
   pub threefold : IsTrue (claims start ms).threefold ↔ IsThere 3 start ms
   pub fifty_moves : IsTrue (claims start ms).fifty_moves ↔ IsQuietFor 100 start ms
 
--- this holds of each game
+-- `EndsByCounting` holds of each game, of any moves from any start
 abbrev pub CountingEnds : Type 0
 CountingEnds = (start : Setup) (ms : List Move) → EndsByCounting start ms
 

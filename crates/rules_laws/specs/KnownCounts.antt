@@ -16,25 +16,28 @@ use Rattle.chess_game.specs.declared.verdicts.Verdict.TheVariants.{WhiteMates, S
 abbrev pub move_count : Variant → Text → Option ℕ
 move_count v text = option_map (λ p. length (moves p)) (result_ok (fen_reading_as v (codes text)))
 
--- the position has so many moves
+-- the position that a FEN of variant v denotes has n legal moves
 abbrev pub HasMoves : Variant → Text → ℕ → Type 0
 HasMoves v text n = move_count v text ≡ Some n
 
--- known positions: the third of the usual six, one with promotions on both sides, one of Chess960 in which the kings
--- are between rooks that stop them from castling, and a pawn with a knight in its way
+-- the third of the six usual perft positions
 abbrev pub third_position : Text
 third_position = "8/2p5/3p4/KP5r/1R3p1k/8/4P1P1/8 w - - 0 1"
 
+-- a position with promotions on both sides, usual for perft
 abbrev pub with_promotions : Text
 with_promotions = "n1n5/PPPk4/8/8/8/8/4Kppp/5N1N b - - 0 1"
 
+-- a position of Chess960 with all rights, in which no castling is legal: enemy rooks attack the squares beside each
+-- king
 abbrev pub rooks_beside : Text
 rooks_beside = "2rkr3/8/8/8/8/8/8/2RKR3 w ECec - 0 1"
 
+-- a position in which a knight blocks a pawn
 abbrev pub pawn_blocked : Text
 pawn_blocked = "4k3/8/8/8/8/4n3/4P3/4K3 w - - 0 1"
 
--- how many moves they have: of the first two these are the published counts (perft, depth 1)
+-- how many legal moves these four positions have: of the first two these are the published counts (perft, depth 1)
 pub record MovesAreAsMany : Type 0 where
   pub third : HasMoves Normal third_position 14
   pub promotions : HasMoves Normal with_promotions 24
@@ -43,7 +46,8 @@ pub record MovesAreAsMany : Type 0 where
 
 -- ---- ends
 
--- the board's verdict on the position that a FEN denotes; `None` if the FEN is refused
+-- the board's verdict on the position that a FEN of normal chess denotes, `Some None` if it has none; `None` if the FEN
+-- is refused
 abbrev pub judged_fen : Text → Option (Option Verdict)
 judged_fen text = option_map (λ p. verdict p []) (result_ok (fen_reading_as Normal (codes text)))
 
@@ -51,7 +55,7 @@ judged_fen text = option_map (λ p. verdict p []) (result_ok (fen_reading_as Nor
 abbrev pub IsJudged : Text → Verdict → Type 0
 IsJudged text v = judged_fen text ≡ Some (Some v)
 
--- small endings
+-- small endings with their verdicts
 pub record EndingsAreJudged : Type 0 where
   pub mate : IsJudged "7k/6Q1/6K1/8/8/8/8/8 b - - 0 1" WhiteMates
   pub stalemate : IsJudged "7k/5Q2/6K1/8/8/8/8/8 b - - 0 1" Stalemate

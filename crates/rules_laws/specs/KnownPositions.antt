@@ -70,7 +70,7 @@ open_game = move_by "e2" "e4" ∷ move_by "e7" "e5" ∷ []
 abbrev pub passed_pawn : List Move
 passed_pawn = move_by "e2" "e4" ∷ move_by "a7" "a6" ∷ move_by "e4" "e5" ∷ move_by "d7" "d5" ∷ []
 
--- positions that are the same, and such as look alike (9.2.3)
+-- positions that are the same, and positions that only look alike (9.2.3)
 pub record PositionsAreTheSame : Type 0 where
   pub knights : are_same_after [] knights_dance ≡ true
   -- nothing could be captured on e6
@@ -89,15 +89,15 @@ pub record PositionsAreTheSame : Type 0 where
 abbrev pub IsRefused : Text → FenFault → Type 0
 IsRefused text fault = fen_reading_as Normal (codes text) ≡ Err fault
 
--- a FEN of normal chess is taken
+-- a FEN of normal chess is accepted
 abbrev pub IsTaken : Text → Type 0
 IsTaken text = is_some (result_ok (fen_reading_as Normal (codes text))) ≡ true
 
--- a FEN of Chess960 is taken, and this FEN is written of its position
+-- a FEN of Chess960 is accepted, and `written` is the FEN that is written of its position
 abbrev pub IsWrittenAs : Text → Text → Type 0
 IsWrittenAs text written = option_map fen (result_ok (fen_reading_as Fischerandom (codes text))) ≡ Some (codes written)
 
--- FENs that are refused, each by one fault, and neighbours that are taken
+-- FENs that are refused, each for one fault, and neighbours that are accepted
 pub record FensAreRefused : Type 0 where
   pub no_king : IsRefused "8/8/8/8/8/8/8/4K3 w - - 0 1" Kings
   pub two_kings : IsRefused "k6k/8/8/8/8/8/8/4K3 w - - 0 1" Kings

@@ -23,15 +23,15 @@ use Rattle.rules_laws.specs.KnownPositions.{promotes}
 
 -- ---- SAN
 
--- the SAN of a move in the position that a FEN denotes; `None` if the FEN is refused
+-- the SAN of a move in the position that a FEN of normal chess denotes; `None` if the FEN is refused
 abbrev pub san_in : Text → Move → Option (List ℕ)
 san_in text m = option_map (λ p. san p m) (result_ok (fen_reading_as Normal (codes text)))
 
--- in the position of a FEN the move is written so
+-- in the position of a FEN the move's SAN is `written`
 abbrev pub IsWritten : Text → Move → Text → Type 0
 IsWritten text m written = san_in text m ≡ Some (codes written)
 
--- moves are written so (section 8.2.3)
+-- moves and their SAN (section 8.2.3)
 pub record MovesAreWritten : Type 0 where
   -- two knights on different files, two rooks on one file, and a queen that shares her file with one and her rank with
   -- another
@@ -68,11 +68,11 @@ pub record TextsDenoteMoves : Type 0 where
 
 -- ---- results
 
--- the board's verdict is written so
+-- a verdict's result is written as this text
 abbrev pub IsWorded : Verdict → Text → Type 0
 IsWorded v text = result_text (verdict_result v) ≡ codes text
 
--- the draw that is declared where these may be claimed
+-- the claim by which a draw is declared, if any, where these claims hold
 abbrev pub claimed : (threefold fifty_moves : Bool) → Option DrawClaim
 claimed threefold fifty_moves = draw_claim (record { threefold = threefold; fifty_moves = fifty_moves })
 
@@ -91,12 +91,13 @@ pub record ResultsAreWorded : Type 0 where
 
 -- ---- PGN
 
--- the tokens of a game from the position of a FEN by these moves
+-- the PGN tokens (move numbers, moves, result) of the game from the position of a FEN by these moves; `None` if the FEN
+-- is refused
 abbrev pub tokens_from : Text → List Move → Option (List (List ℕ))
 tokens_from text ms = option_map (λ p. game_tokens (record { start = p; moves = ms; declared = None }))
     (result_ok (fen_reading_as Normal (codes text)))
 
--- moves are numbered so
+-- moves are numbered so in PGN (section 8.2.2)
 pub record MovesAreNumbered : Type 0 where
   -- the fool's mate: numbers before White's moves alone
   pub white_first : move_tokens initial_setup fools_mate

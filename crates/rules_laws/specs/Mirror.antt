@@ -51,7 +51,8 @@ mirrored_setup p = record {
 abbrev pub mirrored_move : Move → Move
 mirrored_move m = record { from = mirrored m.from; to = mirrored m.to; promotion = m.promotion }
 
--- pieces in the mirror attack what they attack, and give check as they do
+-- in the mirror the pieces `men` attack the same, and the same king is in check, with squares mirrored and colours
+-- exchanged
 pub record AttacksAreMirrored (men : Men) : Type 0 where
   pub clear : (a b : ℕ) → a < 64 → b < 64
       → is_clear (mirrored_men men) (mirrored a) (mirrored b) ≡ is_clear men a b
@@ -61,7 +62,7 @@ pub record AttacksAreMirrored (men : Men) : Type 0 where
       → is_attacked (mirrored_men men) (mirrored b) (other c) ≡ is_attacked men b c
   pub check : (c : Colour) → is_in_check (mirrored_men men) (other c) ≡ is_in_check men c
 
--- this holds of all pieces
+-- `AttacksAreMirrored` holds of each board
 abbrev pub MirrorAttacksAlike : Type 0
 MirrorAttacksAlike = (men : Men) → AttacksAreMirrored men
 
@@ -77,13 +78,13 @@ MirrorMovesAlike = (p : Setup) (m : Move) → IsSound p → IsTrue (is_legal p m
     → record (after (mirrored_setup p) (mirrored_move m)) { fullmove = 1 }
     ≡ record (mirrored_setup (after p m)) { fullmove = 1 }
 
--- a sound position and its mirror are ended alike: by mate, by stalemate, and by insufficient material
+-- position p and its mirror are ended alike: by mate, by stalemate, and by insufficient material
 pub record EndsAreMirrored (p : Setup) : Type 0 where
   pub mate : IsMate (mirrored_setup p) ↔ IsMate p
   pub stalemate : IsStalemate (mirrored_setup p) ↔ IsStalemate p
   pub material : has_insufficient_material (mirrored_men p.men) ≡ has_insufficient_material p.men
 
--- this holds of all sound positions
+-- `EndsAreMirrored` holds of each sound position
 abbrev pub MirrorEndsAlike : Type 0
 MirrorEndsAlike = (p : Setup) → IsSound p → EndsAreMirrored p
 
@@ -96,11 +97,11 @@ mirrored_verdict InsufficientMaterial = InsufficientMaterial
 mirrored_verdict FivefoldRepetition = FivefoldRepetition
 mirrored_verdict SeventyFiveMoves = SeventyFiveMoves
 
--- a game of legal moves from a sound start, and the same game in the mirror, have mirrored verdicts and the same claims
+-- the game from `start` by the moves ms, and the same game in the mirror, have mirrored verdicts and the same claims
 pub record GamesAreMirrored (start : Setup) (ms : List Move) : Type 0 where
   pub verdict : verdict (mirrored_setup start) (map mirrored_move ms) ≡ option_map mirrored_verdict (verdict start ms)
   pub claims : claims (mirrored_setup start) (map mirrored_move ms) ≡ claims start ms
 
--- this holds of all such games
+-- `GamesAreMirrored` holds of each game of legal moves from a sound start
 abbrev pub MirrorGamesAlike : Type 0
 MirrorGamesAlike = (start : Setup) (ms : List Move) → IsSound start → IsLine start ms → GamesAreMirrored start ms

@@ -20,6 +20,6 @@ square_names =
 abbrev pub name_of : ℕ → List ℕ
 name_of s = slice_index_or square_names s []
 
--- the square with a name: `square "e4"`
+-- the number of the square with this name: `square "e4"` is 28
 abbrev pub square : Text → ℕ
 square name = position_or_len (bytes_eq (codes name)) square_names

@@ -21,7 +21,7 @@ board =
     codes "...B...." ∷
     codes "R..q..k." ∷ []
 
--- marked: what a rook on d4 attacks
+-- marked by x: what a rook on d4 of `board` attacks
 abbrev pub by_rook : List (List ℕ)
 by_rook =
     codes "........" ∷
@@ -33,7 +33,7 @@ by_rook =
     codes "...x...." ∷
     codes "........" ∷ []
 
--- marked: what a bishop on d4 attacks
+-- marked by x: what a bishop on d4 of `board` attacks
 abbrev pub by_bishop : List (List ℕ)
 by_bishop =
     codes "........" ∷
@@ -45,7 +45,7 @@ by_bishop =
     codes ".x...x.." ∷
     codes "x.....x." ∷ []
 
--- marked: what a queen on d4 attacks
+-- marked by x: what a queen on d4 of `board` attacks
 abbrev pub by_queen : List (List ℕ)
 by_queen =
     codes "........" ∷
@@ -65,12 +65,12 @@ men_of rows = flat_map (map man_with_letter) (reverse rows)
 abbrev pub marks_of : List (List ℕ) → List Bool
 marks_of rows = flat_map (map (λ c. c == byte "x")) (reverse rows)
 
--- on this board rook, bishop and queen on d4, of either colour, could capture on just the squares marked
+-- on `board` rook, bishop and queen of colour c on d4 could capture on just the squares marked
 pub record ReachIsByDiagrams (c : Colour) : Type 0 where
   pub rook : map (could_capture (men_of board) c Rook (square "d4")) all_squares ≡ marks_of by_rook
   pub bishop : map (could_capture (men_of board) c Bishop (square "d4")) all_squares ≡ marks_of by_bishop
   pub queen : map (could_capture (men_of board) c Queen (square "d4")) all_squares ≡ marks_of by_queen
 
--- this holds for both colours
+-- `ReachIsByDiagrams` holds for both colours
 abbrev pub DiagramsHold : Type 0
 DiagramsHold = (c : Colour) → ReachIsByDiagrams c

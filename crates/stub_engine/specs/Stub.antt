@@ -53,7 +53,7 @@ after_remarks arguments = drop (prefix_len is_remark arguments) arguments
 abbrev pub played_text : List ℕ → List ℕ
 played_text argument = (if bytes_eq argument (codes "resign") then [] else codes "move ") ++ (argument ++ new_line ∷ [])
 
--- the turn of a stub with these arguments left; it plays a side from then on
+-- a stub's turn, with these arguments left: what it sends, and its state after it, in which it plays a side
 abbrev pub turn : Arguments → Response StubState
 -- none is left: it resigns
 turn [] = says (playing []) (codes "resign\n")

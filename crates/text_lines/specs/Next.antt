@@ -9,8 +9,9 @@ use Rattle.text_lines.specs.Lines.{LineSeen, Held, nothing_held, lines_held}
 abbrev pub before_piece : ℕ → List ℕ → List ℕ
 before_piece len bytes = take (length bytes - len) bytes
 
--- the bytes `given` were read only as long as no whole line was held: no read was made, or the bytes `held` and those
--- read before the last read have no `\n`. `r` and `r'` are the input before and after; lines have at most `n` bytes
+-- the bytes `given` were read only as long as no whole line was held: nothing was read (`last_len` is as before), or
+-- the bytes `held` and those read before the last read have no `\n`. `r` and `r'` are the input before and after. A
+-- line of more than `n` bytes is too long
 abbrev pub Waits : ℕ → InputState → InputState → Held → List ℕ → Type 0
 Waits n r r' held given =
     ((given ≡ []) × (r'.last_len ≡ r.last_len))
@@ -22,8 +23,8 @@ abbrev pub work : InputState → Held → ℕ
 work r held = r.pieces_left * 1025 + length held.coming
 
 -- `line`, which ends with `\n`, was returned: it is the first of the lines of what was held and read, and the others
--- follow it, however the stream goes on. `given` was read, which took the input from `r` to `r'`; `held` and `held'`
--- are the bytes read and not returned, before and after. Lines have at most `n` bytes
+-- follow it, however the stream continues. `given` was read, which took the input from `r` to `r'`; `held` and `held'`
+-- are the bytes read and not returned, before and after. A line of more than `n` bytes is too long
 pub record GotLine (n : ℕ) (r r' : InputState) (held held' : Held) (given : List ℕ) (line : LineSeen) : Type 0 where
   pub lines : (at_end : Bool) (rest : List ℕ)
       → lines_held n at_end held (given ++ rest) ≡ line ∷ lines_held n at_end held' rest
@@ -34,7 +35,7 @@ pub record GotLine (n : ℕ) (r r' : InputState) (held held' : Held) (given : Li
 
 -- `line`, the last one, was returned, which the end of the stream ended: `given` was read, which took the input from
 -- `r` to `r'`, and then the end was reported. `held` are the bytes read and not returned before; after it (`held'`)
--- there are none. Lines have at most `n` bytes
+-- there are none. A line of more than `n` bytes is too long
 pub record GotLast (n : ℕ) (r r' : InputState) (held held' : Held) (given : List ℕ) (line : LineSeen) : Type 0 where
   pub whole : lines_held n false held given ≡ []
   pub lines : lines_held n true held given ≡ line ∷ []
@@ -45,7 +46,7 @@ pub record GotLast (n : ℕ) (r r' : InputState) (held held' : Held) (given : Li
   pub silences : r'.silence_count ≡ r.silence_count
 
 -- the end of the stream was reported, and no line is left: `given`, which was read and took the input from `r` to `r'`,
--- and what was `held` before give no line, and nothing is held after (`held'`). Lines have at most `n` bytes
+-- and what was `held` before give no line, and nothing is held after (`held'`). `n`: the limit of a line's length
 pub record GotNone (n : ℕ) (r r' : InputState) (held held' : Held) (given : List ℕ) : Type 0 where
   pub lines : (at_end : Bool) → lines_held n at_end held given ≡ []
   pub rest : held' ≡ nothing_held
@@ -55,7 +56,7 @@ pub record GotNone (n : ℕ) (r r' : InputState) (held held' : Held) (given : Li
   pub silences : r'.silence_count ≡ r.silence_count
 
 -- a read failed: what was `held` before and read (`given`, which took the input from `r` to `r'`) has no whole line,
--- and all of it is kept in `held'`. Lines have at most `n` bytes
+-- and all of it is kept in `held'`. A line of more than `n` bytes is too long
 pub record GotFault (n : ℕ) (r r' : InputState) (held held' : Held) (given : List ℕ) : Type 0 where
   pub whole : lines_held n false held given ≡ []
   pub lines : (at_end : Bool) (rest : List ℕ)
@@ -65,7 +66,7 @@ pub record GotFault (n : ℕ) (r r' : InputState) (held held' : Held) (given : L
   pub silences : r'.silence_count ≡ r.silence_count
 
 -- no whole line had come when the call's time was up: what was `held` before and read (`given`, which took the input
--- from `r` to `r'`) has none, and all of it is kept in `held'`. Lines have at most `n` bytes
+-- from `r` to `r'`) has none, and all of it is kept in `held'`. A line of more than `n` bytes is too long
 pub record GotSilence (n : ℕ) (r r' : InputState) (held held' : Held) (given : List ℕ) : Type 0 where
   pub whole : lines_held n false held given ≡ []
   pub lines : (at_end : Bool) (rest : List ℕ)
@@ -75,17 +76,18 @@ pub record GotSilence (n : ℕ) (r r' : InputState) (held held' : Held) (given :
   pub silences : r'.silence_count ≡ saturating_increment r.silence_count
   pub falls : work r' held' < work r held
 
--- what the call for the next line, of at most `n` bytes, returned after it read the bytes `given`: a line, `None` at
--- the end, or a fault. `r` and `r'` are the input before and after, `held` and `held'` the bytes read but not returned
+-- what the call for the next line returned after it read the bytes `given`: a line (too long if of more than `n`
+-- bytes), `None` at the end, or a fault. `r` and `r'` are the input before and after, `held` and `held'` the bytes read
+-- but not returned
 abbrev pub Got : {E : Type 0} → ℕ → InputState → InputState → Held → Held → List ℕ → Result (Option LineSeen) E → Type 0
 Got n r r' held held' given (Ok (Some line)) =
     MatchBool line.ended (GotLine n r r' held held' given line) (GotLast n r r' held held' given line)
 Got n r r' held held' given (Ok None) = GotNone n r r' held held' given
 Got n r r' held held' given (Err e) = GotFault n r r' held held' given
 
--- a call for the next line, of at most `n` bytes: it reads only while no whole line is held, and `result` is the next
--- line, `None` at the end, or a fault. `r` and `r'` are the input before and after, `held` and `held'` the bytes read
--- but not returned
+-- a call for the next line: it reads only while no whole line is held, and `result` is the next line (too long if of
+-- more than `n` bytes), `None` at the end, or a fault. `r` and `r'` are the input before and after, `held` and `held'`
+-- the bytes read but not returned
 abbrev pub NextLine : {E : Type 0} → ℕ → InputState → InputState → Held → Held → Result (Option LineSeen) E → Type 0
 NextLine n r r' held held' result =
     (given : List ℕ) × Consumes r.known_bytes r'.known_bytes given × Waits n r r' held given
@@ -102,9 +104,9 @@ abbrev pub line_read : {E : Type 0} → Result Bool E → LineSeen → Result (O
 line_read (Ok some) line = Ok (line_if some line)
 line_read (Err e) line = Err e
 
--- a call for the next line, of at most `n` bytes, that waits only for so long. `Ok (Some true)`: it is `line`.
--- `Ok (Some false)`: none is left at the input's end. `Ok None`: no whole line had come by then. `Err`: a read failed.
--- `r` and `r'` are the input before and after, `held` and `held'` the bytes read but not returned
+-- a call for the next line (too long if of more than `n` bytes) that waits only for so long. `Ok (Some true)`: it is
+-- `line`. `Ok (Some false)`: none is left at the input's end. `Ok None`: no whole line had come by then. `Err`: a read
+-- failed. `r` and `r'` are the input before and after, `held` and `held'` the bytes read but not returned
 abbrev pub NextLineUntil : {E : Type 0} → ℕ → InputState → InputState → Held → Held → Result (Option Bool) E
     → LineSeen → Type 0
 NextLineUntil {E = E} n r r' held held' (Ok (Some some)) line =

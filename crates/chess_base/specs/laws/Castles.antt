@@ -12,7 +12,7 @@ use Rattle.chess_base.specs.Castling.{right_of, king_square, castle_from, castli
 use Rattle.chess_base.specs.Sound.{IsSound}
 
 -- the four squares of castling on side w, by the side on move: where its king and the rook of its right are, and where
--- they go; none without the right
+-- they go; none without the right, or without a king
 abbrev pub castling_on : Setup → CastlingSide → Option Castle
 castling_on p w = option_and_then
     (λ rook. option_map (λ king. castle_from p.side w king rook) (king_square p.men p.side))
@@ -28,17 +28,17 @@ named_square Fischerandom k = k.rook_from
 abbrev pub is_castling_by : Variant → Move → Castle → Bool
 is_castling_by v m k = (k.king_from == m.from) && (named_square v k == m.to)
 
--- the side on which move m castles, by these squares; none if it is not castling
+-- the side on which move m castles, by the squares of king and rook (`is_castling_by`); none if it is not castling
 unfoldable pub castling_named : Setup → Move → Option CastlingSide
 castling_named p m =
     find (λ w. option_map_or (is_castling_by p.variant m) (castling_on p w) false) (KingSide ∷ QueenSide ∷ [])
 
--- in a sound position move m castles on the side that it names by the squares of king and rook, and its castling has
--- these squares
+-- on position p move m castles on the side that its squares name (`castling_named`), and its castling has the squares
+-- of that one (`castling_on`)
 pub record CastlesByName (p : Setup) (m : Move) : Type 0 where
   pub side : castling p m ≡ castling_named p m
   pub squares : castle_of p m ≡ option_and_then (castling_on p) (castling_named p m)
 
--- in each sound position castling is what its squares name
+-- in each sound position each move castles on the side that its squares name, if any: `CastlesByName`
 abbrev pub CastlingIsNamed : Type 0
 CastlingIsNamed = (p : Setup) → (m : Move) → IsSound p → CastlesByName p m

@@ -1,6 +1,7 @@
 -- The rules as they are defined for normal chess alone: what the definitions of both variants come to there. Each of
--- these is the definition of the same name without `normal_`, with castling named by the king's squares: from the
--- e-file to the g-file or the c-file.
+-- these is the definition of the same name without `normal_` (`normal_says_castling` is `is_castling_to`,
+-- `normal_has_pattern` is `is_pseudo_legal`), with castling named by the king's squares: from the e-file to the g-file
+-- or the c-file.
 use Rattle.std.specs.Prelude.{◌≡◌, ℕ, ◌==◌, nat_lt, Bool, false, true, not, ◌&&◌, Option, Some, None, is_some, if◌then◌else◌, map}
 use Rattle.std.specs.Option.{option_map_or}
 use Rattle.chess_base.specs.declared.castling.Castle.{Castle}

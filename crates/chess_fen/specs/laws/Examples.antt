@@ -13,8 +13,8 @@ abbrev pub kings_and_pawn_men : Men
 kings_and_pawn_men = replicate 4 None ++ (man_of White King ∷ (replicate 7 None ++ (man_of White Pawn
     ∷ (replicate 47 None ++ (man_of Black King ∷ replicate 3 None)))))
 
--- the position of normal chess with those pieces, Black on move, no right and no target, after 5 half-moves without
--- capture or pawn move, in move 39
+-- the position of normal chess with these pieces (`kings_and_pawn_men`), Black on move, no right and no target, after 5
+-- half-moves without capture or pawn move, in move 39
 abbrev pub kings_and_pawn : Setup
 kings_and_pawn = record {
   variant = Normal;

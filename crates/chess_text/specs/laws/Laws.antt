@@ -32,7 +32,7 @@ CanPromote Pawn = ⊥
 CanPromote King = ⊥
 CanPromote k = Unit {0}
 
--- these can be the parts of a text: files and ranks below 8, an end square below 64, a letter of no pawn, a promotion
+-- these can be the parts of a text: files and ranks below 8, an end square below 64, no letter for a pawn, a promotion
 -- to what a pawn may become
 pub record AreParts (q : Parts) : Type 0 where
   pub letter_is : IfSome q.letter HasLetter

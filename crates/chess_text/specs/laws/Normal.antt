@@ -48,8 +48,8 @@ normal_reading p text = if shape text then one_of (filter (λ m. normal_denotes 
 
 -- ---- written
 
--- the start squares of the legal moves that go to the end square of the move d with a piece of the same kind, but from
--- another square; so SAN has to distinguish d from them
+-- the start squares of the moves from which SAN must distinguish the described move d: legal moves to d's end square
+-- with a piece of d's kind from another square
 unfoldable pub normal_rival_starts : Setup → Described → List ℕ
 normal_rival_starts p d = map (λ m. m.from) (filter (λ m. (m.to == d.to) && not (m.from == d.from)
     && option_map_or (λ e. same_kind e.man d.man) (normal_described p m) false) (normal_moves p))
