@@ -59,8 +59,8 @@ at_host steps = flat_map of_host steps
 
 -- ---- what passed
 
--- what contracts see of a host or a table: the claim, for each list of steps, that just these may come there from now
--- on, in this order
+-- what contracts see of a host: the claim, for each list of steps, that just these may come there from now on, in this
+-- order
 abbrev pub HostFuture : Type 1
 HostFuture = List HostStep → Type 0
 
@@ -68,6 +68,7 @@ HostFuture = List HostStep → Type 0
 abbrev pub anything : HostFuture
 anything steps = ⊤
 
+-- the same of a table of games
 abbrev pub GamesFuture : Type 1
 GamesFuture = List GamesStep → Type 0
 

@@ -25,8 +25,8 @@ use Rattle.match_runner.specs.GamesTable.{HostStep, OpensClock, Starts, StartFai
 abbrev pub moment_at : ℕ → List ℕ → ℕ → Option ℕ
 moment_at shown moments n = option_or (slice_get moments n) (last_or (Some shown) moments)
 
--- what is said by that one of these engines which has this command (by the first, if several have it), when it is
--- started after it was started so many times before; `None` if none has the command, or no more is given of it
+-- what the first of these engines that has this command says in the game for which it is started, after it was started
+-- so many times before; `None` if none has the command, or if nothing is given for this start
 abbrev pub text_of_start : List MemoryEngine → List ℕ → ℕ → Option (List ℕ)
 text_of_start engines command times =
     option_and_then (λ e. option_map (λ text. text.now) (slice_get e.outputs.now times))
@@ -61,7 +61,7 @@ abbrev pub started_in : List HostStep → List (List ℕ)
 started_in steps = flat_map started_by steps
 
 -- why engines with these commands, White's and Black's, are not started, if these are the texts that they would say:
--- White's has no text; or White's has one and Black's has none; or memory ran out
+-- White's has no text; or White's has one and Black's has none; or both have one and memory ran out
 abbrev pub IsFaultOfStart : List ℕ → List ℕ → Option (List ℕ) → Option (List ℕ) → GamesFault → Type 0
 IsFaultOfStart white black None _ (CanNotStart command) = command.now ≡ white
 IsFaultOfStart white black (Some _) None (CanNotStart command) = command.now ≡ black
