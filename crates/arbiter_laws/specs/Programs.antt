@@ -10,8 +10,9 @@ use Rattle.arbiter_laws.specs.PlainArguments.{CommandLine, IsPlain, arguments_of
 use Rattle.chess_arbiter.specs.Program.{Does, RanProgram, Surroundings, WritesHelp}
 use Rattle.match_runner.specs.GamesTable.{HostStep}
 
--- the program did what its arguments say, or reported a fault of a match's level, FEN or date, or that memory ran out;
--- `clap` has no fault to report (`[]`). `steps` are the steps that passed at the host, and `status` is the exit status
+-- the program did what its arguments say, or ended by a fault: an invalid level, FEN or date of a match, an invalid
+-- kind after `--ignore`, or memory ran out. `clap` has no fault to report (`[]`). `steps` are the steps that passed at
+-- the host, and `status` is the exit status
 abbrev pub DidAsSaid : Said → Surroundings → Surroundings → List HostStep → ℕ → Type 0
 DidAsSaid said s s' steps status =
     (read : Result Plan WordsFault) × IsReadAs [] said read × Does read s s' steps status

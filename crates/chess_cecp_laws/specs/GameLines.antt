@@ -95,6 +95,6 @@ pub record ByTheGame (session : SessionSeen) : Type 0 where
   pub no_king : session.state.start.variant ≡ Normal
       → IsAnswered session "setboard 8/8/8/8/8/8/8/4K3 w - - 0 1" "tellusererror Illegal position (kings)\n"
 
--- so it is in every session
+-- in every session these lines are answered as `ByTheGame` says
 abbrev pub GameLinesAreAnswered : Type 0
 GameLinesAreAnswered = (session : SessionSeen) → ByTheGame session

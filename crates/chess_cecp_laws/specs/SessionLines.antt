@@ -27,15 +27,15 @@ known_words =
     ∷ codes "claim" ∷ codes "ping" ∷ codes "protover" ∷ codes "variant" ∷ codes "go" ∷ codes "showfen"
     ∷ codes "showmoves" ∷ codes "showstate" ∷ codes "showpgn" ∷ codes "quit" ∷ []
 
--- a response to this line as to an unknown command: the line is shown, and the session goes on as it was
+-- the session answers this line as an unknown command: the line is shown, and the session goes on as it was
 pub record IsUnknown (session : SessionSeen) (line : LineSeen) : Type 0 where
   pub text : (session_response session line).text
       ≡ codes "Error (unknown command): " ++ (line.text ++ new_line ∷ [])
   pub state : (session_response session line).state ≡ session
   pub goes_on : (session_response session line).ends ≡ false
 
--- in every session: a line whose first word is none of these, and which has no move's shape, is an unknown command; it
--- is not ignored
+-- in every session: a line whose first word is none of `known_words`, and which has no move's shape, is answered as an
+-- unknown command; it is not ignored
 abbrev pub OtherWordsAreUnknown : Type 0
 OtherWordsAreUnknown = (session : SessionSeen) (line : LineSeen) → line.too_long ≡ false
     → list_any (bytes_eq (word_of line.text)) known_words ≡ false → shape line.text ≡ false → IsUnknown session line
@@ -86,6 +86,6 @@ pub record LinesAreAnswered (session : SessionSeen) : Type 0 where
   pub undo : session.state.moves ≡ [] → IsAnswered session "undo" "Error (command not legal now): undo\n"
   pub remove : session.state.moves ≡ [] → IsAnswered session "remove" "Error (command not legal now): remove\n"
 
--- so it is in every session
+-- in every session these lines are answered as `LinesAreAnswered` says
 abbrev pub SessionLinesAreAnswered : Type 0
 SessionLinesAreAnswered = (session : SessionSeen) → LinesAreAnswered session

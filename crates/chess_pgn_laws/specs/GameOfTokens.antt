@@ -137,8 +137,8 @@ abbrev pub unless_closed : ℕ → State → Option PgnFaultKind → Option PgnF
 unless_closed limit s kind = if is_some (verdict_now s) then Some AfterEnd else
     (if nat_lt (length s.moves) limit then kind else Some TooLong)
 
--- why the move of a word that was read with this result is not played in the game `s`; none if it is played. `limit` is
--- the most half-moves of a game
+-- why the move of a word is not played in the game `s`, by what the word denotes there; none if it is played. `limit`
+-- is the most half-moves of a game
 abbrev pub move_fault : ℕ → State → Reading → Option PgnFaultKind
 move_fault limit s reads.NotAMove = Some BadToken
 move_fault limit s (reads.Move m) = unless_closed limit s None

@@ -2,8 +2,8 @@
 --
 -- `MayCome` says which steps may come at such a host. No steps (`[]`) may always come, so of a match `PlaysGamesWith`
 -- says that just its steps might come at the host as it was before: each engine says what that host has for this start
--- of its command, and the clock shows its moments. From these, the plan, and the writes that fail follows each game (law
--- `OnlyOneMatchOfARun` of chess_match_laws), if nobody is waited for only so long; and from the games all that is
+-- of its command, and the clock shows its moments. From these, the plan, and the writes that fail follows each game
+-- (law `OnlyOneMatchOfARun` of chess_match_laws), if nobody is waited for only so long; and from the games all that is
 -- written, logged and sent. Where a plan sets limits to waiting, nothing here says which looks for a line find none,
 -- nor how many do. Nor is it said when memory runs out.
 use Rattle.std.specs.Prelude.{◌≡◌, ⊤, ℕ, ◌-◌, ◌^◌, List, [], ◌∷◌, ◌++◌, Option, None, Some}

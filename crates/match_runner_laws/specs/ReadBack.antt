@@ -54,7 +54,8 @@ entry_event e =
 abbrev pub entry_given : Colour → Entry → List ℕ
 entry_given S e = list_if (e.mark == byte ">" && same_colour e.side S) (e.text ++ new_line ∷ [])
 
--- the text of the last line but one, which is `result ..`
+-- the text of the last line but one, which in the log of a match is `result ..`; empty if there are fewer than two
+-- lines
 abbrev pub result_line : List Entry → List ℕ
 result_line (e ∷ f ∷ g ∷ es) = result_line (f ∷ g ∷ es)
 result_line (e ∷ f ∷ []) = e.text

@@ -71,7 +71,7 @@ fault_in start text fault why = Faulty (record fault { offset = start + fault.of
     (start + fault.offset + (wrong_part fault.kind (drop fault.offset text)).0) why
 
 -- where a text of `total` bytes is read on after a game with these tokens that has a fault: where the game ends, if
--- reading is to go on (`goes_on`) and that is found
+-- reading is to go on (`goes_on`) and that is found; otherwise `None`
 abbrev pub next_begin : Bool → ℕ → List (ℕ × Token) → Option ℕ
 next_begin goes_on total tokens = if goes_on then game_end total tokens else None
 
@@ -115,7 +115,8 @@ pub data AreReportsOf (goes_on : Bool) (strict : Strictness) (start : ℕ) (text
         report = fault_in start text fault (explanation s (drop fault.offset text) fault.kind reason);
       } ∷ reports)
 
--- the reports on a text up to the first game with a fault
+-- these are the reports on the games of a text (`AreReportsOf`), up to the first with a fault, after which it isn't
+-- read on
 abbrev pub AreReports : Strictness → ℕ → List ℕ → ℕ → List Placed → Type 0
 AreReports = AreReportsOf false
 
