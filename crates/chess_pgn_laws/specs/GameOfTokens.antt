@@ -181,10 +181,12 @@ token_fault limit total v begun s to_end Bad = fault_at (total - to_end) (Some B
 -- outcome declares a result. `limit` is the most half-moves
 abbrev pub StopsAt : ℕ → ℕ → Variant → List (ℕ × Token) → List (ℕ × Token) → State → Result (Option PgnEnd) PgnFault
     → Type 0
+-- at the text's end
 StopsAt limit total v taken [] s (Ok None) = (s.declared ≡ None) × (list_any (λ t. counts t.1) taken ≡ false)
 StopsAt limit total v taken [] s (Ok (Some e)) = ⊥
 StopsAt limit total v taken [] s (Err f) =
     (s.declared ≡ None) × (list_any (λ t. counts t.1) taken ≡ true) × (f ≡ record { kind = NoResult; offset = total })
+-- before the token `t`
 StopsAt limit total v taken (t ∷ ts) s (Ok None) = ⊥
 StopsAt limit total v taken (t ∷ ts) s (Ok (Some e)) =
     (word : List ℕ) × (t.1 ≡ Word word) × (word_kind word ≡ End e.outcome)

@@ -109,8 +109,9 @@ abbrev pub none_killed : ByColour Bool
 none_killed = record { white = false; black = false }
 
 -- `played` is the record of the game of this number, which was played as `setup_of` says, with at most 20,000
--- half-moves (`MOST_MOVES`), by some acts `H` and for some reason, of which these are the notes. No engine was killed
--- if replies have no limit. Which engines played it is said by the steps of a match (`steps_by` in GamesTable)
+-- half-moves (`MOST_MOVES`): there are acts `H` and a reason by which it was (`PlayedBy`), and its notes are those of
+-- `H`. No engine was killed if replies have no limit. Which engines played it is said by the steps of a match
+-- (`steps_by` in GamesTable)
 abbrev pub IsOfPlan : GamesPlan → ℕ → GameRecord → Type 0
 IsOfPlan plan number played = (played.before.game.limit ≡ MOST_MOVES)
     × (plan.patience.reply ≡ None → played.killed ≡ none_killed)
