@@ -34,15 +34,15 @@ abbrev pub VerifiesGames : List Text → Type 0
 VerifiesGames arguments = (s s' : Surroundings) (steps : List HostStep) (status : ℕ)
     → RanProgram arguments s s' steps status → Does (Ok (Verify bare_plan)) s s' steps status
 
--- whenever a program runs with these arguments, it writes a text of help to its output, reads nothing, and starts
--- nothing
+-- whenever a program runs with these arguments, it writes a text, such as the help, to its output, or fails to
+-- (`WritesHelp`); it reads nothing, and starts nothing
 abbrev pub ShowsHelp : List Text → Type 0
 ShowsHelp arguments = (s s' : Surroundings) (steps : List HostStep) (status : ℕ)
     → RanProgram arguments s s' steps status
     → (steps ≡ []) × (s'.devices.input ≡ s.devices.input) × WritesHelp s.devices.output s'.devices.output status
 
 -- whenever a program runs with these arguments, it reads nothing, writes nothing to its output, starts nothing, and has
--- the exit status 2, or 1 if memory ran out
+-- the exit status 2, or 1, as when memory ran out
 abbrev pub RefusesArguments : List Text → Type 0
 RefusesArguments arguments = (s s' : Surroundings) (steps : List HostStep) (status : ℕ)
     → RanProgram arguments s s' steps status

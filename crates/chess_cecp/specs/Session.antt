@@ -92,7 +92,7 @@ abbrev pub declares : State → Declared → Response State
 declares s d = says (record s { declared = Some d }) (result_text d ++ new_line ∷ [])
 
 -- the answer to `claim` in the game `s`: if the game is not over and a draw can be claimed (Laws, articles 9.2 and
--- 9.3), it is declared
+-- 9.3), it is declared; otherwise the claim is refused
 abbrev pub claim_row : State → Response State
 claim_row s = if is_over s then answers s (codes "Error (command not legal now): ") (codes "claim")
     else option_map_or (λ claim. declares s (record { outcome = Draw; comment = claim_comment claim }))

@@ -46,17 +46,17 @@ OtherWordsAreUnknown = (session : SessionSeen) (line : LineSeen) → line.too_lo
 abbrev pub response_to : SessionSeen → Text → Response SessionSeen
 response_to session text = session_response session (record { text = codes text; too_long = false; ended = true })
 
--- the line is answered so, and the session goes on as it was
+-- this line gets this answer, and the session goes on as it was
 pub record IsAnswered (session : SessionSeen) (line answer : Text) : Type 0 where
   pub text : (response_to session line).text ≡ codes answer
   pub state : (response_to session line).state ≡ session
   pub goes_on : (response_to session line).ends ≡ false
 
--- the line is not answered, and changes nothing
+-- this line gets no answer, and changes nothing
 abbrev pub IsIgnored : SessionSeen → Text → Type 0
 IsIgnored session line = IsAnswered session line ""
 
--- the line is not answered, and the game is `s` then
+-- this line gets no answer, and the game is `s` then
 pub record Becomes (session : SessionSeen) (line : Text) (s : State) : Type 0 where
   pub text : (response_to session line).text ≡ []
   pub state : (response_to session line).state ≡ record session { state = s }
@@ -68,7 +68,7 @@ lines_for_engines =
     ∷ "?" ∷ "computer" ∷ "name Sjeng" ∷ "rating 2000 1900" ∷ "ics freechess.org" ∷ "draw" ∷ "level 40 5 0" ∷ "st 30"
     ∷ "sd 4" ∷ "time 30000" ∷ "otim 29000" ∷ []
 
--- in this session these lines are answered so, or ignored, or change the game so
+-- what this session does with some lines: it ignores them, answers them, or changes the game
 pub record LinesAreAnswered (session : SessionSeen) : Type 0 where
   pub ignored : AllByRecursion (IsIgnored session) lines_for_engines
   pub ping : IsAnswered session "ping 7" "pong 7\n"

@@ -251,8 +251,8 @@ MovesAreRead r H m =
 abbrev pub ItemsAreSaid : Rules → List Act → Match → Type 0
 ItemsAreSaid r H m = (S : Colour) → (m.seat S).items ≡ items_said (lines_read S H)
 
--- the texts of the moves `ms` that the side `O` is to be sent, those of the other side, in the notation that its engine
--- asked for with these items
+-- what the side `O` is to be sent of the moves `ms` of a game: those of the other side, in SAN if its engine has `san`
+-- on by these items, otherwise by squares
 abbrev pub others_moves : Rules → Colour → List Item → List Move → List (List ℕ)
 others_moves r O items ms = texts_from r (takes (codes "san") items) (other O) r.start.side [] ms
 

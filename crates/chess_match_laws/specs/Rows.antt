@@ -131,8 +131,8 @@ abbrev pub draw_text : SentLine → List (List ℕ)
 draw_text (Says text) = list_if (bytes_eq text (codes "draw")) (text ∷ [])
 draw_text _ = []
 
--- while an offer of a draw by the other side is open, the side `S` was sent `draw`, unless its engine has the feature
--- off (a line that could not be sent counts)
+-- while an offer of a draw by the other side is open, the side `S` was sent `draw` at least once, unless its engine has
+-- the feature off (a line that could not be sent counts)
 abbrev pub OffersArePassedOn : Rules → Colour → List Act → Match → Type 0
 OffersArePassedOn r S H m = (m.seat (other S)).offers ≡ true → takes (codes "draw") (m.seat S).items ≡ true
     → 1 ≤ length (flat_map draw_text (lines_given S H))

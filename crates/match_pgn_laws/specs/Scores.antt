@@ -26,15 +26,15 @@ games_with odd even (line ∷ lines) = (if bytes_eq line odd then 1 else 0) + ga
 abbrev pub white_won : List ℕ
 white_won = codes "[Result \"1-0\"]"
 
--- that of a game that Black won
+-- the line of the tag Result of a game that Black won
 abbrev pub black_won : List ℕ
 black_won = codes "[Result \"0-1\"]"
 
--- that of a drawn game
+-- the line of the tag Result of a drawn game
 abbrev pub drawn : List ℕ
 drawn = codes "[Result \"1/2-1/2\"]"
 
--- that of a game without a result
+-- the line of the tag Result of an unfinished game
 abbrev pub unfinished : List ℕ
 unfinished = codes "[Result \"*\"]"
 

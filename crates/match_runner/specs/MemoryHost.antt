@@ -32,7 +32,8 @@ text_of_start engines command times =
     option_and_then (λ e. option_map (λ text. text.now) (slice_get e.outputs.now times))
     (find (λ e. bytes_eq e.command.now command) engines)
 
--- the same, if the engines with the commands `earlier` were started before, one after another
+-- what the engine with this command says if it is started now (`text_of_start`), after those with the commands
+-- `earlier`, one after another
 abbrev pub next_text : List MemoryEngine → List (List ℕ) → List ℕ → Option (List ℕ)
 next_text engines earlier command = text_of_start engines command (count_by (λ c. bytes_eq c command) earlier)
 

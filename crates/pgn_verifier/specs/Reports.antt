@@ -75,8 +75,8 @@ fault_in start text fault why = Faulty (record fault { offset = start + fault.of
 abbrev pub next_begin : Bool → ℕ → List (ℕ × Token) → Option ℕ
 next_begin goes_on total tokens = if goes_on then game_end total tokens else None
 
--- the offset from which on a text of `total` bytes isn't read: that of a fault after which it isn't found where to go
--- on (`next`); `None` if reading isn't to go on, or nothing is left
+-- the offset from which on a text of `total` bytes isn't read: that of a fault (`offset`) after which no place to go on
+-- is found (`next` is `None`); `None` if reading isn't to go on (`goes_on`), or nothing is left
 abbrev pub unread_from : Bool → ℕ → ℕ → Option ℕ → Option ℕ
 unread_from goes_on total offset next =
     if goes_on && not (is_some next) && nat_lt offset total then Some offset else None
@@ -174,8 +174,8 @@ written_line options input number placed (Faulty fault wrong_at explanation) =
     ((if is_at_begin fault.kind then placed.first else []) ++ (explanation ++ unread_text placed.unread placed.end))
     else [])
 
--- the lines of these reports, which are numbered from `number` on, those too that `quiet` leaves out. `input` is what
--- was read of the input
+-- the lines of these reports, which are numbered from `number` on; one that `quiet` leaves out has a number too.
+-- `input` is what was read of the input
 abbrev pub report_lines : VerifyOptions → List ℕ → ℕ → List Placed → List ℕ
 report_lines options input number [] = []
 report_lines options input number (placed ∷ rest) =

@@ -64,8 +64,8 @@ games_from goes_on strict start (suc n) text at =
 abbrev pub reports_from : Strictness → ℕ → ℕ → List ℕ → ℕ → List Report
 reports_from = games_from false
 
--- the reports on all games of a text, up to its first fault, or if `goes_on` also after faults. Each game has at least
--- one byte, so `length text + 1` games are enough
+-- the reports on all games of a text, up to its first fault, or if `goes_on` also after faults (`start` and `strict` as
+-- in `games_from`). Each game has at least one byte, so `length text + 1` games are enough
 abbrev pub games_of : Bool → Strictness → ℕ → List ℕ → List Report
 games_of goes_on strict start text = games_from goes_on strict start (length text + 1) text 0
 
@@ -108,8 +108,8 @@ game_placed start text at end s = record {
   report = Game (length s.moves) end.outcome end.termination;
 }
 
--- the same of a game with this fault, after which reading continues at `next`; if that is `None`, it doesn't, and the
--- span goes to the text's end
+-- the report on the game of a text from its offset `at` on, with its span and names, if it has this fault. Reading
+-- continues at `next`; if that is `None`, it doesn't, and the span goes to the text's end
 abbrev pub fault_placed : Bool → ℕ → List ℕ → ℕ → Option ℕ → GameFault → State → Placed
 fault_placed goes_on start text at next fault s = record {
   begin = start + game_begin text at;
