@@ -62,7 +62,7 @@ number_of text = digits_value 10 (without_leading_plus text)
 abbrev pub is_kind : Text → Bool
 is_kind name = bytes_eq name (codes "variant") || (bytes_eq name (codes "result") || bytes_eq name (codes "board"))
 
--- the names in the value of `--ignore`, which its commas (byte 44) part; none without the option
+-- the names in the value of `--ignore`, between its commas (byte 44); none without the option
 abbrev pub ignored_in : Values → List Text
 ignored_in value = option_map_or (slice_split (λ b. b == 44)) (value (codes "ignore")) []
 

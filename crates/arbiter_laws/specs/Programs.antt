@@ -17,7 +17,7 @@ abbrev pub DidAsSaid : Said → Surroundings → Surroundings → List HostStep 
 DidAsSaid said s s' steps status =
     (read : Result Plan WordsFault) × IsReadAs [] said read × Does read s s' steps status
 
--- whenever the program runs with plain arguments, it does what they say
+-- whenever the program runs with plain arguments, it does what they say, or ends by a fault (`DidAsSaid`)
 abbrev pub PlainArgumentsAreFollowed : Type 0
 PlainArgumentsAreFollowed = (line : CommandLine) (s s' : Surroundings) (steps : List HostStep) (status : ℕ)
     → IsPlain line → RanProgram (arguments_of line) s s' steps status → DidAsSaid (said_in line) s s' steps status

@@ -61,7 +61,8 @@ pub record Becomes (session : SessionSeen) (line : Text) (s : State) : Type 0 wh
   pub text : (response_to session line).text ≡ []
   pub state : (response_to session line).state ≡ record session { state = s }
 
--- what an engine would need, and an arbiter doesn't (CECP, sections 8 and 9); one line for each ignored command
+-- what an engine would need, and an arbiter doesn't (CECP, sections 8 and 9): one line for each ignored command, and an
+-- empty one
 abbrev pub lines_for_engines : List Text
 lines_for_engines =
     "" ∷ "xboard" ∷ "accepted ping" ∷ "rejected usermove" ∷ "force" ∷ "random" ∷ "hard" ∷ "easy" ∷ "post" ∷ "nopost"

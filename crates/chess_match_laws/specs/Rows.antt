@@ -27,8 +27,8 @@ use Rattle.chess_match_laws.specs.Streams.{is_move}
 abbrev pub normal_setup : List ℕ
 normal_setup = codes "new\nlevel 40 5 0\nnopost\neasy\nforce\nping 1\n"
 
--- what sets it up for a game of Chess960 from this position, of 2 minutes for the game and 12 seconds more for each
--- move
+-- what sets an engine up for a game of Chess960 from this position, of 2 minutes for the game and 12 seconds more for
+-- each move
 abbrev pub chess960_setup : Position → List ℕ
 chess960_setup start =
     codes "new\nvariant fischerandom\nlevel 0 2 12\nnopost\neasy\nforce\nsetboard " ++ fen start ++ codes "\nping 1\n"

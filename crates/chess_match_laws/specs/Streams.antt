@@ -21,7 +21,7 @@ use Rattle.chess_match.specs.laws.Laws.{line_kind, items_in_line, move_said, is_
 
 -- ---- what acts did at each device
 
--- of each look for a line of the side `S` in these acts, in order: whether it is a silence, as none had come yet
+-- of each look for a line of the side `S` in these acts, in order: whether it is a silence (no line had come yet)
 abbrev pub looks : Colour → List Act → List Bool
 looks S H = flat_map (look S) H
 

@@ -63,8 +63,8 @@ ItemsAreRead = map name_and_value
 abbrev pub is_on : Text → Text → Bool
 is_on name items = takes (codes name) (items_of (codes items))
 
--- which features an engine has on: the last item of a name counts, a value in quotes is none, and what isn't said is
--- CECP's default
+-- which features an engine has on: the last item of a name counts, 1 in quotes is not 1, and what isn't said is CECP's
+-- default
 pub record FeaturesAreOn : Type 0 where
   pub said : is_on "ping" "san=1 ping=1" ≡ true
   pub last : is_on "ping" "ping=1 ping=0" ≡ false

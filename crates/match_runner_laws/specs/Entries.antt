@@ -25,7 +25,7 @@ abbrev pub entries_text : Colour → List Entry → List ℕ
 entries_text first_side entries =
     flat_map (λ e. log_line e.moment e.mark (engine_name first_side e.side) e.text) entries
 
--- the log's lines for a note: those of `note_text`, of which `moment` is also
+-- the log's lines for a note: those of `note_text`, where `moment` is the same
 abbrev pub note_entries : ℕ → Note → List Entry
 note_entries moment (Happened (Line c (Some text) now)) =
     record { moment = now; mark = byte "<"; side = c; text = text } ∷ []
