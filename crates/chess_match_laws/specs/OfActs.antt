@@ -176,8 +176,8 @@ pub record ShowsFlushed (w w' : OutputState) : Type 0 where
   pub bytes : is_some w.known_bytes ≡ true
   pub after : w'.unflushed < 2 ^ 64 - 1
 
--- everything is known about the devices of a run, `w` before and `w'` after it: which bytes each engine sends, that no
--- count of failed calls is full, so that a failure shows, and which times the clock will give; and to each engine no
+-- everything is known about the devices of a run, `w` before and `w'` after it: which bytes each engine sends, and
+-- which times the clock will give; no count of failed calls is full, so that a failure shows; and to each engine no
 -- write or flush failed, or its input shows how much was flushed before
 pub record ShowsAll (w w' : World) : Type 0 where
   pub bytes : (S : Colour) → is_some (w.engines S).input.known_bytes ≡ true
