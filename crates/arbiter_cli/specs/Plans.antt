@@ -1,4 +1,4 @@
--- What a plan has to do with the arguments.
+-- What the program's arguments say, and which plan they ask for.
 use Rattle.std.specs.Prelude.{◌≡◌, ◌≤◌, ◌*◌, ◌==◌, ◌&&◌, ◌||◌, ℕ, Bool, not, true, false, List, [], codes, length, map, nat_le, if◌then◌else◌, Option, Some, Result, Ok, Err, unwrap_or, option_map, ⊤}
 use Rattle.std.specs.List.{list_all, list_any, slice_split}
 use Rattle.std.specs.Option.{option_map_or}
@@ -62,7 +62,7 @@ number_of text = digits_value 10 (without_leading_plus text)
 abbrev pub is_kind : Text → Bool
 is_kind name = bytes_eq name (codes "variant") || (bytes_eq name (codes "result") || bytes_eq name (codes "board"))
 
--- the names in the value of `--ignore`, which its commas (byte 44) part; none without the option
+-- the names in the value of `--ignore`, between its commas (byte 44); none without the option
 abbrev pub ignored_in : Values → List Text
 ignored_in value = option_map_or (slice_split (λ b. b == 44)) (value (codes "ignore")) []
 
@@ -170,8 +170,8 @@ said_by p =
     record { command = p.0; value = λ name. first_of name p.1; replies = unwrap_or (all_of (codes "words") p.1) [] }
 
 -- the result of reading these arguments, which come without the program's name, is right by the grammar of the command
--- line. `names` are references to the lists that it refers to, anywhere in memory. What plain arguments are read as, a
--- law says without this (`plain_arguments_are_followed`)
+-- line. `names` are references to the names that `--variant` and `--draws` take, anywhere in memory. What plain
+-- arguments are read as, a law says without this (`plain_arguments_are_followed`)
 abbrev pub IsReading : List Text → Result Plan WordsFault → Type 0
 IsReading arguments result = (names : OptionNames) × AreOptionNames names
     × IsReadAs (faults_in names arguments) (said_by (asked names arguments)) result

@@ -1,4 +1,4 @@
--- The grammar of the command line, as `clap` sees it.
+-- The grammar of the command line, in the terms of `clap`, the parser of arguments.
 use Rattle.std.specs.Prelude.{◌≡◌, ◌⊎◌, ◌++◌, ℕ, List, codes, fold, [], ◌∷◌, Some, Result, Ok, Err, is_some, map, true, unwrap_or}
 use Rattle.std.specs.Borrow.{Bor}
 use Rattle.clap.specs.Words.{App, HasKind, Kinds, Row, Rule, Text, fault_of, first_of, new_app, new_rule, subcommand_of, subcommand_rows_of, with_rule, with_subcommand}

@@ -14,17 +14,17 @@ pub data Given : Type 0 where
   valued : Text → Text → Given
   flag : Text → Given
 
--- the option's name, without its two hyphens
+-- the name of an option, without its two hyphens
 abbrev pub name_of : Given → Text
 name_of (valued name value) = name
 name_of (flag name) = name
 
--- the value that it was given; that of a flag is `true`
+-- the value that an option was given; that of a flag is `true`
 abbrev pub value_of : Given → Text
 value_of (valued name value) = value
 value_of (flag name) = codes "true"
 
--- the arguments that give it, such as `--games 10` or `--quiet`
+-- the arguments that give an option, such as `--games 10` or `--quiet`
 abbrev pub written : Given → List Text
 written (valued name value) = (codes "--" ++ name) ∷ value ∷ []
 written (flag name) = (codes "--" ++ name) ∷ []
@@ -41,7 +41,7 @@ pub data CommandLine : Type 0 where
   stub : List Text → CommandLine
   match : List Given → CommandLine
 
--- its arguments
+-- the arguments of a command line
 abbrev pub arguments_of : CommandLine → List Text
 arguments_of empty = []
 arguments_of session = codes "session" ∷ []
@@ -49,7 +49,7 @@ arguments_of (verify options) = codes "verify" ∷ flat_map written options
 arguments_of (stub replies) = codes "stub" ∷ replies
 arguments_of (match options) = codes "match" ∷ flat_map written options
 
--- what it says; an empty command line says the same as `session`
+-- what a command line says; an empty one says the same as `session`
 abbrev pub said_in : CommandLine → Said
 said_in empty = record { command = codes "session"; value = λ name. None; replies = [] }
 said_in session = record { command = codes "session"; value = λ name. None; replies = [] }

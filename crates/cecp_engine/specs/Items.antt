@@ -72,7 +72,7 @@ abbrev pub last_said : {A : Type 0} → (Value → A) → A → List ℕ → Lis
 last_said f default name items = fold (λ before i. if bytes_eq i.name name then f i.value else before) default items
 
 -- whether an engine that sent these items has the feature `name` on: the last item of that name has the value 1.
--- Without one, `time` and `draw` are on and others off, as CECP says of `ping`, `setboard`, `san` and `usermove`
+-- Without one, `time` and `draw` are on, all others off; for the features that a match uses these are CECP's defaults
 unfoldable pub takes : List ℕ → List Item → Bool
 takes name items = last_said is_one (bytes_eq name (codes "time") || bytes_eq name (codes "draw")) name items
 

@@ -70,8 +70,8 @@ abbrev pub WritesHelp : OutputState → OutputState → ℕ → Type 0
 WritesHelp w w' status = ((status ≡ 0) × (text : List ℕ) × OutputTook w w' (all_of text))
     ⊎ ((status ≡ 1) × ((w' ≡ w) ⊎ ((text : List ℕ) × (o : ToOutput) × OutputTook w w' o × BreaksOffIn nothing text o)))
 
--- what is done with arguments for which there is no plan, by the fault that says why. What is written to the error
--- output is not said here
+-- what is done with arguments for which there is no plan, by the fault that says why: the output goes from `w` to `w'`,
+-- and `status` is the exit status. What is written to the error output is not said here
 abbrev pub ReportsArguments : WordsFault → OutputState → OutputState → ℕ → Type 0
 -- an error of `clap`, the parser of arguments, which counts requests for help and for the version among the errors
 ReportsArguments (faults.Words e) w w' status =
@@ -82,7 +82,8 @@ ReportsArguments faults.NoMemory w w' status = (w' ≡ w) × (status ≡ 1)
 -- an invalid level, FEN or date of a match, or an invalid kind of fault
 ReportsArguments _ w w' status = (w' ≡ w) × (status ≡ 2)
 
--- from the state `l` of a log to `l'` this text was written where the log goes, even if the log was broken (`Logged`)
+-- from the state `l` of a log to `l'` this text was written where the log goes, even if the log was broken; a write of
+-- it may have failed (`Logged`)
 abbrev pub Reports : List ℕ → LogSeen → LogSeen → Type 0
 Reports text l l' = (l'.broken ≡ l.broken)
     × ((failed : Bool) × Logged (record l { broken = false }) (record l' { broken = failed }) text)

@@ -21,7 +21,8 @@ result_comment text = if length text == 0 then Some []
     else None
 
 -- the result that `argument`, what follows the word `result` in a line, declares: an outcome (`1-0`, `0-1`, `1/2-1/2`
--- or `*`), and after it nothing or a comment in braces; `None` for any other text
+-- or `*`), and after it nothing or a comment in braces, of which 60 bytes are kept (`cut_comment`); `None` for any
+-- other text
 unfoldable pub read_result : List ℕ → Option Declared
 read_result argument = do
   outcome ← outcome_of (word_of argument)
@@ -34,7 +35,7 @@ claims_text c = if c.threefold then (if c.fifty_moves then codes "threefold+50" 
     else (if c.fifty_moves then codes "50" else codes "none")
 
 -- what `showstate` writes after `# state ply `, such as `0 rep 1 clock 0 claims none verdict none declared none`; `rep`
--- is how often the current position has occurred
+-- is how often the current position has occurred, `clock` the halfmove clock
 unfoldable pub state_text : State → List ℕ
 state_text s = decimal (length s.moves)
     ++ (codes " rep " ++ (decimal (repetition_count s.start s.moves)

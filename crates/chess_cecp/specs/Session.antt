@@ -66,15 +66,15 @@ reading_row s text (reads.Move m) = becomes_judged (played s m)
 reading_row s text reads.Ambiguous = answers s (codes "Error (ambiguous move): ") text
 reading_row s text _ = answers s (codes "Illegal move: ") text
 
--- the answer to a move's text in the game `s`, such as `e4` in `usermove e4`: refused if the game is over or full;
--- otherwise by what the text denotes
+-- the answer to a move's text in the game `s`, such as `e4` in `usermove e4`: refused if the game is over or has
+-- `limit` half-moves; otherwise by what the text denotes
 abbrev pub move_row : ℕ → State → List ℕ → Response State
 move_row limit s text = if is_over s then answers s (codes "Illegal move (game over): ") text
     else if nat_le limit (length s.moves) then answers s (codes "Error (game too long): ") text
     else reading_row s text (reading (current s) text)
 
--- the answer to `undo` (`n` is 1) or `remove` (`n` is 2) in the game `s`: the last `n` half-moves are taken back, if
--- there are so many, and a declared result is cleared
+-- the answer to `undo` (`n` is 1) or `remove` (`n` is 2), which is `name`, in the game `s`: the last `n` half-moves are
+-- taken back and a declared result is cleared; refused if there are fewer half-moves
 abbrev pub take_back_row : ℕ → List ℕ → State → Response State
 take_back_row n name s = if nat_le n (length s.moves) then becomes (taken_back s n)
     else answers s (codes "Error (command not legal now): ") name
@@ -92,14 +92,15 @@ abbrev pub declares : State → Declared → Response State
 declares s d = says (record s { declared = Some d }) (result_text d ++ new_line ∷ [])
 
 -- the answer to `claim` in the game `s`: if the game is not over and a draw can be claimed (Laws, articles 9.2 and
--- 9.3), it is declared
+-- 9.3), it is declared; otherwise the claim is refused
 abbrev pub claim_row : State → Response State
 claim_row s = if is_over s then answers s (codes "Error (command not legal now): ") (codes "claim")
     else option_map_or (λ claim. declares s (record { outcome = Draw; comment = claim_comment claim }))
     (draw_claim (claims s.start s.moves)) (answers s (codes "Error (no claim): ") (codes "claim"))
 
 -- the answer to `variant` in the game `s`, by its argument (`text` is the whole line): `fischerandom` starts a new game
--- of Chess960 at the initial position of normal chess; `normal` starts one of normal chess if `s` is of Chess960
+-- of Chess960 at the initial position of normal chess; `normal` starts one of normal chess if `s` is of Chess960, and
+-- otherwise changes nothing; any other variant is refused
 abbrev pub variant_row : State → List ℕ → List ℕ → Response State
 variant_row s text argument =
     if bytes_eq argument (codes "fischerandom") then becomes (from_start (initial_setup_of Fischerandom))

@@ -16,22 +16,22 @@ use Rattle.chess_text.specs.declared.reading.Reading.TheVariants as reads
 use Rattle.chess_cecp.specs.Held.{SessionSeen}
 use Rattle.chess_cecp_laws.specs.SessionLines.{Becomes, IsAnswered, IsIgnored, response_to}
 
--- the session once this result is declared
+-- the session once this result is declared in its game
 abbrev pub with_result : SessionSeen → Declared → SessionSeen
 with_result session d = let s = session.state in record session { state = record s { declared = Some d } }
 
--- the line is answered so, and this result is declared
+-- this line gets this answer, and this result is declared in the game
 pub record Declares (session : SessionSeen) (line answer : Text) (outcome : Outcome) (comment : Text) : Type 0 where
   pub text : (response_to session line).text ≡ codes answer
   pub state : (response_to session line).state
       ≡ with_result session (record { outcome = outcome; comment = codes comment })
 
--- the line is answered so, and this move is played
+-- this line gets this answer, and this move is played
 pub record Plays (session : SessionSeen) (line answer : Text) (m : Move) : Type 0 where
   pub text : (response_to session line).text ≡ codes answer
   pub state : (response_to session line).state ≡ record session { state = played session.state m }
 
--- in this session these lines are answered so, by what its game is
+-- the answers of this session to some lines, by what its game is
 pub record ByTheGame (session : SessionSeen) : Type 0 where
   -- a game that is over
   pub move_after_end : is_over session.state ≡ true
@@ -95,6 +95,6 @@ pub record ByTheGame (session : SessionSeen) : Type 0 where
   pub no_king : session.state.start.variant ≡ Normal
       → IsAnswered session "setboard 8/8/8/8/8/8/8/4K3 w - - 0 1" "tellusererror Illegal position (kings)\n"
 
--- so it is in every session
+-- in every session these lines are answered as `ByTheGame` says
 abbrev pub GameLinesAreAnswered : Type 0
 GameLinesAreAnswered = (session : SessionSeen) → ByTheGame session

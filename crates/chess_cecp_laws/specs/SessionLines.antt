@@ -27,15 +27,15 @@ known_words =
     ∷ codes "claim" ∷ codes "ping" ∷ codes "protover" ∷ codes "variant" ∷ codes "go" ∷ codes "showfen"
     ∷ codes "showmoves" ∷ codes "showstate" ∷ codes "showpgn" ∷ codes "quit" ∷ []
 
--- a response to this line as to an unknown command: the line is shown, and the session goes on as it was
+-- the session answers this line as an unknown command: the line is shown, and the session goes on as it was
 pub record IsUnknown (session : SessionSeen) (line : LineSeen) : Type 0 where
   pub text : (session_response session line).text
       ≡ codes "Error (unknown command): " ++ (line.text ++ new_line ∷ [])
   pub state : (session_response session line).state ≡ session
   pub goes_on : (session_response session line).ends ≡ false
 
--- in every session: a line whose first word is none of these, and which has no move's shape, is an unknown command; it
--- is not ignored
+-- in every session: a line whose first word is none of `known_words`, and which has no move's shape, is answered as an
+-- unknown command; it is not ignored
 abbrev pub OtherWordsAreUnknown : Type 0
 OtherWordsAreUnknown = (session : SessionSeen) (line : LineSeen) → line.too_long ≡ false
     → list_any (bytes_eq (word_of line.text)) known_words ≡ false → shape line.text ≡ false → IsUnknown session line
@@ -46,29 +46,30 @@ OtherWordsAreUnknown = (session : SessionSeen) (line : LineSeen) → line.too_lo
 abbrev pub response_to : SessionSeen → Text → Response SessionSeen
 response_to session text = session_response session (record { text = codes text; too_long = false; ended = true })
 
--- the line is answered so, and the session goes on as it was
+-- this line gets this answer, and the session goes on as it was
 pub record IsAnswered (session : SessionSeen) (line answer : Text) : Type 0 where
   pub text : (response_to session line).text ≡ codes answer
   pub state : (response_to session line).state ≡ session
   pub goes_on : (response_to session line).ends ≡ false
 
--- the line is not answered, and changes nothing
+-- this line gets no answer, and changes nothing
 abbrev pub IsIgnored : SessionSeen → Text → Type 0
 IsIgnored session line = IsAnswered session line ""
 
--- the line is not answered, and the game is `s` then
+-- this line gets no answer, and the game is `s` then
 pub record Becomes (session : SessionSeen) (line : Text) (s : State) : Type 0 where
   pub text : (response_to session line).text ≡ []
   pub state : (response_to session line).state ≡ record session { state = s }
 
--- what an engine would need, and an arbiter doesn't (CECP, sections 8 and 9); one line for each ignored command
+-- what an engine would need, and an arbiter doesn't (CECP, sections 8 and 9): one line for each ignored command, and an
+-- empty one
 abbrev pub lines_for_engines : List Text
 lines_for_engines =
     "" ∷ "xboard" ∷ "accepted ping" ∷ "rejected usermove" ∷ "force" ∷ "random" ∷ "hard" ∷ "easy" ∷ "post" ∷ "nopost"
     ∷ "?" ∷ "computer" ∷ "name Sjeng" ∷ "rating 2000 1900" ∷ "ics freechess.org" ∷ "draw" ∷ "level 40 5 0" ∷ "st 30"
     ∷ "sd 4" ∷ "time 30000" ∷ "otim 29000" ∷ []
 
--- in this session these lines are answered so, or ignored, or change the game so
+-- what this session does with some lines: it ignores them, answers them, or changes the game
 pub record LinesAreAnswered (session : SessionSeen) : Type 0 where
   pub ignored : AllByRecursion (IsIgnored session) lines_for_engines
   pub ping : IsAnswered session "ping 7" "pong 7\n"
@@ -86,6 +87,6 @@ pub record LinesAreAnswered (session : SessionSeen) : Type 0 where
   pub undo : session.state.moves ≡ [] → IsAnswered session "undo" "Error (command not legal now): undo\n"
   pub remove : session.state.moves ≡ [] → IsAnswered session "remove" "Error (command not legal now): remove\n"
 
--- so it is in every session
+-- in every session these lines are answered as `LinesAreAnswered` says
 abbrev pub SessionLinesAreAnswered : Type 0
 SessionLinesAreAnswered = (session : SessionSeen) → LinesAreAnswered session

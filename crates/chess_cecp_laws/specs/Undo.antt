@@ -16,7 +16,8 @@ pub record IsUndoLine (line : LineSeen) : Type 0 where
   pub fits : line.too_long ≡ false
   pub command : command_of line.text ≡ Undo
 
--- in every session: `undo` after a move that was not refused has no answer, and the session is as it was before the move
+-- in every session: `undo` after a move that was not refused has no answer, and the session is as it was before the
+-- move
 abbrev pub UndoTakesAMoveBack : Type 0
 UndoTakesAMoveBack = (session : SessionSeen) (move undo : LineSeen) → IsMoveLine move → IsUndoLine undo
     → (IsRefusal (session_response session move).text → ⊥)

@@ -49,13 +49,13 @@ awaits_line (BeforeMove side opened) S = same_colour side S
 awaits_line (AfterMove side) S = same_colour side S
 awaits_line _ S = false
 
--- whether lines are waited for only so long in this phase: before a move if flags fall, otherwise if replies have a
--- limit
+-- whether a line is waited for only until some moment in this phase: before a move, if a flag falls without a line
+-- (`patience.flag`); otherwise, if replies have a limit (`patience.reply`)
 abbrev pub is_limited : Patience → Phase → Bool
 is_limited patience (BeforeMove side opened) = patience.flag
 is_limited patience _ = is_some patience.reply
 
--- the first moment that is more than so many milliseconds after another, but at most the last one, 2 ^ 64 - 1
+-- the first moment more than `limit` milliseconds after `since`, but at most the last moment, 2 ^ 64 - 1
 abbrev pub first_beyond : ℕ → ℕ → ℕ
 first_beyond since limit = min (since + limit + 1) (2 ^ 64 - 1)
 
@@ -66,7 +66,8 @@ abbrev pub waits_until : Rules → Phase → Match → Option ℕ
 waits_until r (BeforeMove side opened) m =
     if r.patience.flag then Some (first_beyond opened (clock r m side)) else None
 -- in a handshake, a setup or after a move, if replies have a limit: until the first moment at which the reply has been
--- owed for longer. As long as its time doesn't run, a look doesn't wait (0). In other phases no line is looked for
+-- owed for longer. While its time doesn't run (`since` is `None`), a look doesn't wait: the moment is 0. In other
+-- phases no line is looked for
 waits_until r _ m = option_map (λ limit. option_map_or (λ since. first_beyond since limit) m.since 0) r.patience.reply
 
 -- this event may come in this phase. A failed write is no act `Happens`, but an act `SendFails`
@@ -89,9 +90,9 @@ abbrev pub due_after : Event → Effect → List Block
 due_after (Line S text moment) done = blocks_from (if is_over done.after.phase then White else S) done.to
 due_after event done = blocks_from White done.to
 
--- the state and the blocks due after a block for this side could not be sent, from the state before that and the other
--- blocks due. If the match was over, these are still sent. Otherwise the failure ends it, and only what reports this to
--- the other side is due
+-- the state and the blocks due after a block for this side could not be sent; `m` is the state before, and `due` are
+-- the other blocks due. If the match was over, these are still sent. Otherwise the failure ends it, and only the other
+-- side's last lines are due
 abbrev pub after_failed_send : Rules → Match → List Block → Colour → Match × List Block
 after_failed_send r m due side = let done = effect r m (FailsToWrite side) in
     if is_over m.phase then (m, due) else (done.after, blocks_from White done.to)

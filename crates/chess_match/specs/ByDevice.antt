@@ -12,8 +12,8 @@ use Rattle.chess_match.specs.declared.reason.Reason.{Reason}
 
 -- ---- what was read
 
--- the line that this act read from the engine of the side `S` (`None`: it was too long), as a list of one, if it read
--- one
+-- the line that this act read from the engine of the side `S` (`None`: it was too long), as a list of one; empty if it
+-- read none
 abbrev pub line_read : Colour → Act → List (Option (List ℕ))
 line_read S (Happens (Line side text moment)) = list_if (same_colour side S) (text ∷ [])
 line_read S _ = []
@@ -33,7 +33,8 @@ abbrev pub is_silence_of : Colour → Act → Bool
 is_silence_of S (Happens (Silent side moment)) = same_colour side S
 is_silence_of S _ = false
 
--- as a list of one, whether a look for a line of the side `S` by this act found none; empty if there was no such look
+-- whether the look for a line of the side `S` by this act is a silence, as a list of one: true if no line had come yet,
+-- false if it found a line, the end or a failure; empty if the act is no such look
 abbrev pub look : Colour → Act → List Bool
 look S (Happens (Silent side moment)) = list_if (same_colour side S) (true ∷ [])
 look S (Happens (Line side text moment)) = list_if (same_colour side S) (false ∷ [])
@@ -55,8 +56,8 @@ abbrev pub lines_to : Colour → Act → List SentLine
 lines_to S (Sends block) = list_if (same_colour block.to S) block.lines
 lines_to S _ = []
 
--- the lines of the block for the side `S` that this act failed to send, as a list of one, if it did. In a match there
--- is at most one for each side (the law `failed_blocks_are_last`)
+-- the lines of the block for the side `S` that this act failed to send, as a list of one; empty for any other act. In a
+-- match there is at most one such block for each side (the law `failed_blocks_are_last`)
 abbrev pub broken_block : Colour → Act → List (List SentLine)
 broken_block S (SendFails block) = list_if (same_colour block.to S) (block.lines ∷ [])
 broken_block S _ = []

@@ -58,7 +58,7 @@ pub record Match : Type 0 where
   -- how many lines came so far in this handshake, or were ignored so far in this setup or turn
   pub count : ℕ
   -- the moment from which the time for a reply runs: that of the last line that counted (a `feature` line, `pong 1` or
-  -- a line before a move), or before one that of the first silence
+  -- a line before a move), until one counts that of the first silence; `None` before both
   pub since : Option ℕ
 
 -- what an event does: the match after it, and the lines that each side is then sent (`to`)
@@ -78,20 +78,20 @@ abbrev pub ping_number : Match → Colour → ℕ
 ping_number m S = length (m.seat S).used + 1
 
 -- what an engine that sent these items lacks for the match, the first of: `ping=1`; `setboard=1`, if the start's FEN is
--- to be sent; for Chess960, `fischerandom`. `None` if it lacks nothing
+-- to be sent; for Chess960, `fischerandom` among its `variants`, if it sent any. `None` if it lacks nothing
 abbrev pub missing : Rules → List Item → Option MatchFault
 missing r items = if not (takes (codes "ping") items) then Some NoPing
     else if is_some (start_fen r.start) && not (takes (codes "setboard") items) then Some NoSetboard
     else if is_fischerandom r.start.variant && not (plays_fischerandom items) then Some NoVariant
     else None
 
--- the draw that may be claimed (the option), if draws are automatic
+-- the draw that may be claimed (`claim`), if it ends the match without a claim (`Automatic`); otherwise `None`
 abbrev pub if_automatic : Draws → Option DrawClaim → Option DrawClaim
 if_automatic Automatic claim = claim
 if_automatic _ claim = None
 
--- why a match is over by the position after the moves ms: for the board's verdict, or otherwise for an automatic draw.
--- `None` if the position ends nothing
+-- why a match is over by the position after the moves ms: for the board's verdict, or otherwise for a draw by threefold
+-- repetition or 50 moves, if draws are automatic. `None` if the position ends nothing
 abbrev pub over_by_position : Rules → List Move → Option Reason
 over_by_position r ms = option_or (option_map (λ v. Decided v) (verdict r.start ms))
     (option_map (λ claim. Claimed claim) (if_automatic r.draws (draw_claim (claims r.start ms))))
@@ -163,8 +163,8 @@ unless_over r m otherwise = option_map_or (λ reason. ends r reason m) (over_by_
 -- ---- a line in a turn
 
 -- `offer draw` of the side `S`. If an offer of the other side is open, the draw is agreed. If one of `S` is open
--- already, the line is ignored. Else the offer is open from now on, and the other side is sent `draw`, unless by
--- `draw=0`
+-- already, the line is ignored. Otherwise the offer is open from now on, and the other side is sent `draw`, unless its
+-- engine has the feature `draw` off
 abbrev pub offer_row : Rules → Colour → Match → Effect
 offer_row r S m = if (m.seat (other S)).offers then ends r Agreed m
     else if (m.seat S).offers then ignores r S m
@@ -226,15 +226,15 @@ flag_row r S m = let bare = has_bare_king (other S) (position_after r.start m.pl
 abbrev pub awaited_since : ℕ → Match → Match
 awaited_since moment m = record m { since = Some moment }
 
--- no line of the side `S` had come at this moment, which owes one that is no move. If it has owed it for longer than
--- the rules allow, the match ends by this fault. Otherwise nothing changes, but that the time for the match's first
--- line runs from its first silence
+-- a silence at this moment of the side `S`, which owes a reply that is no move. If it has owed it for longer than the
+-- rules allow, the match ends by this fault. Otherwise nothing changes, except that the time for the reply, if it
+-- doesn't run yet, runs from this moment
 abbrev pub reply_row : Rules → Colour → MatchFault → ℕ → Match → Effect
 reply_row r S fault moment m = let since = unwrap_or m.since moment in
     if option_map_or (λ limit. nat_lt limit (moment - since)) r.patience.reply false then ends r (Faulted S fault) m
     else sends_nothing (awaited_since since m)
 
--- what it does in the phase given that no line of the side `S` that it waits for had come at this moment
+-- what a silence does in the phase given: no line of the side `S`, for which this phase waits, had come at this moment
 abbrev pub silence_row : Rules → Phase → Colour → ℕ → Match → Effect
 silence_row r (Handshake side) S moment m = reply_row r S NoHandshake moment m
 silence_row r (Setup side) S moment m = reply_row r S NoAnswer moment m

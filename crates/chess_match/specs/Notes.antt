@@ -10,8 +10,8 @@ pub data Note : Type 0 where
   -- the arbiter sends that side's engine these bytes: those of a whole block (`Block`), even if sending it then fails
   Gives : (side : Colour) → (text : List ℕ) → Note
 
--- what contracts see of a witness, such as the log: a relation between a text that it held at first and the notes that
--- it may have been given since. Which relation it is, each kind of witness says for itself
+-- what contracts see of a witness, such as the log: the claim, for a text and notes, that it may have held this text at
+-- first and been given just these notes since. Each kind of witness says for itself which it claims
 abbrev pub Noted : Type 1
 Noted = List ℕ → List Note → Type 0
 

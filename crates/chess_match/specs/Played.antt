@@ -59,8 +59,8 @@ WasSent sent (block ∷ []) o = BreaksOffIn (all_flushed (nat_lt 0 (length sent)
 WasSent sent _ o = ⊥
 
 -- the acts `H` are a match by the rules `r`, and `final` is its state at the end. From the world `w` to `w'` each
--- device did what these acts say of it. Nothing is said here of the order of acts at different devices, nor of the
--- games
+-- device did what these acts say of it. Nothing is said here of the order of acts at different devices, nor of the game
+-- in which the match is played
 pub record Passed (r : Rules) (H : List Act) (final : Match) (w w' : World) : Type 0 where
   pub is_match : IsMatch r H final
   -- for each side: an `i` came from its engine and an `o` went to it that agree with the acts

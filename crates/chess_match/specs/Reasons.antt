@@ -77,7 +77,7 @@ reported_reason (Some v) _ = Decided v
 reported_reason None reason = reason
 
 -- the fault that is reported of a match that ended for this reason, and its side: the reason itself, or otherwise
--- `Write`, if writing the last lines to a side failed, White before Black
+-- `Write` of a side to which writing the last lines failed (`failed`), White before Black. `None` without a fault
 abbrev pub reported_fault : Reason → (Colour → Bool) → Option (Colour × MatchFault)
 reported_fault (Faulted c f) failed = Some (c, f)
 reported_fault _ failed = option_map (λ side. (side, Write)) (find failed (White ∷ Black ∷ []))

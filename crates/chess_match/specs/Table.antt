@@ -99,8 +99,8 @@ pub record Beginning : Type 0 where
   -- witness
   pub names : List ℕ
 
--- what contracts see of a table: a relation between what it was at first and the steps that may have passed since.
--- Which relation it is, each kind of table says for itself
+-- what contracts see of a table: the claim, for a beginning and steps, that it may have been this at first, and that
+-- just these steps may have passed since. Each kind of table says for itself which it claims
 abbrev pub Passing : Type 1
 Passing = Beginning → List Step → Type 0
 

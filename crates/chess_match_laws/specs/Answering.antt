@@ -34,11 +34,11 @@ ends_in_ping [] = false
 ends_in_ping (line ∷ []) = nat_lt 0 (length (ping_text line))
 ends_in_ping (line ∷ next ∷ lines) = ends_in_ping (next ∷ lines)
 
--- a line of this kind of the side `S`, which came at `moment`, is due after the acts `before`, by the lines that `S` was
--- sent and has said; the match is `m` then
+-- a line of this kind of the side `S`, which comes at a moment (the last argument), is due after the acts `before`, by
+-- the lines that `S` was sent and has said; the match is `m` then
 pub data IsDue (r : Rules) (S : Colour) (before : List Act) (m : Match) : LineKind → ℕ → Type 0 where
-  -- before any `ping`, in its handshake: a `feature` line. If it has `done=1`, the engine lacks nothing for the match by
-  -- all items that it said; otherwise it is one of its first 999 lines
+  -- before any `ping`, in its handshake: a `feature` line. If it has `done=1`, the engine lacks nothing for the match
+  -- by all items that it said; otherwise it is one of its first 999 lines
   of_handshake : {text : List ℕ} {moment : ℕ} → flat_map ping_text (lines_given S before) ≡ []
       → (list_any ends_handshake (items_of text) ≡ true
       → missing r (items_said (lines_read S before) ++ items_of text) ≡ None)
@@ -80,7 +80,8 @@ pub record IsBlameless (r : Rules) (S : Colour) (final : Match) (end : MatchEnd)
   pub no_fault : (fault : MatchFault) → end.fault ≡ Some (S, fault) → ⊥
   pub mated : end.outcome ≡ win_of (other S) → verdict r.start final.played ≡ Some (mates (other S))
 
--- so it is with every match in which an engine answers, and says nothing else that counts
+-- in every match in which the engine of the side `S` answers, and says nothing else that counts (`AnswersAll`), `S` has
+-- no fault in the report, and loses only by mate
 abbrev pub AnsweringEnginesAreBlameless : Type 0
 AnsweringEnginesAreBlameless = (r : Rules) (S : Colour) (H : List Act) (final : Match) (reason : Reason) (end : MatchEnd)
     → IsMatch r H final → ReportedAs r H final reason end → AnswersAll r S H → IsBlameless r S final end

@@ -10,7 +10,8 @@ use Rattle.chess_match.specs.declared.reason.MatchFault.TheVariants.{Flood}
 use Rattle.chess_match.specs.declared.reason.Reason.TheVariants.{Faulted}
 use Rattle.chess_match.specs.laws.Laws.{is_pong, line_kind}
 
--- nothing came of a line in the match `m` but that one line more was ignored
+-- a line left phase, moves and seats of the match `m` as they were, and nothing was sent: one line more was ignored.
+-- From when a reply is awaited (`since`) may change
 pub record ChangesNothing (m : Match) (done : Effect) : Type 0 where
   pub phase : done.after.phase ≡ m.phase
   pub played : done.after.played ≡ m.played
@@ -18,13 +19,13 @@ pub record ChangesNothing (m : Match) (done : Effect) : Type 0 where
   pub ignored : done.after.count ≡ m.count + 1
   pub sent : (X : Colour) → done.to X ≡ []
 
--- a line of the side `S` is ignored: with fewer than 9,999 before it, in this setup or turn, it changes nothing; the
--- next one, the 10,000th, ends the match
+-- a line of the side `S` is ignored: with fewer than 9,999 before it, in this setup or turn, it changes nothing
+-- (`ChangesNothing`); the 10,000th ends the match
 pub record IsIgnored (S : Colour) (m : Match) (done : Effect) : Type 0 where
   pub few : m.count < 9999 → ChangesNothing m done
   pub many : 9999 ≤ m.count → done.after.phase ≡ Over (Faulted S Flood)
 
--- what an engine may say at any time: its thinking, a `feature`, a `pong`
+-- whether a line of this kind means nothing before a move: thinking or any other text, a `feature` line, or a `pong`
 abbrev pub is_talk : LineKind → Bool
 is_talk SaysElse = true
 is_talk (Features text) = true
@@ -47,7 +48,7 @@ pub record OthersAreIgnored (r : Rules) (m : Match) (S : Colour) (text : Option 
   pub pongs : (n : ℕ) → m.phase ≡ AfterMove S → line_kind text ≡ Answers n
       → (n == length (m.seat S).used + 1) ≡ false → IsIgnored S m (effect r m (Line S text moment))
 
--- so it is in every state of a match
+-- in every state of a match the lines that `OthersAreIgnored` names are ignored
 abbrev pub OtherLinesAreIgnored : Type 0
 OtherLinesAreIgnored = (r : Rules) (m : Match) (S : Colour) (text : Option (List ℕ)) (moment : ℕ)
     → OthersAreIgnored r m S text moment

@@ -1,4 +1,5 @@
--- Laws of the acts of a match.
+-- Laws of the acts of a match. An act sends an engine a block of lines, or reads an event (`Act`); `H` is a list of
+-- acts, in order.
 use Rattle.std.specs.Prelude.{◌≡◌, ◌<◌, ◌≤◌, ◌+◌, ◌-◌, ◌*◌, ◌^◌, ◌&&◌, ◌⊎◌, ℕ, Bool, true, false, if◌then◌else◌, List, [], ◌∷◌, ◌++◌, length, drop, take, nat_lt, sum, codes, slice_get, Option, None, Some, is_some, unwrap_or}
 use Rattle.std.specs.List.{flat_map, fold, list_any}
 use Rattle.std.specs.Option.{IfSome, option_map_or}
@@ -79,15 +80,16 @@ EndsAfterItsActs r H m = match_after r beginning.after H ≡ m
 
 -- ---- order
 
--- among the steps of any acts, a match or not, from any state on: after a line is read, the next steps are to read the clock for that side
--- and to note the line with the moment that the clock showed
+-- among the steps of any acts, a match or not, from any state on: after a line is read, the next steps are to read the
+-- clock for that side and to note the line with the moment that the clock showed
 abbrev pub LinesAreReadInOrder : Type 0
 LinesAreReadInOrder = (r : Rules) (reason : Reason) (m : Match) (H : List Act) (before after : List Step) (S : Colour)
     (text : Option (List ℕ)) → watched r reason m H ≡ before ++ ReadsLine S text ∷ after
     → (moment : ℕ) × (rest : List Step)
     × (after ≡ ReadsClock S moment ∷ Notes (Happened (Line S text moment)) ∷ rest)
 
--- and so after no line was found: the clock is read for that side, and the silence is noted with the moment
+-- among the steps of any acts, as in `LinesAreReadInOrder`: after a look that found no line, the next steps are to read
+-- the clock for that side and to note the silence with the moment that the clock showed
 abbrev pub SilencesAreReadInOrder : Type 0
 SilencesAreReadInOrder = (r : Rules) (reason : Reason) (m : Match) (H : List Act) (before after : List Step)
     (S : Colour) → watched r reason m H ≡ before ++ FindsNoLine S ∷ after
@@ -129,8 +131,8 @@ WriteFaultsAreOfBlocks r H m = (S : Colour) → ended_by_write_to S m.phase ≡ 
 
 -- ---- what two engines and a clock give fixes the match
 
--- just those looks for a line in the acts `H` found none that `silent` names for each side: its looks are numbered
--- from 0
+-- the looks for a line in the acts `H` that found none yet (silences) are just those that `silent` names; the looks of
+-- each side are numbered from 0
 abbrev pub AreSilent : (Colour → ℕ → Bool) → List Act → Type 0
 AreSilent silent H = (S : Colour) (n : ℕ) → n < length (looks S H) → slice_get (looks S H) n ≡ Some (silent S n)
 
@@ -174,8 +176,8 @@ pub record ShowsFlushed (w w' : OutputState) : Type 0 where
   pub bytes : is_some w.known_bytes ≡ true
   pub after : w'.unflushed < 2 ^ 64 - 1
 
--- everything is known about the devices of a run, `w` before and `w'` after it: which bytes each engine sends, that no
--- count of failed calls is full, so that a failure shows, and which times the clock will give; and to each engine no
+-- everything is known about the devices of a run, `w` before and `w'` after it: which bytes each engine sends, and
+-- which times the clock will give; no count of failed calls is full, so that a failure shows; and to each engine no
 -- write or flush failed, or its input shows how much was flushed before
 pub record ShowsAll (w w' : World) : Type 0 where
   pub bytes : (S : Colour) → is_some (w.engines S).input.known_bytes ≡ true
@@ -189,8 +191,8 @@ pub record ShowsAll (w w' : World) : Type 0 where
 abbrev pub endless : Patience
 endless = record { flag = false; reply = None }
 
--- in the acts `H` and `K` the same looks for a line found none. It holds of all matches by rules that set no limit to
--- waiting (`silences_end_matches`); devices don't show which looks found none
+-- in the acts `H` and `K` the same looks for a line found none yet, or the rules set no limit to waiting, so that in a
+-- match no look does (the law `silences_end_matches`). Devices don't show which looks found none
 abbrev pub HaveSameSilences : Rules → List Act → List Act → Type 0
 HaveSameSilences r H K =
     (r.patience ≡ endless) ⊎ ((silent : Colour → ℕ → Bool) × AreSilent silent H × AreSilent silent K)
@@ -228,8 +230,8 @@ only_sends (Sends block ∷ H) = only_sends H
 only_sends (SendFails block ∷ H) = only_sends H
 only_sends (_ ∷ H) = false
 
--- in every match that ended by a line of the side `S`, such as one with an illegal move: the last line read is one of
--- `S`, and after it only blocks were sent
+-- in every match that the side `S` lost by a line of its own (`whose_line`), such as one with an illegal move: the last
+-- event is a line of `S`, and after it there are only blocks
 abbrev pub LastLineIsTheirs : Type 0
 LastLineIsTheirs = (r : Rules) (reason : Reason) (S : Colour) (H : List Act) (final : Match) → IsMatch r H final
     → final.phase ≡ Over reason → whose_line r.patience reason ≡ Some S
@@ -249,8 +251,8 @@ MovesAreRead r H m =
 abbrev pub ItemsAreSaid : Rules → List Act → Match → Type 0
 ItemsAreSaid r H m = (S : Colour) → (m.seat S).items ≡ items_said (lines_read S H)
 
--- the texts of the moves `ms` that the side `O` is to be sent, those of the other side, in the notation that its engine
--- asked for with these items
+-- what the side `O` is to be sent of the moves `ms` of a game: those of the other side, in SAN if its engine has `san`
+-- on by these items, otherwise by squares
 abbrev pub others_moves : Rules → Colour → List Item → List Move → List (List ℕ)
 others_moves r O items ms = texts_from r (takes (codes "san") items) (other O) r.start.side [] ms
 
@@ -356,12 +358,13 @@ ClocksDoNotUnderflow r H m =
 
 -- ---- silences
 
--- whether this act is a silence
+-- whether this act is a silence: a look for a line, of either side, that found none yet
 abbrev pub is_silent : Act → Bool
 is_silent (Happens (Silent side moment)) = true
 is_silent _ = false
 
--- in every match by rules that set no limit to waiting: no act is a silence, so no look for a line found none
+-- in every match by rules that set no limit to waiting: no act is a silence, so each look for a line found one, the end
+-- or a failure
 abbrev pub SilencesAreAskedFor : Type 0
 SilencesAreAskedFor = (r : Rules) (H : List Act) (final : Match) → IsMatch r H final → r.patience ≡ endless
     → (list_any is_silent H ≡ false) × AreSilent (λ S n. false) H
@@ -411,7 +414,8 @@ abbrev pub OverstepsTime : Rules → List Act → Colour → Type 0
 OverstepsTime r H S = (before : List Act) × (act : Act) × (after : List Act) × (H ≡ before ++ act ∷ after)
     × (let m = match_after r beginning.after before in shows_fallen r m m.phase S act ≡ true)
 
--- at such a moment the match ended: after the act that shows it only blocks were sent
+-- at a moment of a turn of the side `S` at which the clock showed more than `S` had left, the match ended: after the
+-- act that shows it only blocks were sent
 abbrev pub EndsOverstepped : Rules → List Act → Colour → Type 0
 EndsOverstepped r H S = (before : List Act) × (act : Act) × (after : List Act) × (H ≡ before ++ act ∷ after)
     × (only_sends after ≡ true)

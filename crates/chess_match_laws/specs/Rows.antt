@@ -27,18 +27,21 @@ use Rattle.chess_match_laws.specs.Streams.{is_move}
 abbrev pub normal_setup : List ℕ
 normal_setup = codes "new\nlevel 40 5 0\nnopost\neasy\nforce\nping 1\n"
 
--- what sets it up for a game of Chess960 from this position, of 2 minutes and 12 seconds for each move
+-- what sets an engine up for a game of Chess960 from this position, of 2 minutes for the game and 12 seconds more for
+-- each move
 abbrev pub chess960_setup : Position → List ℕ
 chess960_setup start =
     codes "new\nvariant fischerandom\nlevel 0 2 12\nnopost\neasy\nforce\nsetboard " ++ fen start ++ codes "\nping 1\n"
 
--- while the `pong 1` of the side `S` is awaited, the last that `S` was sent is this, by the start and the level of `S`
+-- the bytes `sent` end in what sets the engine of the side `S` up, for two kinds of match: normal chess from the
+-- initial position with `level 40 5 0`, and Chess960 with `level 0 2 12`
 pub record SetUpBy (r : Rules) (S : Colour) (sent : List ℕ) : Type 0 where
   pub normal : r.start ≡ initial_setup → r.level S ≡ record { moves = 40; base = 300000; increment = 0 }
       → (before : List ℕ) × (sent ≡ before ++ normal_setup)
   pub chess960 : r.start.variant ≡ Fischerandom → r.level S ≡ record { moves = 0; base = 120000; increment = 12000 }
       → (before : List ℕ) × (sent ≡ before ++ chess960_setup r.start)
 
+-- while the `pong 1` of the side `S` is awaited, the last that `S` was sent sets its engine up (`SetUpBy`)
 abbrev pub IsSetUp : Rules → Colour → List Act → Match → Type 0
 IsSetUp r S H m = m.phase ≡ Setup S → SetUpBy r S (bytes_of (lines_given S H))
 
@@ -49,7 +52,7 @@ abbrev pub ping_text : SentLine → List (List ℕ)
 ping_text (Says text) = list_if (bytes_eq (take 5 text) (codes "ping ")) (text ∷ [])
 ping_text _ = []
 
--- so many lines `ping N`, of which the first has this number, and each other one the next
+-- so many lines `ping N` (the second argument), of which the first has this number, and each later one the next number
 abbrev pub pings : ℕ → ℕ → List (List ℕ)
 pings number zero = []
 pings number (suc more) = (codes "ping " ++ decimal number) ∷ pings (number + 1) more
@@ -67,12 +70,13 @@ go_text _ = []
 abbrev pub GoIsSentOnce : Rules → List Act → Match → Type 0
 GoIsSentOnce r H m = (S : Colour) → length (flat_map go_text (lines_given S H)) ≤ 1
 
--- the side `S` was sent `go` once
+-- the side `S` was sent `go` just once (one that could not be sent counts)
 abbrev pub WasSentGo : Rules → Colour → List Act → Match → Type 0
 WasSentGo r S H m = length (flat_map go_text (lines_given S H)) ≡ 1
 
 -- ---- turns
 
+-- 1 for true, 0 for false
 abbrev pub one_if : Bool → ℕ
 one_if true = 1
 one_if false = 0
@@ -118,7 +122,7 @@ pub record IsAgreed (H : List Act) : Type 0 where
   pub no_move : list_any (is_move_of side) between ≡ false
   pub last : only_sends after ≡ true
 
--- so it is in every match that ended by agreement
+-- in every match that ended by agreement one side offered a draw, and then the other (`IsAgreed`)
 abbrev pub AgreedDrawsAreOffered : Rules → List Act → Match → Type 0
 AgreedDrawsAreOffered r H m = m.phase ≡ Over Agreed → IsAgreed H
 
@@ -127,8 +131,8 @@ abbrev pub draw_text : SentLine → List (List ℕ)
 draw_text (Says text) = list_if (bytes_eq text (codes "draw")) (text ∷ [])
 draw_text _ = []
 
--- while an offer of a draw by the other side is open, the side `S` was sent `draw`, unless its engine has the feature
--- off (a line that could not be sent counts)
+-- while an offer of a draw by the other side is open, the side `S` was sent `draw` at least once, unless its engine has
+-- the feature off (a line that could not be sent counts)
 abbrev pub OffersArePassedOn : Rules → Colour → List Act → Match → Type 0
 OffersArePassedOn r S H m = (m.seat (other S)).offers ≡ true → takes (codes "draw") (m.seat S).items ≡ true
     → 1 ≤ length (flat_map draw_text (lines_given S H))

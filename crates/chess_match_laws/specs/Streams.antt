@@ -21,7 +21,7 @@ use Rattle.chess_match.specs.laws.Laws.{line_kind, items_in_line, move_said, is_
 
 -- ---- what acts did at each device
 
--- each look for a line of the side `S` in these acts, in order: whether none had come
+-- of each look for a line of the side `S` in these acts, in order: whether it is a silence (no line had come yet)
 abbrev pub looks : Colour → List Act → List Bool
 looks S H = flat_map (look S) H
 
@@ -60,7 +60,7 @@ moments_noted (_ ∷ notes) = moments_noted notes
 pub record Streams : Type 0 where
   -- each engine's lines (`None` is one that was too long)
   pub lines : Colour → List (Option (List ℕ))
-  -- whether an engine's next line has not come yet when a line is looked for; the first look has the number 0
+  -- whether no line of an engine has come yet at its look with this number; the first look has the number 0
   pub silent : Colour → ℕ → Bool
   -- whether reading from an engine fails after its lines; otherwise its output ends there
   pub fails : Colour → Bool

@@ -63,8 +63,8 @@ ItemsAreRead = map name_and_value
 abbrev pub is_on : Text → Text → Bool
 is_on name items = takes (codes name) (items_of (codes items))
 
--- which features an engine has on: the last item of a name counts, a value in quotes is none, and what isn't said is
--- CECP's default
+-- which features an engine has on: the last item of a name counts, 1 in quotes is not 1, and what isn't said is CECP's
+-- default
 pub record FeaturesAreOn : Type 0 where
   pub said : is_on "ping" "san=1 ping=1" ≡ true
   pub last : is_on "ping" "ping=1 ping=0" ≡ false
@@ -83,10 +83,11 @@ pub record FeaturesAreOn : Type 0 where
 
 -- ---- time controls
 
--- 40 moves in 5 minutes; 2 minutes and 12 seconds for each move
+-- the time control `40 5 0`: 40 moves in 5 minutes
 abbrev pub forty_in_five : LevelSeen
 forty_in_five = record { moves = 40; base = 300000; increment = 0 }
 
+-- the time control `0 2 12`: 2 minutes for the game, and 12 seconds more for each move
 abbrev pub two_and_twelve : LevelSeen
 two_and_twelve = record { moves = 0; base = 120000; increment = 12000 }
 
@@ -115,10 +116,11 @@ worked_rules =
 abbrev pub seat_of : Text → List ℕ → Seat
 seat_of items used = record { items = items_of (codes items); used = used; offers = false }
 
--- e2e4 and e7e5
+-- the move e2e4
 abbrev pub e4 : Move
 e4 = record { from = 12; to = 28; promotion = None }
 
+-- the move e7e5
 abbrev pub e5 : Move
 e5 = record { from = 52; to = 36; promotion = None }
 
@@ -132,7 +134,7 @@ after_e4 = record {
   since = None;
 }
 
--- and after 1 e4 e5, for which Black took 2,000 milliseconds
+-- this match after 1 e4 e5; for e5 Black took 2,000 milliseconds
 abbrev pub after_e5 : Match
 after_e5 = record {
   phase = AfterMove Black;
@@ -190,7 +192,7 @@ pub record LosersLose : Type 0 where
   pub too_long : outcome_by_reason GameTooLong ≡ Unfinished
   pub faults : (c : Colour) (fault : MatchFault) → outcome_by_reason (Faulted c fault) ≡ Unfinished
 
--- the comment on such an end is this
+-- the comment on a match that ended for this reason is this
 abbrev pub IsWorded : Reason → Text → Type 0
 IsWorded reason comment = comment_of reason ≡ codes comment
 

@@ -75,8 +75,8 @@ move_row limit s at (reads.Move m) = unless_over limit s at (Goes_on (played s m
 move_row limit s at reads.Ambiguous = unless_over limit s at (Fails AmbiguousMove at)
 move_row limit s at reads.NoSuch = unless_over limit s at (Fails IllegalMove at)
 
--- what a token after the tags does in the game `s`. The text has `total` bytes, and `left` are left at the token, so
--- its offset is `total - left`
+-- what a token after the tags does in the game `s` of at most `limit` half-moves. The text has `total` bytes, and
+-- `left` are left at the token, so its offset is `total - left`
 abbrev pub row : ℕ → ℕ → State → ℕ × Token → Row
 row limit total s (left, Skip) = Goes_on s
 -- an outcome such as `1-0` ends the game; a number (digits alone) and marks such as `!?` are passed over; any other
@@ -91,8 +91,8 @@ row limit total s (left, Bad) = Fails BadToken (total - left)
 -- a tag, even a bad one, is the next game's, so this game has no outcome, which is a fault
 row limit total s (left, _) = Fails NoResult (total - left)
 
--- what is read of the game `s` from a token on that does this; `later` is for the tokens after it, and `termination` is
--- what the tag Termination names
+-- what is read of the game `s` from a token on, by what that token does; `later` gives what is read from the next token
+-- on, and `termination` is what the tag Termination names
 abbrev pub after_row : Option Termination → State → Row → (State → GameRead) → GameRead
 after_row termination s (Goes_on next) later = later next
 after_row termination s (Ends o end) later = record {
@@ -111,7 +111,7 @@ moves_read limit total termination s (t ∷ ts) =
 -- ---- the tags: the tokens before the first number, move, outcome or fault
 
 -- the position that a tag FEN (given as in `tags_named`) denotes in the variant `v`, or the fault, at the FEN's first
--- byte
+-- byte; the text has `total` bytes
 abbrev pub fen_read : ℕ → Variant → List ℕ × ℕ → Result Setup PgnFault
 fen_read total v tag = result_map_both (λ start. start)
     (λ fault. record { kind = BadFen fault; offset = total - tag.1 }) (fen_reading_as v tag.0)

@@ -23,6 +23,6 @@ tag_pair total _ = None
 abbrev pub game_tags_of : ℕ → List (ℕ × Token) → List TagPair
 game_tags_of total tokens = filter_map (λ t. tag_pair total t.1) (tag_section tokens)
 
--- the tag that is returned, with lists of bytes in place of borrows
+-- the tag, as the definitions have it, that the code's tag stands for
 abbrev pub pair_of : PgnTag → TagPair
 pair_of tag = record { name = tag.name.now; text = tag.text.now; offset = tag.offset }

@@ -14,7 +14,7 @@ says_nothing Skip = true
 says_nothing (Word word) = is_marks word
 says_nothing _ = false
 
--- after this token more tags of the same game may come
+-- whether more tags of the same game may come after this token
 abbrev pub may_precede_tags : Token → Bool
 may_precede_tags (Tag name text to_end) = true
 may_precede_tags token = says_nothing token

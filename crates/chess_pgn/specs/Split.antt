@@ -21,7 +21,7 @@ skips_line line_begins c = line_begins && c == byte "%" || c == byte ";"
 
 -- ---- variations (section 8.2.5): `(`, what is inside, `)`
 
--- what is inside a variation, as parts one after another; `b`: its first byte is its line's first
+-- what is inside a variation, as parts one after another; `b`: whether its first byte begins a line
 pub data IsInside : Bool → List ℕ → Type 0 where
   -- no parts
   nothing : {b : Bool} → IsInside b []
@@ -40,7 +40,7 @@ pub data IsInside : Bool → List ℕ → Type 0 where
 
 -- ---- tags (section 8.1), as `[Event "a"]`: an opening (`[Event "`), the string (`a`), and a closing (`"]`)
 
--- white space and `%` lines; `b`: its first byte is its line's first
+-- white space and `%` lines; `b`: whether the first byte begins a line
 pub data IsGap : Bool → List ℕ → Type 0 where
   nothing : {b : Bool} → IsGap b []
   blank : {b : Bool} {c : ℕ} {more : List ℕ} → is_white_space c ≡ true → IsGap (c == new_line) more → IsGap b (c ∷ more)
@@ -64,7 +64,7 @@ pub data IsString : List ℕ → Type 0 where
 
 -- ---- tokens
 
--- the text is this token (see `Token`), and `left` bytes come after it; `b`: its first byte is its line's first
+-- the text is this token (see `Token`), and `left` bytes come after it; `b`: whether its first byte begins a line
 pub data IsToken (b : Bool) (left : ℕ) : List ℕ → Token → Type 0 where
   -- a byte of white space, or a dot
   blank : {c : ℕ} → (is_white_space c || c == byte ".") ≡ true → IsToken b left (c ∷ []) Skip
@@ -93,7 +93,7 @@ IsTokenAt text at front t =
 -- ---- what can't be read
 
 -- the text, which begins inside a variation, has a comment that isn't closed: after whole parts comes its `{`, where so
--- many bytes are left, or the `(` of a variation in which it is. `b`: the text's first byte is its line's first
+-- many bytes are left, or the `(` of a variation in which it is. `b`: whether the text's first byte begins a line
 pub data HasOpenComment : Bool → List ℕ → ℕ → Type 0 where
   here : {b : Bool} {parts : List ℕ} (text : List ℕ) → IsInside b parts → lacks (byte "}") text ≡ true
       → HasOpenComment b (parts ++ byte "{" ∷ text) (length (byte "{" ∷ text))

@@ -71,10 +71,14 @@ after_gap text =
 -- there, 1 right after its `(`. `comment` is `None`, or if the text is inside a comment or `%` line, the byte that ends
 -- that, and the token if no such byte comes; `line_begins`: the text's first byte begins a line
 abbrev pub variation_at : Option (ℕ × Token) → Bool → ℕ → List ℕ → Token × List ℕ
+-- the `)` of the variation was read
 variation_at comment line_begins zero text = (Skip, text)
+-- the text ended before that
 variation_at comment line_begins (suc depth) [] = (option_map_or (λ skipped. skipped.1) comment Unclosed_variation, [])
+-- a byte of a comment or of a `%` line
 variation_at (Some comment) line_begins (suc depth) (c ∷ rest) =
     variation_at (if c == comment.0 then None else Some comment) (c == new_line) (suc depth) rest
+-- any other byte
 variation_at None line_begins (suc depth) (c ∷ rest) =
     if line_begins && c == byte "%" || c == byte ";"
     then variation_at (Some (new_line, Unclosed_variation)) false (suc depth) rest
@@ -117,8 +121,8 @@ abbrev pub name_at : List ℕ → Option (List ℕ × List ℕ)
 name_at text = let name = take_while is_name_byte text in
     if length name == 0 then None else Some (name, drop (length name) text)
 
--- a tag, from the text after its `[`, and the text after its `]`: a name, a string in quotes and the bracket, each
--- after white space if there is any; none if this is no tag
+-- a tag, from the text after its `[`, and the text after its `]`: a name, a string in quotes and the bracket, perhaps
+-- with a gap before each (`after_gap`); none if this is no tag
 abbrev pub tag_at : List ℕ → Option (Token × List ℕ)
 tag_at text = do
   name ← name_at (after_gap text)

@@ -46,7 +46,8 @@ abbrev pub is_variation : List ℕ → ℕ → Token → Bool
 is_variation text at Skip = slice_index text at == byte "("
 is_variation text at _ = false
 
--- whether a token, which begins at this offset of the text, ends the line of a variation: a `)`, which begins no token
+-- whether a token, which begins at this offset of the text, ends a variation: it is a `)`, which can't be read as a
+-- token
 abbrev pub is_end : List ℕ → ℕ → Token → Bool
 is_end text at Bad = bytes_eq (take 1 (drop at text)) (codes ")")
 is_end text at _ = false

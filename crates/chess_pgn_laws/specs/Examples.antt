@@ -29,7 +29,7 @@ finished s o termination offset = record {
   answer = Ok (Some (record { outcome = o; termination = termination; offset = offset }));
 }
 
--- texts are split so
+-- examples of texts that are split into tokens
 pub record TextsAreSplit : Type 0 where
   -- a tag, a blank, a word, a comment, a variation and an outcome, each after how many bytes are left where it begins;
   -- 14 are left at the tag's string
@@ -47,7 +47,7 @@ pub record TextsAreSplit : Type 0 where
   -- one in which a comment isn't closed, with 2 bytes left at its brace
   pub no_comment_end : IsSplit (codes "(a(b{c") 0 ((6, Unclosed_comment 2) ∷ [])
 
--- texts are read so, in games of at most one half-move
+-- examples of what is read of texts, in games of at most one half-move
 pub record TextsAreRead : Type 0 where
   -- one move, where the initial position has no verdict and `e4` denotes the move m in it
   pub game : (m : Move) → verdict_now (from_start (initial_setup_of Normal)) ≡ None
@@ -67,7 +67,7 @@ pub record TextsAreRead : Type 0 where
   pub bad_fen : IsRead 1 (codes "[FEN \"x\"] *") 0
       (failed (from_start (initial_setup_of Normal)) (record { kind = BadFen Fields; offset = 6 }))
 
--- texts are laid out so
+-- examples of how tokens are laid out in lines
 pub record TextsAreLaidOut : Type 0 where
   -- a game of one move, with `# ` before each line
   pub game : (t : Tags) (s : State) → game_tokens s ≡ codes "1." ∷ codes "e4" ∷ codes "*" ∷ []

@@ -137,8 +137,8 @@ abbrev pub unless_closed : ℕ → State → Option PgnFaultKind → Option PgnF
 unless_closed limit s kind = if is_some (verdict_now s) then Some AfterEnd else
     (if nat_lt (length s.moves) limit then kind else Some TooLong)
 
--- why the move of a word that was read with this result is not played in the game `s`; none if it is played. `limit` is
--- the most half-moves of a game
+-- why the move of a word is not played in the game `s`, by what the word denotes there; none if it is played. `limit`
+-- is the most half-moves of a game
 abbrev pub move_fault : ℕ → State → Reading → Option PgnFaultKind
 move_fault limit s reads.NotAMove = Some BadToken
 move_fault limit s (reads.Move m) = unless_closed limit s None
@@ -181,10 +181,12 @@ token_fault limit total v begun s to_end Bad = fault_at (total - to_end) (Some B
 -- outcome declares a result. `limit` is the most half-moves
 abbrev pub StopsAt : ℕ → ℕ → Variant → List (ℕ × Token) → List (ℕ × Token) → State → Result (Option PgnEnd) PgnFault
     → Type 0
+-- at the text's end
 StopsAt limit total v taken [] s (Ok None) = (s.declared ≡ None) × (list_any (λ t. counts t.1) taken ≡ false)
 StopsAt limit total v taken [] s (Ok (Some e)) = ⊥
 StopsAt limit total v taken [] s (Err f) =
     (s.declared ≡ None) × (list_any (λ t. counts t.1) taken ≡ true) × (f ≡ record { kind = NoResult; offset = total })
+-- before the token `t`
 StopsAt limit total v taken (t ∷ ts) s (Ok None) = ⊥
 StopsAt limit total v taken (t ∷ ts) s (Ok (Some e)) =
     (word : List ℕ) × (t.1 ≡ Word word) × (word_kind word ≡ End e.outcome)

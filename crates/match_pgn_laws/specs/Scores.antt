@@ -22,15 +22,19 @@ abbrev pub games_with : List ℕ → List ℕ → List (List ℕ) → ℕ
 games_with odd even [] = 0
 games_with odd even (line ∷ lines) = (if bytes_eq line odd then 1 else 0) + games_with even odd lines
 
+-- the line of the tag Result of a game that White won
 abbrev pub white_won : List ℕ
 white_won = codes "[Result \"1-0\"]"
 
+-- the line of the tag Result of a game that Black won
 abbrev pub black_won : List ℕ
 black_won = codes "[Result \"0-1\"]"
 
+-- the line of the tag Result of a drawn game
 abbrev pub drawn : List ℕ
 drawn = codes "[Result \"1/2-1/2\"]"
 
+-- the line of the tag Result of an unfinished game
 abbrev pub unfinished : List ℕ
 unfinished = codes "[Result \"*\"]"
 

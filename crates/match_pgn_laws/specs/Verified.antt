@@ -15,15 +15,15 @@ abbrev pub result_reported : Report → List ℕ
 result_reported (Game plies outcome termination) = codes "[Result \"" ++ outcome_text outcome ++ codes "\"]"
 result_reported _ = []
 
--- the reports on this text, with `--strict` or without, but without `--variations`, are on games without a fault: one
--- for each of its lines `[Result ..]`, in order, with the outcome that the line names
+-- the reports on this text (`strict`: what is looked for at a game's end) are on games without a fault: one for each of
+-- its lines `[Result ..]`, in order, with the outcome that the line names
 pub record IsVerified (strict : Strictness) (text : List ℕ) : Type 0 where
   pub reports : List Placed
   pub are : AreReports strict 0 text 0 reports
   pub results : map result_reported (without_spans reports) ≡ result_lines text
 
 -- in every match by a plan that starts from a sound position, whose score was written: the games' text above the score
--- is verified
+-- is verified (`IsVerified`), whatever is looked for but faults in variations
 abbrev pub MatchesPassVerify : Type 0
 MatchesPassVerify = (strict : Strictness) → strict.variations ≡ false → (plan : GamesPlan)
     (result : Result (Unit {0}) GamesFault) (steps : List HostStep) (d d' : Outputs) → IsSound plan.start

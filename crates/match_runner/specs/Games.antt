@@ -43,7 +43,8 @@ first_side number = if number % 2 == 1 then White else Black
 abbrev pub engine_command : GamesPlan → ℕ → Colour → List ℕ
 engine_command plan number side = if same_colour side (first_side number) then plan.white.now else plan.black.now
 
--- the time control of the engine that has this side in the game of this number
+-- the time control of the engine that has this side in the game of this number; `plan.white_level` is that of the first
+-- engine
 abbrev pub engine_level : GamesPlan → ℕ → Colour → LevelSeen
 engine_level plan number side = if same_colour side (first_side number) then plan.white_level else plan.black_level
 
@@ -108,8 +109,9 @@ abbrev pub none_killed : ByColour Bool
 none_killed = record { white = false; black = false }
 
 -- `played` is the record of the game of this number, which was played as `setup_of` says, with at most 20,000
--- half-moves (`MOST_MOVES`), by some acts `H` and for some reason, of which these are the notes. No engine was killed
--- if replies have no limit. Which engines played it is said by the steps of a match (`steps_by` in GamesTable)
+-- half-moves (`MOST_MOVES`): there are acts `H` and a reason by which it was (`PlayedBy`), and its notes are those of
+-- `H`. No engine was killed if replies have no limit. Which engines played it is said by the steps of a match
+-- (`steps_by` in GamesTable)
 abbrev pub IsOfPlan : GamesPlan → ℕ → GameRecord → Type 0
 IsOfPlan plan number played = (played.before.game.limit ≡ MOST_MOVES)
     × (plan.patience.reply ≡ None → played.killed ≡ none_killed)
@@ -163,8 +165,8 @@ abbrev pub game_log : GamesPlan → ℕ → GameRecord → List ℕ
 game_log plan number played = list_if plan.log (log_from (first_side number) 0 played.notes)
     ++ killed_lines number played.killed
 
--- from the log's state `l` to `l'` what there is of these games was logged, though a write of it may have failed
--- (`Logged`; if there is nothing, the log is as it was)
+-- from the log's state `l` to `l'` what the log has of these games (`game_log`) was given to it to write; a write may
+-- have failed (`Logged`). If that is nothing, the log is as it was
 abbrev pub LogsGames : GamesPlan → LogSeen → LogSeen → List GameRecord → Type 0
 LogsGames plan l l' games = Logged l l' (game_by_game (game_log plan) games)
 

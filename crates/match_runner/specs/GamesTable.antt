@@ -48,7 +48,7 @@ pub data GamesStep : Type 0 where
 abbrev pub writing : Bool → List ℕ → GamesStep
 writing failed text = if failed then WriteFails text else Writes text
 
--- the step of the host that this step at a table is, if it is one
+-- the step of the host that this step at a table is, as a list of one; empty if it is none
 abbrev pub of_host : GamesStep → List HostStep
 of_host (AtHost step) = step ∷ []
 of_host _ = []
@@ -59,8 +59,8 @@ at_host steps = flat_map of_host steps
 
 -- ---- what passed
 
--- what contracts see of a host or a table: the claim, for each list of steps, that just these may come there from now
--- on, in this order
+-- what contracts see of a host: the claim, for each list of steps, that just these may come there from now on, in this
+-- order
 abbrev pub HostFuture : Type 1
 HostFuture = List HostStep → Type 0
 
@@ -68,6 +68,7 @@ HostFuture = List HostStep → Type 0
 abbrev pub anything : HostFuture
 anything steps = ⊤
 
+-- what contracts see of a table of games: the claim, for each list of steps, that just these may come there from now on
 abbrev pub GamesFuture : Type 1
 GamesFuture = List GamesStep → Type 0
 
@@ -108,8 +109,8 @@ last_steps plan number (Err (CanNotStart command)) None = unstarted_steps plan n
 -- any other result: no next game was begun
 last_steps plan number _ None = []
 
--- the pipes of an engine that was just started, by what they count. That nothing was read or sent yet is said only of
--- engines in memory (`fresh_pipes`)
+-- these pipes have counted no failure, end, silence or unflushed byte, as those of an engine that was just started.
+-- That nothing was read or sent yet is said only of engines in memory (`fresh_pipes`)
 pub record AreFresh (pipes : Devices) : Type 0 where
   pub reads : pipes.input.failure_count ≡ 0
   pub ends : pipes.input.end_count ≡ 0
@@ -145,14 +146,15 @@ PlaysBy plan result coming passes d d' = (games : List GameRecord) × (unwritten
     × ComeInTurn coming (games ++ option_to_list unwritten)
     × passes (games_steps plan games ++ last_steps plan (length games + 1) result unwritten)
 
--- what playing a match at a table does, whose clock would show the moments `coming`. `p` is what may come there from
--- before it on, and `p'` from after it on
+-- what playing a match at a table does, by its result, to its output and its log, from `d` to `d'`. The table's clock
+-- would show the moments `coming`; `p` is what may come there from before the match on, and `p'` from after it on
 abbrev pub PlaysGamesAt : GamesPlan → Result (Unit {0}) GamesFault → (ℕ → Option ℕ) → GamesFuture → GamesFuture
     → Outputs → Outputs → Type 0
 PlaysGamesAt plan result coming p p' d d' = PlaysBy plan result coming (StepsPass p p') d d'
 
--- what playing a match with a host does, where just these steps passed: a clock was opened, and then came the host's
--- steps of the match. Or memory ran out before, and nothing was done
+-- what playing a match with a host does, by its result, to its output and its log, from `d` to `d'`. Just these steps
+-- passed at the host: a clock was opened, and then came the steps of the match. Or memory ran out before, and nothing
+-- was done
 abbrev pub PlaysGamesWith : GamesPlan → Result (Unit {0}) GamesFault → List HostStep → Outputs → Outputs → Type 0
 PlaysGamesWith plan result steps d d' =
     ((c : ℕ → Option ℕ) × PlaysBy plan result c (λ at_table. steps ≡ OpensClock c ∷ at_host at_table) d d')

@@ -19,7 +19,8 @@ abbrev pub engine_name : Colour → Colour → List ℕ
 engine_name first_side side = if same_colour side first_side then codes "first : " else codes "second: "
 
 -- a line of a log, such as `312 <first : move e2e4`: a moment in milliseconds; a mark, `<` if the engine sent the text,
--- `>` if it was sent it (even if that failed), `!` if the text says what happened; the engine's name, and the text
+-- `>` if it was sent it (even if that failed), `!` if the text says what happened; the engine's name; and the text,
+-- with `?` for each byte that is not printable ASCII
 abbrev pub log_line : ℕ → ℕ → List ℕ → List ℕ → List ℕ
 log_line now mark engine text = decimal now ++ (byte " " ∷ mark ∷ []) ++ engine ++ map shown_byte text ++ new_line ∷ []
 
@@ -30,8 +31,8 @@ abbrev pub lines_in : List ℕ → List (List ℕ)
 lines_in [] = []
 lines_in (b ∷ bs) = if b == new_line then [] ∷ lines_in bs else onto_first b (lines_in bs)
 
--- what the log has for a note: one line, but for `Gives` one for each line that the engine is sent, and so for `Opened`
--- none. `engine` gives the name of each side's engine. `moment` is the clock's reading at the last `Line`, `Silent` or
+-- what the log has for a note: one line; for `Gives` one for each line that the engine is sent; for `Opened` none.
+-- `engine` gives the name of each side's engine. `moment` is the clock's reading at the last `Line`, `Silent` or
 -- `Opened` before this note, or 0 before any
 abbrev pub note_text : (Colour → List ℕ) → ℕ → Note → List ℕ
 note_text engine moment (Happened (Line c (Some text) now)) = log_line now (byte "<") (engine c) text

@@ -2,8 +2,8 @@
 --
 -- `MayCome` says which steps may come at such a host. No steps (`[]`) may always come, so of a match `PlaysGamesWith`
 -- says that just its steps might come at the host as it was before: each engine says what that host has for this start
--- of its command, and the clock shows its moments. From these, the plan, and the writes that fail follows each game (law
--- `OnlyOneMatchOfARun` of chess_match_laws), if nobody is waited for only so long; and from the games all that is
+-- of its command, and the clock shows its moments. From these, the plan, and the writes that fail follows each game
+-- (law `OnlyOneMatchOfARun` of chess_match_laws), if nobody is waited for only so long; and from the games all that is
 -- written, logged and sent. Where a plan sets limits to waiting, nothing here says which looks for a line find none,
 -- nor how many do. Nor is it said when memory runs out.
 use Rattle.std.specs.Prelude.{◌≡◌, ⊤, ℕ, ◌-◌, ◌^◌, List, [], ◌∷◌, ◌++◌, Option, None, Some}
@@ -25,14 +25,15 @@ use Rattle.match_runner.specs.GamesTable.{HostStep, OpensClock, Starts, StartFai
 abbrev pub moment_at : ℕ → List ℕ → ℕ → Option ℕ
 moment_at shown moments n = option_or (slice_get moments n) (last_or (Some shown) moments)
 
--- what is said by that one of these engines which has this command (by the first, if several have it), when it is
--- started after it was started so many times before; `None` if none has the command, or no more is given of it
+-- what the first of these engines that has this command says in the game for which it is started, after it was started
+-- so many times before; `None` if none has the command, or if nothing is given for this start
 abbrev pub text_of_start : List MemoryEngine → List ℕ → ℕ → Option (List ℕ)
 text_of_start engines command times =
     option_and_then (λ e. option_map (λ text. text.now) (slice_get e.outputs.now times))
     (find (λ e. bytes_eq e.command.now command) engines)
 
--- the same, if the engines with the commands `earlier` were started before, one after another
+-- what the engine with this command says if it is started now (`text_of_start`), after those with the commands
+-- `earlier`, one after another
 abbrev pub next_text : List MemoryEngine → List (List ℕ) → List ℕ → Option (List ℕ)
 next_text engines earlier command = text_of_start engines command (count_by (λ c. bytes_eq c command) earlier)
 
@@ -61,7 +62,7 @@ abbrev pub started_in : List HostStep → List (List ℕ)
 started_in steps = flat_map started_by steps
 
 -- why engines with these commands, White's and Black's, are not started, if these are the texts that they would say:
--- White's has no text; or White's has one and Black's has none; or memory ran out
+-- White's has no text; or White's has one and Black's has none; or both have one and memory ran out
 abbrev pub IsFaultOfStart : List ℕ → List ℕ → Option (List ℕ) → Option (List ℕ) → GamesFault → Type 0
 IsFaultOfStart white black None _ (CanNotStart command) = command.now ≡ white
 IsFaultOfStart white black (Some _) None (CanNotStart command) = command.now ≡ black

@@ -25,7 +25,7 @@ abbrev pub entries_text : Colour → List Entry → List ℕ
 entries_text first_side entries =
     flat_map (λ e. log_line e.moment e.mark (engine_name first_side e.side) e.text) entries
 
--- the log's lines for a note: those of `note_text`
+-- the log's lines for a note: those of `note_text`, where `moment` is the same
 abbrev pub note_entries : ℕ → Note → List Entry
 note_entries moment (Happened (Line c (Some text) now)) =
     record { moment = now; mark = byte "<"; side = c; text = text } ∷ []
@@ -59,7 +59,8 @@ is_printable b = nat_le 32 b && nat_le b 126
 abbrev pub IsShown : Entry → Type 0
 IsShown e = (e.moment < 2 ^ 64) × (list_all is_printable e.text ≡ true)
 
--- lines that the log shows as they are have a text of their own, whichever side the engine of `--white` has (`first`)
+-- a log can be read in only one way: if two lists of lines that it shows as they are have the same text, they are the
+-- same. `first` is the side of the engine of `--white`
 abbrev pub LogsHaveOneReading : Type 0
 LogsHaveOneReading = (first : Colour) (xs ys : List Entry) → AllByRecursion IsShown xs → AllByRecursion IsShown ys
     → entries_text first xs ≡ entries_text first ys → xs ≡ ys

@@ -11,8 +11,9 @@ abbrev pub KeepsFailureCounts : GameRecord → Type 0
 KeepsFailureCounts played = (S : Colour)
     → (played.after.engines S).output.failure_count ≡ (played.before.engines S).output.failure_count
 
--- in every match: each game without a fault of an engine leaves these counts as they were. All games of a match but the
--- last are such games, whether it was played to its end or broke off (`WritesGames`)
+-- in every match: each game without a fault of an engine leaves the counts of failed writes and flushes as they were
+-- (`KeepsFailureCounts`). All games of a match but the last are such games, whether it was played to its end or broke
+-- off (`WritesGames`)
 abbrev pub OnlyLastGamesHaveFailedWrites : Type 0
 OnlyLastGamesHaveFailedWrites = (plan : GamesPlan) (games : List GameRecord) → FaultlessGames plan games
     → AllByRecursion KeepsFailureCounts games

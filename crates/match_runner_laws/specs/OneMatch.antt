@@ -31,15 +31,14 @@ sent_by_then _ = []
 abbrev pub sent_in : List HostStep → List (Option (List ℕ))
 sent_in steps = flat_map sent_by_then steps
 
--- by this result of a match all its games were played, and the score was written; in the last game an engine may have
--- had a fault
+-- by this result of a match its score was written: all games were played, or those up to one with a fault of an engine
 abbrev pub HasScore : Result (Unit {0}) GamesFault → Type 0
 HasScore (Ok _) = ⊤
 HasScore (Err (Game number fault)) = ⊤
 HasScore _ = ⊥
 
--- a match by this plan was played at this host to its score, from `d` to `d'`, by these steps, and nothing failed at its
--- engines' pipes
+-- a match by this plan was played at this host to its score, from the outputs `d` to `d'`, by these steps, and nothing
+-- failed at its engines' pipes
 pub record WentWell (plan : GamesPlan) (host : MemoryHost) (steps : List HostStep) (d d' : Outputs) : Type 0 where
   pub result : Result (Unit {0}) GamesFault
   pub played : PlaysGamesWith plan result steps d d'

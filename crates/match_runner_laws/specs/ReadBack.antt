@@ -34,7 +34,7 @@ events_shown (e ∷ es) = e ∷ events_shown es
 abbrev pub text_of_result : Reason → List ℕ
 text_of_result reason = codes "result " ++ result_text (result_of reason)
 
--- the event of a line of a log whose mark is `!`, of an engine of this side
+-- the event of a line of a log with the mark `!`, by its text: of the engine of this side, at this moment
 abbrev pub other_event : Colour → ℕ → List ℕ → Event
 other_event side moment text =
     if bytes_eq text (codes "line too long") then Line side None moment
@@ -54,7 +54,8 @@ entry_event e =
 abbrev pub entry_given : Colour → Entry → List ℕ
 entry_given S e = list_if (e.mark == byte ">" && same_colour e.side S) (e.text ++ new_line ∷ [])
 
--- the text of the last line but one, which is `result ..`
+-- the text of the last line but one, which in the log of a match is `result ..`; empty if there are fewer than two
+-- lines
 abbrev pub result_line : List Entry → List ℕ
 result_line (e ∷ f ∷ g ∷ es) = result_line (f ∷ g ∷ es)
 result_line (e ∷ f ∷ []) = e.text
@@ -113,9 +114,9 @@ AreOfLogs plan games = AllByRecursion
     (λ g. IsOfPlan plan g.0 g.1 × AllByRecursion IsShown (entries_from 0 g.1.notes))
     (enumerate_from 1 games)
 
--- what a match writes to the output, the PGN of its games and the score, follows from the logs of its games and the
--- plan: two matches by one plan, both played to the end and with their score written, whose games have the same logs,
--- which show their lines as they are, write the same
+-- the PGN of games and their score, which a match writes to its output, follow from the games' logs and the plan: two
+-- lists of games by one plan that have the same logs, which show their lines as they are, have the same PGN and the
+-- same score
 abbrev pub LogsGiveTheOutput : Type 0
 LogsGiveTheOutput = (plan : GamesPlan) (games games' : List GameRecord) → AreOfLogs plan games
     → AreOfLogs plan games' → logs_of games ≡ logs_of games'

@@ -89,8 +89,8 @@ explanation s text kind reason = (wrong_part kind text).1
     ++ ((if has_position kind then codes " | " ++ fen (current s) else [])
     ++ option_map_or (λ why. codes " | " ++ why) reason [])
 
--- the line that explains a fault by this text, such as `# line 2 column 4 ` and the text; the wrong part, which begins
--- at the offset `begin` of the input, is there
+-- the line that explains a fault by this text: `# line 2 column 4 ` and the text. The line and the column are those of
+-- the offset `begin` of the input, where the wrong part begins
 unfoldable pub explanation_line : List ℕ → ℕ → List ℕ → List ℕ
 explanation_line input begin text =
     codes "# line " ++ (decimal (line_of input begin) ++ (codes " column " ++ (decimal (column_of input begin)

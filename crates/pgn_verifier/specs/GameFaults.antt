@@ -66,8 +66,8 @@ variation_in split text at start end =
     variations_fault split (take end.offset text) start (after_byte_order_mark text at)
 
 -- `answer` is what is reported (`judged`) of the first game from the offset `at` of the text on, and `s` is this game
--- as far as it was read, at most 20,000 half-moves: by the only split of the text into tokens, and of its variations by
--- the only splits (`split_of`) of the text that ends where the game does
+-- as far as it was read, at most 20,000 half-moves. It is read by the only split of the text into tokens, and its
+-- variations by the only splits (`split_of`) of the text that ends where the game does
 pub record IsJudged (strict : Strictness) (text : List ℕ) (at : ℕ) (s : State)
     (answer : Result (Option PgnEnd) GameFault) : Type 0 where
   pub tokens : List (ℕ × Token)

@@ -71,12 +71,12 @@ fault_in start text fault why = Faulty (record fault { offset = start + fault.of
     (start + fault.offset + (wrong_part fault.kind (drop fault.offset text)).0) why
 
 -- where a text of `total` bytes is read on after a game with these tokens that has a fault: where the game ends, if
--- reading is to go on (`goes_on`) and that is found
+-- reading is to go on (`goes_on`) and that is found; otherwise `None`
 abbrev pub next_begin : Bool → ℕ → List (ℕ × Token) → Option ℕ
 next_begin goes_on total tokens = if goes_on then game_end total tokens else None
 
--- the offset from which on a text of `total` bytes isn't read: that of a fault after which it isn't found where to go
--- on (`next`); `None` if reading isn't to go on, or nothing is left
+-- the offset from which on a text of `total` bytes isn't read: that of a fault (`offset`) after which no place to go on
+-- is found (`next` is `None`); `None` if reading isn't to go on (`goes_on`), or nothing is left
 abbrev pub unread_from : Bool → ℕ → ℕ → Option ℕ → Option ℕ
 unread_from goes_on total offset next =
     if goes_on && not (is_some next) && nat_lt offset total then Some offset else None
@@ -115,7 +115,8 @@ pub data AreReportsOf (goes_on : Bool) (strict : Strictness) (start : ℕ) (text
         report = fault_in start text fault (explanation s (drop fault.offset text) fault.kind reason);
       } ∷ reports)
 
--- the reports on a text up to the first game with a fault
+-- these are the reports on the games of a text (`AreReportsOf`), up to the first with a fault, after which it isn't
+-- read on
 abbrev pub AreReports : Strictness → ℕ → List ℕ → ℕ → List Placed → Type 0
 AreReports = AreReportsOf false
 
@@ -173,8 +174,8 @@ written_line options input number placed (Faulty fault wrong_at explanation) =
     ((if is_at_begin fault.kind then placed.first else []) ++ (explanation ++ unread_text placed.unread placed.end))
     else [])
 
--- the lines of these reports, which are numbered from `number` on, those too that `quiet` leaves out. `input` is what
--- was read of the input
+-- the lines of these reports, which are numbered from `number` on; one that `quiet` leaves out has a number too.
+-- `input` is what was read of the input
 abbrev pub report_lines : VerifyOptions → List ℕ → ℕ → List Placed → List ℕ
 report_lines options input number [] = []
 report_lines options input number (placed ∷ rest) =

@@ -9,7 +9,7 @@ use Rattle.pgn_verifier.specs.declared.tally.Verified.{Verified}
 use Rattle.pgn_verifier.specs.Reports.{Placed, AreReports, report_lines, without_spans, counts_of, verified}
 
 -- what verifying a text reads (`i`) and writes (`o`), by its result. `PIECE_LEN` is 16,777,216. The zeros given to
--- `AreReports`: the text begins at offset 0 of the input, and all its games are reported
+-- `AreReports`: the text begins at offset 0 of the input, and its games are read from there on
 abbrev pub Verifies : VerifyOptions → Result Verified VerifyFault → FromInput → ToOutput → Type 0
 -- the whole input was read, and has at most `PIECE_LEN` bytes; the lines of its games up to the first fault were
 -- written and flushed (flushed also if there are none)

@@ -60,7 +60,8 @@ abbrev pub CountedGamesAreGames : Type 0
 CountedGamesAreGames = (strict : Strictness) (start : ℕ) (text : List ℕ) (reports : List Placed)
     → AreReports strict start text 0 reports → HasGames text 0 (without_spans reports)
 
--- so are those that `verify --keep-going` counts in a piece of a collection, which begins at this offset of the input
+-- the games that `verify --keep-going` counts in a piece of a collection are games; the piece begins at this offset of
+-- the input
 abbrev pub CountedGamesOfPiecesAreGames : Type 0
 CountedGamesOfPiecesAreGames = (strict : Strictness) (offset : ℕ) (piece : List ℕ) (reports : List Placed)
     → AreReportsIn strict offset piece reports → HasGames piece 0 (without_spans reports)

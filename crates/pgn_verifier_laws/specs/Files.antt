@@ -31,8 +31,8 @@ moved by (Game plies outcome termination) = Game plies outcome termination
 moved by (Faulty fault wrong_at explanation) =
     Faulty (record fault { offset = by + fault.offset }) (by + wrong_at) explanation
 
--- what is reported of the files is that, one after another, if `reports` gives the reports on each file by itself; the
--- first file begins at this offset of the collection
+-- the reports on these files, one after another, with offsets counted from the collection's beginning. `reports` gives
+-- the reports on each file by itself; the first file begins at this offset of the collection
 abbrev pub one_after_another : (List ℕ → List Placed) → ℕ → List (List ℕ) → List Placed
 one_after_another reports offset [] = []
 one_after_another reports offset (file ∷ files) =
@@ -55,8 +55,8 @@ pub record IsSumOf (reports : List ℕ → List Placed) (files : List (List ℕ)
   pub faults : (counts_of (without_spans (reports (concat files)))).faults
       ≡ sum_by (λ file. (counts_of (without_spans (reports file))).faults) files
 
--- so it is with what `verify --keep-going` reports (`reports`) of each collection that is cut where pieces begin, with
--- `--strict` (`strict`) or without
+-- if a collection is cut into files where pieces begin, what `verify --keep-going` reports of it (`reports`) is the sum
+-- of what it reports of the files (`IsSumOf`), with `--strict` (`strict`) or without
 abbrev pub FilesAreVerifiedAlike : Type 0
 FilesAreVerifiedAlike = (strict : Strictness) (reports : List ℕ → List Placed)
     → ((text : List ℕ) → AreCollectionReports strict 0 (cut text) (reports text))

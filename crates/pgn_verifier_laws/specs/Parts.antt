@@ -66,7 +66,8 @@ pub record AreReportedAlike (strict : Strictness) (start : ℕ) (before part aft
       → reports_from strict start (length games + most) (before ++ (part ++ after)) (length before + 0)
       ≡ games ++ reports_from strict start most (before ++ (part ++ after)) (length before + length part)
 
--- so it is with each part that begins where a line begins
+-- each part that holds whole games and begins where a line begins is reported alike alone and in the text
+-- (`AreReportedAlike`)
 abbrev pub WholeGamesAreReportedAlike : Type 0
 WholeGamesAreReportedAlike = (strict : Strictness) → strict.variations ≡ false → (start : ℕ)
     (before part after : List ℕ) (games : List Report) → BeginsAlike before part after 0

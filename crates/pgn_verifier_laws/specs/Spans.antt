@@ -14,14 +14,14 @@ pub data MakeUp : ℕ → List ℕ → List Placed → Type 0 where
       → placed.begin ≡ offset + length between → placed.end ≡ placed.begin + length game → 0 < length game
       → MakeUp placed.end rest reports → MakeUp offset (between ++ (game ++ rest)) (placed ∷ reports)
 
--- so it is with the reports on a text, which begins at the offset `start` of the input; `strict`: what is looked for at
--- a game's end
+-- the spans of the reports on a text come one after another in it (`MakeUp`). The text begins at the offset `start` of
+-- the input; `strict`: what is looked for at a game's end
 abbrev pub SpansMakeUpTheText : Type 0
 SpansMakeUpTheText = (strict : Strictness) (start : ℕ) (text : List ℕ) (reports : List Placed)
     → AreReports strict start text 0 reports → MakeUp start text reports
 
--- and so it is with the reports on the pieces of a text. If the text is not all of the input (`ended` is false), its last
--- piece isn't reported
+-- the spans of the reports on the pieces of a text come one after another in it (`MakeUp`). If the text is not all of
+-- the input (`ended` is false), its last piece isn't reported
 abbrev pub SpansMakeUpTheCollection : Type 0
 SpansMakeUpTheCollection = (strict : Strictness) (ended : Bool) (text : List ℕ) (reports : List Placed)
     → AreCollectionReports strict 0 (known_pieces ended text) reports → MakeUp 0 text reports

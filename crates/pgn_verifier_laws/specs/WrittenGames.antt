@@ -54,8 +54,8 @@ abbrev pub report_of : TaggedGame → Report
 report_of g =
     Game (length g.state.moves) (outcome_now g.state) (Some (termination_of g.tags.ended (outcome_now g.state)))
 
--- the texts of such games, one after another, have no fault: the reports are on just these games, whichever
--- faults are looked for but those in variations. `start` is the offset of the input at which the text begins
+-- the texts of games that are `AreWritable`, one after another, have no fault: the reports are on just these games,
+-- whichever faults are looked for but those in variations. `start` is the offset of the input at which the text begins
 abbrev pub WrittenTextsHaveNoFault : Type 0
 WrittenTextsHaveNoFault = (strict : Strictness) → strict.variations ≡ false → (start : ℕ) (games : List TaggedGame)
     → AreWritable games → reports_on strict start (written_text games) ≡ map report_of games

@@ -17,8 +17,8 @@ use Rattle.pgn_writer.specs.Written.{tag_line, ended, lines_of}
 -- ---- tags
 
 -- the lines of the tags of the game `s`; `t` says what the game itself doesn't. First the seven that each game has
--- (section 8.1.1); then, sorted by name, FEN and SetUp (section 9.7), but not for normal chess from the initial
--- position, Termination, and in Chess960 Variant
+-- (section 8.1.1); then, sorted by name: FEN and SetUp (section 9.7), but not for normal chess from the initial
+-- position; Termination; and Variant, but only for Chess960
 abbrev pub tag_lines : Tags → State → List (List ℕ)
 tag_lines t s = tag_line (codes "Event") t.event ∷ tag_line (codes "Site") t.site ∷ tag_line (codes "Date") t.date
     ∷ tag_line (codes "Round") t.round ∷ tag_line (codes "White") t.white ∷ tag_line (codes "Black") t.black

@@ -8,8 +8,8 @@ abbrev pub FaultsHaveOffsets : Type 0
 FaultsHaveOffsets = (limit : ℕ) (text : List ℕ) (at : ℕ) → at ≤ length text
     → IfErr (pgn_read limit text at).answer (λ f. (at ≤ f.offset) × (f.offset ≤ length text))
 
--- a game read from the offset `at` on has at most as many half-moves as bytes from there to its end; `limit` is the
--- most half-moves of a game
+-- a game that is read from the offset `at` on without a fault has at most as many half-moves as bytes from there to its
+-- end; `limit` is the most half-moves of a game
 abbrev pub HalfMovesHaveBytes : Type 0
 HalfMovesHaveBytes =
     (limit : ℕ) (text : List ℕ) (at : ℕ) → at ≤ length text

@@ -29,7 +29,7 @@ pub data Kind : Type 0 where
   Asterisk : Kind
   Symbol : Kind
 
--- the text is a token of this kind; `b`: its first byte is its line's first
+-- the text is a token of this kind; `b`: whether its first byte begins a line
 abbrev pub IsOf : Bool → Kind → List ℕ → Type 0
 -- a blank or a dot
 IsOf b Blank text = (c : ℕ) × (text ≡ c ∷ []) × ((is_white_space c || c == byte ".") ≡ true)
@@ -68,7 +68,7 @@ token_of Variation text to_end = Skip
 
 -- ---- what can't be read
 
--- no beginning of the text is a token
+-- no beginning of the text is a token; `b`: whether its first byte begins a line
 abbrev pub HasNoToken : Bool → List ℕ → Type 0
 HasNoToken b text = (kind : Kind) (front rest : List ℕ) → text ≡ front ++ rest → IsOf b kind front → ⊥
 

@@ -60,12 +60,12 @@ games_from goes_on strict start (suc n) text at =
     report_then start text (next_at goes_on text at) (judged_at strict text at) (read_at text at).state
     (λ next. games_from goes_on strict start n text next)
 
--- these reports up to the first fault
+-- the reports of `games_from` up to the first fault
 abbrev pub reports_from : Strictness → ℕ → ℕ → List ℕ → ℕ → List Report
 reports_from = games_from false
 
--- the reports on all games of a text, up to its first fault, or if `goes_on` also after faults. Each game has at least
--- one byte, so `length text + 1` games are enough
+-- the reports on all games of a text, up to its first fault, or if `goes_on` also after faults (`start` and `strict` as
+-- in `games_from`). Each game has at least one byte, so `length text + 1` games are enough
 abbrev pub games_of : Bool → Strictness → ℕ → List ℕ → List Report
 games_of goes_on strict start text = games_from goes_on strict start (length text + 1) text 0
 
@@ -74,7 +74,7 @@ games_of goes_on strict start text = games_from goes_on strict start (length tex
 abbrev pub reports_on : Strictness → ℕ → List ℕ → List Report
 reports_on = games_of false
 
--- the report on a piece that is too long
+-- the report on a piece that is too long: a fault at its first byte
 abbrev pub too_long_report : Piece → Report
 too_long_report piece =
     Faulty (record { kind = Pgn TooLong; offset = piece.offset }) piece.offset (shown piece.bytes)
@@ -96,7 +96,8 @@ collection_reports strict ended text = flat_map (reports_in strict) (pieces ende
 abbrev pub names_at : List ℕ → ℕ → List ℕ
 names_at text at = names_of (tokens_from text (after_byte_order_mark text at))
 
--- the report on a game without a fault
+-- the report on the game of a text from its offset `at` on, with its span and names, if it has no fault: `end` is its
+-- end, and `s` the game that was read. The text begins at the offset `start` of the input
 abbrev pub game_placed : ℕ → List ℕ → ℕ → PgnEnd → State → Placed
 game_placed start text at end s = record {
   begin = start + game_begin text at;
@@ -107,7 +108,8 @@ game_placed start text at end s = record {
   report = Game (length s.moves) end.outcome end.termination;
 }
 
--- the report on a game with this fault, after which reading goes on at `next`
+-- the report on the game of a text from its offset `at` on, with its span and names, if it has this fault. Reading
+-- continues at `next`; if that is `None`, it doesn't, and the span goes to the text's end
 abbrev pub fault_placed : Bool → ℕ → List ℕ → ℕ → Option ℕ → GameFault → State → Placed
 fault_placed goes_on start text at next fault s = record {
   begin = start + game_begin text at;

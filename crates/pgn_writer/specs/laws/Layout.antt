@@ -7,7 +7,7 @@ use Rattle.pgn_writer.specs.PgnText.{line_text, AreFullLines}
 abbrev pub AreShort : List (List ℕ) → Type 0
 AreShort tokens = AllByRecursion (λ t. (0 < length t) × (length t ≤ 79)) tokens
 
--- these are the texts of lines as full as they can be, which hold these tokens, in order
+-- `texts` are the texts of lines that are as full as they can be (`AreFullLines`) and hold these tokens, in order
 pub record AreFilled (tokens texts : List (List ℕ)) : Type 0 where
   pub lines : List (List (List ℕ))
   pub full : AreFullLines lines
