@@ -12,6 +12,7 @@ pub is_between_is : (a b x : ℕ)
 unfolding is_between is_between_on_file is_between_on_rank is_between_on_diagonal
 is_between_is a b x = refl
 
+-- "if w and neither a nor b, then n", as a list of tests of which one passes
 needs_or : (w a b n : Bool) → (not (w && not a && not b) || n) ≡ (not w || a || b || n)
 needs_or w a b n = grind arith
 
@@ -37,6 +38,7 @@ start_rank : (c : Colour) (t : ℕ) → (rank (forward c t) == pawn_rank (other 
 start_rank White t = grind (arith, nat_tests)
 start_rank Black t = grind (arith, nat_tests)
 
+-- four joined tests in another order
 in_order : (a b c d : Bool) → (a && b && c && d) ≡ (a && c && d && b)
 in_order a b c d = grind arith
 
