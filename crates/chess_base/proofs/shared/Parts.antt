@@ -33,7 +33,8 @@ castling_way_is_empty_by men k =
     needs_or (is_on_way k.king_from k.king_to x || is_on_way k.rook_from k.rook_to x) (x == k.king_from)
     (x == k.rook_from) (is_none (man_at men x)))
 
--- the rank of the square where a double advance starts tells the rank that it crosses
+-- a square is on the rank that the other colour's double advances cross exactly if the square ahead of it is on the
+-- rank where these start
 start_rank : (c : Colour) (t : ℕ) → (rank (forward c t) == pawn_rank (other c)) ≡ (rank t == crossed_rank (other c))
 start_rank White t = grind (arith, nat_tests)
 start_rank Black t = grind (arith, nat_tests)
