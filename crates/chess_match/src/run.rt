@@ -267,7 +267,8 @@ fn end_for_other<T: MatchTable, G: MatchGame>(
     note_and_send(table, core, game, given, waiting, side.other())
 }
 
-// Sends both sides their last lines, White first, and returns to which sides that failed.
+// Sends each side the answers in its block and what `given` says, White first, and empties both blocks. Returns to
+// which sides that failed.
 fn send_last<T: MatchTable, G: MatchGame>(
     table: &mut T,
     core: &MatchState,
