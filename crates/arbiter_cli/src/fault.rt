@@ -35,6 +35,7 @@ pub enum WordsFault {
 impl From<LevelFault> for WordsFault {
     ghost from_gives = { λ level fault. fault ≡ BadLevel level };
 
+    // The fault that `?` returns for a text that denotes no level: `BadLevel`.
     fn from(fault: LevelFault) -> WordsFault {
         WordsFault::BadLevel(fault)
     }
@@ -43,6 +44,7 @@ impl From<LevelFault> for WordsFault {
 impl From<FenFault> for WordsFault {
     ghost from_gives = { λ fen fault. fault ≡ BadFen fen };
 
+    // The fault that `?` returns for a FEN that denotes no sound position: `BadFen`.
     fn from(fault: FenFault) -> WordsFault {
         WordsFault::BadFen(fault)
     }

@@ -1,4 +1,5 @@
--- Where the first byte is that passes a test, from the masks of blocks of bytes.
+-- The first byte of a text that passes a test is found block by block: a block's mask has a bit for each of its bytes,
+-- which is 1 where the byte passes.
 use Rattle.std.proofs.Common.{◌≡◌, ◌≢◌, ℕ, ◌+◌, ◌*◌, ◌≤◌, ◌%◌, ◌^◌, Bool, true, false, not, cond, eqb, ◌||◌, List, [], ◌∷◌, length, map, drop, bit_or, refl, sym, ap, ◌∙◌, arith, ◌==◌}
 use Rattle.std.specs.List.{position_or_len}
 use Rattle.std.proofs.{Math.Path.fun_ext, lemmas.List.length-map, lemmas.List.Folds.prefix_len-append, lemmas.List.Sums.prefix_len-le-length}

@@ -1,4 +1,4 @@
--- What an engine accepts, item by item.
+-- What an engine accepts after one item more comes from what it accepted before and that item.
 use Rattle.std.proofs.Common.{◌≡◌, ℕ, true, List, [], ◌∷◌, ◌++◌, refl, codes}
 use Rattle.cecp_engine.specs.Items.{Item, takes, is_one, has_word, plays_fischerandom}
 use Rattle.cecp_engine.specs.{ties.Taken.said_again, ties.Taken.fischerandom_again, Seen.features_of, declared.features.Features.Features}

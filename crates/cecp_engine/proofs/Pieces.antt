@@ -1,4 +1,5 @@
--- A text that is cut at commas, spaces and tabs, byte by byte.
+-- A text that is cut at commas, spaces and tabs, byte by byte: each byte belongs to a piece or ends it, and a word is
+-- looked for among the pieces.
 use Rattle.std.proofs.Common.{◌≡◌, ℕ, zero, suc, ◌+◌, ◌-◌, ◌<◌, ◌≤◌, Bool, true, false, ◌||◌, List, [], ◌∷◌, ◌++◌, length, take, drop, get_or, refl, ap, sym, ◌∙◌, arith, append_assoc, append-nil, cond, bytes_eq, take-suc, if◌then◌else◌, ◌==◌}
 use mathlib.Core.Bool.{or-false}
 use Rattle.std.specs.List.{list_any, slice_split, onto_first}

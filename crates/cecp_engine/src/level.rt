@@ -10,7 +10,7 @@ use std::marker::Model;
 use text_lines::{argument, first_word, short_number, trim_start};
 
 /// A time control (CECP, version 2, command `level`): moves per session, 0 for one session without end, and a base and
-/// an increment in seconds, both with up to three decimals.
+/// an increment in seconds, both with up to three decimals. The fields `base` and `increment` hold milliseconds.
 ///
 /// ```
 /// let level: Level = "0 0:30 0.5".parse()?;
@@ -123,6 +123,7 @@ impl Level {
     /// The time control that a text denotes: `MOVES BASE INCREMENT`, with spaces or tabs between and perhaps around.
     /// Each number has one to three digits. The base is in minutes, or `minutes:seconds` with one or two digits for
     /// fewer than 60 seconds. These seconds and the increment, in seconds, may have a point and one to three decimals.
+    /// `None` for any other text.
     pub fn read(text: &[u8]) -> Option<Self>
         ensures { result ≡ level_of text.now }
     {

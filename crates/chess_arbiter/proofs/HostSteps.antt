@@ -1,4 +1,4 @@
--- Nothing passed at the host.
+-- Where no step passed at the host, what may come there is as before.
 use Rattle.std.proofs.Common.{List, []}
 use Rattle.match_runner.specs.GamesTable.{HostStep, StepsPass}
 

@@ -1,4 +1,4 @@
--- Nothing was reported.
+-- Where there is nothing to report, the output of the log stays as it is.
 use Rattle.std.proofs.Common.{false, [], refl}
 use Rattle.byte_devices.specs.Transfers.{nothing}
 use Rattle.byte_devices.proofs.shared.Transfers.{took_nothing}

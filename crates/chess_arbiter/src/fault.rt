@@ -56,6 +56,7 @@ impl From<Fault> for ProgramFault {
 impl From<WriteFault> for ProgramFault {
     ghost from_gives = { λ _ fault. fault ≡ WriteFailed };
 
+    // The fault that `?` returns for a write or a flush that failed: `WriteFailed`.
     fn from(_fault: WriteFault) -> ProgramFault {
         ProgramFault::WriteFailed
     }
@@ -64,6 +65,7 @@ impl From<WriteFault> for ProgramFault {
 impl From<AllocError> for ProgramFault {
     ghost from_gives = { λ _ fault. fault ≡ NoMemory };
 
+    // The fault that `?` returns for memory that ran out: `NoMemory`.
     fn from(_error: AllocError) -> ProgramFault {
         ProgramFault::NoMemory
     }

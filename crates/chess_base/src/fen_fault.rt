@@ -16,8 +16,8 @@ pub enum FenFault {
     /// The second field is neither `w` nor `b`.
     #[error("the side is neither w nor b")]
     Side,
-    /// The third field denotes no rights, or a right has not its king and its rook where they belong; in Chess960 also
-    /// where a letter names no rook on that side of the king, or two letters name one side.
+    /// The third field denotes no rights, or the king or the rook of a right is not where castling with it begins; in
+    /// Chess960 also if a letter names no rook on that side of the king, or two letters name the same right.
     #[error("the castling rights are malformed or do not fit the pieces")]
     Castling,
     /// The fourth field denotes no target, or the target is not the empty square behind an enemy pawn's double advance.

@@ -1,4 +1,5 @@
--- The sets of squares after a move.
+-- The sets of occupied squares and of enemy pieces after a move come from the squares that it changes and fills; where
+-- the king's square is known, check is an attack on it.
 use mathlib.Core.Bool.{and-true}
 use Rattle.std.proofs.Common.{◌≡◌, ℕ, ◌<◌, inl, inr, Bool, true, false, not, ◌&&◌, ◌||◌, ◌==◌, cond, refl, Option, Some, None, is_none}
 use Rattle.std.proofs.lemmas.Bool.{and_right, cases_Bool, eqb-true, eq-eqb}

@@ -1,4 +1,4 @@
--- A ray up to its first blocker.
+-- A ray goes up to its first blocker: what the code sweeps out is the part of the ray that is open.
 use mathlib.Core.Bool.{and-true}
 use Rattle.std.proofs.Common.{◌≡◌, ◌==◌, ℕ, zero, suc, ◌<◌, inl, inr, Bool, true, false, not, ◌&&◌, ◌||◌, nat_lt, refl, sym, ap, ◌∙◌, arith}
 use Rattle.std.proofs.lemmas.Bool.Decides.{nat_tests}

@@ -1,4 +1,4 @@
--- One square changes: the sets of both colours.
+-- When one square changes, the sets of one colour change by that square, and those of the other colour stay.
 use mathlib.Core.Bool.{and-true, and-false, or-true, or-false}
 use Rattle.std.proofs.Common.{◌≡◌, ℕ, ◌<◌, inl, inr, true, false, not, ◌&&◌, ◌||◌, ◌==◌, refl, sym, ◌∙◌, ap, arith, Option, Some, None, List, [], ◌∷◌, zero, suc, length, get_or, set, get_or-set_same, get_or-set_other}
 use Rattle.std.proofs.{lemmas.Bool.cases_eq, lemmas.Bool.eq-eqb, lemmas.Bool.ne_eqb, lemmas.List.set-get_or}

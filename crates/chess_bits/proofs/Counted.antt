@@ -1,4 +1,5 @@
--- Legal moves counted.
+-- Legal moves counted: those of some pieces are among all, there are some if one square has some, and they fit into a
+-- list.
 use Rattle.std.proofs.Common.{◌≡◌, ℕ, suc, ◌+◌, ◌≤◌, inl, inr, Bool, true, ◌||◌, List, [], ◌∷◌, ◌++◌, length, refl, sym, ap, ◌∙◌, length-append, nat_lt, ◌<◌, arith}
 use Rattle.std.proofs.lemmas.Bool.{cases_Bool, lt-ltb, ltb-true}
 use Rattle.std.specs.List.{filter, flat_map, list_any}

@@ -1,4 +1,5 @@
--- A piece put on an empty square, or taken from its square.
+-- Where a piece is put on an empty square, or taken from its square, the set of its kind changes by that square, and
+-- those of the other kinds stay.
 use mathlib.Core.Bool.{and-true, and-false, or-true, or-false}
 use Rattle.std.proofs.Common.{◌≡◌, ℕ, ◌<◌, inl, inr, false, not, ◌&&◌, ◌||◌, ◌==◌, refl, sym, ap, ◌∙◌, arith, Option, Some, None, List, length, length-set, subst, get_or, set, get_or-set_same, get_or-set_other}
 use Rattle.std.proofs.lemmas.Bool.{and_left, and_right, cases_Bool, eq-eqb, ne_eqb, cases_eq}

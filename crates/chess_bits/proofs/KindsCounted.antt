@@ -1,4 +1,5 @@
--- The moves of free pieces of a kind, counted together.
+-- The moves of the pieces on some squares are those of two parts of them together; a free officer has one to each
+-- square where it goes.
 use Rattle.std.proofs.Common.{◌≡◌, ℕ, zero, suc, ◌+◌, ◌<◌, ◌≤◌, inl, inr, Bool, true, false, not, ◌&&◌, ◌||◌, ◌==◌, List, length, length-append, None, refl, sym, ap, ◌∙◌, arith}
 use Rattle.std.specs.List.{filter, flat_map, range_with_len}
 use Rattle.std.proofs.{lemmas.Bool.or_parts, lemmas.Bool.cases_Bool, lemmas.List.length-map}

@@ -1,4 +1,5 @@
--- The king's legal moves, listed.
+-- The king's legal moves, listed: one to each square where a legal step or a legal castling ends, since a king doesn't
+-- promote.
 use mathlib.Core.Bool.{or-false}
 use Rattle.std.proofs.Common.{◌≡◌, ℕ, ◌<◌, inl, inr, Bool, true, false, ◌&&◌, ◌||◌, Option, Some, None, cond, [], ◌∷◌, length, map, refl, sym, ap, ◌∙◌, arith}
 use Rattle.std.proofs.{lemmas.List.length-map, lemmas.Bool.cases_Bool}

@@ -1,4 +1,4 @@
--- The pieces, but for one.
+-- The pieces when one is taken off the board: its square is empty, and the sets of the other colour stay.
 use mathlib.Core.Bool.{and-false, and-true}
 use Rattle.std.proofs.Common.{◌≡◌, ℕ, ◌<◌, inl, inr, Bool, true, false, not, ◌&&◌, ◌==◌, cond, List, Option, None, is_none, length, get_or-set_same, get_or-set_other, refl, sym, ap, ◌∙◌, arith}
 use Rattle.std.proofs.lemmas.Bool.{cases_eq, eq-eqb, ne_eqb}

@@ -1,4 +1,5 @@
--- Moves made by cheaper means than their definitions give.
+-- Moves made by cheaper means than their definitions give: a piece that shifts to a square without an own piece changes
+-- its two squares alone.
 use mathlib.Core.Bool.{and-false}
 use Rattle.std.proofs.Common.{◌≡◌, ◌≢◌, ℕ, true, false, not, ◌&&◌, Bool, length, set, refl, sym, ap, arith, ◌∙◌, ◌||◌, ◌==◌, Option, Some, None, is_none, if◌then◌else◌, is_some}
 use Rattle.std.proofs.lemmas.Bool.{and_parts, and_left, and_right, both_ways, ne_eqb, not-true, or_parts}

@@ -1,4 +1,4 @@
--- The patterns of moves, by start and end square.
+-- A move has a pattern exactly where its piece goes from the one square to the other, and its promotion fits.
 use mathlib.Core.Bool.{and-true, and-false, and_comm}
 use Rattle.std.proofs.Common.{◌≡◌, ℕ, ◌<◌, Bool, true, false, not, ◌&&◌, ◌||◌, ◌==◌, cond, Option, Some, None, refl, sym, ap, ◌∙◌, nat_lt, arith, if◌then◌else◌}
 use Rattle.std.proofs.lemmas.Bool.{and_parts, and_from, lt-ltb, both_ways, false_from_ne_true}

@@ -1,4 +1,5 @@
--- Lines of bytes that go on, and the responses to lines that go on.
+-- Lines that are complete in some bytes stay the first lines when more bytes come, and a server that ended with them
+-- has ended with all.
 use Rattle.std.proofs.Common.{◌≡◌, ◌≢◌, ℕ, ◌-◌, ◌≤◌, Bool, true, false, List, [], ◌∷◌, ◌++◌, length, drop, ◌==◌, refl, sym, ap, ◌∙◌, arith, subst, take-append-drop}
 use Rattle.text_lines.specs.Lines.{LineSeen, lines_from, stream_lines, line_of}
 use Rattle.text_lines.specs.Next.{before_piece}

@@ -1,4 +1,5 @@
--- Responses to lines one after another.
+-- The responses to lines one after another: those after the first lines go on from the state where these left the
+-- server, unless it ended.
 use Rattle.std.proofs.Common.{◌≡◌, ℕ, Bool, true, false, List, [], ◌∷◌, ◌++◌, refl, sym, ap, ◌∙◌, append_assoc, append-nil, if◌then◌else◌, arith}
 use Rattle.text_lines.specs.Lines.{LineSeen}
 use Rattle.chess_cecp.specs.Serving.{Response, Server, and_then, responses}

@@ -33,6 +33,7 @@ pub enum Fault {
 impl From<ReadFault> for Fault {
     ghost from_gives = { λ _ fault. fault ≡ Read };
 
+    // The fault that `?` returns for a read that failed: `Read`.
     fn from(_fault: ReadFault) -> Fault {
         Fault::Read
     }
@@ -41,6 +42,7 @@ impl From<ReadFault> for Fault {
 impl From<WriteFault> for Fault {
     ghost from_gives = { λ _ fault. fault ≡ Write };
 
+    // The fault that `?` returns for a write or a flush that failed: `Write`.
     fn from(_fault: WriteFault) -> Fault {
         Fault::Write
     }

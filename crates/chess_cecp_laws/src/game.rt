@@ -1,4 +1,5 @@
-//! Laws of a session's game. A caller learns one by calling its function, which does nothing.
+//! Laws of a session's game. A caller learns one by calling its function, which does nothing. What a law refuses are
+//! wrong definitions: with one of them it can't be proved.
 
 ghost use Rattle.chess_cecp_laws.specs.SetBoard.{SetboardTakesShownFens};
 ghost use Rattle.chess_cecp_laws.specs.Undo.{UndoTakesAMoveBack};

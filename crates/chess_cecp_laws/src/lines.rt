@@ -1,4 +1,5 @@
-//! Laws of the lines that a session is sent. A caller learns one by calling its function, which does nothing.
+//! Laws of the lines that a session is sent. A caller learns one by calling its function, which does nothing. What a
+//! law refuses are wrong definitions: with one of them it can't be proved.
 
 ghost use Rattle.chess_cecp_laws.specs.GameLines.{GameLinesAreAnswered};
 ghost use Rattle.chess_cecp_laws.specs.SessionLines.{OtherWordsAreUnknown, SessionLinesAreAnswered};

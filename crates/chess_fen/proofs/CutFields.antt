@@ -1,4 +1,5 @@
--- Cutting a text into fields and parts.
+-- Cutting a text into fields: spaces before the first field don't count, and each field goes up to the next space or
+-- the text's end.
 use Rattle.std.proofs.Common.{◌≡◌, ℕ, suc, ◌+◌, ◌<◌, ◌≤◌, Bool, true, false, cond, eqb, ltb, List, [], ◌∷◌, length, drop, refl, sym, ap, ◌∙◌, arith, inl, inr, not, ◌⊎◌, position, unwrap_or}
 use Rattle.std.specs.List.{position_or_len, before_first, slice_split}
 use Rattle.std.proofs.{lemmas.Bool.Decides.nat_tests, lemmas.Bool.cases_lt, lemmas.List.nil_from_length}

@@ -1,4 +1,4 @@
--- Plain texts, and texts that are joined by a byte, cut there again.
+-- Texts that are joined by a byte which none of them has are the parts when the text is cut at that byte again.
 use Rattle.std.proofs.Common.{◌≡◌, ◌≢◌, ℕ, suc, ◌<◌, ◌≤◌, true, false, eqb, ltb, List, [], ◌∷◌, ◌++◌, length, refl, ap, ◌∙◌, arith}
 use Rattle.std.specs.List.{slice_split, join_with_byte, AllByRecursion, filter}
 use Rattle.std.proofs.lemmas.Bool.Decides.{nat_tests}

@@ -1,4 +1,5 @@
--- Reading a placement byte by byte, up to the first space.
+-- Reading a placement byte by byte, up to the first space, gives the board that the definition reads of the text before
+-- that space.
 use Rattle.std.proofs.Common.{◌≡◌, ℕ, zero, suc, ◌+◌, ◌-◌, ◌*◌, ◌<◌, ◌≤◌, Bool, true, false, cond, eqb, List, [], ◌∷◌, ◌++◌, length, map, get_or, take, drop, Option, Some, None, refl, sym, ap, ◌∙◌, ◌≢◌, append_assoc, append-nil, arith, length-append, option_map, replicate, option_and_then}
 use Rattle.std.specs.List.{slice_split, onto_first, position_or_len, before_first}
 use Rattle.std.proofs.{lemmas.Bool.Decides.nat_tests, lemmas.List.Splits.length-slice_split}

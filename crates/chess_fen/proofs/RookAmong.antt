@@ -1,4 +1,4 @@
--- The outermost rook, found from the edge on.
+-- The outermost rook is the first that is found from the edge on.
 use Rattle.std.proofs.Common.{◌≡◌, ℕ, zero, suc, ◌+◌, Bool, true, false, cond, List, [], ◌∷◌, Option, Some, refl, ap, ◌∙◌, arith, find, unwrap_or}
 use Rattle.chess_base.specs.{declared.man.Colour.Colour, declared.man.CastlingSide.CastlingSide, declared.man.CastlingSide.TheVariants.KingSide, declared.man.CastlingSide.TheVariants.QueenSide, declared.man.Kind.TheVariants.Rook, Men.Men, Men.man_at, Men.is_man, Castling.home_square}
 use Rattle.chess_fen.specs.{ties.Reader.nowhere, ties.Reader.outer_rook, ties.Loops.edge_file, ties.Loops.rook_among}

@@ -115,6 +115,7 @@ impl Fen {
 impl From<&Position> for Fen {
     ghost from_gives = { λ position f. f ≡ position.now };
 
+    // The position together with its FEN.
     fn from(position: &Position) -> Self {
         Fen {
             position: *position,
@@ -126,6 +127,7 @@ impl From<&Position> for Fen {
 impl From<Fen> for Position {
     ghost from_gives = { λ f position. position ≡ f };
 
+    // The position, without its text.
     fn from(fen: Fen) -> Self {
         fen.position
     }
@@ -174,6 +176,7 @@ impl Clone for Fen {
 
     ghost is_infallible = { λ _. ⊤ };
 
+    // A copy; it never fails.
     fn clone(&self) -> Result<Self, AllocError> {
         Ok(Fen {
             position: self.position,
@@ -187,6 +190,7 @@ impl PartialEq for Fen {
 
     ghost laws = { Prim.search (comparing, rules) };
 
+    // Whether texts and variants are equal, and so the positions.
     fn eq(&self, other: &Self) -> bool {
         self.as_str() == other.as_str() && self.variant() == other.variant()
     }
@@ -202,6 +206,7 @@ impl PartialOrd for Fen {
 
     ghost laws = { partial_order_from_own_ties (Prim.search (comparing, rules)) (Prim.search (comparing, rules)) };
 
+    // The order of `cmp`.
     fn partial_cmp(&self, other: &Self) -> Option<Ordering> {
         Some(self.cmp(other))
     }
@@ -216,6 +221,7 @@ impl Ord for Fen {
 
     ghost matches_eq = { Prim.search (comparing, rules) };
 
+    // The order of the texts; of equal texts, that of the variants.
     fn cmp(&self, other: &Self) -> Ordering {
         self.as_str()
             .cmp(other.as_str())
@@ -228,6 +234,7 @@ impl Hash for Fen {
 
     ghost respects_eq = { Prim.search (hashing, rules) };
 
+    // Feeds the text and the variant to the hasher.
     fn hash<H: Hasher>(&self, state: &mut H) {
         self.as_str().hash(state);
         self.variant().hash(state);

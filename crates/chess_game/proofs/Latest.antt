@@ -1,4 +1,4 @@
--- The latest number that passes, and how many pass.
+-- The latest number below n that passes a test, and how many pass: at n + 1 they change only if n passes.
 use Rattle.std.proofs.Common.{◌≡◌, ◌∙◌, ℕ, zero, suc, ◌+◌, ◌<◌, ◌≤◌, Bool, true, false, cond, if◌then◌else◌, refl, sym, ap, subst, arith, true≢false}
 use Rattle.chess_game.specs.ties.Buckets.{latest_below, count_below}
 

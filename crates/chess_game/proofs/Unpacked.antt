@@ -1,4 +1,4 @@
--- The pieces of packed sets, put on their squares one after another, kind by kind.
+-- The pieces of packed sets, put on their squares kind by kind, are on each square as the sets say.
 use mathlib.Core.Bool.{and-false}
 use Rattle.std.proofs.Common.{◌≡◌, ◌≢◌, ℕ, ◌<◌, ◌==◌, ◌⊎◌, inl, inr, Bool, true, false, ◌&&◌, if◌then◌else◌, refl, sym, ◌∙◌, ap, subst, arith, Option, Some, None, List, [], ◌∷◌, length, set, get_or-set_same, get_or-set_other, length-set, replicate}
 use Rattle.std.proofs.lemmas.Bool.{cases_Bool, cases_eq, eqb-true, ne_eqb}

@@ -1,4 +1,5 @@
--- A walk along the links of a bucket, and what the played moves keep.
+-- A walk along the links of a bucket finds the latest position that is the same as the one looked for, or ends where
+-- there is none.
 use Rattle.std.proofs.Common.{◌≡◌, ◌∙◌, ℕ, suc, ◌+◌, ◌-◌, ◌%◌, ◌<◌, ◌≤◌, true, false, cond, List, [], ◌∷◌, length, get_or, count_by, refl, sym, ap, subst, arith, eq-eqb, eqb-true}
 use Rattle.std.proofs.{lemmas.List.nil_from_length, lemmas.List.Sums.sum_by-cons}
 use Rattle.chess_base.specs.{declared.setup.Setup.Setup, Sound.IsSound}

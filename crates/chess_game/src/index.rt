@@ -23,7 +23,7 @@ const BUCKETS: usize = 32_768;
 // What the index keeps for a position that a played move reached.
 #[derive(Clone, Copy, PartialEq, Eq)]
 pub(crate) struct Entry {
-    // The latest earlier position in the bucket of this one.
+    // The latest earlier position in the bucket of this one: its number plus one, or 0 if there is none.
     pub(crate) earlier: u16,
     // How many of the positions up to this one, itself among them, are the same.
     pub(crate) count: u32,

@@ -45,6 +45,7 @@ impl<'g> Clone for Moves<'g> {
 
     ghost is_infallible = { λ _. ⊤ };
 
+    // A copy, with the same moves left.
     fn clone(&self) -> Result<Self, AllocError> {
         Ok(Moves { left: self.left })
     }
@@ -57,12 +58,14 @@ impl<'g> Iterator for Moves<'g> {
 
     ghost remaining = { item_count (λ left. left) };
 
+    // The first of the moves that are left; `None` if none is.
     fn next(&mut self) -> Option<Move> {
         let (first, others) = self.left.split_first()?;
         self.left = others;
         Some(first.made)
     }
 
+    // How many moves are left, as both bounds.
     fn size_hint(&self) -> (usize, Option<usize>)
         ensures lower { IsWithinCount result.0 (item_count (λ left. left) self.now) }
         ensures upper { IfSome result.1 (UpTo (item_count (λ left. left) self.now)) }
@@ -75,6 +78,7 @@ impl<'g> Iterator for Moves<'g> {
 impl<'g> DoubleEndedIterator for Moves<'g> {
     ghost next_back_gives = { YieldsLast (λ left. left) };
 
+    // The last of the moves that are left; `None` if none is.
     fn next_back(&mut self) -> Option<Move> {
         let (last, others) = self.left.split_last()?;
         self.left = others;
@@ -83,6 +87,7 @@ impl<'g> DoubleEndedIterator for Moves<'g> {
 }
 
 impl<'g> ExactSizeIterator for Moves<'g> {
+    // How many moves are left.
     fn len(&self) -> usize {
         self.left.len()
     }
@@ -137,6 +142,7 @@ impl<'g> Clone for Positions<'g> {
 
     ghost is_infallible = { λ _. ⊤ };
 
+    // A copy, with the same positions left.
     fn clone(&self) -> Result<Self, AllocError> {
         Ok(Positions {
             start: self.start,
@@ -152,6 +158,7 @@ impl<'g> Iterator for Positions<'g> {
 
     ghost remaining = { item_count (λ left. left) };
 
+    // The first of the positions that are left; `None` if none is.
     fn next(&mut self) -> Option<Position> {
         if let Some(start) = self.start {
             self.start = None;
@@ -162,6 +169,7 @@ impl<'g> Iterator for Positions<'g> {
         Some(first.reached.position.unpacked())
     }
 
+    // How many positions are left, as both bounds.
     fn size_hint(&self) -> (usize, Option<usize>)
         ensures lower { IsWithinCount result.0 (item_count (λ left. left) self.now) }
         ensures upper { IfSome result.1 (UpTo (item_count (λ left. left) self.now)) }
@@ -174,6 +182,7 @@ impl<'g> Iterator for Positions<'g> {
 impl<'g> DoubleEndedIterator for Positions<'g> {
     ghost next_back_gives = { YieldsLast (λ left. left) };
 
+    // The last of the positions that are left; `None` if none is.
     fn next_back(&mut self) -> Option<Position> {
         if let Some((last, others)) = self.left.split_last() {
             self.left = others;
@@ -186,6 +195,7 @@ impl<'g> DoubleEndedIterator for Positions<'g> {
 }
 
 impl<'g> ExactSizeIterator for Positions<'g> {
+    // How many positions are left.
     fn len(&self) -> usize {
         if self.start.is_some() {
             self.left.len() + 1

@@ -1,4 +1,4 @@
--- The moments that were asked of a clock.
+-- The moments that a clock was asked for, one after another, are those that it had to give, in order.
 use Rattle.std.proofs.Common.{◌≡◌, ℕ, zero, suc, ◌+◌, ◌<◌, List, [], ◌∷◌, ◌++◌, length, ap, sym, ◌∙◌, arith, length-append, subst, Option, Some, None, zero-add, slice_get, IfSome}
 use Rattle.chess_match.specs.Run.{ClockReadings}
 

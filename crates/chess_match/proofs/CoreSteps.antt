@@ -1,4 +1,4 @@
--- How the core goes on, step by step.
+-- Each step of the core is the step of the match that it stands for, from one phase to the next.
 use Rattle.std.proofs.Common.{◌≡◌, ◌⊎◌, inl, inr, ℕ, ◌+◌, ◌<◌, Bool, true, false, List, [], ◌∷◌, ◌++◌, length, length-append, refl, ap, sym, ◌∙◌, subst, Option, None, Some, append-nil, zero-add, arith, if◌then◌else◌, ◌-◌, codes, nat_lt, sum, unwrap_or}
 use Rattle.std.specs.{Bool.then_some, Option.option_map_or}
 use Rattle.std.proofs.lemmas.List.Sums.{sum_by-append}

@@ -1,4 +1,4 @@
--- Steps that lead from one match to another.
+-- Steps that lead from one match to another: by reads, by blocks that were sent, and by writes that failed.
 use Rattle.std.proofs.Common.{◌≡◌, ℕ, ◌<◌, Bool, true, false, ◌||◌, List, [], ◌∷◌, ◌++◌, length, refl, ap, sym, ◌∙◌, subst, append_assoc, append-nil, arith, lt-ltb, if◌then◌else◌, nat_lt}
 use Rattle.std.specs.Cmp.Derive.{both_true}
 use Rattle.chess_base.specs.{declared.man.Colour.Colour, declared.man.Colour.TheVariants.White, declared.man.Colour.TheVariants.Black, Men.other, Men.same_colour, Options.list_if}

@@ -1,4 +1,4 @@
--- What a call for the next line does to the outputs.
+-- A call for the next line of one engine does to its output what the act of the read says, and nothing to the other's.
 use Rattle.std.proofs.Common.{◌≡◌, Bool, true, false, inl, inr, refl, sym, subst, Option, Some, None, Result, Ok, Err, if◌then◌else◌, MatchBool}
 use Rattle.chess_base.specs.{declared.man.Colour.Colour, Men.other, Men.same_colour}
 use Rattle.byte_devices.specs.Devices.{InputState}

@@ -1,4 +1,5 @@
--- What was read from an engine, act by act.
+-- What the acts of a match read from an engine are its first lines; where its output ended or a read failed, they are
+-- all.
 use mathlib.Core.Bool.{or-false}
 use Rattle.std.proofs.Common.{◌≡◌, ℕ, Bool, true, false, ◌||◌, ◌⊎◌, inl, inr, List, [], ◌∷◌, ◌++◌, map, refl, ap, sym, ◌∙◌, subst, append_assoc, append-nil, Option, None, Some, MatchBool}
 use Rattle.std.specs.{List.count_by, List.flat_map, List.last_or, Io.KnownBytes.Consumes, Io.KnownBytes.IsAtEnd}

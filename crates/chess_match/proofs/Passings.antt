@@ -1,4 +1,4 @@
--- Steps that pass at a table, put together.
+-- Steps that pass at a table and steps after them pass together; a text is noted and then sent, unless it is empty.
 use Rattle.std.proofs.Common.{◌≡◌, ◌≢◌, ℕ, Bool, List, [], ◌∷◌, ◌++◌, sym, ◌∙◌, append_assoc, append-nil, subst}
 use Rattle.byte_devices.specs.Bytes.{new_line}
 use Rattle.chess_base.specs.declared.man.Colour.{Colour}

@@ -1,4 +1,4 @@
--- A text that was written and flushed.
+-- A text was sent whole if the result is `Ok`; if it is `Err`, a write or the flush failed.
 use Rattle.std.proofs.Common.{ℕ, List, Result, Ok, Err, is_err}
 use Rattle.byte_devices.specs.Devices.{OutputState, Sends}
 use Rattle.byte_devices.proofs.shared.Transfers.{took_all}

@@ -1,4 +1,5 @@
--- What looking for the next line of an engine comes to.
+-- Looking for the next line of an engine gives one of five events: a line, a last line at the end, the end, a silence,
+-- or a failed read.
 use Rattle.std.proofs.Common.{◌≡◌, ◌<◌, ℕ, Bool, true, false, List, [], ◌∷◌, ◌++◌, refl, ap, sym, ◌∙◌, subst, Option, None, Some, Result, Ok, Err, if◌then◌else◌, is_some}
 use Rattle.chess_base.specs.{declared.man.Colour.Colour, declared.man.Move.Move, Men.other}
 use Rattle.cecp_engine.specs.Items.{Item}

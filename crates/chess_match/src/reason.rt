@@ -35,7 +35,7 @@ pub enum MatchFault {
 /// Why a match is over, with the side of which it is said.
 #[derive(Clone, Copy, Debug, PartialEq, Eq)]
 pub enum Reason {
-    /// The board says so.
+    /// The board has this verdict.
     Decided(Verdict),
     /// A claim of a draw holds.
     Claimed(DrawClaim),

@@ -84,7 +84,7 @@ pub struct MatchEnd {
     pub outcome: Outcome,
     /// What is said of the end, as it is sent to the engines after `result`.
     pub comment: Comment,
-    /// How it came, as the PGN tag `Termination` has it.
+    /// How the match came to its end, as the PGN tag `Termination` has it.
     pub ended: HowEnded,
     /// The name that White's engine gave itself; empty where it gave none.
     pub white_name: TagText,
@@ -267,7 +267,8 @@ fn end_for_other<T: MatchTable, G: MatchGame>(
     note_and_send(table, core, game, given, waiting, side.other())
 }
 
-// Sends both sides their last lines, White first, and returns to which sides that failed.
+// Sends each side the answers in its block and what `given` says, White first, and empties both blocks. Returns to
+// which sides that failed.
 fn send_last<T: MatchTable, G: MatchGame>(
     table: &mut T,
     core: &MatchState,
@@ -471,9 +472,9 @@ fn read_next<T: MatchTable>(
     }
 }
 
-// Reads the next line of this side's engine into `line` and takes it, if there is one and `\n` ended it; otherwise that
-// none had come, the end of its output, or a fault. Returns what is to be sent; the answers to the line's items go to
-// `block`, which must be empty.
+// Reads the next line of this side's engine into `line` and takes it, if there is one and `\n` ended it; otherwise it
+// takes note that none had come, that its output ended, or that the read failed. Returns what is to be sent; the
+// answers to the line's items go to `block`, which must be empty.
 fn take_next<T: MatchTable, G: MatchGame>(
     table: &mut T,
     core: &mut MatchState,

@@ -27,6 +27,7 @@ use chess_game::TagText;
 #[derive(Drop)]
 pub(crate) struct Player {
     pub features: Features,
+    /// The name that it gave itself by `myname`; empty if it gave none.
     pub name: TagText,
     /// Its offer of a draw is open.
     pub offers: bool,
@@ -48,7 +49,7 @@ pub(crate) struct MatchState {
     pub clocks: Clocks,
     /// The last move, if there is one.
     pub last: Option<LastMove>,
-    /// The lines of a handshake, or the ignored ones of a setup or a turn.
+    /// How many lines the handshake has had, or how many lines of the setup or turn were ignored.
     pub count: u32,
     /// The moment at the end of the turn's opening.
     pub opened: u64,

@@ -1,4 +1,5 @@
-//! Laws of single lines of an engine. A caller learns one by calling its function, which does nothing.
+//! Laws of single lines of an engine. A caller learns one by calling its function, which does nothing. What a law
+//! refuses are wrong definitions: with one of them it can't be proved.
 
 ghost use Rattle.chess_match_laws.specs.Claims.{DrawClaimsEndMatches};
 ghost use Rattle.chess_match_laws.specs.Ignored.{OtherLinesAreIgnored};

@@ -36,6 +36,7 @@ impl Clone for Squares {
 
     ghost is_infallible = { λ _. ⊤ };
 
+    // A copy, with the same squares left.
     fn clone(&self) -> Result<Self, AllocError> {
         Ok(Squares { left: self.left })
     }
@@ -48,10 +49,12 @@ impl Iterator for Squares {
 
     ghost remaining = { item_count (λ left. left) };
 
+    // The lowest of the squares that are left; `None` if none is.
     fn next(&mut self) -> Option<Square> {
         self.left.take_first()
     }
 
+    // How many squares are left, as both bounds.
     fn size_hint(&self) -> (usize, Option<usize>)
         ensures exact { IsExactHint result (length self.now) }
     {
@@ -60,6 +63,7 @@ impl Iterator for Squares {
 }
 
 impl ExactSizeIterator for Squares {
+    // How many squares are left.
     fn len(&self) -> usize {
         self.left.len()
     }

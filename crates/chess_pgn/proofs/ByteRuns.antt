@@ -1,4 +1,4 @@
--- Runs of bytes, and the bytes before a `}`.
+-- A run of bytes goes up to the first that fails its test, and the bytes of a comment up to the first `}`.
 use Rattle.std.proofs.Common.{◌≡◌, ℕ, suc, ◌+◌, Bool, true, false, cond, not, eqb, List, [], ◌∷◌, ◌++◌, take, drop, Option, Some, None, refl, sym, ap, subst, ◌∙◌, arith}
 use Rattle.std.specs.List.{list_all, prefix_len}
 use Rattle.std.proofs.{lemmas.Bool.and_parts, lemmas.Bool.eqb-true, lemmas.Bool.Decides.nat_tests}

@@ -1,4 +1,4 @@
--- Reading a game, token by token.
+-- Reading a game, token by token: what was read so far, read on from there, is what is read from its first token.
 use Rattle.std.proofs.Common.{◌≡◌, ℕ, ◌-◌, ◌≤◌, ◌<◌, Bool, true, false, cond, List, ◌∷◌, arith, length, get_or, take, drop, Some, None, is_some, Result, Ok, Err, refl, sym, ap, subst, ◌∙◌, Option, IsNone, OnErr, codes}
 use Rattle.chess_base.specs.{declared.man.Variant.Variant, declared.man.Variant.TheVariants.Normal, declared.setup.Setup.Setup, Initial.initial_setup, Initial.initial_setup_of}
 use Rattle.chess_game.specs.Game.{State, Seen, from_start, with_state as left_at}

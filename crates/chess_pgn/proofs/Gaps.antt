@@ -1,4 +1,4 @@
--- A gap byte by byte is the one by lines.
+-- White space and `%` lines are skipped byte by byte as the definition skips them by lines.
 use Rattle.std.proofs.Common.{◌≡◌, ℕ, suc, ◌+◌, ◌-◌, ◌≤◌, Bool, true, false, not, cond, eqb, List, [], ◌∷◌, length, get_or, take, drop, Some, refl, sym, ap, ◌∙◌, arith}
 use Rattle.std.specs.List.{list_all, join_with_byte, onto_first, prefix_len, take_while}
 use Rattle.std.proofs.{lemmas.Bool.Decides.nat_tests, lemmas.List.take_rest, lemmas.List.Splits.join_with_byte-slice_split}

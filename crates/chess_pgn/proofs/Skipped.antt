@@ -1,4 +1,4 @@
--- Lines and comments that are skipped.
+-- One step of skipping: white space, a `%` line up to its end, or a comment up to its `}`, if it has one.
 use Rattle.std.proofs.Common.{◌≡◌, ℕ, suc, ◌+◌, ◌-◌, ◌<◌, ◌≤◌, Bool, true, false, not, cond, eqb, List, [], ◌∷◌, length, get_or, take, drop, add-one, Option, Some, None, refl, sym, ap, ◌∙◌, arith, ◌==◌, drop-cons}
 use Rattle.std.specs.List.{position_or_len}
 use Rattle.std.proofs.{lemmas.Bool.Decides.nat_tests, lemmas.List.drop_all, lemmas.List.take_rest}

@@ -1,4 +1,4 @@
--- A tag's string, byte by byte.
+-- A tag's string, byte by byte: it ends at the first quote that no backslash keeps, and has no line feed.
 use Rattle.std.proofs.Common.{◌≡◌, ◌≢◌, ℕ, ◌+◌, ◌-◌, ◌<◌, Bool, true, false, cond, eqb, List, [], ◌∷◌, ◌++◌, length, get_or, take, drop, Option, Some, None, refl, sym, ap, ◌∙◌, append_assoc, append-nil, add-one, arith, take-suc}
 use Rattle.std.proofs.{lemmas.Bool.Decides.nat_tests, lemmas.List.at_drop_more, lemmas.List.take_rest}
 use Rattle.std.specs.List.{prefix_len, take_while}

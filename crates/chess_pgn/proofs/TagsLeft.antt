@@ -1,4 +1,4 @@
--- The tags that are left, token by token.
+-- The tags that are left, token by token: those of a token, and those after it and what is skipped then.
 use Rattle.std.proofs.Common.{◌≡◌, ◌≤◌, ℕ, suc, ◌+◌, ◌-◌, Bool, true, false, cond, List, [], ◌∷◌, ◌++◌, length, map, take, Option, Some, None, refl, sym, ap, ◌∙◌, arith, option_map}
 use Rattle.std.specs.List.{cons_option, filter_map, prefix_len}
 use Rattle.chess_pgn.specs.{declared.tag_list.PgnTag.PgnTag, GameTags.tag_pair, GameTags.pair_of, GameTags.game_tags_of, LastTags.may_precede_tags, Tokens.Token, Tokens.Skip, Tokens.tokens_from, ties.Seen.SkipsTo, ties.TagsLeft.tags_left}

@@ -1,4 +1,5 @@
--- A variation, part by part.
+-- A variation is read part by part (a comment, a line or a byte) as the definition reads it; a byte opens at most one
+-- more.
 use Rattle.std.proofs.Common.{◌≡◌, ℕ, zero, suc, ◌+◌, ◌-◌, ◌≤◌, Bool, true, false, cond, eqb, List, [], ◌∷◌, length, get_or, take, drop, Option, Some, None, refl, sym, ap, ◌∙◌, inl, inr, add-one, arith, ◌&&◌, ◌||◌}
 use Rattle.std.proofs.{lemmas.Bool.Decides.nat_tests, lemmas.Bool.and_parts, lemmas.Bool.or_cases, lemmas.List.take_rest}
 use Rattle.chess_pgn.specs.Tokens.{Token, Unclosed_comment, Unclosed_variation, Skip, line_end, after_brace, variation_at}

@@ -55,7 +55,8 @@ fn ends_at(token: &Token<'_>, len: usize, to_end: usize) -> Option<usize>
     }
 }
 
-// Where a game ends of which all tags come before the offset `at`.
+// The offset where a game ends of which all tags come before the offset `at`: after its termination marker, or before a
+// tag, which is the next game's. `None` if neither comes before the text's end, or before what can't be read.
 fn end_after_tags(text: &[u8], at: usize) -> Option<usize>
     requires { at ≤ length text.now }
     ensures { (from : ℕ) → IsAfterTags text.now from at

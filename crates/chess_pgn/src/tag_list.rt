@@ -123,6 +123,7 @@ impl<'t> Clone for GameTags<'t> {
 
     ghost is_infallible = { λ _. ⊤ };
 
+    // A copy, with the same tags left.
     fn clone(&self) -> Result<Self, AllocError> {
         Ok(GameTags {
             text: self.text,
@@ -138,6 +139,7 @@ impl<'t> Iterator for GameTags<'t> {
 
     ghost remaining = { item_count (λ left. left) };
 
+    // The first of the tags that are left; `None` if none is.
     fn next(&mut self) -> Option<PgnTag<'t>> {
         let (tag, offset) = next_tag(self.text, self.offset)?;
         self.offset = offset;

@@ -28,7 +28,8 @@ use chess_text::{Reading, read_move};
 /// How many variations may be open at a place of a game's text.
 pub const MOST_NESTED: usize = 64;
 
-// The move that a word denotes in the board's position, or why it denotes none.
+// The legal move that a word denotes in the board's position (`Some`, as in `token_move`), or the fault of the word if
+// it denotes none or several.
 fn word_move<B: Board>(board: &B, word: &[u8]) -> Result<Option<Move>, PgnFaultKind>
     ensures value { result ≡ word_move (reading (B.position board.now) word.now) }
     ensures legal { IfOk result (λ o. IfSome o (λ m. IsTrue (is_legal (B.position board.now) m))) }
@@ -53,7 +54,8 @@ fn is_passed(word: &[u8]) -> bool
     }
 }
 
-// The move that a token of a line denotes in the board's position; `None` if it is passed over.
+// The legal move that a token of a line denotes in the board's position; `None` if the token is passed over; or its
+// fault, if it is a word that denotes no legal move or several.
 fn token_move<B: Board>(board: &B, token: &Token<'_>) -> Result<Option<Move>, PgnFaultKind>
     ensures value { result ≡ token_move (B.position board.now) (token_seen token.now) }
     ensures legal { IfOk result (λ o. IfSome o (λ m. IsTrue (is_legal (B.position board.now) m))) }
@@ -110,8 +112,8 @@ fn token_at(text: &[u8], at: usize) -> Result<Option<(Token<'_>, usize)>, PgnFau
     }
 }
 
-// Makes the move that a token at the offset `at` denotes in the board's position; returns the position before it.
-// `None` if the token is passed over.
+// Makes the move that a token at the offset `at` denotes in the board's position, and returns the position before it;
+// `None` if the token is passed over; or the fault, if no move can be made.
 fn play_token<B: Board>(
     board: &mut B,
     at: usize,
@@ -133,8 +135,9 @@ fn play_token<B: Board>(
     Err(PgnFault { kind, offset: at })
 }
 
-// Where the variation at the offset `at` begins, and how many may be open in it. `before` is the position before the
-// last move of the line that it is in, and `depth` how many variations may be open in that.
+// The position in which the moves of the variation at the offset `at` begin, and how many variations may be open in it.
+// `before` is the position before the last move of the line that it is in (`None`: that has no move yet, which is a
+// fault), and `depth` how many variations may be open in that line (0 is a fault).
 fn opening(
     depth: usize,
     before: &Option<Position>,
@@ -159,7 +162,7 @@ fn opening(
 
 // Reads a line (a game's own moves, or those of a variation) from the offset `at` on, whose moves begin in the position
 // `start`: to the text's end, or to the variation's `)`. The board may be at any position before and after. At most
-// `depth` variations may be open in the line.
+// `depth` variations may be open in the line. Returns the first fault of the line or of a variation in it.
 fn read_line<B: Board>(
     depth: usize,
     text: &[u8],

@@ -1,4 +1,4 @@
--- The texts of castling.
+-- A text that names castling to a side has no other form, and names no other side.
 use Rattle.std.proofs.Common.{◌≡◌, ℕ, inl, inr, Bool, true, false, List, [], ◌∷◌, None, refl, codes, bytes_eq}
 use Rattle.std.proofs.{lemmas.Bool.or_cases, lemmas.Slice.Eq.bytes_eq-Decides}
 use Rattle.std.specs.List.{list_any}

@@ -1,4 +1,4 @@
--- What is in a list, and what each of its elements has.
+-- An element of a list is in the lists that are made from it; and what holds of each element carries over to them.
 use Rattle.std.proofs.Common.{◌≡◌, ℕ, zero, suc, ◌<◌, inl, inr, Bool, true, ◌||◌, List, [], ◌∷◌, ◌++◌, map, Option, refl, ap, ◌∙◌, arith, IfSome}
 use Rattle.std.specs.List.{AllByRecursion, list_any, flat_map}
 use Rattle.std.proofs.{lemmas.Bool.or_cases, lemmas.Bool.or_left, lemmas.Bool.or_right, lemmas.List.Folds.list_any-append}

@@ -1,4 +1,4 @@
--- The bytes of the texts that are written.
+-- A move's text as it is written is a word of at most seven bytes of SAN, the first of them a letter.
 use Rattle.std.proofs.Common.{◌≡◌, ℕ, ◌+◌, ◌<◌, ◌≤◌, Bool, true, false, List, [], ◌∷◌, ◌++◌, length, Option, Some, None, refl, arith, length-append, ◌==◌, IfSome, if◌then◌else◌}
 use Rattle.std.proofs.{lemmas.List.Folds.list_all-append, lemmas.Bool.Decides.nat_tests}
 use Rattle.std.specs.List.{list_all}

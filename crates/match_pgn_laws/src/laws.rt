@@ -1,4 +1,4 @@
-//! Laws of what a match writes.
+//! Laws of what a match writes. What a law refuses are wrong definitions: with one of them it can't be proved.
 
 ghost use Rattle.match_pgn_laws.specs.Verified.{MatchesPassVerify};
 ghost use Rattle.match_pgn_laws.specs.Scores.{ScoresAreSums};

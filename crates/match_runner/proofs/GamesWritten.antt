@@ -1,4 +1,5 @@
--- The games of a match, one after another.
+-- The games of a match, one after another: one game more leaves what is written, logged and passed as the definition
+-- says, up to the last game or the fault.
 use Rattle.std.proofs.Common.{◌≡◌, ◌∙◌, ◌<◌, ◌≤◌, ◌+◌, ◌⊎◌, ℕ, Bool, true, false, List, [], ◌∷◌, ◌++◌, length, Bor, Option, Some, None, Ok, Err, Result, refl, sym, ap, subst, append-nil, append_assoc, length-append, arith, inl, inr, IfErr, cond, count_by, flat_map, if◌then◌else◌}
 use Rattle.std.specs.List.{AllByRecursion, enumerate_from}
 use Rattle.std.proofs.{lemmas.List.Concat.flat_map-append, lemmas.List.FromFn.length-enumerate_from, lemmas.List.Sums.count_by-le-length, lemmas.List.Sums.sum_by_push}

@@ -1,4 +1,4 @@
--- What was logged, put together.
+-- A text that was logged and then another make the log of both; a line is logged once nothing of it waits.
 use Rattle.std.proofs.Common.{◌≡◌, ℕ, suc, ◌+◌, ◌<◌, min, length, drop, take, get_or, not, Bool, true, false, List, [], ◌∷◌, ◌++◌, refl, ap, sym, ◌∙◌, subst, append_assoc, append-nil, Option, Some, None, Result, Ok, Err, arith, is_err, ◌==◌, ◌||◌, nat_lt, flat_map, if◌then◌else◌}
 use native.Mathlib.Numerals.{unary_clauses}
 use Rattle.std.specs.List.{onto_first, position_or_len}

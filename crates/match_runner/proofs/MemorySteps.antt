@@ -1,4 +1,5 @@
--- Steps at a host over memory.
+-- A step that passed at a host over memory was the next that might come there, and those after it are such as may come
+-- at the host that it left.
 use Rattle.std.proofs.Common.{◌≡◌, ◌≢◌, ◌∙◌, ◌+◌, ◌≤◌, ◌⊎◌, ℕ, zero, suc, Bool, true, false, List, [], ◌∷◌, ◌++◌, Option, Some, Result, Ok, Err, refl, sym, ap, inl, inr, arith, append-nil, append_assoc, length, IsErr, option_map, slice_get, get_or, set, IfErr, IfSome, cond, count_by}
 use Rattle.std.proofs.{lemmas.List.Concat.flat_map-append, lemmas.List.Sums.sum_by-cons, lemmas.Option.slice_get_past}
 use Rattle.byte_devices.specs.Transfers.{Devices}

@@ -27,6 +27,7 @@ pub enum GamesFault<'a> {
 impl<'a> From<WriteFault> for GamesFault<'a> {
     ghost from_gives = { λ _ fault. fault ≡ WriteFailed };
 
+    // The fault that `?` returns for a write or a flush that failed: `WriteFailed`.
     fn from(_fault: WriteFault) -> GamesFault<'a> {
         GamesFault::WriteFailed
     }
@@ -35,6 +36,7 @@ impl<'a> From<WriteFault> for GamesFault<'a> {
 impl<'a> From<AllocError> for GamesFault<'a> {
     ghost from_gives = { λ _ fault. fault ≡ NoMemory };
 
+    // The fault that `?` returns for memory that ran out: `NoMemory`.
     fn from(_error: AllocError) -> GamesFault<'a> {
         GamesFault::NoMemory
     }

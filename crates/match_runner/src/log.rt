@@ -235,9 +235,9 @@ pub struct Log<E> {
     pub output: E,
     /// Whether a write or flush of the log failed.
     broken: bool,
-    /// The time of the last event that has one.
+    /// The moment of the last event that has one, in milliseconds by the clock of the match.
     moment: u64,
-    /// The side of the first engine.
+    /// The side of the first engine, that of `--white`, in the game that is logged.
     first: Colour,
 }
 

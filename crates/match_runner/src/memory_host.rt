@@ -41,6 +41,7 @@ pub struct MemoryGame<'t> {
 /// The clock of a [`MemoryHost`].
 #[derive(Drop)]
 pub struct MemoryClock<'t> {
+    // The moments that it is still to show.
     rest: &'t [u64],
     // The moment that it showed last; 0 at first.
     shown: u64,
@@ -152,7 +153,7 @@ impl<'t> MemoryHost<'t> {
         self.times_as_white(command) + self.times_as_black(command)
     }
 
-    // The engine with this command.
+    // The engine with this command, the first of several; `None` if there is none.
     fn engine_of(&self, command: &str) -> Option<&'t MemoryEngine<'t>>
         ensures engine { option_map (λ e. e.now) result
             ≡ find (λ e. bytes_eq e.command.now command.now) self.now.engines.now }
@@ -175,7 +176,7 @@ impl<'t> MemoryHost<'t> {
         })
     }
 
-    // The starts of two engines by their commands, White's and Black's.
+    // The starts of two engines by their commands, White's and Black's; or the fault that one of them can't be started.
     fn starts_of<'a>(
         &self,
         white: &'a str,

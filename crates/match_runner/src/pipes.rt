@@ -14,8 +14,8 @@ use std::rt::Clock;
 // How often a wait that a signal ended is begun again.
 const MOST_WAITS: u32 = 16;
 
-// Waits until the descriptor is ready for what `events` asks, at most so many milliseconds, and returns whether it is.
-// One that the system can't wait for counts as ready.
+// Waits until the descriptor is ready for what `events` asks (to be read, `POLLIN`, or written, `POLLOUT`), at most
+// `millis` milliseconds, and returns whether it is. One that the system can't wait for counts as ready.
 fn is_ready<S: AsRawFd>(end: &S, events: i16, millis: u64) -> bool {
     let mut fds = [pollfd {
         fd: end.as_raw_fd(),
@@ -70,8 +70,8 @@ impl<'t, T: Clock, S: Read> EngineOutput<'t, T, S> {
 }
 
 impl<T: Clock, S: Read + AsRawFd> EngineOutput<'_, T, S> {
-    // Whether a read returns at once, by one call of the system, which waits until the clock shows `until`. If it shows
-    // more already, so that nothing is waited for, only so many pieces are found.
+    // Whether a read would return at once. It asks the system, which waits for that until the clock shows `until`. If
+    // the clock shows more already, so that nothing is waited for, only `MOST_LATE` pieces in a row are found.
     fn comes_by(&mut self, until: u64) -> bool
         ensures pipe { self.new.pipe ≡ self.old.pipe }
     {
@@ -142,7 +142,8 @@ fn first_bytes(bytes: &[u8], most: usize) -> &[u8]
 impl<S: Write + AsRawFd> Output for EngineInput<S> {
     ghost seen = { λ i. ⟦<Counted<S> as Output>⟧.seen i.pipe };
 
-    // One write to the pipe. With a limit the pipe is waited for first, and gets at most so much as it takes at once.
+    // One write to the pipe. With a limit the pipe is waited for first, and gets at most so many bytes as it takes at
+    // once (`PIPE_LEN`); it fails if the pipe takes none within the limit.
     fn write(&mut self, buf: &[u8]) -> Result<usize, WriteFault> {
         let Some(millis) = self.limit else {
             return self.pipe.write(buf);

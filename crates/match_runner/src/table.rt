@@ -35,7 +35,8 @@ pub trait GamesTable {
     /// The game that is played, or was played last.
     ghost game: { Self → Seen };
 
-    /// For each number from 0 on, which moment the clock will show then, as far as that is known.
+    /// For each n from 0 on, which moment the clock will show after n readings more, where that is known: at 0 the one
+    /// that it shows at the next reading.
     ghost coming: { Self → ℕ → Option ℕ };
 
     /// The pipes of each of two engines.

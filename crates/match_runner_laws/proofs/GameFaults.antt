@@ -1,4 +1,4 @@
--- Which games of a match have a fault.
+-- All games of a match but the last are without a fault of an engine, so no write to an engine failed in them.
 use Rattle.std.specs.List.{AllByRecursion, enumerate_from}
 use Rattle.std.proofs.Common.{◌≡◌, ◌∙◌, ◌<◌, ◌+◌, ℕ, Bool, true, false, List, [], ◌∷◌, length, Some, None, refl, ap, sym, arith, cond, nat_lt, option_map}
 use Rattle.std.proofs.lemmas.Bool.Decides.{nat_tests}

@@ -1,4 +1,4 @@
--- Steps at a host over memory might come there before.
+-- Steps that passed at a host over memory are steps that might come there.
 use Rattle.std.proofs.Common.{◌≡◌, List, [], ◌∷◌, ◌++◌, append-nil, subst}
 use Rattle.match_runner.specs.{GamesTable.HostStep, MemoryHost.MayCome}
 use Rattle.match_runner_laws.specs.Hosts.{StepsMightCome}

@@ -1,4 +1,4 @@
--- The kind of a line that may go on.
+-- The kind of a line that may go on: a tag line stays one, and after 256 bytes no more bytes change the kind.
 use Rattle.std.proofs.Common.{◌≡◌, ◌≤◌, ◌<◌, ℕ, zero, suc, ◌+◌, eqb, leb, Bool, true, false, List, [], ◌∷◌, ◌++◌, length, take, drop, cond, refl, sym, ap, ◌∙◌, length-drop, append_assoc, arith, bytes_eq, if◌then◌else◌, ◌&&◌, ◌||◌, not, nat_lt, codes}
 use Rattle.std.specs.List.{list_any, prefix_len, take_while}
 use Rattle.std.proofs.{lemmas.Bool.and_parts, lemmas.Bool.leb-true, lemmas.Bool.Decides.nat_tests, lemmas.List.take-append-le, lemmas.List.drop-append-le, lemmas.List.take_all, lemmas.List.Folds.prefix_len-append, lemmas.List.Folds.length-prefix_len, lemmas.List.Sums.prefix_len-le-length}
@@ -34,7 +34,7 @@ run_kept p xs ys h =
     let no : eqb (prefix_len p xs) (length xs) ≡ false = grind (arith, nat_tests, h) in
     prefix_len-append p xs ys ∙ ap (λ b. cond b (length xs + prefix_len p ys) (prefix_len p xs)) no
 
--- bytes that end the blanks at a text's beginning go on to end them
+-- where a byte other than spaces and tabs ends those at a text's beginning, more bytes change nothing there
 blanks_kept : (text more : List ℕ) → 0 < length (without_blanks text)
     → without_blanks (text ++ more) ≡ without_blanks text ++ more
 blanks_kept text more some =

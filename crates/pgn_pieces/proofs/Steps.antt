@@ -1,4 +1,5 @@
--- A call for the next piece: what was looked through, and what it comes to.
+-- A call for the next piece: what was looked through belongs to the piece, and where its end is found the piece that is
+-- returned is the first of those to come.
 use Rattle.std.proofs.Common.{◌≡◌, ◌≤◌, ◌<◌, ℕ, suc, ◌+◌, ◌-◌, ◌^◌, ◌==◌, nat_lt, Bool, true, false, List, [], ◌∷◌, ◌++◌, length, map, take, drop, Some, None, Ok, Err, refl, sym, ap, subst, ◌∙◌, append_assoc, append-nil, length-append, arith, ap₂, if◌then◌else◌, nat_le}
 use Rattle.std.specs.List.{concat}
 use Rattle.std.proofs.{lemmas.Bool.Decides.nat_tests, Math.Seq.take-length, Math.Seq.drop-length, lemmas.List.take-append-drop, lemmas.List.nil_from_length}

@@ -1,4 +1,5 @@
--- The games of a collection, piece by piece.
+-- The games of a collection, piece by piece: after each piece what was written and counted is that of the pieces so
+-- far.
 use Rattle.std.proofs.Common.{◌≡◌, ℕ, ◌+◌, ◌*◌, ◌≤◌, ◌<◌, ◌^◌, Bool, true, false, not, List, [], ◌∷◌, ◌++◌, length, map, take, Some, None, Ok, Err, refl, sym, ap, subst, ◌∙◌, append_assoc, append-nil, arith, ap₂, take-take, if◌then◌else◌, nat_le, sum_by, flat_map, take_while}
 use Rattle.std.specs.Option.{option_map_or}
 use Rattle.chess_pgn.specs.{Tokens.is_white_space, declared.read.PgnFaultKind.TheVariants.TooLong}

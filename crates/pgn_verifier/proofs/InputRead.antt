@@ -1,4 +1,5 @@
--- What was read of an input, piece by piece.
+-- What was read of an input is what was read before and one piece more, until its end, too many bytes, or no memory for
+-- more.
 use Rattle.std.proofs.Common.{◌≡◌, ◌≤◌, ◌<◌, ◌-◌, ◌==◌, nat_eq, length-append, ◌∙◌, ℕ, List, [], ◌++◌, length, take, false, if◌then◌else◌, refl, ap, subst, append-nil, arith, length-take-le}
 use Rattle.std.specs.Io.KnownBytes.{Consumes}
 use Rattle.byte_devices.specs.Devices.{InputState, GavePiece, saturating_increment}

@@ -1,4 +1,5 @@
--- Reports that are written one after the other, and counted.
+-- Reports that are written one after the other, and counted, are all of their lines in turn, up to one whose write
+-- fails.
 use Rattle.std.proofs.Common.{◌≡◌, ℕ, ◌+◌, cond, Bool, not, List, [], ◌∷◌, ◌++◌, length, is_some, Result, Ok, Err, refl, sym, ap, subst, ◌∙◌, append_assoc, append-nil, arith, unwrap_or, count_by, fold, sum_by}
 use Rattle.std.proofs.lemmas.List.Sums.{sum_by-cons}
 use Rattle.byte_devices.specs.Devices.{OutputState, Took, CutShort}

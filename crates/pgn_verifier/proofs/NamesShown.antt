@@ -1,4 +1,4 @@
--- What is shown of a tag, from what is found of it.
+-- What is shown of a tag is from the last tag of its name in the text's only split; a game without names shows none.
 use Rattle.std.proofs.Common.{◌≡◌, ℕ, Bool, true, false, List, [], ◌++◌, map, take, Option, Some, None, refl, ap, ◌∙◌, if◌then◌else◌, codes}
 use Rattle.std.specs.Option.{option_map, option_map_or}
 use Rattle.byte_devices.specs.Bytes.{shown_byte}

@@ -1,4 +1,5 @@
--- Where a fault is: counted from the text's beginning, and from the input's.
+-- Line and column, counted on from a known offset in the input to a later one, are those of the later one, and they
+-- stay within bounds.
 use Rattle.std.proofs.Common.{◌≡◌, ◌≤◌, ◌<◌, ℕ, ◌+◌, ◌-◌, eqb, Bool, true, false, not, cond, List, ◌++◌, length, take, drop, refl, sym, ap, ◌∙◌, append_assoc, length-drop, arith, take-add, if◌then◌else◌, reverse}
 use Rattle.std.specs.List.{prefix_len, suffix_len, sum_by}
 use Rattle.std.proofs.{lemmas.Bool.Decides.nat_tests, lemmas.List.Folds.prefix_len-append, lemmas.List.Sums.count_by-le-length, lemmas.List.Sums.prefix_len-le-length, lemmas.List.Sums.sum_by-append}
@@ -49,7 +50,7 @@ column_few column ys h some = by_test (eqb (last_line_len ys) (length ys))
     by_test true = (omega (arith, h), omega (arith, some))
     by_test false = (omega (arith, h, some), omega arith)
 
--- ---- from one place of a text to the next
+-- ---- from one offset of a text to the next
 
 module _ (start : TextStart) (input text : List ℕ) (a b : ℕ) (forward : a ≤ b) (within : b ≤ length text)
     (stands : StandsAt start input text)

@@ -10,14 +10,15 @@ use chess_pgn::game_end;
 /// What follows a game with a fault.
 #[derive(Clone, Copy)]
 pub(crate) struct AfterFault {
-    /// The offset of the text at which reading goes on; `None` if it doesn't.
+    /// The offset in the text at which reading goes on; `None` if it doesn't.
     pub next: Option<usize>,
-    /// The offset from which on the text isn't read, though it was to be; `None` if nothing is left unread.
+    /// The offset in the text from which on nothing is read, because it isn't found where the next game begins; `None`
+    /// if nothing is left unread, or reading isn't to go on after faults.
     pub unread: Option<usize>,
 }
 
-// Where reading goes on after the game of a text that is read from the offset `at` on, and has a fault: where the game
-// ends, if the text is read on (`goes_on`).
+// The offset at which reading goes on after a game with a fault, which is read from the offset `at` on: where the game
+// ends. `None` if that isn't found, or reading isn't to go on after faults (`goes_on`).
 fn next_at(goes_on: bool, text: &[u8], at: usize) -> Option<usize>
     requires { at ≤ length text.now }
     ensures value { result ≡ next_at goes_on text.now at }
@@ -27,15 +28,16 @@ fn next_at(goes_on: bool, text: &[u8], at: usize) -> Option<usize>
     if goes_on { game_end(text, at) } else { None }
 }
 
-// Whether a text of `len` bytes isn't read from the offset `offset` of a fault on, though it was to be.
+// Whether there is a rest of a text of `len` bytes from the fault's offset `offset` on, and it is left unread although
+// reading is to go on after faults (`goes_on`), since it isn't known where (`next` is `None`).
 fn is_unread(goes_on: bool, len: usize, offset: usize, next: Option<usize>) -> bool
     ensures { result ≡ (goes_on && not (is_some next) && nat_lt offset len) }
 {
     goes_on && next.is_none() && offset < len
 }
 
-// The offset from which on a text of `len` bytes isn't read after a fault at the offset `offset`, where `next` is the
-// one at which reading goes on.
+// The offset from which on the rest of a text of `len` bytes is left unread (`is_unread`), that of the fault, `offset`;
+// `None` if it isn't. `next` is the offset at which reading goes on.
 fn unread_from(goes_on: bool, len: usize, offset: usize, next: Option<usize>) -> Option<usize>
     ensures value { result ≡ unread_from goes_on len offset next }
     ensures within { IfSome result (λ begin. begin ≤ len) }
@@ -49,6 +51,7 @@ fn unread_from(goes_on: bool, len: usize, offset: usize, next: Option<usize>) ->
 
 impl AfterFault {
     /// What follows the game of a text that is read from the offset `at` on, and has a fault at the offset `offset`.
+    /// `goes_on`: whether reading is to go on after faults.
     pub(crate) fn of_game(goes_on: bool, text: &[u8], at: usize, offset: usize) -> Self
         requires at { at ≤ length text.now }
         ensures next { result.next ≡ next_at goes_on text.now at }

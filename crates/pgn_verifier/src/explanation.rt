@@ -110,7 +110,7 @@ fn is_at_begin(kind: FaultKind) -> bool
     matches!(kind, FaultKind::Pgn(PgnFaultKind::NoResult))
 }
 
-/// The offset of a text at which a fault is explained: that of its game's beginning (`begin`), or of the part that is
+/// The offset in a text at which a fault is explained: that of its game's beginning (`begin`), or of the part that is
 /// wrong.
 pub(crate) fn explained_at(fault: GameFault, begin: usize, text: &[u8]) -> usize
     requires offset { fault.offset ≤ length text.now }
@@ -164,8 +164,8 @@ fn append_part(lines: &mut FaultLines, reason: &[u8])
     append(lines, reason);
 }
 
-// Appends ` | ` and why the move at the text's front is illegal that may have been meant as a result; nothing for any
-// other.
+// Appends ` | ` and what is wrong with the illegal move at the text's front, if it is `0-0`: it is castling, and may
+// have been meant as a result. Nothing for any other move.
 fn append_move_reason(lines: &mut FaultLines, text: &[u8])
     requires { array_vec_len lines.old + 80 ≤ FAULT_LINES_LEN }
     ensures text { lines.new.items

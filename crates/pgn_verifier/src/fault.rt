@@ -29,6 +29,7 @@ pub enum VerifyFault {
 impl From<ReadFault> for VerifyFault {
     ghost from_gives = { λ _ fault. fault ≡ ReadFailed };
 
+    // The fault that `?` returns for a read that failed: `ReadFailed`.
     fn from(_fault: ReadFault) -> VerifyFault {
         VerifyFault::ReadFailed
     }
@@ -37,6 +38,7 @@ impl From<ReadFault> for VerifyFault {
 impl From<WriteFault> for VerifyFault {
     ghost from_gives = { λ _ fault. fault ≡ WriteFailed };
 
+    // The fault that `?` returns for a write or a flush that failed: `WriteFailed`.
     fn from(_fault: WriteFault) -> VerifyFault {
         VerifyFault::WriteFailed
     }
@@ -45,6 +47,7 @@ impl From<WriteFault> for VerifyFault {
 impl From<AllocError> for VerifyFault {
     ghost from_gives = { λ _ fault. fault ≡ NoMemory };
 
+    // The fault that `?` returns for memory that ran out: `NoMemory`.
     fn from(_error: AllocError) -> VerifyFault {
         VerifyFault::NoMemory
     }

@@ -46,8 +46,8 @@ fn field_at(number: usize, fen: &[u8]) -> &[u8]
     split_while(from_field(number, fen), |byte| byte != b' ').0
 }
 
-// The number of the field that is shown for a FEN's fault: of the counters the first that is no number, and where no
-// field alone is wrong, the first of all.
+// The number (0 for the first) of the field that is shown for a FEN's fault: of the counters the first that is no
+// number, and where no field alone is wrong, the first of all.
 fn field_number(fault: FenFault, fen: &[u8]) -> usize
     ensures { result ≡ field_number fault fen.now }
 {

@@ -115,7 +115,7 @@ fn piece_span(pieces: &PgnPieces) -> Span
     }
 }
 
-// The offset of a text at which reading goes on (`next`), or if it doesn't that of the text's end.
+// The offset in a text at which reading goes on (`next`); if it doesn't, that of the text's end.
 fn next_or_end(next: Option<usize>, text: &[u8]) -> usize
     requires { IfSome next (λ next. next ≤ length text.now) }
     ensures value { result ≡ unwrap_or next (length text.now) }

@@ -1,4 +1,5 @@
-//! Laws of the definitions, each the contract of a function that does nothing.
+//! Laws of the definitions, each the contract of a function that does nothing. What a law refuses are wrong
+//! definitions: with one of them it can't be proved.
 
 ghost use Rattle.std.specs.Prelude.{◌≡◌, Bool, List, Option, Result, ℕ};
 ghost use Rattle.chess_game.specs.Game.{State};

@@ -1,4 +1,4 @@
--- The text of a game, put together from left to right.
+-- The text of a game has three parts, put one after the other; if one can't be put, a beginning of the whole was.
 use Rattle.std.proofs.Common.{◌≡◌, ℕ, zero, suc, ◌+◌, Bool, true, false, eqb, List, [], ◌∷◌, ◌++◌, take, slice_get, Some, Result, refl, sym, ap, subst, ◌∙◌, append_assoc, append-nil, add-one, arith, IsTrue, flat_map}
 use Rattle.std.proofs.{lemmas.List.Concat.flat_map-append, lemmas.Bool.Decides.nat_tests}
 use Rattle.chess_base.specs.{declared.man.Move.Move, declared.man.Variant.Variant, declared.setup.Setup.Setup, Moves.is_legal, Moves.after}

@@ -1,4 +1,4 @@
--- Lines of tags, one after the other.
+-- Lines of tags, one after the other: with one tag more, the lines of all tags so far were put, or a beginning of them.
 use Rattle.std.proofs.Common.{◌≡◌, ℕ, ◌+◌, ◌<◌, List, [], ◌∷◌, ◌++◌, length, get_or, take, refl, sym, ap, subst, ◌∙◌, flat_map}
 use Rattle.byte_devices.specs.Devices.{OutputState, CutShort}
 use Rattle.pgn_writer.specs.{ties.Waiting.TookSome, Written.tag_line, Written.ended, ties.TagLines.tag_lines_of, declared.tags.TagPair.TagPair}

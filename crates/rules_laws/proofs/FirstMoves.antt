@@ -1,4 +1,4 @@
--- The moves of the initial position.
+-- The legal moves of the initial position are the 20 that are listed, by the rules of either variant; by computation.
 use Rattle.std.proofs.Common.{refl}
 use Rattle.chess_base.specs.{declared.man.Variant.TheVariants.Normal, declared.man.Variant.TheVariants.Fischerandom, Men.is_of, Men.is_man, Initial.initial_setup_of, MoveList.all_moves, MoveList.moves}
 use Rattle.chess_base.specs.Squares.{squares, some_square, each_square, is_between}

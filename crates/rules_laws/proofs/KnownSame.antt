@@ -1,4 +1,4 @@
--- Positions that look alike, by computation.
+-- Positions that are the same for repetition, and some that look alike and are not, by computation.
 use Rattle.std.proofs.Common.{refl}
 use Rattle.chess_base.specs.Attacks.{is_clear, could_capture, attacks, is_attacked, is_in_check}
 use Rattle.chess_base.specs.Castling.{is_castling_to, castling, castle_of, castling_needs_empty, castling_way_is_empty, castling_way_is_safe, castles}

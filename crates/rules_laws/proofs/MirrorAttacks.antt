@@ -1,4 +1,4 @@
--- Attacks in the mirror.
+-- A piece in the mirror attacks the mirrored squares of those it attacks.
 use Rattle.std.proofs.Common.{◌≡◌, ℕ, ◌+◌, ◌-◌, ◌<◌, ◌≤◌, Bool, true, false, Some, None, Option, refl, sym, ap, ap₂, ◌∙◌, arith, ◌==◌, inl, inr, subst, ◌||◌, ◌&&◌, not, is_none, option_map}
 use Rattle.std.proofs.{lemmas.Bool.cases_eq, lemmas.Bool.eq-eqb, lemmas.Bool.ne_eqb, lemmas.Bool.Decides.nat_tests}
 use Rattle.std.specs.{Cmp.both_ways, Int.abs_diff}

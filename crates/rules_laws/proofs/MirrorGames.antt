@@ -1,4 +1,4 @@
--- Whole games in the mirror.
+-- A game in the mirror has the mirrored verdict and the same claims.
 use Rattle.std.proofs.Common.{◌≡◌, ℕ, ◌+◌, ◌<◌, Bool, true, false, cond, Some, None, Option, refl, sym, ap, ap₂, ◌∙◌, arith, ◌==◌, nat_le, subst, ◌&&◌, List, [], ◌∷◌, length, map, count_by, option_map, if◌then◌else◌}
 use Rattle.std.proofs.lemmas.Bool.{and_parts, both_ways, eqb-true, ne_eqb}
 use Rattle.std.proofs.{lemmas.List.Sums.sum_by-cons, Math.Bool.and_comm}

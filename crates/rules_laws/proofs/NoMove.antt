@@ -1,4 +1,5 @@
--- Mate and stalemate by the moves that are legal.
+-- A game ends by mate or stalemate exactly if no move is legal, in check or not; the tests of its verdict are gone
+-- through.
 use Rattle.std.proofs.Common.{ℕ, ◌≡◌, Bool, true, false, List, [], ◌∷◌, length, Some, None, Option, refl, sym, ◌∙◌, arith, ◌==◌, nat_le, filter, if◌then◌else◌}
 use Rattle.std.proofs.lemmas.Bool.{eqb-true, eq-eqb, false_from_ne_true, ltb-true}
 use Rattle.chess_base.specs.{declared.man.Colour.Colour, declared.man.Colour.TheVariants.White, declared.man.Colour.TheVariants.Black, declared.man.Move.Move, declared.setup.Setup.Setup, Attacks.is_in_check, ByColour.by_colour, Men.other, MoveList.all_moves, MoveList.moves, Moves.is_legal}

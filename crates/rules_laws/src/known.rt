@@ -1,5 +1,6 @@
 //! Laws of lines, FENs and positions that chess players and programmers know, by computation. A caller learns one by
-//! calling its function, which does nothing.
+//! calling its function, which does nothing. What a law refuses are wrong definitions: with one of them it can't be
+//! proved.
 
 ghost use Rattle.rules_laws.specs.KnownCounts.{EndingsAreJudged, MovesAreAsMany};
 ghost use Rattle.rules_laws.specs.KnownPositions.{FensAreRefused, LinesLeadToFens, PositionsAreTheSame};

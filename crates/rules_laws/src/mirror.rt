@@ -1,5 +1,6 @@
 //! Laws of positions in the mirror: with colours exchanged and ranks counted from the other side. A caller learns one
-//! by calling its function, which does nothing.
+//! by calling its function, which does nothing. What a law refuses are wrong definitions: with one of them it can't be
+//! proved.
 
 ghost use Rattle.rules_laws.specs.Mirror.{MirrorAttacksAlike, MirrorEndsAlike, MirrorGamesAlike, MirrorIsAsLegal, MirrorMovesAlike};
 

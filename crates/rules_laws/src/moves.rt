@@ -1,4 +1,5 @@
-//! Laws of how pieces move. A caller learns one by calling its function, which does nothing.
+//! Laws of how pieces move. A caller learns one by calling its function, which does nothing. What a law refuses are
+//! wrong definitions: with one of them it can't be proved.
 
 ghost use Rattle.rules_laws.specs.Castled.{FischerandomCastlingEnds, NormalCastlingEnds, NormalCastlingIsLegal};
 ghost use Rattle.rules_laws.specs.EnPassant.{EnPassantFollowsDoubleAdvance};

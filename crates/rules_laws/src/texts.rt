@@ -1,5 +1,5 @@
 //! Laws of moves and games as they are written, by computation. A caller learns one by calling its function, which does
-//! nothing.
+//! nothing. What a law refuses are wrong definitions: with one of them it can't be proved.
 
 ghost use Rattle.rules_laws.specs.KnownTexts.{MovesAreNumbered, MovesAreWritten, ResultsAreWorded, TagsAreInOrder, TextsDenoteMoves};
 

@@ -1,4 +1,5 @@
--- Where a line ends in a text, and what that says of the lines.
+-- All bytes before the first `\n` go to the line that has begun; if there is such a byte, the line is whole, and what
+-- follows is held on.
 use Rattle.std.proofs.Common.{◌≡◌, ◌≢◌, ◌≤◌, ◌<◌, ℕ, ◌+◌, ◌-◌, eqb, Bool, true, false, List, [], ◌∷◌, ◌++◌, length, get_or, take, drop, Some, None, one-add, refl, sym, ap, subst, ◌∙◌, arith, append_assoc, append-nil, length-drop, eqb-true, cond, not, slice_range, ◌==◌}
 use Rattle.std.specs.List.{position_or_len}
 use Rattle.std.proofs.lemmas.List.{drop-drop, drop-take, drop_all, drop_more, take_all, length-take}
@@ -77,7 +78,7 @@ line_held n held part' coming' k line is within shown empty left =
           ∙ ap (λ v. line ∷ lines_from n at_end part' (v ++ rest)) (sym left),
     )
 
--- after the same lines stands the same line, where `\n` follows
+-- parts after which the lines are the same give the same line, where `\n` follows
 pub same_line : (n : ℕ) (x y : List ℕ) → SameLines n x y → line_of n true x ≡ line_of n true y
 same_line n x y same = heads (line_of n true x) (line_of n true y) (lines_from n true [] []) (
     sym (ten_step n true x 10 [] refl) ∙ same true (10 ∷ []) ∙ ten_step n true y 10 [] refl

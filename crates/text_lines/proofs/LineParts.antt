@@ -1,4 +1,4 @@
--- What has come of a line.
+-- What has come of a line is kept up to its limit; whichever the bytes past it are, the line is the same.
 use Rattle.std.proofs.Common.{◌≡◌, ℕ, ◌+◌, ◌-◌, ◌<◌, ◌≤◌, ◌==◌, nat_lt, nat_eq, min, ◌≢◌, Bool, true, false, List, [], ◌∷◌, ◌++◌, length, take, drop, refl, sym, ap, ◌∙◌, arith, append_assoc, length-append, reverse}
 use Rattle.std.specs.List.{onto_first}
 use Rattle.std.proofs.{lemmas.List.Splits.slice_split-cons_yes, lemmas.List.Splits.slice_split-cons_no, lemmas.List.Splits.length-slice_split, Math.Nat.min-le_right, lemmas.Grind.common_steps, lemmas.Bool.Decides.nat_tests}

@@ -1,4 +1,4 @@
--- The reads of one call for the next line.
+-- During one call for the next line, what is held after each read stands for all bytes that were given.
 use Rattle.std.proofs.Common.{◌≡◌, ℕ, ◌+◌, ◌-◌, ◌<◌, ◌≤◌, inl, inr, Bool, true, false, List, [], ◌∷◌, ◌++◌, length, take, Option, Some, None, Result, Ok, Err, IsErr, refl, sym, ap, ◌∙◌, arith, append_assoc, append-nil, length-append, nat_eq, ◌==◌, not, subst, MatchBool}
 use Rattle.std.proofs.{Math.Seq.take-append_seam, lemmas.List.nil_from_length}
 use Rattle.text_lines.proofs.LineParts.{line_ended, ten_step, byte_step, none_from, last_left}

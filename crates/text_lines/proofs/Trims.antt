@@ -1,4 +1,4 @@
--- Spaces, tabs and a byte 13 at the ends of a list.
+-- Spaces, tabs and a byte 13 are cut from the end of a text byte by byte as the definition cuts them.
 use Rattle.std.proofs.Common.{◌≡◌, ℕ, ◌+◌, ◌-◌, ◌<◌, ◌≤◌, true, false, List, [], ◌∷◌, ◌++◌, length, get_or, take, refl, sym, ap, ◌∙◌, ◌==◌, ◌≢◌, arith, if◌then◌else◌, reverse}
 use Rattle.std.proofs.lemmas.List.{take_more, reverse-append, reverse-reverse}
 use Rattle.text_lines.specs.Lines.{without_front_blanks, without_end_blanks, without_return}

@@ -52,7 +52,8 @@ fn go_through<B: Board>(board: &mut B, m: &Move, depth: u8, digest: &mut Digest)
     board.take_back(*m, saved);
 }
 
-// Does so with each legal move of the board's position, and returns one of them.
+// Does what `go_through` does with each legal move of the board's position, and returns one of them, chosen at random;
+// `None` if there is none.
 fn go_over<B: Board>(
     board: &mut B,
     depth: u8,
@@ -113,9 +114,9 @@ fn ask_position(
     go_over(board, depth, random, digest)
 }
 
-// What the walk does at the board's position: it asks all that a board answers, if this is a sixth position, and
-// returns the move with which it goes on. At the last position the lines of `last_depth` moves after each move are
-// counted.
+// What the walk does at the board's position, with `left` more moves to go: at each sixth position and at the last it
+// asks all that a board answers, and counts the lines of one more move after each move, at the last of `last_depth`.
+// Returns the move with which it goes on; `None` if there is none.
 fn step(
     board: &mut Bits<'_>,
     left: usize,
@@ -130,8 +131,9 @@ fn step(
     }
 }
 
-/// Walks through so many positions and one more, each reached once, and asks each sixth and the last all that a board
-/// answers.
+/// Makes `positions` moves and one more from the position `start`, as far as there are legal ones, and asks each sixth
+/// position on the way and the last all that a board answers; there the lines of `last_depth` moves after each move are
+/// counted.
 pub fn ask_walk(
     board: &mut Bits<'_>,
     start: &Position,

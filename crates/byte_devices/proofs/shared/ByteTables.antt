@@ -8,12 +8,14 @@ unfoldable pub agree_below : (ℕ → Bool) → (ℕ → Bool) → ℕ → Bool
 agree_below f g zero = true
 agree_below f g (suc n) = beq (f n) (g n) && agree_below f g n
 
+-- a list of equal tests that passes: the first test's two values are equal, and the rest passes
 both_of : (x y rest : Bool) → (beq x y && rest) ≡ true → (x ≡ y) × (rest ≡ true)
 both_of true true rest h = (refl, h)
 both_of true false rest h = cc
 both_of false true rest h = cc
 both_of false false rest h = (refl, h)
 
+-- two tests that agree on each number below n, which is computed, agree on one of them
 agree_at : (f g : ℕ → Bool) (n : ℕ) → agree_below f g n ≡ true → (b : ℕ) → b < n → f b ≡ g b
 unfolding agree_below
 agree_at f g zero h b lt = absurd (omega arith)

@@ -34,6 +34,7 @@ consumes_kept None b h = tt
 consumes_kept (Some s) None h = absurd h
 consumes_kept (Some s) (Some t) h = sym h
 
+-- adding j and then k, each cut off at `top`, adds j + k, cut off at `top`
 min_more : (n j k top : ℕ) → min (min (n + j) top + k) top ≡ min (n + (j + k)) top
 min_more n j k top = grind (arith, common_steps)
 
@@ -55,6 +56,7 @@ pub add_one_more : (n k : ℕ) → saturating_add (saturating_increment n) k ≡
 unfolding saturating_increment
 add_one_more n k = add_twice n 1 k
 
+-- unflushed bytes counted for one text and then for a second are those counted for both together
 unflushed_more : (l m n : ℕ) (x y : List ℕ) → m ≡ saturating_add l (length x) → n ≡ saturating_add m (length y)
     → n ≡ saturating_add l (length (x ++ y))
 unflushed_more l m n x y e f =
@@ -143,6 +145,7 @@ pub sends_exit : {A E : Type 0} (a b : OutputState) (r : Result A E) (x : List �
 sends_exit a b (Ok v) x h k = cc
 sends_exit a b (Err e) x h k = h
 
+-- the text made of a list of one element is that element's text
 flat_one : {X : Type 0} (f : X → List ℕ) (x : X) → flat_map f (x ∷ []) ≡ f x
 flat_one f x = append-nil (f x)
 

@@ -40,6 +40,7 @@ flushed_bytes : (w w' : OutputState) (flushes : Bool) (text : List ℕ) → Outp
     → Appends w.known_bytes w'.known_bytes text
 flushed_bytes w w' flushes text h = subst (Appends w.known_bytes w'.known_bytes) (append-nil text) h.bytes
 
+-- a text that was appended to known bytes is itself followed by the empty text
 all_bytes : (w w' : OutputState) (text : List ℕ) → Appends w.known_bytes w'.known_bytes text
     → Appends w.known_bytes w'.known_bytes (text ++ [])
 all_bytes w w' text h = subst (Appends w.known_bytes w'.known_bytes) (sym (append-nil text)) h
@@ -69,6 +70,7 @@ took_some w w' start h =
 
 -- ---- one after the other
 
+-- if `x or y` fails, both fail
 neither : {P : Type 0} (x y : Bool) → (x || y) ≡ false → (x ≡ false → y ≡ false → P) → P
 neither true y e p = absurd cc
 neither false y e p = p refl e
@@ -81,6 +83,7 @@ left_at_last true false k l m n e f = f ∙ ap (λ v. saturating_add v n) e
 left_at_last false true k l m n e f = f
 left_at_last false false k l m n e f = f ∙ ap (λ v. saturating_add v n) e
 
+-- an output that took a text, flushed or not, and then what `o` says, took both in that order
 took_then : (a b c : OutputState) (flushes : Bool) (x : List ℕ) (o : ToOutput) → OutputTook a b (all_flushed flushes x)
     → OutputTook b c o → OutputTook a c (after_text flushes x o)
 took_then a b c flushes x o h k = record {
@@ -94,6 +97,7 @@ took_then a b c flushes x o h k = record {
   failures = k.failures ∙ ap (saturating_increment_if o.failed) h.failures;
 }
 
+-- a number with one added is above 0
 above_0 : (n : ℕ) → nat_lt 0 (suc n) ≡ true
 above_0 n = grind (arith, nat_tests)
 

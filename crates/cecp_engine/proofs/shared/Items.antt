@@ -63,6 +63,7 @@ value_is (c ∷ cs) =
     by_tests true false false e f = refl
     by_tests false b d e f = refl
 
+-- what is left after a value is cut off is shorter than the text
 value_shorter : (text : List ℕ) (p : Value × List ℕ) → value_cut text ≡ Some p → length p.1 < length text
 value_shorter [] p e = cc
 value_shorter (c ∷ cs) p e = by_tests ((c == 34) && nat_lt (quote_at cs) (length cs)) (is_digit c) refl e
@@ -88,6 +89,7 @@ value_shorter (c ∷ cs) p e = by_tests ((c == 34) && nat_lt (quote_at cs) (leng
 after_first : List ℕ → List ℕ
 after_first text = take (length text - 1) (drop 1 text)
 
+-- a text without its first byte, by its parts
 after_first-is : (c : ℕ) (cs : List ℕ) → after_first (c ∷ cs) ≡ cs
 unfolding after_first
 after_first-is c cs = take_all (length (c ∷ cs) - 1) cs (omega arith)
@@ -132,6 +134,7 @@ item_by name rest value =
 abbrev item_after : List ℕ → List ℕ → Option (Item × List ℕ)
 item_after name rest = item_by name rest (value_cut (drop 1 rest))
 
+-- the item of a name from what follows it, with the value as code cuts it, is `with_name`
 item_after-is : (name rest : List ℕ) → item_after name rest ≡ with_name name rest
 item_after-is [] rest = refl
 item_after-is (n ∷ ns) [] = by_test (length (n ∷ ns) == 0)
@@ -160,10 +163,12 @@ item_parts text =
     ∙ ap (λ n. with_name (take_while is_name_byte text) (drop n text))
     (length-take-le (prefix_len is_name_byte text) text (prefix_len-le-length is_name_byte text))
 
+-- the name of an item that was read, or the one given
 abbrev name_or : List ℕ → Option (Item × List ℕ) → List ℕ
 name_or default None = default
 name_or default (Some p) = p.0.name
 
+-- an item that is read after its name has this name, and leaves less than what came after the name
 with_value_shorter : (name rest : List ℕ) (v : Option (Value × List ℕ)) (p : Item × List ℕ) → value_cut rest ≡ v
     → option_and_then (λ (p : Value × List ℕ). if list_all is_blank (take 1 p.1) then
     Some (record { name = name; value = p.0 }, without_front_blanks p.1) else None) v ≡ Some p
@@ -182,6 +187,7 @@ with_value_shorter name rest (Some q) p is e = by_test (list_all is_blank (take 
         (sym n, l)
     by_test false e = cc
 
+-- so with the `=` before the value: the name has a byte or more, and at least two bytes fewer are left
 with_name_shorter : (name rest : List ℕ) (p : Item × List ℕ) → with_name name rest ≡ Some p
     → (p.0.name ≡ name) × (0 < length name) × (length p.1 + 1 < length rest)
 with_name_shorter [] rest p e = cc
@@ -219,10 +225,12 @@ item_shorter text p e = let h = item_room text p e in omega (arith, h.1)
 
 -- ---- the items of a text, step by step
 
+-- the items of a text from its first item: it alone if it ends the handshake, and otherwise also `more` of what is left
 abbrev pub items_by : (List ℕ → List Item) → Option (Item × List ℕ) → List Item
 items_by more None = []
 items_by more (Some p) = if ends_handshake p.0 then p.0 ∷ [] else p.0 ∷ more p.1
 
+-- the first n + 1 items are the first item and the first n of what is left
 first_items-by : (n : ℕ) (text : List ℕ) → first_items (suc n) text ≡ items_by (first_items n) (item_of text)
 first_items-by n text = at (item_of text)
   where
@@ -232,10 +240,12 @@ first_items-by n text = at (item_of text)
     at None = refl
     at (Some p) = refl
 
+-- a text without bytes has no item
 none_left : (text : List ℕ) → length text ≤ 0 → item_of text ≡ None
 none_left [] h = item_parts []
 none_left (c ∷ cs) h = absurd (omega arith)
 
+-- two readers that agree on what the first item leaves give the same items
 same_by : (f g : List ℕ → List Item) (o : Option (Item × List ℕ)) → ((p : Item × List ℕ) → o ≡ Some p → f p.1 ≡ g p.1)
     → items_by f o ≡ items_by g o
 same_by f g None h = refl
@@ -273,10 +283,12 @@ pub record SoFar (text rest : List ℕ) (read : List Item) : Type 0 where
   pub items : items_of text ≡ read ++ items_of rest
   pub going : list_any ends_handshake (items_of text) ≡ list_any ends_handshake (items_of rest)
 
+-- the items of a text are its first one and those of what is left, if the first doesn't end the handshake
 some_at : (rest : List ℕ) (p : Item × List ℕ) → item_of rest ≡ Some p → ends_handshake p.0 ≡ false
     → items_of rest ≡ p.0 ∷ items_of p.1
 some_at rest p e f = items_of-step rest ∙ ap (items_by items_of) e ∙ rw f refl
 
+-- the items of a text are its first one alone if this ends the handshake
 last_at : (rest : List ℕ) (p : Item × List ℕ) → item_of rest ≡ Some p → ends_handshake p.0 ≡ true
     → items_of rest ≡ p.0 ∷ []
 last_at rest p e f = items_of-step rest ∙ ap (items_by items_of) e ∙ rw f refl

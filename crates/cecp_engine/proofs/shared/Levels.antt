@@ -3,9 +3,11 @@ use Rattle.std.proofs.Common.{◌≡◌, ℕ, zero, suc, ◌+◌, ◌*◌, ◌/�
 use Rattle.std.proofs.lemmas.Nat.{le-div}
 use Rattle.cecp_engine.specs.Levels.{LevelSeen, allotted}
 
+-- the quotient by m doesn't fall from k to k + 1
 div_grows : (m k : ℕ) → 0 < m → k / m ≤ (k + 1) / m
 div_grows m k some = let low : k / m * m ≤ k = div-mul-le_self k m in le-div (k / m) (k + 1) m some (omega arith)
 
+-- the sessions begun after k moves are no more than those after k + 1, for a session of m moves (0: the whole game)
 sessions_grow : (m k : ℕ) → (if m == 0 then 1 else 1 + k / m) ≤ (if m == 0 then 1 else 1 + (k + 1) / m)
 sessions_grow zero k = omega arith
 sessions_grow (suc m) k =

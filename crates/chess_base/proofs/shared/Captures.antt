@@ -4,6 +4,7 @@ use Rattle.std.proofs.Common.{◌≡◌, ℕ, Bool, true, false, ◌||◌, ◌&&
 use Rattle.chess_base.specs.{declared.man.Kind.TheVariants.Pawn, declared.man.Move.Move, declared.setup.Setup.Setup, Squares.is_at, Attacks.attacks, Moves.is_en_passant, Moves.captured_square, Moves.resets_clock, shared.Parts.one_rank_back}
 use Rattle.chess_base.specs.Men.{man_at, is_of, is_man, other}
 
+-- one of two squares is chosen exactly if one of the two tests passes
 some_by : (passes enemy : Bool) (x y : ℕ)
     → is_some (if passes then Some x else if enemy then Some y else None) ≡ (enemy || passes)
 some_by true true x y = refl

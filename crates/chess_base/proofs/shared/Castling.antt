@@ -4,6 +4,7 @@ use Rattle.std.proofs.lemmas.Bool.{and_parts}
 use Rattle.chess_base.specs.{declared.man.Colour.Colour, declared.man.Variant.Variant, declared.man.Kind.TheVariants.King, declared.man.Kind.TheVariants.Rook, declared.man.CastlingSide.CastlingSide, declared.man.CastlingSide.TheVariants.KingSide, declared.man.CastlingSide.TheVariants.QueenSide, declared.man.Move.Move, Men.man_at, Men.is_man, Men.Men, declared.setup.Setup.Setup, shared.Splits.names_castling, shared.Splits.castle_with, shared.Splits.right_is_sound_at, Before.mover_to, Before.castle_by, declared.man.Colour.TheVariants.White, declared.man.Colour.TheVariants.Black, declared.man.Variant.TheVariants.Normal, declared.man.Variant.TheVariants.Fischerandom, Sound.IsSound}
 use Rattle.chess_base.specs.Castling.{home_square, right_of, castling, is_castling_to, castled_king_file, castled_rook_file, castle_from, castle_of, mover_end, are_placed_for_castling, right_is_sound}
 
+-- the side chosen by two tests, king's side first, is one whose test passes
 castling_by : (a b : Bool) (w : CastlingSide) → cond a (Some KingSide) (cond b (Some QueenSide) None) ≡ Some w
     → ((w ≡ KingSide) × (a ≡ true)) ⊎ ((w ≡ QueenSide) × (b ≡ true))
 castling_by true b w e = inl (cc, refl)
@@ -26,6 +27,7 @@ pub castling_says : (p : Setup) (m : Move) (w : CastlingSide) → is_castling_to
 unfolding is_castling_to
 castling_says p m w e = and_parts _ _ e
 
+-- a castling that a right's square names needs that right
 right_named : (v : Variant) (c : Colour) (m : Move) (w : CastlingSide) (o : Option ℕ) → names_castling v c m w o ≡ true
     → (r : ℕ) × (o ≡ Some r)
 right_named v c m w None e = cc
@@ -63,6 +65,7 @@ right_is_sound_of p h White QueenSide = h.white_queen_side
 right_is_sound_of p h Black KingSide = h.black_king_side
 right_is_sound_of p h Black QueenSide = h.black_queen_side
 
+-- pieces placed for castling have the colour's rook on the right's square
 rook_of_right : (v : Variant) (men : Men) (c : Colour) (w : CastlingSide) (s : ℕ)
     → are_placed_for_castling v men c w s ≡ true → is_man c Rook (man_at men s) ≡ true
 rook_of_right Normal men c w s h = (and_parts _ _ h).1

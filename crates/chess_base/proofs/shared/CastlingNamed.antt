@@ -43,6 +43,8 @@ here Fischerandom c men m w r k l one at placed same =
     let t2 : (rank m.from == rank r) ≡ true = eq-eqb _ _ same_rank in
     rw (t1, king, t2) (eqb_comm r m.to)
 
+-- in a position with one king and the pieces placed, a move has a castling's squares exactly if it is the king's and
+-- names that castling
 same_test : (v : Variant) (c : Colour) (men : Men) (m : Move) (w : CastlingSide) (r k : ℕ) → length men ≡ 64
     → has_one_king men c ≡ true → king_square men c ≡ Some k → are_placed_for_castling v men c w r ≡ true
     → is_castling_by v m (castle_from c w k r) ≡ (is_man c King (man_at men m.from) && names_castling_with v c m w r)
@@ -57,10 +59,12 @@ same_test v c men m w r k l one at placed = elim (cases_eq k m.from) [
 abbrev on : Colour → CastlingSide → Option ℕ → Option ℕ → Option Castle
 on c w king right = option_and_then (λ rook. option_map (λ k. castle_from c w k rook) king) right
 
+-- a test joined with one that fails, fails
 and_false : (b : Bool) → false ≡ (b && false)
 and_false true = refl
 and_false false = refl
 
+-- the same where the king or the right may be missing
 side_same : (v : Variant) (c : Colour) (men : Men) (m : Move) (w : CastlingSide) (king right : Option ℕ)
     → length men ≡ 64
     → has_one_king men c ≡ true → king_square men c ≡ king → right_is_sound_at v men c w right ≡ true
@@ -73,11 +77,13 @@ side_same v c men m w None (Some r) l one at sound =
     rw no refl
 side_same v c men m w (Some k) (Some r) l one at sound = same_test v c men m w r k l one at sound
 
+-- in a sound position the right to castle on each side is sound
 sound_at : (p : Setup) → IsSound p → (w : CastlingSide)
     → right_is_sound_at p.variant p.men p.side w (right_of p.rights p.side w) ≡ true
 unfolding right_is_sound
 sound_at p h w = right_is_sound_of p h p.side w
 
+-- a move has the squares of the castling on a side exactly if it castles to that side
 to_side : (p : Setup) (m : Move) (w : CastlingSide) → IsSound p
     → option_map_or (is_castling_by p.variant m) (castling_on p w) false ≡ is_castling_to p m w
 unfolding is_castling_to
@@ -89,6 +95,7 @@ pub same_side : (p : Setup) (m : Move) → IsSound p → castling p m ≡ castli
 unfolding castling castling_named
 same_side p m h = rw (to_side p m KingSide h, to_side p m QueenSide h) refl
 
+-- the castle of a move is that of the side to which it castles, if it castles
 by_side : (p : Setup) (m : Move) (o : Option CastlingSide) → IsSound p → castling p m ≡ o
     → castle_by p.side p.rights m o ≡ option_and_then (castling_on p) o
 by_side p m None h e = refl

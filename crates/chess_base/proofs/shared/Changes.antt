@@ -21,6 +21,7 @@ pawn_from_same Bishop e = cc
 pawn_from_same Knight e = cc
 pawn_from_same Pawn e = refl
 
+-- a pawn that could capture from a on b is one file beside b and one rank before it
 pawn_attack_by : (men : Men) (c : Colour) (a b : ℕ) (o : Option Man) → is_man c Pawn o ≡ true
     → could_capture_as men o a b ≡ true
     → (abs_diff (file a) (file b) ≡ 1) × (is_rank_ahead c a b ≡ true)
@@ -120,6 +121,7 @@ at_target p s t e = target_facts p.men p.side p.target s (rw (target_is_sound_is
 
 -- castling and en passant follow from the mover
 
+-- a move of a piece that is no king castles to neither side
 says_no_castling : (p : Setup) (m : Move) (w : CastlingSide) → is_man p.side King (man_at p.men m.from) ≡ false
     → is_castling_to p m w ≡ false
 unfolding is_castling_to
@@ -156,6 +158,7 @@ pub record Walk (p : Setup) (m : Move) : Type 0 where
 abbrev pub IsFreedIn : Men → ℕ → ℕ → ℕ → Type 0
 IsFreedIn men a e x = x ≢ a → x ≢ e → is_none (man_at men x) ≡ true
 
+-- so on the board of a position
 abbrev pub IsFreed : Setup → ℕ → ℕ → ℕ → Type 0
 IsFreed p a e x = IsFreedIn p.men a e x
 
@@ -234,10 +237,12 @@ leaves_first_rank White a b h (inr e) f = omega (arith, e.1)
 leaves_first_rank Black a b h (inl e) f = omega arith
 leaves_first_rank Black a b h (inr e) f = omega (arith, e.1)
 
+-- no square one rank ahead is on the colour's first rank
 ahead_leaves_first_rank : (c : Colour) (a b : ℕ) → a < 64 → is_rank_ahead c a b ≡ true → rank b ≢ first_rank c
 ahead_leaves_first_rank White a b h e f = let r = rank_ahead_White a b e in omega (arith, r)
 ahead_leaves_first_rank Black a b h e f = let r = rank_ahead_Black a b e in omega (arith, r)
 
+-- no pawn's move ends on its side's first rank
 pawn_leaves_first_rank : (p : Setup) (m : Move) → m.from < 64 → is_man p.side Pawn (man_at p.men m.from) ≡ true
     → PawnKind p m → rank m.to ≢ first_rank p.side
 pawn_leaves_first_rank p m h man (Advances e) = leaves_first_rank p.side m.from m.to h (advance_goes p m e)
@@ -246,6 +251,7 @@ pawn_leaves_first_rank p m h man (Captures e taken) =
 pawn_leaves_first_rank p m h man (TakesEnPassant e at) =
     ahead_leaves_first_rank p.side m.from m.to h (pawn_attack p.men p.side m.from m.to man e).1
 
+-- a rank that is neither side's first rank is neither rank 1 nor rank 8
 neither_end : (c : Colour) (n : ℕ) → n ≢ first_rank c → n ≢ first_rank (other c) → (n ≢ 0) × (n ≢ 7)
 neither_end White n a b = (a, b)
 neither_end Black n a b = (b, a)
@@ -268,6 +274,7 @@ promoted p m x k at man e king pawn = record {
       absurd (both_ways (same_kind Pawn k) pawn (and_parts (same_colour c x.colour) (same_kind Pawn k) h').1);
 }
 
+-- what arrives by a pawn's move is the pawn, off the end ranks, or the piece it promotes to
 pawn_arrival : (p : Setup) (m : Move) (x : Man) → man_at p.men m.from ≡ Some x
     → is_man p.side Pawn (man_at p.men m.from) ≡ true → rank m.to ≢ first_rank p.side → mover_end p m ≡ m.to
     → (o : Option Kind) → m.promotion ≡ o → promotion_fits (rank m.to == first_rank (other p.side)) o ≡ true
@@ -286,10 +293,12 @@ pawn_arrival p m x at man away lands (Some Pawn) e fits = cc
 pub pawn_no_castling : (p : Setup) (m : Move) → is_man p.side Pawn (man_at p.men m.from) ≡ true → castling p m ≡ None
 pawn_no_castling p m man = no_castling p m (is_man-kind _ _ _ _ _ refl man)
 
+-- a move that neither takes en passant nor castles empties no second square, and no rook arrives
 rest_alone : (p : Setup) (m : Move) → Walk p m → is_en_passant p m ≡ false → castling p m ≡ None → Rest p m
 unfolding second_square_emptied castling_rook_to
 rest_alone p m walk e c = let none = no_castle p m c in Alone walk (simp (e, none)) (simp none)
 
+-- a pawn's capture on the target empties the square of the pawn taken, and no rook arrives
 rest_with_capture : (p : Setup) (m : Move) → Walk p m → target_is_sound p ≡ true
     → is_man p.side Pawn (man_at p.men m.from) ≡ true → attacks p.men m.from m.to ≡ true
     → is_at p.target m.to ≡ true → Rest p m
@@ -299,6 +308,7 @@ rest_with_capture p m walk stands man hits at =
     let none = no_castle p m (pawn_no_castling p m man) in
     WithCapture walk (one_rank_back p.side m.to) (simp (man, hits, at)) (simp none) there.2 there.1 man
 
+-- a pawn's move, by its kind: an advance and a capture change no third square, en passant does
 pawn_rest : (p : Setup) (m : Move) → Walk p m → target_is_sound p ≡ true
     → is_man p.side Pawn (man_at p.men m.from) ≡ true → PawnKind p m → Rest p m
 unfolding is_en_passant
@@ -309,12 +319,14 @@ pawn_rest p m walk stands man (Captures e taken) =
     (is_of-none _ _ (at_target p m.to stands at).1) taken))) (pawn_no_castling p m man)
 pawn_rest p m walk stands man (TakesEnPassant e at) = rest_with_capture p m walk stands man e at
 
+-- a pawn's move doesn't end on a piece of its own side
 pawn_not_own : (p : Setup) (m : Move) → target_is_sound p ≡ true → PawnKind p m
     → is_of p.side (man_at p.men m.to) ≡ false
 pawn_not_own p m stands (Advances e) = is_of-none _ _ (advance_to_empty p m e)
 pawn_not_own p m stands (Captures e taken) = is_of-other _ _ taken
 pawn_not_own p m stands (TakesEnPassant e at) = is_of-none _ _ (at_target p m.to stands at).1
 
+-- a pawn's move doesn't end on the other side's king
 pawn_no_king : (p : Setup) (m : Move) → IsSound p → Moves p m → PawnKind p m
     → is_man (other p.side) King (man_at p.men m.to) ≡ false
 pawn_no_king p m sound moves (Advances e) = is_man-none _ _ _ (advance_to_empty p m e)

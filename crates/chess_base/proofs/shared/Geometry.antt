@@ -14,17 +14,21 @@ use Rattle.chess_base.proofs.{shared.Parts.is_between_is, shared.Squares.each_sq
 pub abs_diff_back : (m n : ℕ) → abs_diff m n ≡ abs_diff n m
 abs_diff_back m n = omega arith
 
+-- which numbers are strictly between two doesn't depend on their order
 inside_back : (m n x : ℕ) → is_strictly_between m n x ≡ is_strictly_between n m x
 inside_back m n x = grind (arith, nat_tests)
 
+-- of three joined tests the first two may change places
 swap_first : (p q r : Bool) → (p && q && r) ≡ (q && p && r)
 swap_first p q r = grind arith
 
+-- which squares of a file are between two squares doesn't depend on their order
 back_on_file : (a b x : ℕ) → is_between_on_file a b x ≡ is_between_on_file b a x
 unfolding is_between_on_file
 back_on_file a b x = rw (inside_back (rank a) (rank b) (rank x))
     (swap_first (file x == file a) (file x == file b) (is_strictly_between (rank b) (rank a) (rank x)))
 
+-- which squares of a rank are between two squares doesn't depend on their order
 back_on_rank : (a b x : ℕ) → is_between_on_rank a b x ≡ is_between_on_rank b a x
 unfolding is_between_on_rank
 back_on_rank a b x = rw (inside_back (file a) (file b) (file x))
@@ -34,6 +38,7 @@ back_on_rank a b x = rw (inside_back (file a) (file b) (file x))
 pub diagonal_back : (a b : ℕ) → share_diagonal a b ≡ share_diagonal b a
 diagonal_back a b = rw (abs_diff_back (file a) (file b), abs_diff_back (rank a) (rank b)) refl
 
+-- which squares of a diagonal are between two squares doesn't depend on their order
 back_on_diagonal : (a b x : ℕ) → is_between_on_diagonal a b x ≡ is_between_on_diagonal b a x
 unfolding is_between_on_diagonal
 back_on_diagonal a b x =
@@ -58,18 +63,22 @@ between_rank a b x e = grind (arith, nat_tests)
 only_first : (p q r t : Bool) → p ≡ t → q ≡ false → r ≡ false → (p || q || r) ≡ t
 only_first p q r t e f g = rw (e, f, g) (elim t as (λ v. (v || false || false) ≡ v) [ true ↦ refl | false ↦ refl ])
 
+-- of three tests of which the first two fail, the last decides
 only_last : (p q r t : Bool) → p ≡ false → q ≡ false → r ≡ t → (p || q || r) ≡ t
 only_last p q r t e f g = rw (e, f, g) refl
 
+-- of two squares on one file, what is between them on that file, by the squares' numbers
 file_part : (a b x : ℕ) → same_line File a b ≡ true
     → is_between_on_file a b x ≡ (same_line File a x && is_strictly_between a b x)
 unfolding is_between_on_file
 file_part a b x e = grind (arith, nat_tests)
 
+-- between two squares on one file nothing is between them on a rank
 file_no_rank : (a b x : ℕ) → same_line File a b ≡ true → is_between_on_rank a b x ≡ false
 unfolding is_between_on_rank
 file_no_rank a b x e = grind (arith, nat_tests)
 
+-- between two squares on one file nothing is between them on a diagonal
 file_no_diagonal : (a b x : ℕ) → same_line File a b ≡ true → is_between_on_diagonal a b x ≡ false
 unfolding is_between_on_diagonal
 file_no_diagonal a b x e = grind (arith, nat_tests)
@@ -80,12 +89,15 @@ pub between_file : (a b x : ℕ) → same_line File a b ≡ true
 between_file a b x e =
     is_between_is a b x ∙ only_first _ _ _ _ (file_part a b x e) (file_no_rank a b x e) (file_no_diagonal a b x e)
 
+-- strictly between two numbers, if the first is the smaller
 inside_up : (m n x : ℕ) → m < n → is_strictly_between m n x ≡ (nat_lt m x && nat_lt x n)
 inside_up m n x h = grind (arith, nat_tests)
 
+-- strictly between two numbers, if the second is the smaller
 inside_down : (m n x : ℕ) → n < m → is_strictly_between m n x ≡ (nat_lt n x && nat_lt x m)
 inside_down m n x h = grind (arith, nat_tests)
 
+-- strictly between two equal numbers there is none
 inside_none : (m n x : ℕ) → m ≡ n → is_strictly_between m n x ≡ false
 inside_none m n x h = grind (arith, nat_tests)
 
@@ -97,6 +109,7 @@ up_diagonal : (f r g q h t : ℕ) → f < 8 → g < 8 → h < 8 → r + g ≡ q 
 up_diagonal f r g q h t a b c e l =
     rw (inside_up r q t (omega arith), inside_up f g h l) (grind (arith, nat_tests))
 
+-- the same along an antidiagonal, where the file falls as the rank rises
 up_antidiagonal : (f r g q h t : ℕ) → f < 8 → g < 8 → h < 8 → r + f ≡ q + g → r < q
     → (abs_diff f h == abs_diff r t && abs_diff h g == abs_diff t q && is_strictly_between r q t
     && is_strictly_between f g h)
@@ -108,15 +121,18 @@ up_antidiagonal f r g q h t a b c e l =
 pub by_parts : (s : ℕ) → 8 * rank s + file s ≡ s
 by_parts s = omega arith
 
+-- between a square and itself there is none, neither by rank and file nor by number
 none_inside : (a b x : ℕ) (s t u : Bool) → rank a ≡ rank b → a ≡ b
     → (s && t && is_strictly_between (rank a) (rank b) (rank x) && is_strictly_between (file a) (file b) (file x))
     ≡ (u && is_strictly_between a b x)
 none_inside a b x s t u e f = rw (inside_none (rank a) (rank b) (rank x) e, inside_none a b x f) (grind arith)
 
+-- the squares of a line that are between two of it don't depend on their order
 flipped : (l : Line) (a b x : ℕ) → same_line l a b ≡ true
     → (same_line l b x && is_strictly_between b a x) ≡ (same_line l a x && is_strictly_between a b x)
 flipped l a b x e = rw (eqb-true _ _ e, inside_back a b x) refl
 
+-- what is between two squares of a diagonal, by their numbers, if the first is the lower one
 diagonal_up : (a b x : ℕ) → rank a + file b ≡ rank b + file a → file a < file b
     → is_between_on_diagonal a b x ≡ (same_line Diagonal a x && is_strictly_between a b x)
 unfolding is_between_on_diagonal
@@ -125,6 +141,7 @@ diagonal_up a b x n less =
     (rw (by_parts a, by_parts b, by_parts x) at
     (up_diagonal (file a) (rank a) (file b) (rank b) (file x) (rank x) (omega arith) (omega arith) (omega arith) n less))
 
+-- what is between two squares of an antidiagonal, by their numbers, if the first is the lower one
 antidiagonal_up : (a b x : ℕ) → rank a + file a ≡ rank b + file b → rank a < rank b
     → is_between_on_diagonal a b x ≡ (same_line Antidiagonal a x && is_strictly_between a b x)
 unfolding is_between_on_diagonal
@@ -133,6 +150,7 @@ antidiagonal_up a b x n less =
     (rw (by_parts a, by_parts b, by_parts x) at
     (up_antidiagonal (file a) (rank a) (file b) (rank b) (file x) (rank x) (omega arith) (omega arith) (omega arith) n less))
 
+-- what is between two squares of a diagonal, by their numbers, in either order
 diagonal_part : (a b x : ℕ) → same_line Diagonal a b ≡ true
     → is_between_on_diagonal a b x ≡ (same_line Diagonal a x && is_strictly_between a b x)
 unfolding is_between_on_diagonal
@@ -144,6 +162,7 @@ diagonal_part a b x e =
       | inr (inr more) ↦ back_on_diagonal a b x ∙ diagonal_up b a x (sym n) more ∙ flipped Diagonal a b x e
     ]
 
+-- what is between two squares of an antidiagonal, by their numbers, in either order
 antidiagonal_part : (a b x : ℕ) → same_line Antidiagonal a b ≡ true
     → is_between_on_diagonal a b x ≡ (same_line Antidiagonal a x && is_strictly_between a b x)
 unfolding is_between_on_diagonal
@@ -155,10 +174,12 @@ antidiagonal_part a b x e =
       | inr (inr more) ↦ back_on_diagonal a b x ∙ antidiagonal_up b a x (sym n) more ∙ flipped Antidiagonal a b x e
     ]
 
+-- between two squares on one diagonal nothing is between them on a file
 diagonal_no_file : (a b x : ℕ) → same_line Diagonal a b ≡ true → is_between_on_file a b x ≡ false
 unfolding is_between_on_file
 diagonal_no_file a b x e = grind (arith, nat_tests)
 
+-- between two squares on one diagonal nothing is between them on a rank
 diagonal_no_rank : (a b x : ℕ) → same_line Diagonal a b ≡ true → is_between_on_rank a b x ≡ false
 unfolding is_between_on_rank
 diagonal_no_rank a b x e = grind (arith, nat_tests)
@@ -170,10 +191,12 @@ between_diagonal a b x e =
     is_between_is a b x ∙ only_last _ _ _ _ (diagonal_no_file a b x e) (diagonal_no_rank a b x e)
     (diagonal_part a b x e)
 
+-- between two squares on one antidiagonal nothing is between them on a file
 antidiagonal_no_file : (a b x : ℕ) → same_line Antidiagonal a b ≡ true → is_between_on_file a b x ≡ false
 unfolding is_between_on_file
 antidiagonal_no_file a b x e = grind (arith, nat_tests)
 
+-- between two squares on one antidiagonal nothing is between them on a rank
 antidiagonal_no_rank : (a b x : ℕ) → same_line Antidiagonal a b ≡ true → is_between_on_rank a b x ≡ false
 unfolding is_between_on_rank
 antidiagonal_no_rank a b x e = grind (arith, nat_tests)

@@ -22,6 +22,7 @@ same_colour-true Black White e = cc
 abbrev kind_at : ℕ → Kind
 kind_at c = unwrap_or (kind_with_letter c) King
 
+-- a kind is that of its letter
 kind_back : (k : Kind) → kind_at (white_letter k) ≡ k
 kind_back King = refl
 kind_back Queen = refl

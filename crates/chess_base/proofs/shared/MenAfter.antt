@@ -31,6 +31,7 @@ eqb_comm a b = elim (cases_eq a b) [
   | inr n ↦ ne_eqb _ _ n ∙ sym (ne_eqb _ _ (λ e. n (sym e)))
 ]
 
+-- `or` in either order
 or_flip : (a b : Bool) → (a || b) ≡ (b || a)
 or_flip a b = grind arith
 
@@ -42,6 +43,8 @@ emptied true enemy behind to s n = refl
 emptied false true behind to s n = sym (eqb_comm to s ∙ n)
 emptied false false behind to s n = refl
 
+-- a piece that goes from `from` to `to`: the square s after it is the same by either order of the tests, if `q` and `r`
+-- agree on all other squares
 moved_by : (b : Bool) (to from s : ℕ) (x y : Option Man) (q r : Bool) → (to == s) ≡ b → (b ≡ false → q ≡ r)
     → (if to == s then x else if q || (from == s) then None else y)
     ≡ (if s == to then x else if (s == from) || r then None else y)
@@ -51,6 +54,7 @@ moved_by false to from s x y q r e h =
     let g = h refl in
     rw (e, f, g, eqb_comm s from, or_flip (from == s) r) refl
 
+-- a move that doesn't castle: its steps leave on s what the definition has there
 moved : (p : Setup) (m : Move) (s : ℕ) → castle_of p m ≡ None
     → man_stepped p.men (steps_of p m) s ≡ after_moving p m s
 unfolding mover_end castling_rook_to second_square_emptied captured_square
@@ -63,11 +67,13 @@ moved p m s e =
     (is_at second s) (is_at taken s) refl
     (λ n. emptied passes (is_of (other p.side) (man_at p.men m.to)) behind m.to s (eqb_comm s m.to ∙ n)))
 
+-- two pieces that arrive and two that leave: the square s is the same by either order of the tests
 turned_round : (a b c d s : ℕ) (x y z : Option Man)
     → (if a == s then x else if b == s then y else if (c == s) || (d == s) then None else z)
     ≡ (if s == a then x else if s == b then y else if (s == d) || (s == c) then None else z)
 turned_round a b c d s x y z = rw (eqb_comm s a, eqb_comm s b, eqb_comm s c, eqb_comm s d, or_flip (d == s) (c == s)) refl
 
+-- a castling: its steps leave on s what the definition has there
 castled : (p : Setup) (m : Move) (s : ℕ) (k : Castle) → castle_of p m ≡ Some k → k.king_from ≡ m.from
     → is_man p.side King (man_at p.men m.from) ≡ true
     → man_stepped p.men (steps_of p m) s ≡ after_castling p m k s
@@ -84,6 +90,7 @@ record IsCastling (p : Setup) (m : Move) (k : Castle) : Type 0 where
   pub king : is_man p.side King (man_at p.men m.from) ≡ true
   pub from : k.king_from ≡ m.from
 
+-- a move with a castle is a castling with its squares
 castling_of : (p : Setup) (m : Move) (k : Castle) → castle_of p m ≡ Some k → IsCastling p m k
 castling_of p m k e = by (castling p m) refl
   where
@@ -98,6 +105,7 @@ castling_of p m k e = by (castling p m) refl
           from = sym (ap (λ (v : Castle). v.king_from) same);
         }
 
+-- the steps of a move leave on s what the definition has there, whether it castles or not
 by_cases : (p : Setup) (m : Move) (s : ℕ) (o : Option Castle) → castle_of p m ≡ o
     → option_map_or (λ k. after_castling p m k s) o (after_moving p m s) ≡ man_stepped p.men (steps_of p m) s
 by_cases p m s None e = sym (moved p m s e)
@@ -112,6 +120,7 @@ men_after_by_steps p m =
 
 -- ---- and backwards
 
+-- the steps back from a move leave on x what was there, whether it castled or not
 back_by_cases : (q : Setup) (m : Move) (s : Saved) (x : ℕ) (o : Option Castle)
     → option_map_or (λ k. before_castling q m k x) o (before_moving q m s x)
     ≡ man_stepped q.men (steps_back_by (other q.side) q.men m s o) x

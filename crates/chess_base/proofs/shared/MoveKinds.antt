@@ -32,6 +32,7 @@ pub record Moves (p : Setup) (m : Move) : Type 0 where
   pub own : mover.colour ≡ p.side
   pub kind : MoveKind p m
 
+-- a pawn's move is an advance, a capture or en passant
 pawn_kind : (p : Setup) (m : Move) → (pawn_advances p m || pawn_captures p m) ≡ true → PawnKind p m
 unfolding pawn_captures
 pawn_kind p m e =
@@ -45,6 +46,7 @@ pawn_kind p m e =
           ]
     ]
 
+-- a pseudo-legal move of a piece other than a pawn castles, or goes where the piece attacks
 kind_by_castling : (p : Setup) (m : Move) (o : Option CastlingSide) → castling p m ≡ o
     → is_man p.side Pawn (man_at p.men m.from) ≡ false → castles_or_moves p m (castle_of p m) ≡ true → MoveKind p m
 kind_by_castling p m None e n h = let h' = rw (no_castle p m e) at h in ManMoves n e h'
@@ -52,6 +54,7 @@ kind_by_castling p m (Some w) e n h =
     let there = castle_there p m w e in
     let h' = rw there.2 at h in Castles w there.0 e there.1 h'
 
+-- a pseudo-legal move of an own piece x is of one of the kinds
 kind_of : (p : Setup) (m : Move) (x : Man) → man_at p.men m.from ≡ Some x → same_colour p.side x.colour ≡ true
     → (b : Bool) → same_kind Pawn x.kind ≡ b
     → cond b (pawn_moves p m) (castles_or_moves p m (castle_of p m)) ≡ true → MoveKind p m
@@ -62,6 +65,7 @@ kind_of p m x at own true k e =
 kind_of p m x at own false k e =
     kind_by_castling p m (castling p m) refl (rw at (and_right _ _ k)) e
 
+-- a move that passes the test of pseudo-legal moves starts from an own piece and is of one of the kinds
 moves_by : (p : Setup) (m : Move) (o : Option Man) → man_at p.men m.from ≡ o → m.from < 64 → m.to < 64
     → moves_as p m o ≡ true → Moves p m
 moves_by p m None at f t e = cc

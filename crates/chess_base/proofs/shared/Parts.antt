@@ -12,6 +12,7 @@ pub is_between_is : (a b x : ℕ)
 unfolding is_between is_between_on_file is_between_on_rank is_between_on_diagonal
 is_between_is a b x = refl
 
+-- "if w and neither a nor b, then n", as a list of tests of which one passes
 needs_or : (w a b n : Bool) → (not (w && not a && not b) || n) ≡ (not w || a || b || n)
 needs_or w a b n = grind arith
 
@@ -32,11 +33,13 @@ castling_way_is_empty_by men k =
     needs_or (is_on_way k.king_from k.king_to x || is_on_way k.rook_from k.rook_to x) (x == k.king_from)
     (x == k.rook_from) (is_none (man_at men x)))
 
--- the rank of the square where a double advance starts tells the rank that it crosses
+-- a square is on the rank that the other colour's double advances cross exactly if the square ahead of it is on the
+-- rank where these start
 start_rank : (c : Colour) (t : ℕ) → (rank (forward c t) == pawn_rank (other c)) ≡ (rank t == crossed_rank (other c))
 start_rank White t = grind (arith, nat_tests)
 start_rank Black t = grind (arith, nat_tests)
 
+-- four joined tests in another order
 in_order : (a b c d : Bool) → (a && b && c && d) ≡ (a && c && d && b)
 in_order a b c d = grind arith
 

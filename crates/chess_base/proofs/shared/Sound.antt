@@ -6,6 +6,7 @@ use Rattle.chess_base.specs.declared.fen_fault.FenFault.TheVariants.{Counters, K
 use Rattle.chess_base.specs.Sound.{IsSound, has_one_king, no_pawn_on_end_ranks, has_at_most_16, target_is_sound}
 use Rattle.chess_base.specs.Faults.{conditions, conditions_if, first_failing, rights_are_sound, setup_fault}
 
+-- where the first fault of a list is none, its first test passes, and the rest has no fault
 passes : (a : Bool) (f : FenFault) (rest : Option FenFault) → cond a rest (Some f) ≡ None → (a ≡ true) × (rest ≡ None)
 passes true f rest e = (refl, e)
 passes false f rest e = cc

@@ -4,6 +4,7 @@ use Rattle.std.proofs.lemmas.Bool.{cases_Bool, and_parts, and_from, and_left, an
 use Rattle.std.specs.List.{list_any, list_all}
 use Rattle.chess_base.specs.{Squares.squares, Squares.some_square, Squares.each_square, shared.Below.some_below, shared.Below.each_below, shared.Below.from_below}
 
+-- a number below n + 1 is n or below n
 last_or_below : (n k : ℕ) → k < suc n → (k ≡ n) ⊎ (k < n)
 last_or_below n k h = grind arith
 
@@ -44,15 +45,19 @@ each_below-fails (suc n) p k h e =
 
 -- the squares as numbers below 64
 
+-- three tests joined by `or`, grouped to the right
 or_onward : (a b c : Bool) → ((a || b) || c) ≡ (a || (b || c))
 or_onward a b c = grind arith
 
+-- three tests joined by `and`, grouped to the right
 and_onward : (a b c : Bool) → ((a && b) && c) ≡ (a && (b && c))
 and_onward a b c = grind arith
 
+-- a test that fails may come last in an `or`
 or_last : (b : Bool) → (false || b) ≡ (b || false)
 or_last b = grind arith
 
+-- a test that passes may come last in an `and`
 and_last : (b : Bool) → (true && b) ≡ (b && true)
 and_last b = grind arith
 
@@ -62,6 +67,7 @@ some_below-first zero p = or_last (p 0)
 some_below-first (suc n) p =
     ap (λ b. b || p (suc n)) (some_below-first n p) ∙ or_onward (p 0) (some_below n (λ k. p (suc k))) (p (suc n))
 
+-- a test passes on all numbers up to n exactly if it does on 0 and, shifted by one, on all numbers below n
 each_below-first : (n : ℕ) (p : ℕ → Bool) → each_below (suc n) p ≡ (p 0 && each_below n (λ k. p (suc k)))
 each_below-first zero p = and_last (p 0)
 each_below-first (suc n) p =
@@ -73,6 +79,7 @@ list_any-from_below zero g p = refl
 list_any-from_below (suc n) g p =
     ap (λ b. p (g 0) || b) (list_any-from_below n (λ k. g (suc k)) p) ∙ sym (some_below-first n (λ k. p (g k)))
 
+-- a test passes on the elements g 0 to g (n - 1) exactly if it passes on these for each number below n
 list_all-from_below : (n : ℕ) (g : ℕ → ℕ) (p : ℕ → Bool) → list_all p (from_below n g) ≡ each_below n (λ k. p (g k))
 list_all-from_below zero g p = refl
 list_all-from_below (suc n) g p =
@@ -122,6 +129,7 @@ some_square-none p h = some_square_is p ∙ some_below-none 64 p h
 
 -- of the squares that pass p, none passes q
 
+-- two tests of which the second fails where the first passes don't both pass
 guarded : (p q : Bool) → (p ≡ true → q ≡ false) → (p && q) ≡ false
 guarded true q h = h refl
 guarded false q h = refl
@@ -142,6 +150,7 @@ one_decides p q x h on rest =
 
 -- two tests that agree on each square
 
+-- tests that agree below n agree on whether all numbers below n pass
 each_below_same : (n : ℕ) (p q : ℕ → Bool) → ((k : ℕ) → k < n → p k ≡ q k) → each_below n p ≡ each_below n q
 each_below_same zero p q h = refl
 each_below_same (suc n) p q h = rw (each_below_same n p q (λ k l. h k (omega arith)), h n (omega arith)) refl
@@ -150,6 +159,7 @@ each_below_same (suc n) p q h = rw (each_below_same n p q (λ k l. h k (omega ar
 pub each_square_same : (p q : ℕ → Bool) → ((k : ℕ) → k < 64 → p k ≡ q k) → each_square p ≡ each_square q
 each_square_same p q h = each_square_is p ∙ each_below_same 64 p q h ∙ sym (each_square_is q)
 
+-- tests that agree below n agree on whether some number below n passes
 some_below_same : (n : ℕ) (p q : ℕ → Bool) → ((k : ℕ) → k < n → p k ≡ q k) → some_below n p ≡ some_below n q
 some_below_same zero p q h = refl
 some_below_same (suc n) p q h = rw (some_below_same n p q (λ k l. h k (omega arith)), h n (omega arith)) refl
@@ -160,9 +170,11 @@ some_square_same p q h = some_square_is p ∙ some_below_same 64 p q h ∙ sym (
 
 -- a test by two ways, over all squares
 
+-- of four tests joined by `or` the two in the middle may change places
 swap_inner : (p q r s : Bool) → ((p || q) || (r || s)) ≡ ((p || r) || (q || s))
 swap_inner p q r s = grind arith
 
+-- some number below n passes one of two tests exactly if some passes the first or some passes the second
 some_below-or : (n : ℕ) (p q : ℕ → Bool) → some_below n (λ k. p k || q k) ≡ (some_below n p || some_below n q)
 some_below-or zero p q = refl
 some_below-or (suc n) p q = rw (some_below-or n p q) (swap_inner (some_below n p) (some_below n q) (p n) (q n))

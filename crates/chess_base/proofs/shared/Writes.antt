@@ -32,6 +32,7 @@ written p m =
     (Some (record { colour = p.side; kind = Rook }))) (mover_end p m)
     (arriving_man (man_at p.men m.from) m.promotion)
 
+-- one of two tests in turn gives x exactly if one of them passes
 either_none : {X : Type 0} (a b : Bool) (x y : X) → cond a x (cond b x y) ≡ cond (a || b) x y
 either_none true b x y = refl
 either_none false b x y = refl

@@ -47,6 +47,7 @@ handshakes_done _ = true
 pub turn_done : (p : Phase) → in_turn p ≡ true → handshakes_done p ≡ true
 turn_done p h1 = grind arith
 
+-- a test doesn't both pass and fail
 never : {A : Type 0} {b : Bool} → b ≡ true → b ≡ false → A
 never on off = let no : true ≡ false = sym on ∙ off in absurd cc
 
@@ -127,6 +128,7 @@ pub record LineCases (r : Rules) (S : Colour) (kind : LineKind) (moment : ℕ) (
         → Q (ends r (Decided v) (moved S move (moment - opened) m))
     pub passes : m.phase ≡ AfterMove S → move_said kind ≡ [] → Q (begins_turn r (other S) m)
 
+-- what holds of both branches of an `if`, each where it is taken, holds of the whole
 by_test : (Q : Effect → Type 0) (b : Bool) {x y : Effect} → (b ≡ true → Q x) → (b ≡ false → Q y)
     → Q (if b then x else y)
 by_test Q true f g = f refl
@@ -137,15 +139,18 @@ abbrev NoWriteFault : Option MatchFault → Type 0
 NoWriteFault None = Unit {0}
 NoWriteFault (Some f) = (c O : Colour) → is_write_fault_of (Faulted c f) O ≡ false
 
+-- of two faults that are no failed write, the one that is chosen is none
 if_fault : (b : Bool) (x y : Option MatchFault) → NoWriteFault x → NoWriteFault y → NoWriteFault (if b then x else y)
 if_fault true x y p q = p
 if_fault false x y p q = q
 
+-- the fault of an engine that lacks a feature, if it does, is no failed write
 misses : (r : Rules) (items : List Item) → NoWriteFault (missing r items)
 misses r items = if_fault (not (takes (codes "ping") items)) (Some NoPing) _ (λ c O. refl)
     (if_fault (is_some (start_fen r.start) && not (takes (codes "setboard") items)) (Some NoSetboard) _ (λ c O. refl)
     (if_fault (is_fischerandom r.start.variant && not (plays_fischerandom items)) (Some NoVariant) None (λ c O. refl) tt))
 
+-- in a setup a line is `pong 1`, which ends it, or is ignored
 setup_by_pong : (r : Rules) (S : Colour) (kind : LineKind) (moment : ℕ) (m : Match)
     → line_row r (Setup S) kind moment m
     ≡ (if is_pong 1 kind then setup_done r S (awaited_since moment m) else ignores r S m)
@@ -342,6 +347,7 @@ pub record SilenceCases (r : Rules) (m : Match) (Q : Effect → Type 0) : Type 0
   pub stops : (reason : Reason) → MayStopSilent r.patience m.phase reason → Q (ends r reason m)
   pub goes_on : (since : Option ℕ) → Q (sends_nothing (record m { since = since }))
 
+-- where flags fall without a line, a loss on time is of no line
 flag_shown : (patience : Patience) (S : Colour) → patience.flag ≡ true → whose_line patience (Forfeits S) ≡ None
 flag_shown patience S e = ap (λ (b : Bool). if b then None else Some S) e
 

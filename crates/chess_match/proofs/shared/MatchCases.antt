@@ -135,9 +135,11 @@ pub both_not : {P : Type 0} (b : Bool) → b ≡ false → b ≡ true → P
 both_not true e h = absurd cc
 both_not false e h = absurd cc
 
+-- if the match is over nothing is read by these acts; and nothing is read after an end or a failed read
 abbrev Reading : Match → List Block → List Act → Type 0
 Reading m due H = (is_over m.phase ≡ true → unread H ≡ true) × (reads_end H ≡ true)
 
+-- so it is with the acts from any place in a match on
 reading : (r : Rules) (m final : Match) (due : List Block) (H : List Act) → IsMatchFrom r m due H final
     → Reading m due H
 reading r m final due H g = by_cases r final Reading (record {
@@ -182,13 +184,17 @@ abbrev none_for : Colour → List Block → Bool
 none_for S [] = true
 none_for S (b ∷ due) = if same_colour b.to S then false else none_for S due
 
+-- at most one of these blocks is for the side `S`
 abbrev few_for : Colour → List Block → Bool
 few_for S [] = true
 few_for S (b ∷ due) = if same_colour b.to S then none_for S due else few_for S due
 
+-- of the blocks that an effect makes due at most one is for each side
 few_due : (S first : Colour) (to : Colour → List SentLine) → few_for S (blocks_from first to) ≡ true
 few_due S first to = grind arith
 
+-- if the match is over and nothing is due for S, these acts send it nothing; and if at most one block is due for it,
+-- they send it nothing after a failed write
 abbrev Sending : Colour → Match → List Block → List Act → Type 0
 Sending S m due H = (is_over m.phase ≡ true → none_for S due ≡ true → unsent_in S H ≡ true)
     × (few_for S due ≡ true → sends_end S H ≡ true)
@@ -199,10 +205,12 @@ unsent_more : (x : Bool) (due H : Bool) → (if x then false else due) ≡ true 
 unsent_more true due H h f = absurd cc
 unsent_more false due H h f = f h
 
+-- if of some blocks at most one is for the side, so it is without the first
 few_less : (x none few : Bool) → (if x then none else few) ≡ true → (none ≡ true → few ≡ true) → few ≡ true
 few_less true none few h f = f h
 few_less false none few h f = h
 
+-- no block for a side is at most one
 none_few : (S : Colour) (due : List Block) → none_for S due ≡ true → few_for S due ≡ true
 none_few S [] h = refl
 none_few S (b ∷ due) h = at (same_colour b.to S) h (none_few S due)
@@ -213,15 +221,18 @@ none_few S (b ∷ due) h = at (same_colour b.to S) h (none_few S due)
     at true h more = absurd cc
     at false h more = more h
 
+-- what follows for the acts after a failed block, by whether the block is for the side
 ends_more : (x none few rest end : Bool) → (if x then none else few) ≡ true → (none ≡ true → rest ≡ true)
     → (few ≡ true → end ≡ true) → (if x then rest else end) ≡ true
 ends_more true none few rest end h f g = f h
 ends_more false none few rest end h f g = g h
 
+-- a test that passes in both branches of an `if` passes
 chosen_by : (x a b : Bool) → (x ≡ true → a ≡ true) → b ≡ true → (if x then a else b) ≡ true
 chosen_by true a b f g = f refl
 chosen_by false a b f g = g
 
+-- after a failed write to a side no block is due for it
 failed_none : (r : Rules) (m : Match) (c S : Colour) → same_colour c S ≡ true
     → none_for S (blocks_from White (effect r m (FailsToWrite c)).to) ≡ true
 failed_none r m c S h1 = grind arith

@@ -22,9 +22,11 @@ ByBoard r played (Handshake c) = played ≡ []
 ByBoard r played (Setup c) = played ≡ []
 ByBoard r played _ = verdict r.start played ≡ None
 
+-- `ByBoard` of a match's moves and phase
 abbrev pub Judged : Rules → Match → Type 0
 Judged r m = ByBoard r m.played m.phase
 
+-- a match that is on has no verdict, or no move
 on_undecided : (r : Rules) (played : List Move) (p : Phase) → is_over p ≡ false → ByBoard r played p
     → Undecided r played
 on_undecided r played (Handshake c) on j = inl j
@@ -38,11 +40,13 @@ in_turn_undecided : (r : Rules) (played : List Move) (p : Phase) → in_turn p �
     → verdict r.start played ≡ None
 in_turn_undecided r played p h1 h2 = grind arith
 
+-- a match that ends by a fault, without a move or without a verdict, meets `ByBoard`
 faulted : (r : Rules) (played : List Move) (reason : Reason) → is_fault reason ≡ true → Undecided r played
     → ByBoard r played (Over reason)
 faulted r played (Faulted c fault) is h = h
 faulted r played reason is h = absurd cc
 
+-- so does one that ends for a reason that is no verdict, if the board has none
 stopped : (r : Rules) (played : List Move) (reason : Reason) → is_decided reason ≡ false
     → verdict r.start played ≡ None → ByBoard r played (Over reason)
 stopped r played (Decided v) is h = absurd cc
@@ -58,6 +62,7 @@ ended_judged r m reason goes j is fault = at (in_turn m.phase) refl
     at true on = stopped r m.played reason is (in_turn_undecided r m.played m.phase on j)
     at false off = faulted r m.played reason (fault off) (on_undecided r m.played m.phase goes j)
 
+-- an engine's line keeps `Judged`
 line_judged : (r : Rules) (S : Colour) (kind : LineKind) (moment : ℕ) (m : Match) → awaits_line m.phase S ≡ true
     → Judged r m → Judged r (line_row r m.phase kind moment m).after
 line_judged r S kind moment m aw j = line_cases r S kind moment m (λ e. Judged r e.after) aw (λ since. record {
@@ -82,6 +87,7 @@ line_judged r S kind moment m aw j = line_cases r S kind moment m (λ e. Judged 
     by : {p : Phase} → m.phase ≡ p → ByBoard r m.played p
     by e = subst (λ (q : Phase). ByBoard r m.played q) e j
 
+-- a silence keeps `Judged`
 silent_judged : (r : Rules) (S : Colour) (moment : ℕ) (m : Match) → awaits_line m.phase S ≡ true → Judged r m
     → Judged r (effect r m (Silent S moment)).after
 silent_judged r S moment m aw j = silence_cases r S moment m (λ e. Judged r e.after) (record {

@@ -25,12 +25,14 @@ any-flat_map t f [] = refl
 any-flat_map t f (x ∷ xs) = list_any-append t (f x) (flat_map f xs)
     ∙ ap (λ b. list_any t (f x) || b) (any-flat_map t f xs)
 
+-- no element passes a test that always fails
 any-none : {A : Type 0} (f : A → Bool) (xs : List A) → ((x : A) → f x ≡ false) → list_any f xs ≡ false
 any-none f [] h = refl
 any-none f (x ∷ xs) h = rw (h x) (any-none f xs h)
 
 -- ---- over squares
 
+-- some element of g 0 to g (n - 1) passes a test, if g k does for a number k below n
 any-from_below : (n : ℕ) (g : ℕ → ℕ) (t : ℕ → Bool) (k : ℕ) → k < n → t (g k) ≡ true
     → list_any t (from_below n g) ≡ true
 any-from_below zero g t k h e = absurd (omega arith)
@@ -60,21 +62,26 @@ pub record AllFound (p : Setup) (t : Move → Bool) (to : ℕ) : Type 0 where
   pub ends : (m : Move) → is_legal p m ≡ true → t m ≡ true → m.to ≡ to
   pub stays : (m : Move) → is_legal p m ≡ true → t m ≡ true → m.promotion ≡ None
 
+-- a move is legal and passes a test
 abbrev found : Setup → (Move → Bool) → Move → Bool
 found p t m = is_legal p m && t m
 
+-- a move is not found if it can't be both legal and pass
 not_found : (p : Setup) (t : Move → Bool) (m : Move) → (is_legal p m ≡ true → t m ≡ true → ⊥) → found p t m ≡ false
 not_found p t m h = false_from_ne_true _ (λ e. let both = and_parts _ _ e in h both.0 both.1)
 
+-- no move to another square is found
 elsewhere : (p : Setup) (t : Move → Bool) (to a b : ℕ) → AllFound p t to → b ≢ to → (k : Option Kind)
     → found p t (move_of a b k) ≡ false
 elsewhere p t to a b all away k = not_found p t (move_of a b k) (λ e f. away (all.ends (move_of a b k) e f))
 
+-- no promotion is found
 promoted : (p : Setup) (t : Move → Bool) (to a : ℕ) → AllFound p t to → (k : Kind)
     → found p t (move_of a to (Some k)) ≡ false
 promoted p t to a all k =
     not_found p t (move_of a to (Some k)) (λ e f. let none = all.stays (move_of a to (Some k)) e f in cc)
 
+-- of the moves between two squares the one without a promotion decides whether some is found
 between : (p : Setup) (t : Move → Bool) (to a : ℕ) → AllFound p t to
     → list_any (found p t) (map (move_of a to) promotions) ≡ (t (move_of a to None) && is_legal p (move_of a to None))
 between p t to a all =
@@ -90,6 +97,7 @@ between p t to a all =
     by_one : (x y : Bool) → ((x && y) || false) ≡ (y && x)
     by_one x y = grind arith
 
+-- none of the moves to another square is found
 none_elsewhere : (p : Setup) (t : Move → Bool) (to a b : ℕ) → AllFound p t to → b ≢ to
     → list_any (found p t) (map (move_of a b) promotions) ≡ false
 none_elsewhere p t to a b all away =

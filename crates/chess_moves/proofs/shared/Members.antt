@@ -14,6 +14,7 @@ filter_none p zero a h = refl
 filter_none p (suc n) a h =
     rw (h a (omega arith) (omega arith)) (filter_none p n (a + 1) (λ k l m. h k (omega arith) (omega arith)))
 
+-- two tests that agree on n numbers from a on choose the same of them
 filter_same : (p q : ℕ → Bool) (n a : ℕ) → ((k : ℕ) → a ≤ k → k < a + n → p k ≡ q k)
     → filter p (range_with_len a n) ≡ filter q (range_with_len a n)
 filter_same p q zero a h = refl

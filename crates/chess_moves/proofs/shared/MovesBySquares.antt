@@ -14,6 +14,7 @@ filter-flat_map q f [] = refl
 filter-flat_map q f (x ∷ xs) = filter-append q (f x) (flat_map f xs)
     ∙ ap (λ ys. filter q (f x) ++ ys) (filter-flat_map q f xs)
 
+-- the lists for each element, all empty, one after another are empty
 flat_map-empty : {A B : Type 0} (f : A → List B) (xs : List A) → ((x : A) → f x ≡ []) → flat_map f xs ≡ []
 flat_map-empty f [] h = refl
 flat_map-empty f (x ∷ xs) h = rw (h x) (flat_map-empty f xs h)
@@ -40,6 +41,7 @@ none_from p a n =
     (λ b. none_with p a b promotions
     (λ k. false_from_ne_true _ (λ e. both_ways _ n (own_man_moves p (move_of a b k) e))))
 
+-- the kinds to which a pawn promotes, in the order of the list of moves
 abbrev pub promoting : List (Option Kind)
 promoting = Some Queen ∷ Some Rook ∷ Some Bishop ∷ Some Knight ∷ []
 
@@ -51,6 +53,7 @@ all_promote p a b e =
     (λ h. both_ways _ (stays_below_last_rank p (move_of a b None) refl h) e) in
     rw none (refl {a = moves_with p a b promoting})
 
+-- no legal move names a promotion where the move would not promote
 not_promoted : (p : Setup) (a b : ℕ) (k : Kind) → would_promote p a b ≡ false → is_legal p (move_of a b (Some k)) ≡ false
 not_promoted p a b k n = false_from_ne_true _
     (λ h. both_ways _ n (promotes_on_last_rank p (move_of a b (Some k)) k refl h))
@@ -63,6 +66,7 @@ none_promotes p a b n =
     rw (not_promoted p a b Queen n, not_promoted p a b Rook n, not_promoted p a b Bishop n, not_promoted p a b Knight n)
     refl
 
+-- if the promotion with the index i gives a legal move, the ones before it give fewer moves than all
 with_more : (p : Setup) (a b : ℕ) (kinds : List (Option Kind)) (i : ℕ) (d : Option Kind) → i < length kinds
     → is_legal p (move_of a b (get_or kinds i d)) ≡ true
     → length (moves_with p a b (take i kinds)) < length (moves_with p a b kinds)

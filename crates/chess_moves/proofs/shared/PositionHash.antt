@@ -9,6 +9,7 @@ use Rattle.chess_moves.proofs.{Gathered.numbers, Gathered.gathered-more, shared.
 
 -- ---- lists
 
+-- exclusive or that begins with a is that of the numbers, joined with a
 xor_from : (a : ℕ) (ns : List ℕ) → fold bit_xor a ns ≡ bit_xor a (xor_of ns)
 xor_from a [] = sym (xor_zero_r a)
 xor_from a (n ∷ ns) = xor_from (bit_xor a n) ns ∙ xor_assoc a n (xor_of ns)
@@ -61,6 +62,7 @@ pub xor_end : (men : Men) (hash k : ℕ) → hash ≡ xor_of (flat_map (keys_on 
 unfolding men_keys squares
 xor_end men hash k e all = e ∙ ap (λ v. xor_of (flat_map (keys_on men) (numbers v))) all
 
+-- two functions that agree on n numbers from a on give the same lists, one after another
 same_lists : (f g : ℕ → List ℕ) (n a : ℕ) → ((k : ℕ) → a ≤ k → k < a + n → g k ≡ f k)
     → flat_map g (range_with_len a n) ≡ flat_map f (range_with_len a n)
 same_lists f g zero a same = refl
@@ -113,6 +115,7 @@ changed_at f g s d (suc n) a same e low high =
 
 -- ---- a write of one square
 
+-- a write to a square changes the hash of the pieces by as much as that square's own hash
 men_changed : (men : Men) (s d : ℕ) (o : Option Man) → length men ≡ 64 → s < 64
     → xor_of (square_keys s o) ≡ bit_xor (xor_of (square_keys s (man_at men s))) d
     → xor_of (men_keys (set men s o)) ≡ bit_xor (xor_of (men_keys men)) d

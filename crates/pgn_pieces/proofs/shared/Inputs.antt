@@ -11,6 +11,7 @@ pub nothing_read : (r : InputState) → HasRead false r r []
 nothing_read r =
     record { bytes = consumes_none r.known_bytes; failures = refl; ends = refl; silences = refl; at_end = λ e. absurd (cc) }
 
+-- a list whose length passes the test for 0 has the length 0
 is_none : (xs : List ℕ) → (length xs == 0) ≡ true → length xs ≡ 0
 is_none xs h = grind (arith, nat_tests, h)
 

@@ -34,9 +34,11 @@ pub named : {strict : Strictness} {text : List ℕ} {at : ℕ} {s : State} {r : 
     → (j : IsJudged strict text at s r) → names_of j.tokens ≡ names_at text at
 named {strict} {text} j = ap names_of (split_read text j.split)
 
+-- if a game was read and judged without a fault, it ends after `at` and within `total` bytes
 abbrev EndsIn : ℕ → ℕ → Result (Option PgnEnd) GameFault → Type 0
 EndsIn total at r = IfOk r (λ o. IfSome o (λ e. (at < e.offset) × (e.offset ≤ total)))
 
+-- a game that is judged ends where the game that was read ends
 judged_end : (strict : Strictness) (variation : PgnEnd → Option PgnFault) (unknown : Option ℕ)
     (tag : Option ResultTag) (verdict : Option Verdict) (total at : ℕ) (r : Result (Option PgnEnd) PgnFault)
     → IfOk r (λ o. IfSome o (λ e. (at < e.offset) × (e.offset ≤ total)))
@@ -50,6 +52,7 @@ judged_end strict variation unknown tag verdict total at (Ok (Some end)) h =
     by_fault None = h
     by_fault (Some f) = tt
 
+-- a game that is judged from `at` on ends after `at` and in the text
 ends : (strict : Strictness) (text : List ℕ) (at : ℕ) → at ≤ length text
     → EndsIn (length text) at (judged_at strict text at)
 ends strict text at h =
@@ -138,6 +141,7 @@ are_reports strict start text = are_reports_of false strict start text
 
 -- ---- pieces
 
+-- the reports on a piece are those that `AreReportsIn` asks for
 reports_are_in : (strict : Strictness) (piece : Piece)
     → AreReportsIn strict piece.offset piece.bytes (placed_in strict piece)
 reports_are_in strict piece = by_test (nat_le (length piece.bytes) PIECE_LEN)
@@ -149,6 +153,7 @@ reports_are_in strict piece = by_test (nat_le (length piece.bytes) PIECE_LEN)
     by_test true = are_reports_of true strict piece.offset piece.bytes
     by_test false = refl
 
+-- the reports on pieces, one after another from `offset` on, are those that `AreCollectionReports` asks for
 are_all : (strict : Strictness) (offset : ℕ) (all : List (List ℕ))
     → AreCollectionReports strict offset all (flat_map (placed_in strict) (with_offsets offset all))
 are_all strict offset [] = no_piece

@@ -19,6 +19,7 @@ use Rattle.pgn_verifier.specs.laws.Reasons.{string_reason, value_reason, name_re
 inside_is : {c d : ℕ} {xs ys : List ℕ} → c ∷ xs ≡ d ∷ ys → xs ≡ ys
 inside_is e = cc (e)
 
+-- of a tag that has a name by the definition a name is read
 has_name : (text : List ℕ) → HasName (91 ∷ text) → is_some (name_at (after_gap text)) ≡ true
 has_name text (gap, c, rest, h, first, is) =
     ap (λ xs. is_some (name_at (after_gap xs))) (inside_is is) ∙ name_comes gap c rest h first
@@ -44,6 +45,7 @@ opened text rest (name, opening, o, is) =
       quoted = read.quoted;
     }
 
+-- of a text that has a string by the definition a string is read
 has_string : (text : List ℕ) → HasString text → is_some (string_at text) ≡ true
 has_string text (string, rest, h, is) = ap (λ xs. is_some (string_at xs)) is ∙ ap is_some (string_read h rest)
 
@@ -64,6 +66,7 @@ name_found text found h = by_name found.0 read.some read.named (name_after_gap t
 
 -- ---- the reason that is found is one
 
+-- the reason for a tag that opens well is that of its string
 by_string : (text rest : List ℕ) → HasOpening text rest → IsTagReason text (Some (string_reason rest))
 by_string text rest o = by_found (string_at rest) refl (string_leaves rest)
   where
@@ -73,6 +76,7 @@ by_string text rest o = by_found (string_at rest) refl (string_leaves rest)
     by_found None e leaves = not_closed o (λ h. (let some : false ≡ true = sym (ap is_some e) ∙ has_string rest h in absurd (cc)))
     by_found (Some found) e leaves = no_bracket o (found.0, found.1, leaves.0, leaves.1)
 
+-- the reason for a tag with a name is that of the value after it
 by_value : (text : List ℕ) (found : List ℕ × List ℕ) → name_at (after_gap text) ≡ Some found
     → IsTagReason (91 ∷ text) (Some (value_reason found.1))
 by_value text found h = by_quote (after_next 34 found.1) refl
@@ -90,6 +94,7 @@ by_value text found h = by_quote (after_next 34 found.1) refl
         let o = opening_is text found rest h e in
         by_string (91 ∷ text) rest (found.0, o.0, o.1, o.2)
 
+-- the reason for a tag is that of its name and what follows
 by_name : (text : List ℕ) → IsTagReason (91 ∷ text) (Some (name_reason text))
 by_name text = by_found (name_at (after_gap text)) refl
   where

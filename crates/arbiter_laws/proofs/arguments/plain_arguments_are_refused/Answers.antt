@@ -1,3 +1,5 @@
+-- The grammar refuses `--help`, `--version` and a bare `match` as stated; each is written out, so this is computed
+-- (Literals).
 use Rattle.arbiter_laws.proofs.Literals.{help_refused, version_refused, bare_match_refused}
 use Rattle.arbiter_laws.proofs.arguments.plain_arguments_are_refused.Goals as goal
 

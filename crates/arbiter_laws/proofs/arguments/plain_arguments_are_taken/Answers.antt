@@ -1,3 +1,5 @@
+-- The grammar takes no arguments, `session` and `verify`, for the stated command; each is written out, so this is
+-- computed (Literals).
 use Rattle.arbiter_laws.proofs.Literals.{none_asked, session_asked, verify_asked, verify_bare}
 use Rattle.arbiter_laws.proofs.arguments.plain_arguments_are_taken.Goals as goal
 

@@ -1,3 +1,5 @@
+-- The loop's invariant: all bytes before `end` pass the test, so with those that pass after it they are all that pass
+-- at the front.
 use Rattle.std.proofs.Common.{◌≡◌, ◌+◌, ◌-◌, ◌<◌, ◌≤◌, ℕ, Bool, length, drop}
 use Rattle.std.specs.List.{prefix_len}
 use Rattle.byte_devices.proofs.bytes.split_while.Given as goal

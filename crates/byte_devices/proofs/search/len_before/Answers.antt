@@ -1,4 +1,4 @@
--- One of three alike is that one (Blocks.before_one).
+-- Searching for a byte is searching for any of three that are all this byte (Blocks.before_one).
 use Rattle.std.proofs.Common.{◌∙◌}
 use Rattle.byte_devices.proofs.Blocks.{before_one}
 use Rattle.byte_devices.proofs.search.len_before.Goals as goal

@@ -1,9 +1,9 @@
+-- The loop's invariant: none of the three bytes is between `from` and `offset`.
 use Rattle.std.proofs.Common.{◌≡◌, ◌≤◌, ◌+◌, ◌-◌, length, drop}
 use Rattle.std.specs.List.{position_or_len}
 use Rattle.byte_devices.proofs.Blocks.{is_any}
 use Rattle.byte_devices.proofs.search.offset_by_bytes.Given as goal
 
--- so far there is none of the three
 abbrev pub invariant-loop-offset : goal.invariant-loop-offset
 invariant-loop-offset l = record {
   within : l.offset ≤ length l.bytes;

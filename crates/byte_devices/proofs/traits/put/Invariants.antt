@@ -1,3 +1,4 @@
+-- The loop's invariant: the writer took the first `at` bytes of the text.
 use Rattle.std.proofs.Common.{length, ◌-◌, ◌≤◌, take}
 use Rattle.byte_devices.specs.Devices.{Took}
 use Rattle.byte_devices.proofs.traits.put.Given as goal

@@ -1,3 +1,5 @@
+-- All of the text was put and then flushed (flush_on of Devices); or putting it failed, and a beginning was put
+-- (sends_exit).
 use Rattle.byte_devices.proofs.shared.Devices.{flush_on, sends_exit}
 use Rattle.byte_devices.proofs.traits.send.Goals as goal
 

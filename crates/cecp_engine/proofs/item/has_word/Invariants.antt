@@ -1,3 +1,5 @@
+-- The loop's invariant: whether the word is in the text depends only on the bytes from `from` on, where the piece
+-- begins that is being looked through; `at` is in that piece or at its end.
 use Rattle.std.proofs.Common.{length, drop, take, ◌-◌, ◌≡◌, ◌≤◌, bytes_eq}
 use Rattle.std.specs.List.{list_any, slice_split}
 use Rattle.cecp_engine.proofs.Pieces.{is_comma_or_blank, has_word_after}

@@ -1,3 +1,5 @@
+-- A level that was parsed, or whose numbers are in range, is parsed back from its text (LevelRanges.read_back,
+-- LevelTexts.level_back).
 use Rattle.cecp_engine.proofs.{LevelRanges.read_back, LevelTexts.level_back}
 use Rattle.cecp_engine.proofs.laws.levels_are_parsed_back.Goals as goal
 

@@ -1,3 +1,4 @@
+-- The exit status is that of what `write_help` returned.
 use Rattle.std.proofs.Common.{subst, sym}
 use Rattle.chess_arbiter.specs.Program.{WritesHelp}
 use Rattle.chess_arbiter.proofs.program.help.Goals as goal

@@ -1,4 +1,4 @@
--- After the logs nothing was written, or the report of the fault.
+-- What a match leaves on the error output are its logs, and then nothing, or the report of its fault (Reporting).
 use Rattle.std.proofs.Common.{Ok, Err, refl}
 use Rattle.chess_arbiter.proofs.Reporting.{reports_nothing}
 use Rattle.chess_arbiter.proofs.program.matched.Goals as goal

@@ -1,4 +1,5 @@
--- Only in a match steps pass at the host.
+-- Each kind of command is run by the one function whose clause says what it does. Only a match takes steps at the host:
+-- for the others there are none (HostSteps.steps_none).
 use Rattle.std.proofs.Common.{rules, [], Ok, refl}
 use Rattle.chess_arbiter.proofs.HostSteps.{steps_none}
 use Rattle.chess_arbiter.proofs.program.run_program.Goals as goal

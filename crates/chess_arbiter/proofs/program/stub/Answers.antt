@@ -1,3 +1,5 @@
+-- The stub ran from the state that its arguments give; the exit status is 0, or 1 if a call of a device failed
+-- (Serving.server_ran, failed_status).
 use Rattle.std.proofs.Common.{Ok, Err, refl}
 use Rattle.stub_engine.specs.Stub.{waiting, stub_response}
 use Rattle.chess_arbiter.proofs.Serving.{failed_status, server_ran}

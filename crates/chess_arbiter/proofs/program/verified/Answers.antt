@@ -1,3 +1,4 @@
+-- The exit status is that of what `verify_as` found, or of its fault.
 use Rattle.std.proofs.Common.{Ok, Err}
 use Rattle.chess_arbiter.proofs.program.verified.Goals as goal
 

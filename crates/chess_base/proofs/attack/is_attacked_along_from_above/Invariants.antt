@@ -1,3 +1,4 @@
+-- The loop's invariant: on the line of b all squares above b up to `number` are empty (HasRisen of Rays).
 use Rattle.std.proofs.Common.{◌-◌}
 use Rattle.chess_base.proofs.Rays.{HasRisen}
 use Rattle.chess_base.proofs.attack.is_attacked_along_from_above.Given as goal

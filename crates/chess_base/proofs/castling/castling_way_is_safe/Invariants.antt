@@ -1,3 +1,4 @@
+-- The loop's invariant: each square before `number` is off the king's way, or not attacked.
 use Rattle.std.proofs.Common.{◌≡◌, ℕ, ◌<◌, true, not, ◌||◌}
 use Rattle.chess_base.specs.{Men.other, Attacks.is_attacked, Castling.is_on_way}
 use Rattle.chess_base.proofs.castling.castling_way_is_safe.Given as goal

@@ -1,3 +1,4 @@
+-- The steps of a move give the pieces after it, and the steps back those before it, square by square (MenAfter).
 use Rattle.chess_base.proofs.shared.MenAfter.{men_after_by_steps, men_before_by_steps}
 use Rattle.chess_base.proofs.laws.moves_go_in_steps.Goals as goal
 

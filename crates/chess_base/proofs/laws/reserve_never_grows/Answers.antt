@@ -1,3 +1,4 @@
+-- No legal move raises the reserve, and a capture or pawn move lowers it for good (ReserveAfter).
 use Rattle.chess_base.proofs.ReserveAfter.{never_grows, falls_for_good}
 use Rattle.chess_base.proofs.laws.reserve_never_grows.Goals as goal
 

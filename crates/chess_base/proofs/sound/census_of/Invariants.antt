@@ -1,3 +1,4 @@
+-- The loop's invariant: the census counts the pieces and kings on the squares so far.
 use Rattle.std.proofs.Common.{take}
 use Rattle.chess_base.specs.{declared.man.Colour.TheVariants.White, declared.man.Colour.TheVariants.Black, ties.Tallies.IsTally}
 use Rattle.chess_base.proofs.sound.census_of.Given as goal

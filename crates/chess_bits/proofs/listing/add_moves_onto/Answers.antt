@@ -1,3 +1,4 @@
+-- The list has room for each move, since it has room for all of them (room_onto of Listed).
 use Rattle.std.proofs.Common.{◌++◌, ◌≤◌, None, length, map, lit<, length-append, arith}
 use Rattle.std.proofs.lemmas.List.{length-map}
 use Rattle.chess_base.specs.MoveList.{move_of}

@@ -1,9 +1,9 @@
+-- The loop's invariant: the moves in the list, and those to the squares in `rest`, are the moves to all the squares.
 use Rattle.std.proofs.Common.{◌≡◌, ◌++◌, None, length, map}
 use Rattle.chess_base.specs.MoveList.{move_of}
 use Rattle.chess_moves.specs.Sets.{members}
 use Rattle.chess_bits.proofs.listing.add_moves_onto.Given as goal
 
--- the moves so far and those to the squares that are left are all
 abbrev pub invariant-loop-to : goal.invariant-loop-to
 invariant-loop-to l = l.list.items ++ map (λ b. move_of l.from b None) (members l.rest) ≡ l.initial.list.items
     ++ map (λ b. move_of l.from b None) (members l.fn.ends)

@@ -1,3 +1,4 @@
+-- The list has room for each move, since it has room for all of them (room_for_each of Listed).
 use Rattle.std.proofs.Common.{lit<}
 use Rattle.chess_base.specs.MoveList.{move_of}
 use Rattle.chess_bits.proofs.Listed.{room_for_each}

@@ -1,3 +1,4 @@
+-- Against the way of one colour is the way of the other, so this is `ahead` of the other colour.
 use Rattle.std.proofs.Common.{◌≡◌, ℕ, ◌<◌, ◌≤◌, refl, ◌∙◌, le-leb}
 use Rattle.chess_base.specs.{declared.man.Colour.Colour, declared.man.Colour.TheVariants.White, declared.man.Colour.TheVariants.Black, Men.forward, Men.other}
 use Rattle.chess_bits.specs.ties.Goes.{IsAhead}

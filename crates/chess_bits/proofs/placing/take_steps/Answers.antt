@@ -1,3 +1,4 @@
+-- The pieces after the steps are those after the four writes, in the same order (men_stepped-written of Writes).
 use Rattle.std.proofs.Common.{sym, arith}
 use Rattle.chess_base.proofs.shared.Writes.{men_stepped-written}
 use Rattle.chess_bits.proofs.placing.take_steps.Goals as goal

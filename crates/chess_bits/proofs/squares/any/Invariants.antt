@@ -1,9 +1,9 @@
+-- The loop's invariant: no square so far passes the test, so some square of the set does exactly if one in `rest` does.
 use Rattle.std.proofs.Common.{◌≡◌, ℕ, Bool, ◌<◌, true, length}
 use Rattle.std.specs.List.{list_any}
 use Rattle.chess_moves.specs.Sets.{contains, members}
 use Rattle.chess_bits.proofs.squares.any.Given as goal
 
--- none of the squares so far passes, and those that are left are of the set
 abbrev pub invariant-loop-square : goal.invariant-loop-square
 invariant-loop-square g l = record {
   within : (k : ℕ) → k < 64 → contains l.rest k ≡ true → contains l.fn.set k ≡ true;

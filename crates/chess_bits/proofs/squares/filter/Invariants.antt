@@ -1,8 +1,9 @@
+-- The loop's invariant: the squares in `rest` are of the set and not chosen yet; each of its other squares is chosen as
+-- the test answered for it.
 use Rattle.std.proofs.Common.{◌≡◌, ℕ, ◌<◌, true, false, length}
 use Rattle.chess_moves.specs.Sets.{contains, members}
 use Rattle.chess_bits.proofs.squares.filter.Given as goal
 
--- the squares that are left are of the set and not chosen yet; what was asked of the others is known
 abbrev pub invariant-loop-square : goal.invariant-loop-square
 invariant-loop-square g l = record {
   within : (k : ℕ) → k < 64 → contains l.rest k ≡ true → contains l.fn.set k ≡ true;

@@ -1,3 +1,4 @@
+-- The loop's invariant: the set has the squares of the shape that are before `number`.
 use Rattle.std.proofs.Common.{◌≡◌, ℕ, ◌&&◌, nat_lt}
 use Rattle.chess_moves.specs.Sets.{contains}
 use Rattle.chess_bits.specs.ties.Shapes.{in_shape}

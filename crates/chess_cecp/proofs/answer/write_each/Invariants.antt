@@ -1,3 +1,4 @@
+-- The loop's invariant: each move so far was appended after a space, with at most 6 bytes for each.
 use Rattle.std.proofs.Common.{◌≡◌, ◌+◌, ◌*◌, ◌≤◌, ◌++◌, ◌∷◌, take, flat_map}
 use Rattle.arrayvec.specs.ArrayVec.{array_vec_len}
 use Rattle.byte_devices.specs.Bytes.{space}

@@ -1,9 +1,9 @@
+-- The loop's invariant: the lines so far were answered, and with none of them the server ended.
 use Rattle.std.proofs.Common.{List, ℕ}
 use Rattle.text_lines.specs.{Lines.LineSeen, Next.work}
 use Rattle.chess_cecp.proofs.RunLemmas.{SoFar}
 use Rattle.chess_cecp.proofs.run.serve_lines.Given as goal
 
--- the lines so far were answered, and the server ended with none of them
 abbrev pub invariant-loop-server : goal.invariant-loop-server
 invariant-loop-server g l =
     let input = g.R.Input.seen in

@@ -1,3 +1,5 @@
+-- A FEN that was written is read back (the law that is called), so `setboard` of a shown FEN begins at the position
+-- shown (ShownFens).
 use Rattle.chess_cecp_laws.proofs.ShownFens.{shown_fens_are_set}
 use Rattle.chess_cecp_laws.proofs.game.shown_fens_are_set.Goals as goal
 

@@ -1,3 +1,5 @@
+-- Equal texts of one variant are FENs of one position, since each is read back as its position; equal positions have
+-- equal texts (EqualFens).
 use Rattle.std.proofs.Common.{IsTrue, refl, sym, subst, ◌&&◌, nat_eq}
 use Rattle.std.proofs.{lemmas.Bool.and_parts, lemmas.Cmp.nat_list_eq_equiv}
 use Rattle.std.specs.Cmp.Lexicographic.{pointwise, same_text}

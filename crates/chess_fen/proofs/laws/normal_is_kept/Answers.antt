@@ -1,3 +1,4 @@
+-- In normal chess FENs are read and written as by the definitions for normal chess alone (NormalRead, NormalWritten).
 use Rattle.chess_fen.proofs.{NormalRead.reading_kept, NormalWritten.fen_kept}
 use Rattle.chess_fen.proofs.laws.normal_is_kept.Goals as goal
 

@@ -1,3 +1,4 @@
+-- In Chess960 each right's rook is named by the stated letters and no others (NamedRooks).
 use Rattle.chess_fen.proofs.NamedRooks.{rights_named}
 use Rattle.chess_fen.proofs.laws.rights_are_named.Goals as goal
 

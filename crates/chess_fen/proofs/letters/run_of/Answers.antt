@@ -1,3 +1,4 @@
+-- The table agrees with the definition at each of the 256 bytes (RunTable).
 use Rattle.std.proofs.Common.{arith}
 use Rattle.chess_fen.proofs.RunTable.{run_stands, run_some}
 use Rattle.chess_fen.proofs.letters.run_of.Goals as goal

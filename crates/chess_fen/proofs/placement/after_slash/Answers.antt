@@ -1,3 +1,4 @@
+-- A text that begins with another byte than `/` has no slash to read (no_stroke of proofs/Placing).
 use Rattle.chess_fen.proofs.Placing.{no_stroke}
 use Rattle.chess_fen.proofs.placement.after_slash.Goals as goal
 

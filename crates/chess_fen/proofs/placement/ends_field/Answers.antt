@@ -1,3 +1,4 @@
+-- A text that isn't empty ends the field exactly if its first byte is a space (ends_at of proofs/Placing).
 use Rattle.chess_fen.proofs.Placing.{ends_at}
 use Rattle.chess_fen.proofs.placement.ends_field.Goals as goal
 

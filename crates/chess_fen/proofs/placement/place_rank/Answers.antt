@@ -1,3 +1,4 @@
+-- The eight squares of the rank are still empty (rank_empty of proofs/Placing).
 use Rattle.chess_fen.proofs.Placing.{rank_empty}
 use Rattle.chess_fen.proofs.placement.place_rank.Goals as goal
 

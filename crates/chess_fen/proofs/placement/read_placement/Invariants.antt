@@ -1,3 +1,5 @@
+-- The loop's invariant: with what the rest of the text denotes, the ranks so far give the whole board; the others are
+-- still empty (Placing).
 use Rattle.chess_fen.proofs.Placing.{Placing}
 use Rattle.chess_fen.proofs.placement.read_placement.Given as goal
 

@@ -1,3 +1,4 @@
+-- What was read is judged as the definition judges it, also where a right is named wrongly (RightsAlike).
 use Rattle.chess_fen.proofs.RightsAlike.{judged-read, refused-read}
 use Rattle.chess_fen.proofs.reading.denoted_position.Goals as goal
 

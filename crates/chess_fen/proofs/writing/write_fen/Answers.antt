@@ -1,3 +1,4 @@
+-- The parts were put one after the other, and the definition groups them otherwise.
 use Rattle.std.proofs.Common.{append_assoc}
 use Rattle.chess_fen.proofs.writing.write_fen.Goals as goal
 

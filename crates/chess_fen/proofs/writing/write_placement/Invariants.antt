@@ -1,9 +1,9 @@
+-- The loop's invariant: the text of the ranks that are left completes what was put; there is room for it.
 use Rattle.std.proofs.Common.{◌≡◌, ◌+◌, ◌*◌, ◌≤◌, ◌++◌}
 use Rattle.arrayvec.specs.ArrayVec.{array_vec_len}
 use Rattle.chess_fen.specs.{Writing.placement_text, ties.Loops.ranks_text}
 use Rattle.chess_fen.proofs.writing.write_placement.Given as goal
 
--- what is left completes the text
 abbrev pub invariant-loop-rank : goal.invariant-loop-rank
 invariant-loop-rank l =
     record {

@@ -1,9 +1,10 @@
+-- The loop's invariant: the text of the squares that are left, after a run of `empty` squares, completes what was put;
+-- there is room for it.
 use Rattle.std.proofs.Common.{◌≡◌, ◌+◌, ◌≤◌, ◌++◌, drop}
 use Rattle.arrayvec.specs.ArrayVec.{array_vec_len}
 use Rattle.chess_fen.specs.{Writing.fen_rank, ties.Loops.row_text}
 use Rattle.chess_fen.proofs.writing.write_rank.Given as goal
 
--- what is left completes the text
 abbrev pub invariant-loop-square : goal.invariant-loop-square
 invariant-loop-square l =
     record {

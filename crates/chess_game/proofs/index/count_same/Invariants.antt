@@ -1,3 +1,4 @@
+-- The loop's invariant: `at` is at a position of the bucket, and no later one is the same as `now` (IsAlong of Walk).
 use Rattle.chess_game.proofs.Walk.{IsAlong}
 use Rattle.chess_game.proofs.index.count_same.Given as goal
 

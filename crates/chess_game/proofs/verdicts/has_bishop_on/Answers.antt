@@ -1,3 +1,4 @@
+-- A bishop on some square of that colour is one on some number below 64 (some_square_is of Squares).
 use Rattle.std.proofs.Common.{◌≡◌, ◌∙◌, sym, arith}
 use Rattle.chess_game.specs.Ends.{has_bishop_on}
 use Rattle.chess_base.proofs.shared.Squares.{some_square_is}

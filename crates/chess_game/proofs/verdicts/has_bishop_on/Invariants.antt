@@ -1,3 +1,4 @@
+-- The loop's invariant: `is_found` is whether such a bishop is on a square before `number`.
 use Rattle.std.proofs.Common.{◌≡◌, ◌+◌, ◌%◌, ◌==◌, ◌&&◌}
 use Rattle.chess_base.specs.{declared.man.Kind.TheVariants.Bishop, Men.man_at, Squares.file, Squares.rank, shared.Below.some_below}
 use Rattle.chess_game.specs.Ends.{is_kind}

@@ -1,3 +1,5 @@
+-- The loop's invariant: the steps at the table are those of a match that has come so far (OnTheWay); nothing is
+-- declared in its game, and no block waits to be sent.
 use Rattle.std.proofs.Common.{◌≡◌, [], None}
 use Rattle.chess_base.specs.ByColour.{of_colour}
 use Rattle.chess_match.proofs.OnTheWay.{OnTheWay, phase_now, rules_in, steps_left}

@@ -1,4 +1,4 @@
--- White's block, and then Black's.
+-- White's last lines are noted and sent, and then Black's; what passes for both is what passes for one after the other.
 use Rattle.std.proofs.Common.{◌≡◌, ◌<◌, length, true}
 use Rattle.chess_base.specs.ByColour.{by_colour}
 use Rattle.chess_match.proofs.{Delivers.both_sides, Passings.passed_more}

@@ -1,4 +1,4 @@
--- A line, a silence, the end, or a read that failed.
+-- Each case gives the event that was taken: a line, a silence, the output's end, or a read that failed (Takings).
 use Rattle.std.proofs.Common.{◌∷◌, [], ℕ, Bool, Option, Ok, Some, refl, ap, sym, subst, ◌∙◌, ◌<◌, is_some}
 use Rattle.chess_base.proofs.shared.Men.{same_colour-self}
 use Rattle.chess_match.specs.{Acts.Happens, Notes.Happened, Run.text_read, ties.Driving.after_line, ties.Driving.after_silence, ties.Represents.nothing_said}

@@ -1,4 +1,4 @@
--- What is not empty is noted, and then sent.
+-- An empty text is neither noted nor sent. Any other is noted first, and then sent (Passings).
 use Rattle.std.proofs.Common.{◌∷◌, [], Bool, false, subst, sym}
 use Rattle.chess_match.specs.Table.{Does, Passes, sending}
 use Rattle.chess_match.proofs.{Due.is_nil, Due.is_some_text, Passings.given_lines, Passings.given_nothing}

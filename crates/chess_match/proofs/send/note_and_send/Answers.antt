@@ -1,4 +1,5 @@
--- The answers wait, and the rest of the block is put after them.
+-- What is sent are the answers that wait, and after them the rest of the block: together the lines that are due
+-- (Sends).
 use Rattle.std.proofs.Common.{◌++◌, List, ℕ, ap, sym, ◌∙◌}
 use Rattle.chess_match.specs.{Lines.bytes_of, ties.Represents.after_answers}
 use Rattle.chess_match.proofs.{Due.some_lines, Sends.given_bytes}

@@ -1,3 +1,4 @@
+-- Each item of a `feature` line is answered, line by line; the names are computed (AnswerLaw).
 use Rattle.chess_match_laws.proofs.AnswerLaw.{items_are_answered, names_are_known}
 use Rattle.chess_match_laws.proofs.handshakes.features_are_answered.Goals as goal
 

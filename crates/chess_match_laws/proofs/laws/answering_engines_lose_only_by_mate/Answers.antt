@@ -1,3 +1,4 @@
+-- An engine that answers has no fault, and loses only by mate (Answering).
 use Rattle.chess_match_laws.proofs.Answering.{answering_engines_are_blameless}
 use Rattle.chess_match_laws.proofs.laws.answering_engines_lose_only_by_mate.Goals as goal
 

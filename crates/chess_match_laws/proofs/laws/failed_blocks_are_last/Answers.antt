@@ -1,3 +1,4 @@
+-- After a block that could not be sent to a side, nothing is sent to it (BrokenLaw).
 use Rattle.chess_match_laws.proofs.BrokenLaw.{failed_blocks_are_last, one_block_fails, write_faults_are_of_blocks}
 use Rattle.chess_match_laws.proofs.laws.failed_blocks_are_last.Goals as goal
 

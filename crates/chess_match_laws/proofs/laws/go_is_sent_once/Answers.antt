@@ -1,3 +1,5 @@
+-- Each engine is sent `go` once, with the opening of its first turn: at each moment (GoLaw), and so in the whole match
+-- (in_each of Points).
 use Rattle.chess_match_laws.proofs.{GoLaw.go_is_sent_once, GoLaw.was_sent_go, Points.in_each}
 use Rattle.chess_match_laws.specs.Rows.{GoIsSentOnce}
 use Rattle.chess_match_laws.proofs.laws.go_is_sent_once.Goals as goal

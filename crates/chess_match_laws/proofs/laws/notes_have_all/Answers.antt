@@ -1,3 +1,4 @@
+-- The notes have all events, all lines sent and read, and all moments, in order (NotesLaw).
 use Rattle.chess_match_laws.proofs.NotesLaw.{all_events, all_lines, all_lines_read, all_moments, in_order}
 use Rattle.chess_match_laws.proofs.laws.notes_have_all.Goals as goal
 

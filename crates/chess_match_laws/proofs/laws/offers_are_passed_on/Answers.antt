@@ -1,3 +1,4 @@
+-- An open offer was passed on (PassingLaw), and `draw` is sent only where the other side offers one (OfferedLaw).
 use Rattle.chess_match_laws.proofs.{OfferedLaw.draws_are_offered, PassingLaw.draws_are_few, PassingLaw.offers_are_passed_on}
 use Rattle.chess_match_laws.proofs.laws.offers_are_passed_on.Goals as goal
 

@@ -1,3 +1,5 @@
+-- Silences come only where the rules ask for them, and end a match exactly if the side is beyond its limit
+-- (proofs/Silences).
 use Rattle.chess_match_laws.proofs.Silences.{silences_are_asked_for, silences_change_nothing, silences_end_matches}
 use Rattle.chess_match_laws.proofs.laws.silences_end_matches.Goals as goal
 

@@ -1,3 +1,4 @@
+-- Each turn is opened once: at each moment (OpeningLaw), and so in the whole match (in_each of Points).
 use Rattle.chess_match_laws.specs.Rows.{TurnsAreOpenedOnce}
 use Rattle.chess_match_laws.proofs.{OpeningLaw.turns_are_opened_once, Points.in_each}
 use Rattle.chess_match_laws.proofs.laws.turns_are_opened_once.Goals as goal

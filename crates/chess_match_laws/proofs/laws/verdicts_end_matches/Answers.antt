@@ -1,3 +1,4 @@
+-- A match ends at a verdict of the board and has its outcome (VerdictLaw; Verdicts of chess_match).
 use Rattle.chess_match_laws.proofs.VerdictLaw.{decided_by_the_board, outcomes_are_of_the_game}
 use Rattle.chess_match.proofs.shared.Verdicts.{verdicts_end_matches}
 use Rattle.chess_match_laws.proofs.laws.verdicts_end_matches.Goals as goal

@@ -1,3 +1,4 @@
+-- Lines that say nothing are ignored, up to the 10,000th of a setup or turn (IgnoredLaw).
 use Rattle.chess_match_laws.proofs.IgnoredLaw.{other_lines_are_ignored}
 use Rattle.chess_match_laws.proofs.lines.other_lines_are_ignored.Goals as goal
 

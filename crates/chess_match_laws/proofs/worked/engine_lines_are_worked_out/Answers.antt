@@ -1,3 +1,4 @@
+-- What some lines of engines say, by computation (WorkedLines).
 use Rattle.chess_match_laws.proofs.WorkedLines.{features_are_on, items_are_read, lines_say}
 use Rattle.chess_match_laws.proofs.worked.engine_lines_are_worked_out.Goals as goal
 

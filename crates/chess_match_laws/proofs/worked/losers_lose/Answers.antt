@@ -1,3 +1,4 @@
+-- Who loses for which reason, and the comments on it, by computation (WorkedLines).
 use Rattle.chess_match_laws.proofs.WorkedLines.{ends_are_worded, losers_lose}
 use Rattle.chess_match_laws.proofs.worked.losers_lose.Goals as goal
 

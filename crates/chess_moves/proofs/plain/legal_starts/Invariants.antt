@@ -1,3 +1,4 @@
+-- The loop's invariant: the set has the squares before `number` from which the move is legal.
 use Rattle.std.proofs.Common.{◌≡◌, ℕ, ◌&&◌, None, nat_lt}
 use Rattle.chess_base.specs.{Men.man_at, Men.is_man, MoveList.move_of, Moves.is_legal}
 use Rattle.chess_moves.specs.Sets.{contains}

@@ -1,3 +1,4 @@
+-- The loop's invariant: the tags from `offset` on end where those from `at` on end (PassesTags of GameEnds).
 use Rattle.std.proofs.Common.{length, ◌-◌}
 use Rattle.chess_pgn.proofs.GameEnds.{PassesTags}
 use Rattle.chess_pgn.proofs.game_ends.after_tags.Given as goal

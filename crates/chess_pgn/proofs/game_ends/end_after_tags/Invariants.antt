@@ -1,3 +1,4 @@
+-- The loop's invariant: the first end from `offset` on is the first one from `at` on (Seeks of GameEnds).
 use Rattle.std.proofs.Common.{length, ◌-◌}
 use Rattle.chess_pgn.proofs.GameEnds.{Seeks}
 use Rattle.chess_pgn.proofs.game_ends.end_after_tags.Given as goal

@@ -1,3 +1,5 @@
+-- The loop's invariant: the last tag of this name from `offset` on, or else `last`, is the last one from `at` on (Reads
+-- of LastTagReads).
 use Rattle.std.proofs.Common.{length, ◌-◌}
 use Rattle.chess_pgn.proofs.LastTagReads.{Reads}
 use Rattle.chess_pgn.proofs.last_tag.last_tag.Given as goal

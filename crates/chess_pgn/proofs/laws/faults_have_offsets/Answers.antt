@@ -1,3 +1,4 @@
+-- A fault's offset is in the text and not before where reading began (FaultPlaces.fault_in_place).
 use Rattle.chess_pgn.proofs.FaultPlaces.{fault_in_place}
 use Rattle.chess_pgn.proofs.laws.faults_have_offsets.Goals as goal
 

@@ -1,3 +1,5 @@
+-- The loop's invariant: reading on from `offset` gives what reading from `at` gives, and the token there is no move
+-- that the game plays (ReadsWords of GameReads).
 use Rattle.std.proofs.Common.{length, ◌-◌}
 use Rattle.chess_pgn.proofs.GameReads.{ReadsWords}
 use Rattle.chess_pgn.proofs.read.read_pgn.Given as goal

@@ -1,3 +1,4 @@
+-- The loop's invariant: the gap that is left to skip ends where the whole gap ends.
 use Rattle.std.proofs.Common.{◌≡◌, length, false}
 use Rattle.chess_pgn.specs.{Tokens.after_gap, shared.Gaps.gap_left}
 use Rattle.chess_pgn.proofs.skips.after_gap.Given as goal

@@ -1,3 +1,4 @@
+-- The loop's invariant: the string that goes on from `offset`, with the bytes before it, is the whole string.
 use Rattle.std.proofs.Common.{◌≡◌, ◌-◌, length, drop, take}
 use Rattle.chess_pgn.specs.Tokens.{onto, string_at}
 use Rattle.chess_pgn.proofs.Strings.{string_after}

@@ -1,3 +1,4 @@
+-- The loop's invariant: the tags from `offset` on are those from `at` on (Reads of TagsLeft).
 use Rattle.std.proofs.Common.{length, ◌-◌}
 use Rattle.chess_pgn.proofs.TagsLeft.{Reads}
 use Rattle.chess_pgn.proofs.tag_list.next_tag.Given as goal

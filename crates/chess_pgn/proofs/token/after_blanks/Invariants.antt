@@ -1,3 +1,4 @@
+-- The loop's invariant: each byte from `at` to `offset` is skipped as a token of its own.
 use Rattle.std.proofs.Common.{◌≤◌, ◌-◌, length}
 use Rattle.chess_pgn.specs.ties.Seen.{SkipsTo}
 use Rattle.chess_pgn.proofs.token.after_blanks.Given as goal

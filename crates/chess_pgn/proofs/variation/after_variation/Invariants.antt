@@ -1,3 +1,4 @@
+-- The loop's invariant: with `depth` variations open inside it, the variation ends in `rest` where it ends in the text.
 use Rattle.std.proofs.Common.{◌≡◌, ◌+◌, ◌≤◌, suc, false, None, length}
 use Rattle.chess_pgn.specs.Tokens.{variation_at}
 use Rattle.chess_pgn.proofs.variation.after_variation.Given as goal

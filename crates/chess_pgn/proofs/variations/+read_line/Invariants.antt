@@ -1,3 +1,5 @@
+-- The loop ends, since each token has a byte, and so do the calls of `read_line` by itself, since fewer variations may
+-- be open in each.
 use Rattle.std.proofs.Common.{length, ◌-◌}
 use Rattle.chess_pgn.proofs.LinesRead.{LineReads}
 use Rattle.chess_pgn.proofs.variations.+read_line.Given as goal

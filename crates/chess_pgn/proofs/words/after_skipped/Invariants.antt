@@ -1,8 +1,8 @@
+-- The loop's invariant: reading on from `offset` gives the same as from `at`.
 use Rattle.std.proofs.Common.{◌≤◌, ◌-◌, length}
 use Rattle.chess_pgn.specs.ties.GameSteps.{ReadsAlike}
 use Rattle.chess_pgn.proofs.words.after_skipped.Given as goal
 
--- so far a game is read alike
 abbrev pub invariant-loop-comment_end : goal.invariant-loop-comment_end
 invariant-loop-comment_end l = record {
   alike : ReadsAlike l.text l.at l.offset;

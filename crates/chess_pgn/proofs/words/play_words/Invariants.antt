@@ -1,3 +1,4 @@
+-- The loop's invariant: reading on from `offset`, after the moves played so far, gives the same as from `at`.
 use Rattle.std.proofs.Common.{length, ◌-◌}
 use Rattle.chess_pgn.specs.ties.GameSteps.{GoesOn}
 use Rattle.chess_pgn.proofs.words.play_words.Given as goal

@@ -1,3 +1,4 @@
+-- The three definitions agree, since a text has only one split into tokens (Games and Tokens of chess_pgn).
 use Rattle.std.proofs.Common.{ℕ, List, refl}
 use Rattle.chess_pgn.specs.{GameRead.IsRead, GameRead.pgn_read, Tokens.tokens_from}
 use Rattle.byte_devices.specs.Bytes.{after_byte_order_mark}

@@ -1,3 +1,4 @@
+-- `tokens_from` is a split of the text, and the only one (Tokens of chess_pgn).
 use Rattle.chess_pgn.proofs.shared.Tokens.{read_split, split_read}
 use Rattle.chess_pgn_laws.proofs.laws.a_text_has_one_split.Goals as goal
 

@@ -1,3 +1,4 @@
+-- The lines that are written are as full as they can be, and no others are (FullLines).
 use Rattle.chess_pgn_laws.proofs.FullLines.{are_filled, only_filled}
 use Rattle.chess_pgn_laws.proofs.laws.lines_are_filled.Goals as goal
 

@@ -1,9 +1,9 @@
+-- The loop's invariant: all bytes from `end` on are marks.
 use Rattle.std.proofs.Common.{length, take, ◌-◌, ◌+◌, ◌≡◌, ◌≤◌}
 use Rattle.std.specs.List.{suffix_len}
 use Rattle.chess_text.specs.Parts.{is_mark}
 use Rattle.chess_text.proofs.parts.unmarked.Given as goal
 
--- what follows the end is marks
 abbrev pub invariant-loop-end : goal.invariant-loop-end
 invariant-loop-end l = record {
   marks : suffix_len is_mark l.text ≡ (length l.text - l.end) + suffix_len is_mark (take l.end l.text);

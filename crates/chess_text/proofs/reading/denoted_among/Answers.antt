@@ -1,4 +1,5 @@
--- The first square is all of them where none is left (more_found and last_found of Origins).
+-- With no start square there is no move. With just one, the moves from it are all; with more, `with_starts` reads them
+-- (more_found and last_found of Origins).
 use Rattle.std.proofs.Common.{sym, ap, ◌∙◌, eqb-true, flat_map}
 use Rattle.chess_moves.specs.Sets.{members}
 use Rattle.chess_moves.proofs.shared.Members.{members_none}

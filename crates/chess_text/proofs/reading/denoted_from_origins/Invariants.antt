@@ -1,3 +1,4 @@
+-- The loop's invariant: what was found, with the moves from the squares in `rest`, gives the reading of the whole text.
 use Rattle.std.proofs.Common.{◌≡◌, length, filter, flat_map}
 use Rattle.chess_base.specs.MoveList.{promotions, moves}
 use Rattle.chess_moves.specs.Sets.{members}
@@ -5,7 +6,6 @@ use Rattle.chess_text.specs.Moves.{one_of}
 use Rattle.chess_text.specs.ties.Forms.{is_denoted, end_square, denoted_with, with_moves}
 use Rattle.chess_text.proofs.reading.denoted_from_origins.Given as goal
 
--- the squares that are left give the whole
 abbrev pub invariant-loop-from : goal.invariant-loop-from
 invariant-loop-from g l =
     with_moves l.found (flat_map

@@ -1,8 +1,8 @@
+-- The loop's invariant: what was found, with the moves of the promotions that are left, gives the whole reading.
 use Rattle.std.proofs.Common.{◌≡◌, drop}
 use Rattle.chess_text.specs.ties.Forms.{denoted_with, with_moves}
 use Rattle.chess_text.proofs.reading.with_denoted.Given as goal
 
--- what is left gives the whole
 abbrev pub invariant-loop-promotion : goal.invariant-loop-promotion
 invariant-loop-promotion g l =
     with_moves l.found (denoted_with l.form (g.B.Board.position l.board) l.from l.to

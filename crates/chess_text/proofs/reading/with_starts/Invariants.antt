@@ -1,9 +1,9 @@
+-- The loop's invariant: what was found, with the moves from the squares in `rest`, gives the whole reading.
 use Rattle.std.proofs.Common.{◌≡◌, length, flat_map}
 use Rattle.chess_moves.specs.Sets.{members}
 use Rattle.chess_text.specs.{Moves.one_of, ties.Forms.denoted_start, ties.Forms.with_moves}
 use Rattle.chess_text.proofs.reading.with_starts.Given as goal
 
--- the squares that are left give the whole
 abbrev pub invariant-loop-from : goal.invariant-loop-from
 invariant-loop-from l =
     with_moves l.found (flat_map (denoted_start l.parts l.setup l.kind) (members l.rest))

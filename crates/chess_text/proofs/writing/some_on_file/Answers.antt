@@ -1,3 +1,4 @@
+-- Some square is on the file exactly if the set and the file have one in common (some_met of Rivals).
 use Rattle.std.proofs.Common.{◌==◌}
 use Rattle.chess_base.specs.Squares.{file}
 use Rattle.chess_text.proofs.Rivals.{some_met}

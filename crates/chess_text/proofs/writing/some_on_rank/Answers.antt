@@ -1,3 +1,4 @@
+-- Some square is on the rank exactly if the set and the rank have one in common (some_met of Rivals).
 use Rattle.std.proofs.Common.{◌==◌}
 use Rattle.chess_base.specs.Squares.{rank}
 use Rattle.chess_text.proofs.Rivals.{some_met}

@@ -1,3 +1,5 @@
+-- Written games have no fault, and those of a match are legal and end at a verdict (the laws that are called), so
+-- `verify` accepts them (Verified).
 use Rattle.match_pgn_laws.proofs.Verified.{matches_pass_verify}
 use Rattle.match_pgn_laws.proofs.laws.matches_pass_verify.Goals as goal
 

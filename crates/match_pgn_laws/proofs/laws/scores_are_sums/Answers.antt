@@ -1,3 +1,4 @@
+-- The score counts the outcomes of the games, which are those of their tags `Result` (Summed).
 use Rattle.match_pgn_laws.proofs.Summed.{scores_are_sums}
 use Rattle.match_pgn_laws.proofs.laws.scores_are_sums.Goals as goal
 

@@ -1,10 +1,11 @@
+-- The loop's invariant: `number` games were played, written and logged, none with a fault; the next has the number
+-- after that.
 use Rattle.std.proofs.Common.{◌≡◌, ◌+◌, ◌-◌, List}
 use Rattle.match_runner.specs.{Games.GameRecord, Log.log_seen}
 use Rattle.match_runner.proofs.GamesWritten.{SoFar}
 use Rattle.match_runner.proofs.games.play_each.Given as goal
 use Rattle.chess_game.specs.declared.game.TheConstants.{MOST_MOVES}
 
--- so many games were played, written and logged, none with a fault; the next has one number more
 abbrev pub invariant-loop-number : goal.invariant-loop-number
 invariant-loop-number g l =
     ((g.T.GamesTable.game l.table).limit ≡ MOST_MOVES) × (games : List GameRecord)

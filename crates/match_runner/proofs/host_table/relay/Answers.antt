@@ -1,4 +1,4 @@
--- A game that is not logged has notes too.
+-- Where no log is asked for, nothing is logged; the match has its notes all the same.
 use Rattle.std.proofs.Common.{◌≡◌, Option, None, Some, refl, rules, subst, sym}
 use Rattle.chess_base.specs.declared.man.Colour.{Colour}
 use Rattle.chess_match.specs.laws.Laws.{notes_given}

@@ -1,4 +1,5 @@
--- A text is sent, unless something failed.
+-- After a call on the log that failed nothing is sent. Otherwise the text is sent, and that may fail
+-- (Logged.logs_sent).
 use Rattle.std.proofs.Common.{Bool, subst, sym}
 use Rattle.match_runner.specs.Log.{Logged, log_seen}
 use Rattle.match_runner.proofs.Logged.{logs_sent}

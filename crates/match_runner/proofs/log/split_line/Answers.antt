@@ -1,4 +1,4 @@
--- What comes before the first line feed.
+-- The first line is what comes before the first `\n`, or the whole text if it has none (Logged.line_split).
 use Rattle.std.proofs.Common.{List, ℕ, ◌∷◌, ◌∙◌, ap, sym, take}
 use Rattle.match_runner.specs.Log.{lines_in}
 use Rattle.match_runner.proofs.Logged.{line_split}

@@ -1,3 +1,4 @@
+-- A game without a fault has no failed write (GameFaults).
 use Rattle.match_runner_laws.proofs.GameFaults.{only_last_games_have_failed_writes}
 use Rattle.match_runner_laws.proofs.games.only_last_games_have_failed_writes.Goals as goal
 

@@ -1,3 +1,5 @@
+-- Two engines and a clock fix a match without silences (the laws that are called), and a host over memory fixes both
+-- engines and the clock (MatchFixed).
 use Rattle.match_runner_laws.proofs.MatchFixed.{one_match}
 use Rattle.match_runner_laws.proofs.hosts.hosts_fix_matches.Goals as goal
 

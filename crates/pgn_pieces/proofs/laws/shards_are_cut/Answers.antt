@@ -1,4 +1,5 @@
--- The law itself is Shards.shards_are_cut.
+-- The pieces of a text that is divided before a tag line are those of its two parts. The law is proved as
+-- Shards.shards_are_cut.
 use Rattle.pgn_pieces.proofs.Shards.{shards_are_cut}
 use Rattle.pgn_pieces.proofs.laws.shards_are_cut.Goals as goal
 

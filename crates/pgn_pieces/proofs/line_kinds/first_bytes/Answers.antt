@@ -1,3 +1,4 @@
+-- The first 256 bytes of a longer line are those sliced; of a shorter one they are all.
 use Rattle.std.proofs.Common.{sym, arith, length-take-le, take_all}
 use Rattle.pgn_pieces.proofs.line_kinds.first_bytes.Goals as goal
 

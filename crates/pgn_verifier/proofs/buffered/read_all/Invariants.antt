@@ -1,8 +1,8 @@
+-- The loop's invariant: `text` is what was read so far, and not too long.
 use Rattle.std.proofs.Common.{◌≤◌, false, length}
 use Rattle.pgn_pieces.specs.{Pieces.HasRead, declared.pieces.TheConstants.PIECE_LEN}
 use Rattle.pgn_verifier.proofs.buffered.read_all.Given as goal
 
--- the text is what was read so far
 abbrev pub invariant-loop-text : goal.invariant-loop-text
 invariant-loop-text g l = record {
   front : HasRead false (g.R.Input.seen l.fn.input) (g.R.Input.seen l.input) l.text.items;

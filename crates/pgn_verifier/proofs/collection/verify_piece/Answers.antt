@@ -1,4 +1,4 @@
--- A piece that is too long has one report (TooLong).
+-- A piece is verified as a text of its own, unless it is too long: then it has one report (TooLong).
 use Rattle.std.proofs.Common.{true, ◌∙◌, refl, sym, subst}
 use Rattle.byte_devices.specs.{Devices.Took, Devices.CutShort, declared.traits.WriteFault.WriteFault}
 use Rattle.pgn_pieces.specs.Stream.{current}

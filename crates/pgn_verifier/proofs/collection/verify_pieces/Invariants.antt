@@ -1,9 +1,9 @@
+-- The loop's invariant: the pieces before this one were reported (SoFar of CollectionVerified).
 use Rattle.std.proofs.Common.{◌≡◌, length, ◌+◌, ◌-◌, ◌^◌}
 use Rattle.pgn_verifier.proofs.CollectionVerified.{SoFar}
 use Rattle.pgn_verifier.proofs.collection.verify_pieces.Given as goal
 use Rattle.chess_game.specs.declared.game.TheConstants.{MOST_MOVES}
 
--- the pieces up to here were reported
 abbrev pub invariant-loop-tally : goal.invariant-loop-tally
 invariant-loop-tally g l = (l.game.limit ≡ MOST_MOVES)
     × SoFar l.options (g.R.Input.seen l.fn.input) (g.R.Input.seen l.input) (g.W.Output.seen l.fn.output)

@@ -1,4 +1,4 @@
--- The tag is that of the text's only split.
+-- The reader's contract speaks of some list of tokens that the text is split into; there is only one (split_read).
 use Rattle.std.proofs.Common.{◌≡◌, length, ap, ◌∙◌, arith}
 use Rattle.std.proofs.lemmas.Grind.{common_steps}
 use Rattle.chess_pgn.specs.{UnknownVariants.unknown_variant_in, Tokens.tokens_from}

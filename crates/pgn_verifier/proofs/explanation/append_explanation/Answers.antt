@@ -1,4 +1,4 @@
--- The parts were put one after the other, and the definition groups them to the right.
+-- The code appends the parts one by one, which groups them to the left; the definition groups them to the right.
 use Rattle.std.proofs.Common.{append_assoc}
 use Rattle.pgn_verifier.proofs.explanation.append_explanation.Goals as goal
 

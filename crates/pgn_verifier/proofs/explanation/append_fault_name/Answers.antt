@@ -1,4 +1,4 @@
--- Of a fault in a variation two parts were put one after the other.
+-- The name of a fault in a variation has two parts, appended one after the other.
 use Rattle.std.proofs.Common.{append_assoc}
 use Rattle.pgn_verifier.proofs.explanation.append_fault_name.Goals as goal
 

@@ -1,5 +1,5 @@
--- The place is the one of the definition. The parts were put one after the other, and the definition groups them to the
--- right.
+-- The place is that of the definition. The code appends the parts one by one, which groups them to the left; the
+-- definition groups them to the right.
 use Rattle.std.proofs.Common.{◌≡◌, ◌+◌, ◌++◌, drop, sym, ap, ◌∙◌, append_assoc, if◌then◌else◌}
 use Rattle.pgn_pieces.specs.Places.{line_of, column_of}
 use Rattle.pgn_verifier.specs.{Explanations.is_at_begin, Explanations.wrong_part, Explanations.explanation_line, laws.Reasons.explanation_of, ties.OnTheWay.fault_line, ties.OnTheWay.span_written}

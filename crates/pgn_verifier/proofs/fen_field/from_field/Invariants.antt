@@ -1,3 +1,5 @@
+-- The loop's invariant: `rest` from its field number `left` on is what is asked for, the FEN from its field `number`
+-- on.
 use Rattle.std.proofs.Common.{◌≡◌, ◌≤◌, length}
 use Rattle.pgn_verifier.specs.WrongParts.{from_field}
 use Rattle.pgn_verifier.proofs.fen_field.from_field.Given as goal

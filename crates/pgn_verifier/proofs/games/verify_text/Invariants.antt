@@ -1,10 +1,10 @@
+-- The loop's invariant: the games before `at` were reported, and `place` is right, from which lines are counted on.
 use Rattle.std.proofs.Common.{◌≡◌, List, length, ◌-◌}
 use Rattle.pgn_verifier.specs.{Reports.Placed, ties.Counting.Known}
 use Rattle.pgn_verifier.proofs.TextVerified.{SoFar}
 use Rattle.pgn_verifier.proofs.games.verify_text.Given as goal
 use Rattle.chess_game.specs.declared.game.TheConstants.{MOST_MOVES}
 
--- the games up to here were reported, and the place is known from which lines are counted on
 abbrev pub invariant-loop-end : goal.invariant-loop-end
 invariant-loop-end g l = (l.game.limit ≡ MOST_MOVES)
     × ((done : List Placed) × SoFar l.options l.start l.text l.fn.before (g.W.Output.seen l.fn.output)

@@ -1,4 +1,4 @@
--- The bytes after the first one that is read, without a length.
+-- White space is skipped in the slice of the text from its first byte read; that slice is `drop` of the definition.
 use Rattle.std.proofs.Common.{◌+◌, drop, ap, ◌∙◌}
 use Rattle.std.specs.List.{prefix_len}
 use Rattle.chess_pgn.specs.Tokens.{is_white_space}

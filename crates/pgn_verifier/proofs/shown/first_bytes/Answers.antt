@@ -1,4 +1,4 @@
--- A text with at most so many bytes has no others.
+-- Taking more bytes than a text has takes all of it, so the smaller of the two lengths gives the same (take_min).
 use Rattle.std.proofs.{Common.ap, Common.◌∙◌, Common.take, lemmas.List.take_min}
 use Rattle.pgn_verifier.proofs.shown.first_bytes.Goals as goal
 

@@ -1,3 +1,4 @@
+-- If no fault is reported on a text's pieces, then their reports are those on the text (FaultlessTexts).
 use Rattle.pgn_verifier_laws.proofs.FaultlessTexts.{faultless_alike}
 use Rattle.pgn_verifier_laws.proofs.laws.a_text_without_faults_is_reported_alike.Goals as goal
 

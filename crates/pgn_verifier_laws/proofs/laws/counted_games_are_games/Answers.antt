@@ -1,3 +1,5 @@
+-- A game that is counted is that of its tokens, whose moves are legal (the laws that are called; CountedGames); it
+-- begins from a sound position, in either variant.
 use Rattle.std.proofs.Common.{◌∙◌, subst}
 use Rattle.chess_base.specs.{Initial.initial_setup_of, Sound.IsSound, declared.man.Variant.Variant, declared.man.Variant.TheVariants.Normal, declared.man.Variant.TheVariants.Fischerandom}
 use Rattle.pgn_verifier_laws.proofs.CountedGames.{counted_games, counted_games_of_pieces}

@@ -1,3 +1,5 @@
+-- A game that is read in a text is read in each part of it that holds the game, so the reports on the parts are those
+-- on the text (Parts).
 use Rattle.pgn_verifier_laws.proofs.Parts.{in_parts, reported_alike, all_reported_alike, pieces_alike}
 use Rattle.pgn_verifier_laws.proofs.laws.games_are_in_parts.Goals as goal
 

@@ -1,3 +1,5 @@
+-- The reports that are made by reading games one after another meet the definitions (ReportsAre of pgn_verifier), and
+-- no others do (OnlyReports).
 use Rattle.pgn_verifier.proofs.shared.ReportsAre.{judged_is, are_reports, are_collection_reports}
 use Rattle.pgn_verifier_laws.proofs.OnlyReports.{only_judged, only_reports, only_collection_reports, same_on, same_of_collection}
 use Rattle.pgn_verifier_laws.proofs.laws.reports_are_the_only_ones.Goals as goal

@@ -1,3 +1,4 @@
+-- The spans of reports are found one after another in the text (SpansFound).
 use Rattle.pgn_verifier_laws.proofs.SpansFound.{make_up_text, make_up_collection}
 use Rattle.pgn_verifier_laws.proofs.laws.spans_make_up_the_text.Goals as goal
 

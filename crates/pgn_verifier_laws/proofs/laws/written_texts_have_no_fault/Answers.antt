@@ -1,3 +1,5 @@
+-- Written games, one after another, are read back one after another (the laws that are called), so none has a fault
+-- (WrittenTexts).
 use Rattle.pgn_verifier_laws.proofs.WrittenTexts.{written_texts}
 use Rattle.pgn_verifier_laws.proofs.laws.written_texts_have_no_fault.Goals as goal
 

@@ -1,3 +1,4 @@
+-- The loop's invariant: the lines of the tags so far were added, and prefix, writer and column are as before.
 use Rattle.std.proofs.Common.{◌≡◌, take}
 use Rattle.pgn_writer.specs.{ties.Waiting.TookSome, Written.ended, ties.TagLines.tag_lines_of}
 use Rattle.pgn_writer.proofs.tag_lines.put_tags.Given as goal

@@ -1,3 +1,4 @@
+-- The loop's invariant: the bytes so far were put, escaped, with at most two for each.
 use Rattle.std.proofs.Common.{◌≡◌, ◌+◌, ◌*◌, ◌≤◌, ◌++◌, take}
 use Rattle.arrayvec.specs.ArrayVec.{array_vec_len}
 use Rattle.pgn_writer.specs.Written.{escaped}

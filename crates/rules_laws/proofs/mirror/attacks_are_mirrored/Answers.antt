@@ -1,3 +1,4 @@
+-- Mirrored pieces attack the mirrored squares (MirrorAttacks).
 use Rattle.rules_laws.proofs.MirrorAttacks.{mirror_attacks_alike}
 use Rattle.rules_laws.proofs.mirror.attacks_are_mirrored.Goals as goal
 

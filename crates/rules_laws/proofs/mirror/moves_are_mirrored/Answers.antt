@@ -1,3 +1,4 @@
+-- A move and its mirror are both legal or neither, and lead to mirrored positions (MirrorAfter).
 use Rattle.rules_laws.proofs.MirrorAfter.{mirror_is_as_legal, mirror_moves_alike}
 use Rattle.rules_laws.proofs.mirror.moves_are_mirrored.Goals as goal
 

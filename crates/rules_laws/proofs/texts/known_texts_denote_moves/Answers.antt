@@ -1,3 +1,4 @@
+-- Which texts denote known moves, by computation (KnownTexts).
 use Rattle.rules_laws.proofs.KnownTexts.{texts_denote_moves}
 use Rattle.rules_laws.proofs.texts.known_texts_denote_moves.Goals as goal
 

@@ -1,3 +1,4 @@
+-- The words of each result, by computation (KnownTexts).
 use Rattle.rules_laws.proofs.KnownTexts.{results_are_worded}
 use Rattle.rules_laws.proofs.texts.results_are_worded.Goals as goal
 

@@ -1,3 +1,4 @@
+-- The loop's invariant: from `at` on there is left after the remarks what is left from `from` on.
 use Rattle.std.proofs.Common.{◌≡◌, ◌≤◌, ◌-◌, drop, length}
 use Rattle.stub_engine.specs.Stub.{after_remarks}
 use Rattle.stub_engine.proofs.stub.after_remarks.Given as goal

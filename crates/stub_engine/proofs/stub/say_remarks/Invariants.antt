@@ -1,8 +1,8 @@
+-- The loop's invariant: the remarks before `at` were said (SoFar of Remarks).
 use Rattle.std.proofs.Common.{List, ℕ, length, ◌-◌}
 use Rattle.stub_engine.proofs.Remarks.{SoFar}
 use Rattle.stub_engine.proofs.stub.say_remarks.Given as goal
 
--- the remarks up to here were said
 abbrev pub invariant-loop-at : goal.invariant-loop-at
 invariant-loop-at g l = let seen = g.W.Output.seen in (text : List ℕ)
     × SoFar l.arguments l.from l.at (seen l.fn.writer) (seen l.writer) text

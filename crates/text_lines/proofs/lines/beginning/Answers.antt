@@ -1,3 +1,4 @@
+-- Of a text of more than 64 bytes the first 64 have that length.
 use Rattle.std.proofs.Common.{arith, sym, length-take-le}
 use Rattle.text_lines.proofs.lines.beginning.Goals as goal
 

@@ -1,4 +1,4 @@
--- A line of more than N bytes shows the first of its first N bytes (Parts.line_put).
+-- A line of more than N bytes shows the first of its first N bytes (LineParts.line_put).
 use Rattle.std.proofs.Common.{true, arith, ap}
 use Rattle.text_lines.proofs.LineParts.{line_put}
 use Rattle.text_lines.proofs.lines.put_line.Goals as goal

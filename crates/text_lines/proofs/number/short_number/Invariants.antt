@@ -1,10 +1,11 @@
+-- The loop's invariant: with the digits that are left `number` gives the whole number, and it is small enough not to
+-- overflow.
 use Rattle.std.proofs.Common.{drop, ◌^◌, ◌≡◌, ◌<◌}
 use Rattle.std.specs.List.{list_all}
 use Rattle.byte_devices.specs.Bytes.{is_digit}
 use Rattle.text_lines.proofs.FewDigits.{value_after}
 use Rattle.text_lines.proofs.number.short_number.Given as goal
 
--- what is left gives the whole number
 abbrev pub invariant-loop-byte : goal.invariant-loop-byte
 invariant-loop-byte l = record {
   rest : value_after l.number (drop l.byte-index l.text) ≡ value_after 0 l.text;

@@ -1,3 +1,4 @@
+-- The loop's invariant: the text without its front spaces and tabs is the same from `from` on as for the whole.
 use Rattle.std.proofs.Common.{length, drop, ◌-◌, ◌≡◌, ◌≤◌}
 use Rattle.text_lines.specs.Lines.{without_front_blanks}
 use Rattle.text_lines.proofs.trim.trim_start.Given as goal

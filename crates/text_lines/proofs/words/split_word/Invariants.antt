@@ -1,3 +1,4 @@
+-- The loops' invariants: before `end` all bytes are of the word; between `end` and `from` all are spaces or tabs.
 use Rattle.std.proofs.Common.{length, take, drop, ◌-◌, ◌≡◌, ◌++◌, ◌≤◌}
 use Rattle.text_lines.specs.{Lines.without_front_blanks, Words.word_of}
 use Rattle.text_lines.proofs.words.split_word.Given as goal

@@ -1,3 +1,4 @@
+-- The loop's invariant: the board is at its first position.
 use Rattle.std.proofs.Common.{◌≡◌}
 use Rattle.workloads.proofs.boards.go_over.Given as goal
 

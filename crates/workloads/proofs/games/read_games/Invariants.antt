@@ -1,3 +1,4 @@
+-- The loop's invariant: `at` is in the text; it rises with each game, so the loop ends.
 use Rattle.std.proofs.Common.{◌≤◌, ◌-◌, length}
 use Rattle.workloads.proofs.games.read_games.Given as goal
 

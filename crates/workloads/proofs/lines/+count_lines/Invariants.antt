@@ -1,3 +1,4 @@
+-- Each call of `count_lines` by itself has a smaller depth; in its loop the board is at its first position.
 use Rattle.std.proofs.Common.{◌≡◌}
 use Rattle.workloads.proofs.lines.+count_lines.Given as goal
 

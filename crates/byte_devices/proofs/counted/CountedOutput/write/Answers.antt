@@ -1,3 +1,4 @@
+-- What is counted of the wrapped writer's answer makes it a write of this output (Unflushed.counted_write).
 use Rattle.byte_devices.proofs.Unflushed.{counted_write}
 use Rattle.byte_devices.proofs.counted.CountedOutput.write.Goals as goal
 

@@ -1,8 +1,8 @@
+-- The loop's invariant: the entries before `number` are those of their pairs of squares (AreBetween of BetweenSquares).
 use Rattle.std.proofs.Common.{◌≡◌, length}
 use Rattle.chess_bits.proofs.BetweenSquares.{AreBetween}
 use Rattle.chess_bits.proofs.between.BetweenTable.open.Given as goal
 
--- the entries so far are those of their pairs
 abbrev pub invariant-loop-number : goal.invariant-loop-number
 invariant-loop-number l = record {
   long : length l.sets.items ≡ 4096;

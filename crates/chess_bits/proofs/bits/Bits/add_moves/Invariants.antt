@@ -1,9 +1,9 @@
+-- The loop's invariant: the moves in the list, and those of the pieces in `men`, which are left, are all legal moves.
 use Rattle.std.proofs.Common.{◌≡◌, ◌++◌, length, flat_map}
 use Rattle.chess_base.specs.MoveList.{moves}
 use Rattle.chess_moves.specs.{shared.MovesBySquares.moves_from, Sets.members}
 use Rattle.chess_bits.proofs.bits.Bits.add_moves.Given as goal
 
--- the moves so far and those of the pieces that are left are all
 abbrev pub invariant-loop-from : goal.invariant-loop-from
 invariant-loop-from l = l.list.items ++ flat_map (λ a. moves_from l.self a) (members l.men) ≡ moves l.self
 

@@ -1,4 +1,5 @@
--- There is one move for each promotion.
+-- The promotions with which the move is legal give one move each, and these are all legal moves between the two
+-- squares.
 use Rattle.std.proofs.Common.{◌≡◌, ◌++◌, List, length, sym, ap, ◌∙◌, arith}
 use Rattle.std.proofs.lemmas.List.{length-map}
 use Rattle.chess_base.specs.{declared.man.Move.Move, MoveList.move_of}

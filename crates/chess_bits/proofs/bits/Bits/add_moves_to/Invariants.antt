@@ -1,10 +1,11 @@
+-- The loop's invariant: the list has the moves to the squares so far; those to the squares in `targets`, to each of
+-- which the piece goes, complete it.
 use Rattle.std.proofs.Common.{◌≡◌, ◌++◌, length, true, flat_map}
 use Rattle.chess_moves.specs.{shared.MovesBySquares.moves_between, shared.MovesBySquares.moves_from, Sets.members}
 use Rattle.chess_bits.specs.ties.Goes.{goes}
 use Rattle.chess_bits.proofs.Listed.{Each}
 use Rattle.chess_bits.proofs.bits.Bits.add_moves_to.Given as goal
 
--- the moves so far and those to the squares that are left are all, and the piece goes to each of these
 abbrev pub invariant-loop-to : goal.invariant-loop-to
 invariant-loop-to l = record {
   moves : l.list.items ++ flat_map (λ b. moves_between l.self l.from b) (members l.targets) ≡ l.initial.list.items

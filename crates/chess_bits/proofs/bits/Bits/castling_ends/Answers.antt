@@ -1,3 +1,4 @@
+-- A castling goes to one side or the other, so its end squares are those of both sides (to_either_side of TargetsOf).
 use Rattle.std.proofs.Common.{◌∙◌}
 use Rattle.chess_bits.proofs.TargetsOf.{to_either_side}
 use Rattle.chess_bits.proofs.bits.Bits.castling_ends.Goals as goal

@@ -1,4 +1,4 @@
--- There is one move for each promotion.
+-- The promotions with which the move is legal give one move each, so their number is that of the legal moves.
 use Rattle.std.proofs.Common.{length, sym, ap, ◌∙◌}
 use Rattle.std.proofs.lemmas.List.{length-map}
 use Rattle.chess_base.specs.MoveList.{move_of}

@@ -1,8 +1,8 @@
+-- The loop's invariant: the moves counted, and those of the pieces in `rest`, are the moves of all the pieces.
 use Rattle.std.proofs.Common.{◌≡◌, ◌+◌, length, flat_map}
 use Rattle.chess_moves.specs.{shared.MovesBySquares.moves_from, Sets.members}
 use Rattle.chess_bits.proofs.bits.Bits.count_each.Given as goal
 
--- the moves counted and those of the pieces that are left are all
 abbrev pub invariant-loop-from : goal.invariant-loop-from
 invariant-loop-from l = l.count + length (flat_map (λ a. moves_from l.self a) (members l.rest))
     ≡ length (flat_map (λ a. moves_from l.self a) (members l.fn.men))

@@ -1,3 +1,5 @@
+-- The loop's invariant: the moves counted, and those of the pieces in `rest`, each of them free, are the moves of all
+-- the pieces.
 use Rattle.std.proofs.Common.{◌≡◌, ◌+◌, length, true, flat_map}
 use Rattle.chess_base.specs.Men.{man_at, is_man}
 use Rattle.chess_bits.specs.ties.Goes.{IsFree}
@@ -5,7 +7,6 @@ use Rattle.chess_bits.proofs.Listed.{Each}
 use Rattle.chess_moves.specs.{shared.MovesBySquares.moves_from, Sets.members}
 use Rattle.chess_bits.proofs.bits.Bits.count_officers.Given as goal
 
--- the moves counted and those of the pieces that are left are all, and each of these is free
 abbrev pub invariant-loop-from : goal.invariant-loop-from
 invariant-loop-from l = record {
   all : l.count + length (flat_map (λ a. moves_from l.self a) (members l.rest))

@@ -1,10 +1,11 @@
+-- The loop's invariant: the moves counted, and those to the squares in `targets`, to each of which the piece goes, are
+-- all its moves.
 use Rattle.std.proofs.Common.{◌≡◌, ◌+◌, length, true, flat_map}
 use Rattle.chess_moves.specs.{shared.MovesBySquares.moves_between, shared.MovesBySquares.moves_from, Sets.members}
 use Rattle.chess_bits.specs.ties.Goes.{goes}
 use Rattle.chess_bits.proofs.Listed.{Each}
 use Rattle.chess_bits.proofs.bits.Bits.count_to.Given as goal
 
--- the moves counted and those to the squares that are left are all, and the piece goes to each of these
 abbrev pub invariant-loop-to : goal.invariant-loop-to
 invariant-loop-to l = record {
   all : l.count + length (flat_map (λ b. moves_between l.self l.from b) (members l.targets))

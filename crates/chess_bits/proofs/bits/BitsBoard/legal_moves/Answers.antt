@@ -1,3 +1,4 @@
+-- Each move in the list is legal, since the list filters all moves by that test.
 use Rattle.std.proofs.lemmas.List.Elements.{filter_passes}
 use Rattle.chess_base.specs.{Moves.is_legal, MoveList.moves, MoveList.all_moves}
 use Rattle.chess_bits.proofs.bits.BitsBoard.legal_moves.Goals as goal

@@ -1,8 +1,8 @@
+-- The loop's invariant: the keys before `number` are those of their numbers.
 use Rattle.std.proofs.Common.{◌≡◌, ℕ, ◌<◌, length, get_or}
 use Rattle.chess_moves.specs.PositionHash.{key}
 use Rattle.chess_bits.proofs.keys.KeyTable.new.Given as goal
 
--- the keys so far are those of their numbers
 abbrev pub invariant-loop-number : goal.invariant-loop-number
 invariant-loop-number l = record {
   long : length l.keys ≡ 785;

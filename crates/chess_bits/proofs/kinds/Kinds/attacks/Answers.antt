@@ -1,3 +1,4 @@
+-- A square is attacked exactly if its set of attackers is not empty (attacked_is of Attackers).
 use Rattle.chess_bits.proofs.Attackers.{attacked_is}
 use Rattle.chess_bits.proofs.kinds.Kinds.attacks.Goals as goal
 

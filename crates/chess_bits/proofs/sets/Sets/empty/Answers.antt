@@ -1,3 +1,4 @@
+-- With no piece on any square, empty sets and the hash 0 are the sets of the board (no_sets of Standing).
 use Rattle.std.proofs.Common.{refl}
 use Rattle.chess_base.specs.declared.man.Colour.TheVariants.{White, Black}
 use Rattle.chess_bits.proofs.Standing.{no_sets}

@@ -1,3 +1,4 @@
+-- The loop's invariant: the entries before `number` are the sets of the shape from their squares.
 use Rattle.std.proofs.Common.{◌≡◌, ℕ, ◌<◌, get_or}
 use Rattle.chess_moves.specs.Sets.{contains}
 use Rattle.chess_bits.specs.ties.Shapes.{in_shape}

@@ -1,8 +1,8 @@
+-- The loop's invariant: the heads are those of the start and the played moves that are left.
 use Rattle.std.proofs.Common.{◌≡◌, ◌≤◌, length, suc}
 use Rattle.chess_game.specs.{ties.Buckets.HaveHeads, declared.index.TheConstants.BUCKETS}
 use Rattle.chess_game.proofs.index.Index.clear.Given as goal
 
--- the heads are those of the start and the played moves that are left
 abbrev pub invariant-loop-left : goal.invariant-loop-left
 invariant-loop-left l = record {
   in_range : l.left ≤ length l.played_moves;

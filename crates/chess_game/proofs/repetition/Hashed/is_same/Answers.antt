@@ -1,3 +1,4 @@
+-- If the hashes differ, the positions differ (the contract of `hash_differs`).
 use Rattle.std.proofs.Common.{sym}
 use Rattle.chess_game.proofs.repetition.Hashed.is_same.Goals as goal
 

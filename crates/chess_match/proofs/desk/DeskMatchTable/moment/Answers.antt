@@ -1,4 +1,4 @@
--- The clock was read.
+-- One step passes at the table: the clock is read (ClockAsked). The pipes and the witness stay as they were (AtDesk).
 use Rattle.chess_match.proofs.{AtDesk.clock_moves, ClockAsked.asked_one}
 use Rattle.chess_match.proofs.desk.DeskMatchTable.moment.Goals as goal
 

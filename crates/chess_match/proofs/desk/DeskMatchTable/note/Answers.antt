@@ -1,4 +1,4 @@
--- The witness was given the note.
+-- One step passes at the table: the witness is given the note. The pipes and the clock stay as they were (AtDesk).
 use Rattle.chess_match.proofs.AtDesk.{note_moves}
 use Rattle.chess_match.proofs.desk.DeskMatchTable.note.Goals as goal
 

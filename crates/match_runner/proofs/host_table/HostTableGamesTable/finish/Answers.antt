@@ -1,4 +1,4 @@
--- Waiting for engines is a step of the host.
+-- Waiting for the engines to exit is one step of the table, and the same step of its host.
 use Rattle.std.proofs.Common.{refl}
 use Rattle.match_runner.proofs.HostSteps.{host_passes}
 use Rattle.match_runner.proofs.host_table.HostTableGamesTable.finish.Goals as goal

@@ -1,4 +1,5 @@
--- The match was played over the engines' ends, and its notes were logged; it is no step of the host.
+-- The match is played over the ends of the engines' pipes, and its notes are logged. This is one step of the table, but
+-- none of its host.
 use Rattle.std.proofs.Common.{refl}
 use Rattle.chess_match.specs.laws.Laws.{notes_given}
 use Rattle.match_runner.proofs.HostSteps.{table_passes}

@@ -1,4 +1,4 @@
--- A start is a step of the host.
+-- Starting the engines of a game is one step of the table, and the same step of its host.
 use Rattle.std.proofs.Common.{refl}
 use Rattle.match_runner.proofs.HostSteps.{host_passes}
 use Rattle.match_runner.proofs.host_table.HostTableGamesTable.start.Goals as goal

@@ -1,4 +1,4 @@
--- Writing a game is no step of the host.
+-- Writing a game is one step of the table, but none of its host.
 use Rattle.match_runner.proofs.HostSteps.{table_passes, writes_at_table}
 use Rattle.match_runner.proofs.host_table.HostTableGamesTable.write_game.Goals as goal
 

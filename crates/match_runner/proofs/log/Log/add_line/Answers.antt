@@ -1,4 +1,4 @@
--- The line was logged, and nothing of it waits.
+-- The whole line is logged: after its `\n` no byte of it waits (clause `nothing`).
 use Rattle.std.proofs.Common.{Bool, [], ◌∷◌, ◌++◌, map, subst}
 use Rattle.byte_devices.specs.Bytes.{new_line, shown_byte}
 use Rattle.match_runner.specs.{Log.Logged, Log.log_seen, ties.Logging.line_head}

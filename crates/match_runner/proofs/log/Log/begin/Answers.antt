@@ -1,4 +1,4 @@
--- No note was logged.
+-- At the beginning of a game no note is logged yet, so the log is that of the empty list of notes.
 use Rattle.std.proofs.Common.{refl}
 use Rattle.match_runner.proofs.Logged.{log_begun}
 use Rattle.match_runner.proofs.log.Log.begin.Goals as goal

@@ -1,4 +1,4 @@
--- At first nothing was logged; then a line more, and again.
+-- Before each turn of the loop the lines before `rest` have been logged, at first none; a turn logs one line more.
 use Rattle.std.proofs.Common.{◌≡◌, ℕ, List, [], ◌++◌, ◌∙◌, length, refl, subst, sym, true, ◌==◌}
 use Rattle.byte_devices.specs.Bytes.{byte}
 use Rattle.chess_base.specs.declared.man.Colour.{Colour}

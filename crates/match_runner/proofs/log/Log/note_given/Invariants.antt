@@ -1,9 +1,9 @@
+-- The loop's invariant: what was logged so far, with the lines of `rest`, is all that is to be logged.
 use Rattle.std.proofs.Common.{◌≡◌, ℕ, List, ◌++◌, length}
 use Rattle.chess_match.specs.Notes.{Gives}
 use Rattle.match_runner.specs.Log.{Logged, engine_name, log_seen, note_text}
 use Rattle.match_runner.proofs.log.Log.note_given.Given as goal
 
--- what was logged, with what is left, is all of it
 abbrev pub invariant-loop-rest : goal.invariant-loop-rest
 invariant-loop-rest g l =
     (done : List ℕ)

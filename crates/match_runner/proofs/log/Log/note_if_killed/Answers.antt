@@ -1,4 +1,4 @@
--- The line was logged, if the engine was killed; otherwise nothing was.
+-- If the engine was killed, the line that says so is logged; otherwise nothing is.
 use Rattle.std.proofs.Common.{ℕ, Bool, List, ◌++◌, subst, sym, codes, decimal}
 use Rattle.chess_base.specs.Options.{list_if}
 use Rattle.chess_match.specs.Reasons.{colour_name}

@@ -1,4 +1,4 @@
--- White's line was logged, and then Black's.
+-- White's line is logged, if there is one, and then Black's.
 use Rattle.match_runner.proofs.Logged.{logged_more}
 use Rattle.match_runner.proofs.log.Log.note_killed.Goals as goal
 

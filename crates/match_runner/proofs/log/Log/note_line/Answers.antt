@@ -1,4 +1,4 @@
--- The line was logged, or that it was too long.
+-- What is logged is the line, or in place of one that was too long, that it was.
 use Rattle.match_runner.proofs.log.Log.note_line.Goals as goal
 
 pub returns-in-Some : goal.returns-in-Some

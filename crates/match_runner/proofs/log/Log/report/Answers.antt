@@ -1,4 +1,4 @@
--- The line was written, and nothing of it waits.
+-- The whole line of the report is written: after its `\n` no byte of it waits (clause `nothing`).
 use Rattle.std.proofs.Common.{List, ℕ, ◌++◌, codes}
 use Rattle.match_runner.specs.Games.{fault_text}
 use Rattle.match_runner.proofs.Logged.{line_logged}

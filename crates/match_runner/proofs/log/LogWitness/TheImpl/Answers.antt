@@ -1,4 +1,4 @@
--- A note whose lines were logged was noted.
+-- That the witness noted a note follows from the clause `logs`: the lines of the note were logged (Logged.noted).
 use Rattle.match_runner.proofs.Logged.{noted}
 use Rattle.match_runner.proofs.log.LogWitness.TheImpl.Goals as goal
 

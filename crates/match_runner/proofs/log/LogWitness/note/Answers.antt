@@ -1,4 +1,4 @@
--- The note's lines were logged; of an opening there are none.
+-- Each kind of note has its lines, and these are logged; an opening has none.
 use Rattle.std.proofs.Common.{refl}
 use Rattle.match_runner.proofs.Logged.{logs_none}
 use Rattle.match_runner.proofs.log.LogWitness.note.Goals as goal

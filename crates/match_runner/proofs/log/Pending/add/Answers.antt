@@ -1,4 +1,4 @@
--- Room is made, the byte is pending, and perhaps it ends the line.
+-- First there is room for the byte, then it waits with the others, and if it ends the line, all are written.
 use Rattle.std.proofs.Common.{[], ◌∷◌, refl}
 use Rattle.match_runner.proofs.Logged.{adds_more, adds_pending}
 use Rattle.match_runner.proofs.log.Pending.add.Goals as goal

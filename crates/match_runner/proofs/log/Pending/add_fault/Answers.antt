@@ -1,4 +1,5 @@
--- The command of the engine that can't be started.
+-- The text of each fault is logged part by part (Logged.adds_more), with the command that can't be started, or the
+-- number of the game and the reason.
 use Rattle.std.proofs.Common.{List, ℕ, ◌++◌, ap, codes}
 use Rattle.match_runner.proofs.Logged.{adds_as, adds_more}
 use Rattle.match_runner.proofs.log.Pending.add_fault.Goals as goal

@@ -1,4 +1,4 @@
--- The number, the mark, and which engine.
+-- The moment, the mark and the engine's name are logged one after another (Logged.adds_more).
 use Rattle.std.proofs.Common.{ℕ, List, [], ◌∷◌, ◌++◌, ap, decimal}
 use Rattle.match_runner.proofs.Logged.{adds_as, adds_more}
 use Rattle.match_runner.proofs.log.Pending.add_head.Goals as goal

@@ -1,4 +1,4 @@
--- The parts of the line, one after another.
+-- The parts of the line are logged one after another (Logged.adds_more), from `arbiter: game ` to the `\n`.
 use Rattle.std.proofs.Common.{ℕ, List, [], ◌∷◌, ◌++◌, ap, codes, decimal}
 use Rattle.chess_match.specs.Reasons.{colour_name}
 use Rattle.match_runner.proofs.Logged.{adds_as, adds_more}

@@ -1,4 +1,4 @@
--- The head, the text, and the end.
+-- The head of the line, its text and its `\n` are logged one after another (Logged.adds_more).
 use Rattle.std.proofs.Common.{ℕ, List, [], ◌∷◌, ◌++◌, map}
 use Rattle.byte_devices.specs.Bytes.{shown_byte}
 use Rattle.match_runner.specs.ties.Logging.{line_head}

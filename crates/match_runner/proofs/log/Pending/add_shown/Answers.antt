@@ -1,4 +1,4 @@
--- A byte more was written, as it is shown.
+-- Before each turn of the loop the bytes before this one have been logged as they are shown; a turn logs one more.
 use Rattle.std.proofs.Common.{ℕ, List, [], ◌∷◌, refl, ap, map}
 use Rattle.byte_devices.specs.Bytes.{shown_byte}
 use Rattle.match_runner.proofs.Logged.{adds_as, adds_more, loop_step}

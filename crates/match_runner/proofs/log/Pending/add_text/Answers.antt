@@ -1,4 +1,4 @@
--- A byte more was written.
+-- Before each turn of the loop the bytes before this one have been logged; a turn logs one more.
 use Rattle.std.proofs.Common.{ℕ, List, refl}
 use Rattle.match_runner.proofs.Logged.{adds_more, loop_step}
 use Rattle.match_runner.proofs.log.Pending.add_text.Goals as goal

@@ -1,8 +1,8 @@
+-- The loop's invariant: what was logged so far, with the bytes that are left, is the whole text.
 use Rattle.std.proofs.Common.{◌≡◌, ℕ, List, ◌++◌, drop}
 use Rattle.match_runner.specs.ties.Logging.{Adds}
 use Rattle.match_runner.proofs.log.Pending.add_text.Given as goal
 
--- what was written, with what is left, is all of it
 abbrev pub invariant-loop-byte : goal.invariant-loop-byte
 invariant-loop-byte g l =
     (done : List ℕ) × Adds (g.E.Output.seen l.fn.output) (g.E.Output.seen l.output) l.fn.self l.self done

@@ -1,4 +1,4 @@
--- The pending bytes are written and flushed, unless something failed.
+-- The bytes that wait are sent, unless a call on the log failed before; none waits after that (Logged.adds_flushed).
 use Rattle.std.proofs.Common.{ℕ, List, subst}
 use Rattle.match_runner.specs.Log.{Logged, log_seen}
 use Rattle.match_runner.proofs.Logged.{adds_flushed}

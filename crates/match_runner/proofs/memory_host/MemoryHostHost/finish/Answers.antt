@@ -1,4 +1,5 @@
--- No engine was started or killed.
+-- Finishing a game starts no engine, and leaves the lists of engines and moments as they are, so its step may come
+-- (MemorySteps.step_passes).
 use Rattle.std.proofs.Common.{◌∙◌, ap, refl, sym, append-nil}
 use Rattle.match_runner.proofs.MemorySteps.{step_passes}
 use Rattle.match_runner.proofs.memory_host.MemoryHostHost.finish.Goals as goal

@@ -1,4 +1,4 @@
--- What was written of the first bytes was written of all.
+-- A write of the first bytes of a text is a write of the text, of which not all bytes need be taken (FirstBytes).
 use Rattle.std.proofs.Common.{arith}
 use Rattle.match_runner.proofs.FirstBytes.{first_written}
 use Rattle.match_runner.proofs.pipes.EngineInputOutput.write.Goals as goal

@@ -1,4 +1,4 @@
--- The bytes are kept or counted (Kept.counts_added).
+-- Of the bytes that are let go the first are kept, and the others are counted (Kept.counts_added).
 use Rattle.std.proofs.Common.{◌≡◌, ◌≤◌, ◌+◌, ◌-◌, ◌⊎◌, ◌++◌, length, take, drop, refl, sym, ap, subst, inl, inr, ◌∙◌, arith}
 use Rattle.std.proofs.{lemmas.Bool.cases_lt, lemmas.List.take_rest}
 use Rattle.pgn_pieces.specs.{Places.line_ends, ties.Held.SameCounts}

@@ -1,4 +1,4 @@
--- Each way on is a lemma of proofs/SeenLines.
+-- After each line the search goes on, ends there, or waits for more text; each case is a lemma of proofs/SeenLines.
 use Rattle.std.proofs.{Common.arith, lemmas.List.take_rest}
 use Rattle.pgn_pieces.proofs.SeenLines.{look_on, look_ends, look_waits, look_all}
 use Rattle.pgn_pieces.proofs.piece_end.Seen.find_end.Goals as goal

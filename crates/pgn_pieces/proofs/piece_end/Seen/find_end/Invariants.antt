@@ -1,8 +1,8 @@
+-- The loop's invariant: the bytes before `offset` belong to the piece, and the state is the one after them.
 use Rattle.std.proofs.Common.{◌≤◌, ◌-◌, List, ℕ, ◌++◌, length, take}
 use Rattle.pgn_pieces.specs.ties.Held.{HasSeen}
 use Rattle.pgn_pieces.proofs.piece_end.Seen.find_end.Given as goal
 
--- what was looked through belongs to the piece
 abbrev pub invariant-loop-offset : goal.invariant-loop-offset
 invariant-loop-offset l = record {
   within : l.offset ≤ length l.text;

@@ -1,4 +1,5 @@
--- Each way out is a lemma of proofs/SeenLines.
+-- A line without its end may belong to the piece, begin the next one, or be undecided yet; each case is a lemma of
+-- proofs/SeenLines.
 use Rattle.std.proofs.Common.{refl, sym, ◌∙◌, arith}
 use Rattle.pgn_pieces.proofs.LineKinds.{decided_long}
 use Rattle.pgn_pieces.proofs.SeenLines.{open_inside, open_ends, open_waits, open_comes}

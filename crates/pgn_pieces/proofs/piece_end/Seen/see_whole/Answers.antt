@@ -1,4 +1,4 @@
--- Each way out is a lemma of proofs/SeenLines.
+-- A line with its end belongs to the piece or begins the next one; each case is a lemma of proofs/SeenLines.
 use Rattle.std.proofs.Common.{refl, sym, ◌∙◌}
 use Rattle.pgn_pieces.proofs.SeenLines.{whole_inside, whole_ends, whole_comes}
 use Rattle.pgn_pieces.proofs.piece_end.Seen.see_whole.Goals as goal

@@ -1,4 +1,5 @@
--- The line with which a text begins (PlainLengths.line_of), or all of it (PlainLengths.none_in).
+-- Either the text's first line has its end (PlainLengths.line_of), or all of the text is a line without one
+-- (PlainLengths.none_in).
 use Rattle.std.proofs.Common.{◌+◌, drop, sym, subst, ◌∙◌, arith, length-take-le, take-append-drop}
 use Rattle.pgn_pieces.specs.ties.Held.{Ends}
 use Rattle.pgn_pieces.proofs.PlainLengths.{none_in, line_of}

@@ -1,7 +1,7 @@
+-- The loop's invariant: all that was looked through belongs to the piece (Looked of Steps).
 use Rattle.pgn_pieces.proofs.Steps.{Looked}
 use Rattle.pgn_pieces.proofs.pieces.PgnPieces.next.Given as goal
 
--- what was looked through belongs to the piece
 abbrev pub invariant-loop-seen : goal.invariant-loop-seen
 invariant-loop-seen g l = record {
   looked : Looked l.fn.self l.self l.seen (g.R.Input.seen l.fn.input) (g.R.Input.seen l.input);

@@ -1,4 +1,5 @@
--- Counted on from one place to the other (Placed.known_on).
+-- If a place has the line and the column of its offset, the place counted on from it has those of the new offset
+-- (Placed.known_on).
 use Rattle.std.proofs.Common.{◌+◌, ap}
 use Rattle.pgn_verifier.proofs.Placed.{known_on}
 use Rattle.pgn_verifier.proofs.place.Place.moved_to.Goals as goal

@@ -1,3 +1,4 @@
+-- The loop's invariant: the parts before this one were added, as one text.
 use Rattle.std.proofs.Common.{take}
 use Rattle.byte_devices.specs.Devices.{joined}
 use Rattle.pgn_writer.specs.ties.Waiting.{TookSome}

@@ -1,3 +1,4 @@
+-- The loop's invariant: what is held stands for all bytes that were given, and `line` is as it was (SoFar of Reading).
 use Rattle.std.proofs.Common.{◌≡◌, List, ℕ}
 use Rattle.text_lines.proofs.Reading.{SoFar}
 use Rattle.text_lines.proofs.lines.Lines.read_line_until.Given as goal

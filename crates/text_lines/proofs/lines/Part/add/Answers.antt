@@ -1,4 +1,5 @@
--- Bytes past the last that is kept: whichever they are, the lines are the same (Parts.overflow_same).
+-- Where there is no room for all bytes, the part keeps as many as it can; whichever the others are, the lines are the
+-- same (LineParts.overflow_same).
 use Rattle.std.proofs.Common.{arith, ◌≡◌, ◌++◌, ◌∷◌, ◌-◌, ◌<◌, [], length, take, List, ℕ, ap, sym, subst, ◌∙◌}
 use Rattle.text_lines.specs.ties.Kept.{kept_part, SameLines}
 use Rattle.text_lines.proofs.LineParts.{overflow_same}

@@ -1,3 +1,5 @@
+-- The line is that of the part's bytes: they are trimmed, or the first 64 of a line that is too long (line_kept of
+-- LineParts).
 use Rattle.std.proofs.Common.{take, ap, ◌∙◌}
 use Rattle.text_lines.specs.Lines.{trimmed}
 use Rattle.text_lines.proofs.LineParts.{line_kept}

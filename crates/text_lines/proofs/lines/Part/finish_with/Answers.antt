@@ -1,4 +1,5 @@
--- After what was added stand the same lines, and so the same line is ended (LineEnds.same_line).
+-- With the bytes added, the part stands for the same lines as it and they did, so the same line is ended
+-- (LineEnds.same_line).
 use Rattle.std.proofs.Common.{sym, ◌++◌, ◌∙◌}
 use Rattle.text_lines.proofs.LineEnds.{same_line}
 use Rattle.text_lines.proofs.lines.Part.finish_with.Goals as goal

@@ -1,3 +1,4 @@
+-- A window that begins so many bytes later is the same without its first bytes (window_left of LineEnds).
 use Rattle.std.proofs.Common.{◌≤◌, length, drop, ap, ◌∙◌, slice_range}
 use Rattle.text_lines.proofs.LineEnds.{window_left}
 use Rattle.text_lines.proofs.lines.Window.remove.Goals as goal
