@@ -64,7 +64,7 @@ module _ (law : TokenByToken) (strict : Strictness) (text : List ℕ) (at : ℕ)
           let none : judged_at strict text at ≡ Ok None =
           ap (judged strict (variation_in tokens_from text at (read_at text at).state.start)
           (unknown_variant_in (length text) (tokens_from text (after_byte_order_mark text at)))
-    (result_tag_of (length text) (tokens_from text (after_byte_order_mark text at)))
+          (result_tag_of (length text) (tokens_from text (after_byte_order_mark text at)))
           (verdict_now (read_at text at).state)) (none_there last) in
           let both : Ok None ≡ Err fault = sym none ∙ is in
           absurd (cc)
