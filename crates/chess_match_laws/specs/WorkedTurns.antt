@@ -57,7 +57,7 @@ pub record RepliesAreTimed : Type 0 where
   pub next : runs_from beginning.after
       (("feature ping=1", 3000) ∷ ("# loading", 4000) ∷ ("feature san=1", 5000) ∷ []) ≡ Some 5000
   pub first : runs_from beginning.after (("# loading", 3000) ∷ []) ≡ None
-  -- in a setup `pong 1` alone
+  -- in a setup only `pong 1`
   pub setup : runs_from (match_in (Setup White)) (("# ready", 3000) ∷ ("pong 2", 4000) ∷ []) ≡ Some 2000
   pub pong : runs_from (match_in (Setup White)) (("# ready", 3000) ∷ ("pong 1", 4000) ∷ []) ≡ Some 4000
   -- while the `pong` after a move is awaited, none

@@ -28,5 +28,5 @@ pub record EmptyGamesAreRead : Type 0 where
   -- a glyph, and marks
   pub glyph : IsEmptyGame "$4 *" 4
   pub marks : IsEmptyGame "!? *" 4
-  -- a number and its dots alone are a game too, which has no result
+  -- a number with its dots, and nothing more: a game too, but without a result
   pub no_result : (pgn_read 1 (codes "12...") 0).answer ≡ Err (record { kind = NoResult; offset = 5 })

@@ -29,7 +29,7 @@ fault_at kind offset = Err (record { kind = kind; offset = offset })
 -- the first of these that is looked for is reported: the variation, the variant, the tag, the board
 pub record FaultsAreInOrder : Type 0 where
   pub variation_first : found true true true true ≡ fault_at (InVariation IllegalMove) 60
-  -- with `--strict` alone
+  -- with `--strict`, but not `--variations`
   pub then_variant : found false true true true ≡ fault_at UnknownVariant 10
   pub then_tag : found false false true true ≡ fault_at (ResultDiffers 7 WhiteWins) 30
   pub then_board : found false false false true ≡ fault_at BoardSaysOtherwise 90
