@@ -51,9 +51,9 @@ pub fn refused_arguments_are_reported()
     plain_arguments_are_refused();
 }
 
-/// States a law and does nothing: the exit status is 2 for arguments that `clap` refuses, for an invalid level, FEN, date
-/// or kind of fault, and for an argument that is no text; it is 1 if memory ran out. That of `verify` is 1 if a fault was
-/// reported, and 0 if none was.
+/// States a law and does nothing: the exit status is 2 for arguments that `clap` refuses, for an invalid level, FEN,
+/// date or kind of fault, and for an argument that is no text; it is 1 if memory ran out. That of `verify` is 1 if a
+/// fault was reported, and 0 if none was.
 ///
 /// It refuses the status 1 for a bad level.
 pub fn statuses_are_stated()
