@@ -7,3 +7,4 @@ mod PlainRows
 mod PlainStub
 mod PlainWalk
 mod RefusedArguments
+mod Statuses

@@ -68,7 +68,7 @@ shows_help ws k help one s s' steps status (Err fault, is, (none, same, reported
 
 -- ---- other kinds
 
-no_help_asked : {A : Type 0} (x : ErrorKind) → (x ≡ DisplayHelp) ⊎ (x ≡ DisplayVersion) → x ≢ DisplayHelp
+pub no_help_asked : {A : Type 0} (x : ErrorKind) → (x ≡ DisplayHelp) ⊎ (x ≡ DisplayVersion) → x ≢ DisplayHelp
     → x ≢ DisplayVersion → A
 no_help_asked x (inl asked) help version = absurd (help asked)
 no_help_asked x (inr asked) help version = absurd (version asked)

@@ -1,3 +1,4 @@
 pub mod Arguments
 pub mod PlainArguments
 pub mod Programs
+pub mod Statuses

@@ -7,6 +7,7 @@ ghost use Rattle.chess_cecp.specs.declared.session.TheConstants.{COMMAND_LEN};
 ghost use Rattle.chess_match.specs.declared.run.TheConstants.{ENGINE_LINE_LEN};
 ghost use Rattle.pgn_pieces.specs.declared.pieces.TheConstants.{PIECE_LEN};
 ghost use Rattle.arbiter_laws.specs.Programs.{PlainArgumentsAreFollowed, RefusesArguments, ServesSession, ShowsHelp, VerifiesGames};
+ghost use Rattle.arbiter_laws.specs.Statuses.{StatusesAreStated};
 
 use crate::arguments::{
     plain_arguments_are_read, plain_arguments_are_refused, plain_arguments_are_taken,
@@ -49,6 +50,15 @@ pub fn refused_arguments_are_reported()
     // The prover wants this law of the arguments: how each of them is refused.
     plain_arguments_are_refused();
 }
+
+/// States a law and does nothing: the exit status is 2 for arguments that `clap` refuses, for an invalid level, FEN,
+/// date or kind of fault, and for an argument that is no text; it is 1 if memory ran out. That of `verify` is 1 if a
+/// fault was reported, and 0 if none was.
+///
+/// It refuses the status 1 for a bad level.
+pub fn statuses_are_stated()
+    ensures { StatusesAreStated }
+{}
 
 /// States a law and does nothing: the limits that definitions name by constants are 20,000 half-moves of a game,
 /// 999,999 for a FEN's counters, and, in bytes, 1,024 for a session's line, 8,192 for an engine's line, and 16,777,216

@@ -34,6 +34,7 @@ mod NeededLaw
 mod PrefixLaw
 mod LinesDue
 mod WorkedLines
+mod WorkedTurns
 mod IgnoredLaw
 mod ClaimLaw
 mod Answering

@@ -8,7 +8,7 @@ use Rattle.text_lines.specs.Words.{argument_of, command_number}
 use Rattle.cecp_engine.specs.EngineLines.{kind_of}
 use Rattle.cecp_engine.specs.Items.{has_word, item_of, items_of, plays_fischerandom, takes}
 use Rattle.cecp_engine.specs.Levels.{allotted, base_of, base_text, decimals_text, increment_text, level_reading, level_text, milliseconds_of, thousandths_of}
-use Rattle.chess_match_laws.specs.Worked.{EndsAreWorded, FeaturesAreOn, ItemsAreRead, KingsAreBare, LevelsGive, LinesAreSent, LinesSay, LosersLose}
+use Rattle.chess_match_laws.specs.Worked.{EndsAreOfKinds, EndsAreWorded, FeaturesAreOn, ItemsAreRead, KingsAreBare, LevelsGive, LinesAreSent, LinesSay, LosersLose}
 
 pub lines_say : LinesSay
 unfolding argument_of command_number kind_of
@@ -100,6 +100,20 @@ losers_lose = record {
   agreed = refl;
   too_long = refl;
   faults = λ c fault. refl;
+}
+
+pub ends_are_of_kinds : EndsAreOfKinds
+ends_are_of_kinds = record {
+  errs = λ c. refl;
+  moves_twice = λ c. refl;
+  claims = λ c. refl;
+  rejects = λ c. refl;
+  forfeits = λ c. refl;
+  bare_king = refl;
+  resigns = λ c. refl;
+  agreed = refl;
+  decided = λ v. refl;
+  claimed = λ claim. refl;
 }
 
 pub ends_are_worded : EndsAreWorded

@@ -3,6 +3,7 @@ pub mod Streams
 pub mod Rows
 pub mod Answering
 pub mod Worked
+pub mod WorkedTurns
 pub mod Ignored
 pub mod Claims
 pub mod Handshakes

@@ -9,6 +9,9 @@ use Rattle.chess_base.specs.declared.man.Move.{Move}
 use Rattle.chess_base.specs.ByColour.{by_colour}
 use Rattle.chess_base.specs.Initial.{initial_setup, man_of}
 use Rattle.chess_game.specs.declared.results.Outcome.TheVariants.{WhiteWins, BlackWins, Draw, Unfinished}
+use Rattle.chess_game.specs.declared.tags.HowEnded.TheVariants as how
+use Rattle.chess_game.specs.declared.verdicts.DrawClaim.{DrawClaim}
+use Rattle.chess_game.specs.declared.verdicts.Verdict.{Verdict}
 use Rattle.cecp_engine.specs.EngineLines.{LineKind, Features, Moves, Resigns, OffersDraw, ClaimsDraw, ClaimsWin, Rejects, Answers, SaysElse, kind_of}
 use Rattle.cecp_engine.specs.Items.{Item, items_of, plays_fischerandom, takes}
 use Rattle.cecp_engine.specs.Levels.{LevelSeen, allotted, level_of, level_text}
@@ -17,7 +20,7 @@ use Rattle.chess_match.specs.Events.{Seat}
 use Rattle.chess_match.specs.Lines.{SentLine, bytes_of}
 use Rattle.chess_match.specs.Rules.{Rules, has_bare_king, rules_of}
 use Rattle.chess_match.specs.declared.draws.Draws.TheVariants as rules_of_draws
-use Rattle.chess_match.specs.Reasons.{comment_of, outcome_by_reason}
+use Rattle.chess_match.specs.Reasons.{comment_of, ended_by, outcome_by_reason}
 use Rattle.chess_match.specs.declared.reason.MatchFault.{MatchFault}
 use Rattle.chess_match.specs.declared.reason.MatchFault.TheVariants.{Ended, Read, Write, NoDone, NoPing, NoSetboard, Flood, NoVariant, NoHandshake, NoAnswer}
 use Rattle.chess_match.specs.declared.reason.Reason.{Reason}
@@ -191,6 +194,19 @@ pub record LosersLose : Type 0 where
   pub agreed : outcome_by_reason Agreed ≡ Draw
   pub too_long : outcome_by_reason GameTooLong ≡ Unfinished
   pub faults : (c : Colour) (fault : MatchFault) → outcome_by_reason (Faulted c fault) ≡ Unfinished
+
+-- what kind of end it was, for the tag Termination: whoever breaks a rule loses by that, and not in the normal way
+pub record EndsAreOfKinds : Type 0 where
+  pub errs : (c : Colour) → ended_by (MovesIllegally c) ≡ how.RulesInfraction
+  pub moves_twice : (c : Colour) → ended_by (MovesOutOfTurn c) ≡ how.RulesInfraction
+  pub claims : (c : Colour) → ended_by (ClaimsFalsely c) ≡ how.RulesInfraction
+  pub rejects : (c : Colour) → ended_by (RejectsLegalMove c) ≡ how.RulesInfraction
+  pub forfeits : (c : Colour) → ended_by (Forfeits c) ≡ how.TimeForfeit
+  pub bare_king : ended_by ForfeitsToBareKing ≡ how.TimeForfeit
+  pub resigns : (c : Colour) → ended_by (over_by.Resigns c) ≡ how.Normal
+  pub agreed : ended_by Agreed ≡ how.Normal
+  pub decided : (v : Verdict) → ended_by (over_by.Decided v) ≡ how.Normal
+  pub claimed : (claim : DrawClaim) → ended_by (over_by.Claimed claim) ≡ how.Normal
 
 -- the comment on a match that ended for this reason is this
 abbrev pub IsWorded : Reason → Text → Type 0

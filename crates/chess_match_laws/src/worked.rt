@@ -1,7 +1,8 @@
 //! Laws of lines, time controls and ends, worked out. A caller learns one by calling its function, which does nothing.
 //! What a law refuses are wrong definitions: with one of them it can't be proved.
 
-ghost use Rattle.chess_match_laws.specs.Worked.{EndsAreWorded, FeaturesAreOn, ItemsAreRead, KingsAreBare, LevelsGive, LinesAreSent, LinesSay, LosersLose};
+ghost use Rattle.chess_match_laws.specs.Worked.{EndsAreOfKinds, EndsAreWorded, FeaturesAreOn, ItemsAreRead, KingsAreBare, LevelsGive, LinesAreSent, LinesSay, LosersLose};
+ghost use Rattle.chess_match_laws.specs.WorkedTurns.{ClaimsAreJudged, RepliesAreTimed};
 
 /// States a law and does nothing: what some lines of engines say, which items a `feature` line has, and which features
 /// an engine has on by them.
@@ -32,8 +33,26 @@ pub fn bare_kings_are_worked_out()
 
 /// States a law and does nothing: the side that resigns, forfeits on time, moves illegally or out of turn, claims
 /// falsely or rejects a legal move loses; against a bare king, and by agreement, the game is drawn; after a fault, and
-/// at the limit of half-moves, it has no outcome. And the comments on ends, word for word.
+/// at the limit of half-moves, it has no outcome. And the comments on ends, word for word, and which ends are losses on
+/// time or against the rules, as PGN's tag Termination tells them apart.
 pub fn losers_lose()
     ensures outcomes { LosersLose }
     ensures comments { EndsAreWorded }
+    ensures kinds { EndsAreOfKinds }
+{}
+
+/// States a law and does nothing: a side that says in its turn, by `1-0` or `0-1`, that it has won loses by a false
+/// claim; one that says that the other side has won resigns.
+///
+/// It refuses to call the latter a false claim.
+pub fn claims_are_worked_out()
+    ensures { ClaimsAreJudged }
+{}
+
+/// States a law and does nothing: from which line on the time for a reply runs, in examples. In a handshake each
+/// `feature` line begins it anew, and in a setup `pong 1`; other lines don't, such as a remark.
+///
+/// It refuses an engine that gets more time by any line.
+pub fn reply_times_are_worked_out()
+    ensures { RepliesAreTimed }
 {}

@@ -1,4 +1,5 @@
 pub mod shared
+mod EmptyGames
 mod FullLines
 mod LastTexts
 mod LegalVariations

@@ -3,3 +3,4 @@ pub mod GameOfTokens
 pub mod LegalVariations
 pub mod Normal
 pub mod Examples
+pub mod EmptyGames

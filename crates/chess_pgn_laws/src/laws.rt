@@ -10,6 +10,7 @@ ghost use Rattle.pgn_writer.specs.GameText.{pgn};
 ghost use Rattle.pgn_writer.specs.Written.{lines_of};
 ghost use Rattle.chess_pgn.specs.Tokens.{Token, tokens_from};
 ghost use Rattle.byte_devices.specs.Bytes.{after_byte_order_mark};
+ghost use Rattle.chess_pgn_laws.specs.EmptyGames.{EmptyGamesAreRead};
 ghost use Rattle.chess_pgn_laws.specs.Examples.{TextsAreLaidOut, TextsAreRead, TextsAreSplit};
 ghost use Rattle.chess_pgn_laws.specs.GameOfTokens.{GamesAreOfTokens};
 ghost use Rattle.pgn_writer.specs.laws.Layout.{AreFilled, AreShort};
@@ -112,4 +113,12 @@ pub fn texts_are_worked_out()
     ensures split { TextsAreSplit }
     ensures read { TextsAreRead }
     ensures laid_out { TextsAreLaidOut }
+{}
+
+/// States a law and does nothing: some texts are games without moves, though a number, a comment or a variation in them
+/// could be taken for moves or for a result.
+///
+/// It refuses a number that is compared with the moves, and moves of a comment that count.
+pub fn empty_games_are_read()
+    ensures { EmptyGamesAreRead }
 {}

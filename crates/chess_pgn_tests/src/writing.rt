@@ -7,8 +7,9 @@ use chess_game::{Comment, Game, Outcome};
 use chess_moves::{Board, Plain};
 use chess_pgn::{faults_have_offsets, half_moves_have_bytes};
 use chess_pgn_laws::{
-    a_game_is_tags_and_moves, a_text_has_one_split, games_are_laid_out, games_are_of_tokens,
-    lines_are_filled, normal_is_kept, pgn_is_read_back, texts_are_worked_out, variations_are_legal,
+    a_game_is_tags_and_moves, a_text_has_one_split, empty_games_are_read, games_are_laid_out,
+    games_are_of_tokens, lines_are_filled, normal_is_kept, pgn_is_read_back, texts_are_worked_out,
+    variations_are_legal,
 };
 use chess_text::{Reading, read_move};
 use pgn_writer::{HowEnded, TagText, Tags, write_pgn};
@@ -478,6 +479,7 @@ fn a_prefix_longer_than_the_buffer_is_written(rt: HostRuntime) -> Result<(), Fai
 fn laws_are_called() {
     a_game_is_tags_and_moves();
     a_text_has_one_split();
+    empty_games_are_read();
     faults_have_offsets();
     games_are_laid_out();
     games_are_of_tokens();

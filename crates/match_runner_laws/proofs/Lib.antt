@@ -1,4 +1,5 @@
 mod GameFaults
+mod Players
 mod EntriesRead
 mod PlayedAgain
 mod Replays

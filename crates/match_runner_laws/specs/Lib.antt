@@ -1,4 +1,5 @@
 pub mod Faults
+pub mod Players
 pub mod Entries
 pub mod ReadBack
 pub mod Hosts

@@ -1,9 +1,18 @@
 //! Laws of the games of a match.
 
 ghost use Rattle.match_runner_laws.specs.Faults.{OnlyLastGamesHaveFailedWrites};
+ghost use Rattle.match_runner_laws.specs.Players.{EachKeepsItsLevel};
 
 /// States a law and does nothing: a game without a fault of an engine leaves the counts of failed writes and flushes of
 /// both engines' inputs as they were, also at its end lines. So only the last game of a match can raise them.
 pub fn only_last_games_have_failed_writes()
     ensures { OnlyLastGamesHaveFailedWrites }
+{}
+
+/// States a law and does nothing: in odd games the engine of `--white` has White, in even games Black, and each engine
+/// has its own level in all games.
+///
+/// It refuses a level that stays with its colour.
+pub fn levels_stay_with_engines()
+    ensures { EachKeepsItsLevel }
 {}

@@ -6,6 +6,6 @@ mod games;
 mod hosts;
 mod logs;
 
-pub use games::only_last_games_have_failed_writes;
+pub use games::{levels_stay_with_engines, only_last_games_have_failed_writes};
 pub use hosts::{hosts_fix_matches, steps_might_come};
 pub use logs::{logs_give_the_game, logs_have_one_reading};

@@ -13,3 +13,4 @@ mod SpansFound
 mod SoundStarts
 mod CountedGames
 mod FilesAlike
+mod FaultOrder

@@ -4,3 +4,4 @@ pub mod Spans
 pub mod WrittenGames
 pub mod Counted
 pub mod Files
+pub mod FaultOrder

@@ -12,6 +12,7 @@ ghost use Rattle.pgn_verifier.specs.GameFaults.{IsJudged};
 ghost use Rattle.pgn_verifier.specs.Reports.{AreReports, Placed, Report, without_spans};
 ghost use Rattle.pgn_verifier.specs.laws.Reported.{collection_placed, collection_reports, judged_at, placed_on, read_at, reports_on};
 ghost use Rattle.pgn_verifier_laws.specs.Counted.{CountedGamesAreGames, CountedGamesOfPiecesAreGames};
+ghost use Rattle.pgn_verifier_laws.specs.FaultOrder.{FaultsAreInOrder};
 ghost use Rattle.pgn_verifier_laws.specs.Files.{FilesAreVerifiedAlike};
 ghost use Rattle.pgn_verifier_laws.specs.NoFaults.{FaultlessTextsAreReportedAlike};
 ghost use Rattle.pgn_verifier_laws.specs.Parts.{GamesAreInParts, WholeGamesAreReportedAlike, PiecesAreReportedAlike, TextsAreReportedInParts};
@@ -135,3 +136,12 @@ pub fn files_are_verified_alike()
     // The prover wants this law: a text that is cut there has the pieces of its parts.
     shards_are_cut();
 }
+
+/// States a law and does nothing: of a game that has several faults at its end the first of these is reported that is
+/// looked for: a fault in a variation, a variant that isn't known, a tag Result that differs from the marker, a verdict
+/// of the board that does. An example is worked out.
+///
+/// It refuses the board before the tag.
+pub fn faults_are_in_order()
+    ensures { FaultsAreInOrder }
+{}

@@ -278,6 +278,9 @@ some_by_count a b d k s e = grind arith
 some_by_clock : (a b c k : Bool) (s : Colour) → judged a b c true k s ≡ None → ⊥
 some_by_clock a b c k s e = grind arith
 
+never_by_clock : (a b d k : Bool) (s : Colour) → judged a b true d k s ≡ Some SeventyFiveMoves → ⊥
+never_by_clock a b d k s e = grind arith
+
 verdict_is : (start : Setup) (ms : List Move) → verdict start ms ≡ judged_at 5 150 start ms
 unfolding verdict
 verdict_is start ms = refl
@@ -299,6 +302,9 @@ counting_ends start ms =
           quiet_for 150 start ms (omega arith) (leb-true _ _ (seventy_five_by a b c d k p.side (sym is ∙ e)));
       after_150 = λ h e. (let late = le-leb _ _ (clock_from 150 start ms (omega arith) h) in
           some_by_clock a b c k p.side (subst (λ (t : Bool). judged a b c t k p.side ≡ None) late (sym is ∙ e)));
+      fivefold_first = λ h e. (let five = le-leb _ _ (counted 5 start ms h) in
+          never_by_clock a b d k p.side
+          (subst (λ (t : Bool). judged a b t d k p.side ≡ Some SeventyFiveMoves) five (sym is ∙ e)));
       threefold = (λ e. there 3 start ms (leb-true _ _ e), λ h. le-leb _ _ (counted 3 start ms h));
       fifty_moves = (
         λ e. quiet_for 100 start ms (omega arith) (leb-true _ _ e),

@@ -71,4 +71,13 @@ unfolding squares some_square each_square is_between is_of is_man is_clear could
     pawn_captures pawn_moves man_moves is_pseudo_legal captured_square men_after rights_after target_after resets_clock
     halfmove_after after is_legal placement_text digits verdict has_bishop_on has_insufficient_material same_men
     same_rights legal_en_passant_square is_same_position repetition_count
-tags_are_in_order = record { first = λ s. refl; mate = refl; chess960 = refl; normal = refl }
+tags_are_in_order = record {
+  first = λ s. refl;
+  mate = refl;
+  chess960 = refl;
+  normal = refl;
+  won = refl;
+  lost_on_time = refl;
+  drawn_on_time = refl;
+  against_the_rules = refl;
+}

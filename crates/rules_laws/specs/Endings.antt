@@ -80,12 +80,14 @@ ClocksCountQuietMoves = (n : ℕ) (start : Setup) (ms : List Move) → n ≤ COU
 -- ---- what follows from both
 
 -- a game is over once its present position is there for the fifth time, or 150 half-moves had no capture and no pawn
--- move, and has no such verdict before; a draw can be claimed at the third time, or after 100 half-moves
+-- move, and has no such verdict before; if both hold at once, the verdict is not the latter. A draw can be claimed at
+-- the third time, or after 100 half-moves
 pub record EndsByCounting (start : Setup) (ms : List Move) : Type 0 where
   pub fivefold : verdict start ms ≡ Some FivefoldRepetition → IsThere 5 start ms
   pub at_fifth : IsThere 5 start ms → verdict start ms ≢ None
   pub seventy_five_moves : verdict start ms ≡ Some SeventyFiveMoves → IsQuietFor 150 start ms
   pub after_150 : IsQuietFor 150 start ms → verdict start ms ≢ None
+  pub fivefold_first : IsThere 5 start ms → verdict start ms ≢ Some SeventyFiveMoves
   pub threefold : IsTrue (claims start ms).threefold ↔ IsThere 3 start ms
   pub fifty_moves : IsTrue (claims start ms).fifty_moves ↔ IsQuietFor 100 start ms
 

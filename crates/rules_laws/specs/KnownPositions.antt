@@ -3,6 +3,7 @@
 use Rattle.std.specs.Prelude.{◌≡◌, Bool, true, false, List, [], ◌∷◌, ◌++◌, codes, Some, is_some, option_map, Err}
 use Prim.Native.String.{String as Text}
 use Rattle.std.specs.Result.{result_ok}
+use Rattle.byte_devices.specs.Bytes.{tab}
 use Rattle.chess_base.specs.declared.fen_fault.FenFault.{FenFault}
 use Rattle.chess_base.specs.declared.fen_fault.FenFault.TheVariants.{Fields, Placement, Side, Castling, EnPassant, Counters, Kings, Pawns, Men, Check}
 use Rattle.chess_base.specs.declared.man.Kind.TheVariants.{Queen}
@@ -126,6 +127,9 @@ pub record FensAreRefused : Type 0 where
   pub counter : IsRefused "4k3/8/8/8/8/8/8/4K3 w - - 0 x" Counters
   pub one_counter : IsRefused "4k3/8/8/8/8/8/8/4K3 w - - 0" Fields
   pub no_counters : IsTaken "4k3/8/8/8/8/8/8/4K3 w - -"
+  -- fields are apart by one space or more, and by no tab
+  pub two_spaces : IsTaken "4k3/8/8/8/8/8/8/4K3  w - - 0  1"
+  pub by_a_tab : fen_reading_as Normal (codes "4k3/8/8/8/8/8/8/4K3" ++ tab ∷ codes "w - - 0 1") ≡ Err Fields
   -- a fullmove number of 0 is taken, and counters have at most six digits
   pub number_0 : IsTaken "4k3/8/8/8/8/8/8/4K3 w - - 0 0"
   pub six_digits : IsTaken "4k3/8/8/8/8/8/8/4K3 w - - 100000 1"

@@ -9,6 +9,9 @@ use Rattle.chess_base.specs.Initial.{initial_setup, initial_setup_of}
 use Rattle.chess_fen.specs.Reading.{fen_reading_as}
 use Rattle.chess_game.specs.Ends.{draw_claim, result_text, verdict_result}
 use Rattle.chess_game.specs.Game.{State, from_start}
+use Rattle.chess_game.specs.declared.results.Outcome.{Outcome}
+use Rattle.chess_game.specs.declared.results.Outcome.TheVariants.{WhiteWins, BlackWins, Draw}
+use Rattle.chess_game.specs.declared.tags.HowEnded.{HowEnded}
 use Rattle.chess_game.specs.declared.tags.HowEnded.TheVariants as how
 use Rattle.chess_game.specs.declared.verdicts.DrawClaim.{DrawClaim}
 use Rattle.chess_game.specs.declared.verdicts.DrawClaim.TheVariants.{Threefold, FiftyMoves}
@@ -17,6 +20,7 @@ use Rattle.chess_game.specs.declared.verdicts.Verdict.TheVariants.{WhiteMates, B
 use Rattle.chess_text.specs.Moves.{denotes}
 use Rattle.chess_text.specs.San.{san}
 use Rattle.pgn_writer.specs.GameText.{game_tokens, move_tokens, tag_lines}
+use Rattle.pgn_writer.specs.Terminations.{termination_of, termination_text}
 use Rattle.pgn_writer.specs.declared.tags.Tags.{Tags}
 use Rattle.rules_laws.specs.KnownGames.{fools_mate, move_by}
 use Rattle.rules_laws.specs.KnownPositions.{promotes}
@@ -122,6 +126,10 @@ known_tags = record {
 abbrev pub last_tags : State → List (List ℕ)
 last_tags s = drop 6 (tag_lines known_tags s)
 
+-- the tag Termination of a game that ended in this way, with this outcome, has this text
+abbrev pub IsTermination : HowEnded → Outcome → Text → Type 0
+IsTermination ended outcome text = termination_text (termination_of ended outcome) ≡ codes text
+
 -- the tags of games between A and B are these lines
 pub record TagsAreInOrder : Type 0 where
   -- the first six of each game (section 8.1.1)
@@ -139,3 +147,8 @@ pub record TagsAreInOrder : Type 0 where
   -- in normal chess from the initial position there is no FEN
   pub normal : last_tags (from_start initial_setup)
       ≡ codes "[Result \"*\"]" ∷ codes "[Termination \"unterminated\"]" ∷ []
+  -- how games ended that are over (section 9.8.1)
+  pub won : IsTermination how.Normal WhiteWins "normal"
+  pub lost_on_time : IsTermination how.TimeForfeit BlackWins "time forfeit"
+  pub drawn_on_time : IsTermination how.TimeForfeit Draw "time forfeit"
+  pub against_the_rules : IsTermination how.RulesInfraction WhiteWins "rules infraction"

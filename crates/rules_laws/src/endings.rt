@@ -14,11 +14,12 @@ pub fn a_game_ends_where_no_move_is_legal()
 
 /// A law: the contract says it, and the function does nothing. A game ends at the latest when its present position is
 /// there for the fifth time, and when the last 150 half-moves were neither captures nor pawn moves; a draw can be
-/// claimed at the third time, and after 100 such half-moves (FIDE Laws of Chess 2023, articles 9.2, 9.3 and 9.6). This
-/// is said by the positions of the game and their moves, without a count or a clock; only half-moves before the start
-/// are those of its halfmove clock.
+/// claimed at the third time, and after 100 such half-moves (FIDE Laws of Chess 2023, articles 9.2, 9.3 and 9.6). If
+/// both ends come at once, the verdict is not the second. This is said by the positions of the game and their moves,
+/// without a count or a clock; only half-moves before the start are those of its halfmove clock.
 ///
-/// It refuses the fourth time or the sixth, 149 half-moves or 151, and a clock that some capture or pawn move leaves on.
+/// It refuses the fourth time or the sixth, 149 half-moves or 151, a clock that some capture or pawn move leaves on,
+/// and the 75-move rule before fivefold repetition.
 pub fn repetitions_and_quiet_moves_end_a_game()
     ensures { CountingEnds }
 {}

@@ -15,7 +15,8 @@ pub fn known_lines_lead_to_these_fens()
 {}
 
 /// A law: the contract says it, and the function does nothing. FENs are refused, each for the one fault that it has,
-/// and neighbours of theirs are taken: for each condition of a sound position, and for each field.
+/// and neighbours of theirs are taken: for each condition of a sound position, and for each field. Fields are apart by
+/// spaces, not by a tab.
 pub fn known_fens_are_refused()
     ensures { FensAreRefused }
 {}

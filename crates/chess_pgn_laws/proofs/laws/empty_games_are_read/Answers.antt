@@ -1,0 +1,5 @@
+use Rattle.chess_pgn_laws.proofs.EmptyGames.{empty_games_are_read}
+use Rattle.chess_pgn_laws.proofs.laws.empty_games_are_read.Goals as goal
+
+pub returns : goal.returns
+returns c = empty_games_are_read

@@ -1,0 +1,29 @@
+-- Each engine keeps its time control, whichever side it has.
+use Rattle.std.proofs.Common.{◌≡◌, ℕ, ◌%◌, ◌==◌, if◌then◌else◌, ap}
+use Rattle.chess_base.specs.{ByColour.of_colour, Men.same_colour, declared.by_colour.ByColour.ByColour, declared.man.Colour.Colour, declared.man.Colour.TheVariants.White, declared.man.Colour.TheVariants.Black}
+use Rattle.cecp_engine.specs.Levels.{LevelSeen}
+use Rattle.match_runner.specs.{Games.first_side, declared.plan.GamesPlan.GamesPlan}
+use Rattle.match_runner_laws.specs.Players.{EachKeepsItsLevel, Player}
+
+-- the time controls of both sides, and the engine of a side, if the first engine has the side `first`
+abbrev levels_if : GamesPlan → Colour → ByColour LevelSeen
+levels_if plan first = record {
+  white = if same_colour White first then plan.white_level else plan.black_level;
+  black = if same_colour Black first then plan.white_level else plan.black_level;
+}
+
+abbrev player_if : GamesPlan → Colour → Colour → Player
+player_if plan side first =
+    (if same_colour side first then plan.white.now else plan.black.now, of_colour (levels_if plan first) side)
+
+in_odd : (number : ℕ) → number % 2 ≡ 1 → first_side number ≡ White
+in_odd number h = ap (λ (n : ℕ). if n == 1 then White else Black) h
+
+in_even : (number : ℕ) → number % 2 ≡ 0 → first_side number ≡ Black
+in_even number h = ap (λ (n : ℕ). if n == 1 then White else Black) h
+
+pub each_keeps_its_level : EachKeepsItsLevel
+each_keeps_its_level plan number = record {
+  odd = λ h. (ap (player_if plan White) (in_odd number h), ap (player_if plan Black) (in_odd number h));
+  even = λ h. (ap (player_if plan White) (in_even number h), ap (player_if plan Black) (in_even number h));
+}

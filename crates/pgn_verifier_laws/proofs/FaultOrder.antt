@@ -1,0 +1,12 @@
+-- Which fault is reported of a game that has several, by computation.
+use Rattle.std.proofs.Common.{refl}
+use Rattle.pgn_verifier_laws.specs.FaultOrder.{FaultsAreInOrder}
+
+pub faults_are_in_order : FaultsAreInOrder
+faults_are_in_order = record {
+  variation_first = refl;
+  then_variant = refl;
+  then_tag = refl;
+  then_board = refl;
+  unless_lenient = refl;
+}

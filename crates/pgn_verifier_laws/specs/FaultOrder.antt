@@ -1,0 +1,37 @@
+-- Which fault is reported of a game that has several at its end, worked out.
+use Rattle.std.specs.Prelude.{◌≡◌, ℕ, Bool, true, false, Option, Some, None, Result, Ok, Err}
+use Rattle.chess_game.specs.declared.results.Outcome.TheVariants.{WhiteWins, Draw}
+use Rattle.chess_game.specs.declared.verdicts.Verdict.TheVariants.{BlackMates}
+use Rattle.chess_pgn.specs.declared.read.PgnEnd.{PgnEnd}
+use Rattle.chess_pgn.specs.declared.read.PgnFaultKind.TheVariants.{IllegalMove}
+use Rattle.pgn_verifier.specs.GameFaults.{judged}
+use Rattle.pgn_verifier.specs.declared.game_fault.FaultKind.{FaultKind}
+use Rattle.pgn_verifier.specs.declared.game_fault.FaultKind.TheVariants.{InVariation, UnknownVariant, ResultDiffers, BoardSaysOtherwise}
+use Rattle.pgn_verifier.specs.declared.game_fault.GameFault.{GameFault}
+
+-- a game's end whose marker is `1-0`, from the byte 90 on
+abbrev pub won_by_white : PgnEnd
+won_by_white = record { outcome = WhiteWins; termination = None; offset = 93 }
+
+-- what is reported of a game with this end, if such faults are looked for. It has all: a move in a variation is illegal
+-- (at the byte 60), the tag Variant names no variant that is known (at 10), the tag Result is `1/2-1/2` (at 30), and on
+-- the board Black has mated
+abbrev pub found : (variations variant result board : Bool) → Result (Option PgnEnd) GameFault
+found variations variant result board =
+    judged (record { variations = variations; variant = variant; result = result; board = board })
+    (λ end. Some (record { kind = IllegalMove; offset = 60 })) (Some 10)
+    (Some (record { outcome = Some Draw; offset = 30; len = 7 })) (Some BlackMates) (Ok (Some won_by_white))
+
+-- this fault at this byte
+abbrev pub fault_at : FaultKind → ℕ → Result (Option PgnEnd) GameFault
+fault_at kind offset = Err (record { kind = kind; offset = offset })
+
+-- the first of these that is looked for is reported: the variation, the variant, the tag, the board
+pub record FaultsAreInOrder : Type 0 where
+  pub variation_first : found true true true true ≡ fault_at (InVariation IllegalMove) 60
+  -- with `--strict`, but not `--variations`
+  pub then_variant : found false true true true ≡ fault_at UnknownVariant 10
+  pub then_tag : found false false true true ≡ fault_at (ResultDiffers 7 WhiteWins) 30
+  pub then_board : found false false false true ≡ fault_at BoardSaysOtherwise 90
+  -- with neither option
+  pub unless_lenient : found false false false false ≡ Ok (Some won_by_white)
