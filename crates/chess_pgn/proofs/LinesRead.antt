@@ -26,15 +26,15 @@ begun depth text start p at h is = record {
 
 -- ---- one token
 
-abbrev opened : Setup → ℕ → Result (Setup × ℕ) PgnFault
-opened first n = Ok (first, n)
+abbrev opened : Setup × ℕ → Result (Setup × ℕ) PgnFault
+opened r = Ok r
 
 abbrev not_begun : PgnFault → Result (Setup × ℕ) PgnFault
 not_begun fault = Err fault
 
--- where two variations begin alike, and how many may be open in them
-opened_alike : (first other : Setup) (n m : ℕ) → opened first n ≡ opened other m → (first ≡ other) × (n ≡ m)
-opened_alike first other n m e = let a : first ≡ other = cc in let b : n ≡ m = cc in (a, b)
+-- two variations that begin alike
+opened_alike : (r other : Setup × ℕ) → opened r ≡ opened other → r ≡ other
+opened_alike r other e = cc
 
 fault_alike : (fault other : PgnFault) → not_begun fault ≡ not_begun other → fault ≡ other
 fault_alike fault other e = cc
@@ -139,10 +139,11 @@ module _ (depth : ℕ) (text : List ℕ) (start : Setup) (at : ℕ) (before : Op
       by_opening m None e is_depth same = absurd (cc)
       by_opening zero (Some other) e is_depth same = absurd (cc)
       by_opening (suc m) (Some other) e is_depth same =
-          let alike = opened_alike first other n m e in (
+          let alike = opened_alike (first, n) (other, m) e in (
             ap (λ d. inside d text first here) (sym is_depth)
-                ∙ ap (λ d. line_fault text (inside d text) None first (tokens_from text (here + 1))) (sym alike.1),
-            sym same ∙ ap Some (sym alike.0),
+                ∙ ap (λ (r : Setup × ℕ). line_fault text (inside r.1 text) None first (tokens_from text (here + 1)))
+                (sym alike),
+            sym same ∙ ap Some (ap (λ (r : Setup × ℕ). r.0) (sym alike)),
           )
 
   -- a variation with a fault

@@ -1,6 +1,6 @@
 -- A token more keeps that the tokens after the tags are the same (GameEnds.passes_on); the first that can't be among
 -- tags, the text's end and what can't be read each end the tags by one lemma.
-use Rattle.std.proofs.{Common.sym, Common.◌∙◌, Common.refl, lemmas.Bool.not-true}
+use Rattle.std.proofs.Common.{sym, ◌∙◌, refl}
 use Rattle.chess_pgn.specs.ties.Seen.{token_seen}
 use Rattle.chess_pgn.proofs.GameEnds.{passes_on, passed_all, passed_to_end, no_tag}
 use Rattle.chess_pgn.proofs.game_ends.after_tags.Goals as goal
@@ -18,7 +18,7 @@ pub returns-then-not-may_precede_tags-clause-passed : goal.returns-then-not-may_
 returns-then-not-may_precede_tags-clause-passed c =
     let next = rw c.in-Ok-Some.field-0-is at c.in-Ok-Some.ensures in
     passed_all c.args.text.now c.args.at c.loop-token.offset (token_seen c.in-Ok-Some.token) _ c.loop-token.invariant
-    next.0 (sym c.may_precede_tags.ensures ∙ not-true c.may_precede_tags.result c.if-not-may_precede_tags.true)
+    next.0 (sym c.may_precede_tags.ensures ∙ c.if-not-may_precede_tags.true)
 
 pub returns-in-Ok-None-clause-passed : goal.returns-in-Ok-None-clause-passed
 returns-in-Ok-None-clause-passed c =
