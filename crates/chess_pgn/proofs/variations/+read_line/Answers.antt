@@ -1,5 +1,5 @@
 -- Each token keeps that what is left gives the whole, or its fault is the line's (LinesRead).
-use Rattle.std.proofs.{Common.sym, Common.◌∙◌, lemmas.Result.err_from_is_err_and}
+use Rattle.std.proofs.{Common.◌≡◌, Common.None, Common.sym, Common.◌∙◌, Common.rules, lemmas.Result.err_from_is_err_and}
 use Rattle.chess_pgn.specs.ties.Seen.{token_seen}
 use Rattle.chess_pgn.proofs.LinesRead.{begun, ended, unread, goes_on, passed_over, moved_on, faulty, not_opened, faulty_inside, went_inside}
 use Rattle.chess_pgn.proofs.variations.+read_line.Goals as goal
@@ -50,8 +50,8 @@ loop-token-preserved-in_ok-read_line g t c =
     went_inside c.args.depth c.args.text.now c.args.start.now c.args.at c.loop-token.before
     (g.B.Board.position c.loop-token.board) c.loop-token.offset c.in-Some.token_end (token_seen c.in-Some.token)
     c.loop-token.invariant next.2 next.0 c.in_ok-first.first c.in_ok-first.inner_depth
-    (g.B.Board.position c.set-2.new.self) (sym c.is_variation.ensures ∙ c.if-is_variation.true) c.in_ok-first.ensures
-    c.in_ok-read_line.ensures (c.set-2.ensures.position ∙ c.position-here.ensures.value)
+    (g.B.Board.position c.set-then-is_variation.new.self) (sym c.is_variation.ensures ∙ c.if-is_variation.true) c.in_ok-first.ensures
+    c.in_ok-read_line.ensures (c.set-then-is_variation.ensures.position ∙ c.position-here.ensures.value)
 
 -- any other token
 pub returns-in_err-left : goal.returns-in_err-left
@@ -71,13 +71,14 @@ loop-token-preserved-in-Some-2 g t c =
     (g.B.Board.position c.loop-token.board) c.loop-token.offset c.in-Some.token_end (token_seen c.in-Some.token)
     c.loop-token.invariant next.2 next.0 c.in-Some-2.left (g.B.Board.position c.play_token.new.board)
     (sym c.is_variation.ensures ∙ c.if-is_variation.false)
-    (goes_on c.args.text.now c.loop-token.offset c.in-Some.token) c.in_ok-left.ensures
+    (goes_on c.args.text.now c.loop-token.offset c.in-Some.token) (rw c.in-Some-2.is at c.in_ok-left.ensures)
 
 pub loop-token-preserved : goal.loop-token-preserved
 loop-token-preserved g t c =
     let next = rw c.in-Some.is at c.in_ok-token.ensures in
+    let none : c.in_ok-left.field-0 ≡ None = search rules in
     passed_over c.args.depth c.args.text.now c.args.start.now c.args.at c.loop-token.before
     (g.B.Board.position c.loop-token.board) c.loop-token.offset c.in-Some.token_end (token_seen c.in-Some.token)
     c.loop-token.invariant next.2 next.0 (g.B.Board.position c.play_token.new.board)
     (sym c.is_variation.ensures ∙ c.if-is_variation.false)
-    (goes_on c.args.text.now c.loop-token.offset c.in-Some.token) c.in_ok-left.ensures
+    (goes_on c.args.text.now c.loop-token.offset c.in-Some.token) (rw none at c.in_ok-left.ensures)
