@@ -50,8 +50,8 @@ loop-token-preserved-in_ok-read_line g t c =
     went_inside c.args.depth c.args.text.now c.args.start.now c.args.at c.loop-token.before
     (g.B.Board.position c.loop-token.board) c.loop-token.offset c.in-Some.token_end (token_seen c.in-Some.token)
     c.loop-token.invariant next.2 next.0 c.in_ok-first.first c.in_ok-first.inner_depth
-    (g.B.Board.position c.set-then-is_variation.new.self) (sym c.is_variation.ensures ∙ c.if-is_variation.true) c.in_ok-first.ensures
-    c.in_ok-read_line.ensures (c.set-then-is_variation.ensures.position ∙ c.position-here.ensures.value)
+    (g.B.Board.position c.set-then-is_variation.new.self) (sym c.is_variation.ensures ∙ c.if-is_variation.true)
+    c.in_ok-first.ensures c.in_ok-read_line.ensures (c.set-then-is_variation.ensures.position ∙ c.position-here.ensures.value)
 
 -- any other token
 pub returns-in_err-left : goal.returns-in_err-left
