@@ -129,7 +129,7 @@ module _ (depth : ℕ) (text : List ℕ) (start : Setup) (at : ℕ) (before : Op
           let first_is : first ≡ other = cc in
           let n_is : n ≡ m = cc in (
             ap (λ d. inside d text first here) (sym is_depth)
-            ∙ ap (λ d. line_fault text (inside d text) None first (tokens_from text (here + 1))) (sym n_is),
+                ∙ ap (λ d. line_fault text (inside d text) None first (tokens_from text (here + 1))) (sym n_is),
             sym same ∙ ap Some (sym first_is),
           )
 
@@ -192,11 +192,11 @@ pub unread : (depth : ℕ) (text : List ℕ) (start : Setup) (at : ℕ) (before 
     → (t : Token) × (tokens_from text here ≡ (length text - here, t) ∷ []) × IsUnread t
     × (is_end text here t ≡ false)
     → Some fault ≡ line_fault text (inside depth text) None start (tokens_from text at)
-unread depth text start at before p here fault r bad (token, is, h, open) =
+unread depth text start at before p here fault r bad (token, is, h, unclosed) =
     let both = unread_is text here p token h in
     ap Some bad
     ∙ ap (λ m. after_token here before p m (λ c q. line_fault text (inside depth text) c q [])) (sym both.1)
-    ∙ sym (of_token text (inside depth text) before p token [] here false false r.offset both.0 open)
+    ∙ sym (of_token text (inside depth text) before p token [] here false false r.offset both.0 unclosed)
     ∙ ap (line_fault text (inside depth text) before p) (sym is) ∙ r.whole
 
 -- ---- faults are in the text
