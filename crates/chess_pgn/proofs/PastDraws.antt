@@ -52,6 +52,11 @@ anew_alike s =
     (nat_le 150 p.halfmove) (nat_le 5 (repetition_count s.start s.moves))
     (if is_in_check p.men p.side then by_colour WhiteMates BlackMates (other p.side) else Stalemate)
 
+-- a game without a verdict is not ended
+pub still_open : (draws : Bool) (s : State) → verdict_now s ≡ None → ending draws s ≡ None
+still_open true s e = e
+still_open false s e = ap (option_and_then not_of_2014) e
+
 -- ---- a game in which no move comes after one of the two draws
 
 module _ (limit total : ℕ) (termination : Option Termination) (s : State) (later : Bool → State → GameRead) where
