@@ -15,15 +15,15 @@ use Rattle.pgn_verifier.proofs.LinesWritten.{placed_line, wrote_none, took_after
 -- what is left of a text has no more games than bytes
 left : (goes_on : Bool) (strict : Strictness) (start n : ℕ) (text : List ℕ) (at : ℕ)
     (answer : Result (Option PgnEnd) GameFault) (s : State) → judged_at strict text at ≡ answer
-    → s ≡ (read_at text at).state
+    → s ≡ (read_at strict.draws_of_2014 text at).state
     → placed_from goes_on strict start (suc n) text at
-    ≡ placed_then goes_on start text at (next_at goes_on text at) answer s
+    ≡ placed_then strict.draws_of_2014 goes_on start text at (next_at goes_on text at) answer s
     (λ next. placed_from goes_on strict start n text next)
 unfolding placed_from
 left goes_on strict start n text at answer s h k =
-    ap (λ r. placed_then goes_on start text at (next_at goes_on text at) r (read_at text at).state
+    ap (λ r. placed_then strict.draws_of_2014 goes_on start text at (next_at goes_on text at) r (read_at strict.draws_of_2014 text at).state
     (λ next. placed_from goes_on strict start n text next)) h
-    ∙ ap (λ g. placed_then goes_on start text at (next_at goes_on text at) answer g
+    ∙ ap (λ g. placed_then strict.draws_of_2014 goes_on start text at (next_at goes_on text at) answer g
     (λ next. placed_from goes_on strict start n text next)) (sym k)
 
 -- ---- the games before an offset were reported
@@ -61,127 +61,127 @@ span_at options start text at end = span_text options (start + game_begin text a
 module _ (options : VerifyOptions) (place : TextStart) (text : List ℕ) (before : Tally) (w w' w'' : OutputState)
     (at : ℕ) (tally : Tally) (done : List Placed) (s : SoFar options place text before w w' at tally done)
   where
-  abbrev goes_on : Bool
-  goes_on = place.goes_on
+    abbrev goes_on : Bool
+    goes_on = place.goes_on
 
-  abbrev start : ℕ
-  start = place.offset
+    abbrev start : ℕ
+    start = place.offset
 
-  abbrev next : Option ℕ
-  next = next_at goes_on text at
+    abbrev next : Option ℕ
+    next = next_at goes_on text at
 
-  abbrev reports : List Placed
-  reports = placed_of goes_on options.strict start text
+    abbrev reports : List Placed
+    reports = placed_of goes_on options.strict start text
 
-  abbrev later : ℕ → ℕ → List Placed
-  later n from = placed_from goes_on options.strict start n text from
+    abbrev later : ℕ → ℕ → List Placed
+    later n from = placed_from goes_on options.strict start n text from
 
-  -- the report that comes, with those after it
-  due : (answer : Result (Option PgnEnd) GameFault) (g : State) → judged_at options.strict text at ≡ answer
-      → g ≡ (read_at text at).state → reports ≡ done ++ placed_then goes_on start text at next answer g (later s.n)
-  due answer g h k = s.all ∙ ap (λ xs. done ++ xs) (left goes_on options.strict start s.n text at answer g h k)
+    -- the report that comes, with those after it
+    due : (answer : Result (Option PgnEnd) GameFault) (g : State) → judged_at options.strict text at ≡ answer
+        → g ≡ (read_at options.strict.draws_of_2014 text at).state → reports ≡ done ++ placed_then options.strict.draws_of_2014 goes_on start text at next answer g (later s.n)
+    due answer g h k = s.all ∙ ap (λ xs. done ++ xs) (left goes_on options.strict start s.n text at answer g h k)
 
-  abbrev Stands : List ℕ → Type 0
-  Stands input = StandsIf options.explain place input text
+    abbrev Stands : List ℕ → Type 0
+    Stands input = StandsIf options.explain place input text
 
-  pub all_written : (E : Type 0) (input : List ℕ) → Stands input → judged_at options.strict text at ≡ Ok None
-      → Writes {E = E} options input before w w' (Ok tally) reports
-  all_written E input stands h =
-      let only : reports ≡ done = due (Ok None) (read_at text at).state h refl ∙ append-nil done in
-      subst (Writes {E = E} options input before w w' (Ok tally)) (sym only) (s.took input stands, s.is)
+    pub all_written : (E : Type 0) (input : List ℕ) → Stands input → judged_at options.strict text at ≡ Ok None
+        → Writes {E = E} options input before w w' (Ok tally) reports
+    all_written E input stands h =
+        let only : reports ≡ done = due (Ok None) (read_at options.strict.draws_of_2014 text at).state h refl ∙ append-nil done in
+        subst (Writes {E = E} options input before w w' (Ok tally)) (sym only) (s.took input stands, s.is)
 
-  -- a report more, after which the text is read on from the offset `there`
-  read_on : (r : Placed) (after : Tally) (there : ℕ) → at < there → there ≤ length text
-      → after ≡ with_report tally r.report
-      → after.games + after.faults ≤ before.games + before.faults + there
-      → after.half_moves ≤ before.half_moves + there
-      → ((input : List ℕ) → Stands input → Took w' w'' (placed_line options input (next_number tally) r))
-      → reports ≡ done ++ r ∷ later s.n there → SoFar options place text before w w'' there after (done ++ r ∷ [])
-  read_on r after there further within is few few_moves took longer =
-      let enough = s.enough in by_number s.n enough longer
-    where
-      by_number : (n : ℕ) → length text < at + suc n → reports ≡ done ++ r ∷ later n there
-          → SoFar options place text before w w'' there after (done ++ r ∷ [])
-      by_number zero enough longer = absurd (omega (arith, enough, further, within))
-      by_number (suc m) enough longer = record {
-        within = within;
-        few = few;
-        few_moves = few_moves;
-        took = λ input stands.
-            took_after options input before tally w w' w'' done (s.took input stands) s.is (r ∷ [])
-            (subst (Took w' w'') (one_line options input (next_number tally) r) (took input stands));
-        is = is ∙ ap (λ (t : Tally). with_report t r.report) s.is ∙ counted_after before done (r ∷ []);
-        n = m;
-        enough = omega (arith, enough, further);
-        all = longer ∙ sym (append_assoc done (r ∷ []) (later (suc m) there));
-      }
+    -- a report more, after which the text is read on from the offset `there`
+    read_on : (r : Placed) (after : Tally) (there : ℕ) → at < there → there ≤ length text
+        → after ≡ with_report tally r.report
+        → after.games + after.faults ≤ before.games + before.faults + there
+        → after.half_moves ≤ before.half_moves + there
+        → ((input : List ℕ) → Stands input → Took w' w'' (placed_line options input (next_number tally) r))
+        → reports ≡ done ++ r ∷ later s.n there → SoFar options place text before w w'' there after (done ++ r ∷ [])
+    read_on r after there further within is few few_moves took longer =
+        let enough = s.enough in by_number s.n enough longer
+      where
+        by_number : (n : ℕ) → length text < at + suc n → reports ≡ done ++ r ∷ later n there
+            → SoFar options place text before w w'' there after (done ++ r ∷ [])
+        by_number zero enough longer = absurd (omega (arith, enough, further, within))
+        by_number (suc m) enough longer = record {
+          within = within;
+          few = few;
+          few_moves = few_moves;
+          took = λ input stands.
+              took_after options input before tally w w' w'' done (s.took input stands) s.is (r ∷ [])
+              (subst (Took w' w'') (one_line options input (next_number tally) r) (took input stands));
+          is = is ∙ ap (λ (t : Tally). with_report t r.report) s.is ∙ counted_after before done (r ∷ []);
+          n = m;
+          enough = omega (arith, enough, further);
+          all = longer ∙ sym (append_assoc done (r ∷ []) (later (suc m) there));
+        }
 
-  pub game_written : (end : PgnEnd) (g : State) → judged_at options.strict text at ≡ Ok (Some end)
-      → g ≡ (read_at text at).state → length g.moves + at ≤ end.offset → at < end.offset → end.offset ≤ length text
-      → Took w' w'' (if options.quiet then [] else game_line (next_number tally) (length g.moves) end.outcome
-      end.termination (span_at options start text at end.offset))
-      → SoFar options place text before w w'' end.offset
-      (record { games = tally.games + 1; half_moves = tally.half_moves + length g.moves; faults = tally.faults })
-      (done ++ game_placed start text at end g ∷ [])
-  game_written end g h k moves further within took =
-      let few = s.few in
-      let few_moves = s.few_moves in
-      read_on (game_placed start text at end g)
-      (record { games = tally.games + 1; half_moves = tally.half_moves + length g.moves; faults = tally.faults })
-      end.offset further within refl (omega (arith, few, further)) (omega (arith, few_moves, moves))
-      (λ input stands. took) (due (Ok (Some end)) g h k)
-
-  pub game_broke : {E : Type 0} (e : E) (input : List ℕ) → Stands input → (end : PgnEnd) (g : State)
-      → judged_at options.strict text at ≡ Ok (Some end) → g ≡ (read_at text at).state
-      → CutShort w' w'' (if options.quiet then [] else game_line (next_number tally) (length g.moves) end.outcome
-      end.termination (span_at options start text at end.offset))
-      → Writes options input before w w'' (Err e) reports
-  game_broke e input stands end g h k broke =
-      let r = game_placed start text at end g in
-      let rest = later s.n end.offset in
-      subst (λ xs. CutShort w w'' (report_lines options input (next_number before) xs))
-      (sym (due (Ok (Some end)) g h k))
-      (broke_after options input before tally w w' w'' done (s.took input stands) s.is (r ∷ rest)
-      (first_broke options input (next_number tally) w' w'' r rest broke))
-
-  -- the counts after a fault
-  abbrev with_fault : Tally
-  with_fault = record { games = tally.games; half_moves = tally.half_moves; faults = tally.faults + 1 }
-
-  module _ (fault : GameFault) (g : State) (h : judged_at options.strict text at ≡ Err fault)
-      (k : g ≡ (read_at text at).state)
-    where
-    abbrev faulty : Placed
-    faulty = fault_placed goes_on start text at next fault g
-
-    -- a fault after which reading goes on
-    pub fault_passed : (there : ℕ) → next ≡ Some there → at < there → there ≤ length text
-        → ((input : List ℕ) → Stands input → Took w' w'' (placed_line options input (next_number tally) faulty))
-        → SoFar options place text before w w'' there with_fault (done ++ faulty ∷ [])
-    fault_passed there is further within took =
+    pub game_written : (end : PgnEnd) (g : State) → judged_at options.strict text at ≡ Ok (Some end)
+        → g ≡ (read_at options.strict.draws_of_2014 text at).state → length g.moves + at ≤ end.offset → at < end.offset → end.offset ≤ length text
+        → Took w' w'' (if options.quiet then [] else game_line (next_number tally) (length g.moves) end.outcome
+        end.termination (span_at options start text at end.offset))
+        → SoFar options place text before w w'' end.offset
+        (record { games = tally.games + 1; half_moves = tally.half_moves + length g.moves; faults = tally.faults })
+        (done ++ game_placed start text at end g ∷ [])
+    game_written end g h k moves further within took =
         let few = s.few in
         let few_moves = s.few_moves in
-        read_on faulty with_fault there further within refl (omega (arith, few, further))
-        (omega (arith, few_moves, further)) took
-        (due (Err fault) g h k ∙ ap (λ o. done ++ faulty ∷ option_map_or (later s.n) o []) is)
+        read_on (game_placed start text at end g)
+        (record { games = tally.games + 1; half_moves = tally.half_moves + length g.moves; faults = tally.faults })
+        end.offset further within refl (omega (arith, few, further)) (omega (arith, few_moves, moves))
+        (λ input stands. took) (due (Ok (Some end)) g h k)
 
-    -- one after which it doesn't
-    pub fault_written : (E : Type 0) (input : List ℕ) → Stands input → next ≡ None
-        → Took w' w'' (placed_line options input (next_number tally) faulty)
-        → Writes {E = E} options input before w w'' (Ok with_fault) reports
-    fault_written E input stands none took =
-        let last : reports ≡ done ++ faulty ∷ [] =
-        due (Err fault) g h k ∙ ap (λ o. done ++ faulty ∷ option_map_or (later s.n) o []) none in
-        subst (Writes {E = E} options input before w w'' (Ok with_fault)) (sym last)
-        (writes_after options input before tally w w' w'' done (s.took input stands) s.is {E = E} (Ok with_fault)
-        (faulty ∷ [])
-        (subst (Took w' w'') (one_line options input (next_number tally) faulty) took, refl))
-
-    pub fault_broke : {E : Type 0} (e : E) (input : List ℕ) → Stands input
-        → CutShort w' w'' (placed_line options input (next_number tally) faulty)
+    pub game_broke : {E : Type 0} (e : E) (input : List ℕ) → Stands input → (end : PgnEnd) (g : State)
+        → judged_at options.strict text at ≡ Ok (Some end) → g ≡ (read_at options.strict.draws_of_2014 text at).state
+        → CutShort w' w'' (if options.quiet then [] else game_line (next_number tally) (length g.moves) end.outcome
+        end.termination (span_at options start text at end.offset))
         → Writes options input before w w'' (Err e) reports
-    fault_broke e input stands broke =
-        let rest = option_map_or (later s.n) next [] in
-        subst (λ xs. CutShort w w'' (report_lines options input (next_number before) xs)) (sym (due (Err fault) g h k))
-        (broke_after options input before tally w w' w'' done (s.took input stands) s.is (faulty ∷ rest)
-        (first_broke options input (next_number tally) w' w'' faulty rest broke))
+    game_broke e input stands end g h k broke =
+        let r = game_placed start text at end g in
+        let rest = later s.n end.offset in
+        subst (λ xs. CutShort w w'' (report_lines options input (next_number before) xs))
+        (sym (due (Ok (Some end)) g h k))
+        (broke_after options input before tally w w' w'' done (s.took input stands) s.is (r ∷ rest)
+        (first_broke options input (next_number tally) w' w'' r rest broke))
+
+    -- the counts after a fault
+    abbrev with_fault : Tally
+    with_fault = record { games = tally.games; half_moves = tally.half_moves; faults = tally.faults + 1 }
+
+    module _ (fault : GameFault) (g : State) (h : judged_at options.strict text at ≡ Err fault)
+        (k : g ≡ (read_at options.strict.draws_of_2014 text at).state)
+      where
+        abbrev faulty : Placed
+        faulty = fault_placed options.strict.draws_of_2014 goes_on start text at next fault g
+
+        -- a fault after which reading goes on
+        pub fault_passed : (there : ℕ) → next ≡ Some there → at < there → there ≤ length text
+            → ((input : List ℕ) → Stands input → Took w' w'' (placed_line options input (next_number tally) faulty))
+            → SoFar options place text before w w'' there with_fault (done ++ faulty ∷ [])
+        fault_passed there is further within took =
+            let few = s.few in
+            let few_moves = s.few_moves in
+            read_on faulty with_fault there further within refl (omega (arith, few, further))
+            (omega (arith, few_moves, further)) took
+            (due (Err fault) g h k ∙ ap (λ o. done ++ faulty ∷ option_map_or (later s.n) o []) is)
+
+        -- one after which it doesn't
+        pub fault_written : (E : Type 0) (input : List ℕ) → Stands input → next ≡ None
+            → Took w' w'' (placed_line options input (next_number tally) faulty)
+            → Writes {E = E} options input before w w'' (Ok with_fault) reports
+        fault_written E input stands none took =
+            let last : reports ≡ done ++ faulty ∷ [] =
+            due (Err fault) g h k ∙ ap (λ o. done ++ faulty ∷ option_map_or (later s.n) o []) none in
+            subst (Writes {E = E} options input before w w'' (Ok with_fault)) (sym last)
+            (writes_after options input before tally w w' w'' done (s.took input stands) s.is {E = E} (Ok with_fault)
+            (faulty ∷ [])
+            (subst (Took w' w'') (one_line options input (next_number tally) faulty) took, refl))
+
+        pub fault_broke : {E : Type 0} (e : E) (input : List ℕ) → Stands input
+            → CutShort w' w'' (placed_line options input (next_number tally) faulty)
+            → Writes options input before w w'' (Err e) reports
+        fault_broke e input stands broke =
+            let rest = option_map_or (later s.n) next [] in
+            subst (λ xs. CutShort w w'' (report_lines options input (next_number before) xs)) (sym (due (Err fault) g h k))
+            (broke_after options input before tally w w' w'' done (s.took input stands) s.is (faulty ∷ rest)
+            (first_broke options input (next_number tally) w' w'' faulty rest broke))

@@ -24,11 +24,7 @@ fn next_at(goes_on: bool, text: &[u8], at: usize) -> Option<usize>
     ensures further { IfSome result (λ next. at < next) }
     ensures within { IfSome result (λ next. next ≤ length text.now) }
 {
-    if goes_on {
-        game_end(text, at)
-    } else {
-        None
-    }
+    if goes_on { game_end(text, at) } else { None }
 }
 
 // Whether a text of `len` bytes isn't read from the offset `offset` of a fault on, though it was to be.
