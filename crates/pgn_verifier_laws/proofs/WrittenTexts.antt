@@ -2,9 +2,9 @@
 use Rattle.std.proofs.Common.{◌≡◌, ℕ, zero, suc, ◌+◌, ◌-◌, ◌<◌, Bool, false, List, [], ◌∷◌, ◌++◌, length, drop, Some, None, Ok, refl, sym, ap, subst, ◌∙◌, inl, inr, ◌⊎◌, append_assoc, append-nil, length-append, arith, map}
 use Rattle.std.specs.List.{concat, flat_map, list_all}
 use Rattle.std.proofs.{Math.Seq.drop-append-add, lemmas.Grind.flat_map-append}
-use Rattle.chess_game.specs.Game.{State, outcome_now, verdict_now, IsPlayable}
+use Rattle.chess_game.specs.Game.{State, outcome_now, IsPlayable}
 use Rattle.chess_game.specs.{declared.game.TheConstants.MOST_MOVES, declared.results.Outcome.Outcome}
-use Rattle.chess_pgn.specs.{GameRead.GameRead, GameRead.pgn_read, LastTags.result_tag_of, UnknownVariants.unknown_variant_in, declared.read.PgnEnd.PgnEnd, laws.TokenByToken.tokens_read}
+use Rattle.chess_pgn.specs.{GameRead.GameRead, GameRead.ending, GameRead.pgn_read, LastTags.result_tag_of, UnknownVariants.unknown_variant_in, declared.read.PgnEnd.PgnEnd, laws.TokenByToken.tokens_read}
 use Rattle.pgn_writer.specs.{GameText.pgn, GameText.tag_lines, GameText.game_tokens, Terminations.termination_of, declared.tags.Tags.Tags, declared.termination.Termination.Termination}
 use Rattle.chess_pgn.specs.shared.Kinds.{IsSplitByKinds, IsOf, IsLongest, Blank, ended, token}
 use Rattle.chess_pgn.specs.Tokens.{Token, Skip, begins_line, tokens_from}
@@ -82,17 +82,17 @@ none_after law strict body some =
     (length text - length body, Skip) ∷ (length text - (length body + 1), Skip) ∷ [] in
     let same : ts ≡ own =
     ap (tokens_from text) (no_mark text (length body) some) ∙ sym (kinds_read text (last_tokens body)) in
-    let is : pgn_read MOST_MOVES text (length body) ≡ tokens_read MOST_MOVES (length text) own =
-    law MOST_MOVES text (length body) ∙ ap (tokens_read MOST_MOVES (length text)) same in
+    let is : pgn_read strict.draws_of_2014 MOST_MOVES text (length body) ≡ tokens_read strict.draws_of_2014 MOST_MOVES (length text) own =
+    law strict.draws_of_2014 MOST_MOVES text (length body) ∙ ap (tokens_read strict.draws_of_2014 MOST_MOVES (length text)) same in
     ap (λ (r : GameRead). judged strict (variation_in tokens_from text (length body) r.state.start)
-    (unknown_variant_in (length text) ts) (result_tag_of (length text) ts) (verdict_now r.state) r.answer) is
+    (unknown_variant_in (length text) ts) (result_tag_of (length text) ts) (ending strict.draws_of_2014 r.state) r.answer) is
 
 nothing_more : (strict : Strictness) (start k : ℕ) (text : List ℕ) (at : ℕ) → judged_at strict text at ≡ Ok None
     → reports_from strict start k text at ≡ []
 unfolding games_from
 nothing_more strict start zero text at none = refl
 nothing_more strict start (suc k) text at none =
-    ap (λ j. report_then start text None j (read_at text at).state (λ next. reports_from strict start k text next)) none
+    ap (λ j. report_then strict.draws_of_2014 start text None j (read_at strict.draws_of_2014 text at).state (λ next. reports_from strict start k text next)) none
 
 -- ---- one game
 
@@ -106,106 +106,106 @@ same_termination end o t offset same =
 module _ (law : TokenByToken) (read : PgnIsReadBack) (result : TagsAreWritten) (strict : Strictness)
     (plain : strict.variations ≡ false)
   where
-  one_report : (start : ℕ) (g : TaggedGame) → AreTagTexts g.tags
-      → IsPlayable (record { limit = MOST_MOVES; state = g.state })
-      → reports_on strict start (pgn [] g.tags g.state) ≡ report_of g ∷ []
-  unfolding games_from
-  one_report start g texts playable =
-      let text : List ℕ = pgn [] g.tags g.state in
-      let T : Termination = termination_of g.tags.ended (outcome_now g.state) in
-      let all : pgn [] g.tags g.state ++ [] ≡ pgn [] g.tags g.state = append-nil (pgn [] g.tags g.state) in
-      let found : HasNoFault strict text 0 g.state (length text) =
-      subst (λ t. HasNoFault strict t 0 g.state (length text)) all
-      (written_games read result strict plain g.tags g.state [] [] texts playable) in
-      let only = only_judged strict text 0 found.read (Ok (Some found.end)) found.judged in
-      let is : judged_at strict text 0 ≡ Ok (Some found.end) = sym only.1 in
-      let moves : (read_at text 0).state.moves ≡ g.state.moves =
-      sym (ap (λ (x : State). x.moves) only.0) ∙ found.moves in
-      let back : IsReadBack g.state T (length text) (pgn_read MOST_MOVES text 0) =
-      subst (λ t. IsReadBack g.state T (length text) (pgn_read MOST_MOVES t 0)) all
-      (read MOST_MOVES g.tags g.state [] [] texts playable) in
-      let said = judged_so strict (variation_in tokens_from text 0 (read_at text 0).state.start)
-      (unknown_variant_in (length text) (tokens_from text (after_byte_order_mark text 0)))
-    (result_tag_of (length text) (tokens_from text (after_byte_order_mark text 0)))
-      (verdict_now (read_at text 0).state) found.end (read_at text 0).answer is in
-      let termination : found.end.termination ≡ Some T =
-      same_termination found.end (outcome_now g.state) T back.offset (sym said.0 ∙ back.answer) in
-      let tail = text_ends g.tags g.state in
-      let place : found.end.offset ≡ length tail.0 = omega (
-        arith,
-        found.two_before_end,
-        ap length tail.1,
-        length-append tail.0 (10 ∷ 10 ∷ []),
-      ) in
-      let some : 0 < found.end.offset =
-      (in_text law strict plain [] text [] 0 found.end (begins_first text [] (inr refl)) (inr refl) is).some_bytes
-      in
-      let none : judged_at strict text found.end.offset ≡ Ok None =
-      ap (λ t. judged_at strict t found.end.offset) tail.1 ∙ ap (judged_at strict (tail.0 ++ 10 ∷ 10 ∷ [])) place
-      ∙ none_after law strict tail.0 (omega (arith, some, place)) in
-      let count : length text + 1 ≡ suc (length text) = omega arith in
-      ap (λ k. reports_from strict start k text 0) count
-      ∙ ap (λ j. report_then start text None j (read_at text 0).state
-      (λ next. reports_from strict start (length text) text next)) is
-      ∙ ap (λ l. Game (length (read_at text 0).state.moves) found.end.outcome found.end.termination ∷ l)
-      (nothing_more strict start (length text) text found.end.offset none)
-      ∙ ap (λ ms. Game (length ms) found.end.outcome found.end.termination ∷ []) moves
-      ∙ ap (λ o. Game (length g.state.moves) o found.end.termination ∷ []) found.outcome
-      ∙ ap (λ t. Game (length g.state.moves) (outcome_now g.state) t ∷ []) termination
+    one_report : (start : ℕ) (g : TaggedGame) → AreTagTexts g.tags
+        → IsPlayable (record { limit = MOST_MOVES; state = g.state })
+        → reports_on strict start (pgn [] g.tags g.state) ≡ report_of g ∷ []
+    unfolding games_from
+    one_report start g texts playable =
+        let text : List ℕ = pgn [] g.tags g.state in
+        let T : Termination = termination_of g.tags.ended (outcome_now g.state) in
+        let all : pgn [] g.tags g.state ++ [] ≡ pgn [] g.tags g.state = append-nil (pgn [] g.tags g.state) in
+        let found : HasNoFault strict text 0 g.state (length text) =
+        subst (λ t. HasNoFault strict t 0 g.state (length text)) all
+        (written_games read result strict plain g.tags g.state [] [] texts playable) in
+        let only = only_judged strict text 0 found.read (Ok (Some found.end)) found.judged in
+        let is : judged_at strict text 0 ≡ Ok (Some found.end) = sym only.1 in
+        let moves : (read_at strict.draws_of_2014 text 0).state.moves ≡ g.state.moves =
+        sym (ap (λ (x : State). x.moves) only.0) ∙ found.moves in
+        let back : IsReadBack g.state T (length text) (pgn_read strict.draws_of_2014 MOST_MOVES text 0) =
+        subst (λ t. IsReadBack g.state T (length text) (pgn_read strict.draws_of_2014 MOST_MOVES t 0)) all
+        (read strict.draws_of_2014 MOST_MOVES g.tags g.state [] [] texts playable) in
+        let said = judged_so strict (variation_in tokens_from text 0 (read_at strict.draws_of_2014 text 0).state.start)
+        (unknown_variant_in (length text) (tokens_from text (after_byte_order_mark text 0)))
+        (result_tag_of (length text) (tokens_from text (after_byte_order_mark text 0)))
+        (ending strict.draws_of_2014 (read_at strict.draws_of_2014 text 0).state) found.end (read_at strict.draws_of_2014 text 0).answer is in
+        let termination : found.end.termination ≡ Some T =
+        same_termination found.end (outcome_now g.state) T back.offset (sym said.0 ∙ back.answer) in
+        let tail = text_ends g.tags g.state in
+        let place : found.end.offset ≡ length tail.0 = omega (
+          arith,
+          found.two_before_end,
+          ap length tail.1,
+          length-append tail.0 (10 ∷ 10 ∷ []),
+        ) in
+        let some : 0 < found.end.offset =
+        (in_text law strict plain [] text [] 0 found.end (begins_first text [] (inr refl)) (inr refl) is).some_bytes
+        in
+        let none : judged_at strict text found.end.offset ≡ Ok None =
+        ap (λ t. judged_at strict t found.end.offset) tail.1 ∙ ap (judged_at strict (tail.0 ++ 10 ∷ 10 ∷ [])) place
+        ∙ none_after law strict tail.0 (omega (arith, some, place)) in
+        let count : length text + 1 ≡ suc (length text) = omega arith in
+        ap (λ k. reports_from strict start k text 0) count
+        ∙ ap (λ j. report_then strict.draws_of_2014 start text None j (read_at strict.draws_of_2014 text 0).state
+        (λ next. reports_from strict start (length text) text next)) is
+        ∙ ap (λ l. Game (length (read_at strict.draws_of_2014 text 0).state.moves) found.end.outcome found.end.termination ∷ l)
+        (nothing_more strict start (length text) text found.end.offset none)
+        ∙ ap (λ ms. Game (length ms) found.end.outcome found.end.termination ∷ []) moves
+        ∙ ap (λ o. Game (length g.state.moves) o found.end.termination ∷ []) found.outcome
+        ∙ ap (λ t. Game (length g.state.moves) (outcome_now g.state) t ∷ []) termination
 
-  -- ---- all games
+    -- ---- all games
 
-  abbrev text_of : TaggedGame → List ℕ
-  text_of g = pgn [] g.tags g.state
+    abbrev text_of : TaggedGame → List ℕ
+    text_of g = pgn [] g.tags g.state
 
-  abbrev Starts : List ℕ → Type 0
-  Starts before = (before ≡ []) ⊎ ((front : List ℕ) × (before ≡ front ++ 10 ∷ []))
+    abbrev Starts : List ℕ → Type 0
+    Starts before = (before ≡ []) ⊎ ((front : List ℕ) × (before ≡ front ++ 10 ∷ []))
 
-  begins_at : (before after : List ℕ) (g : TaggedGame) → Starts before
-      → BeginsAlike before (pgn [] g.tags g.state) after 0
-  begins_at before after g (inl none) =
-      let tail = text_ends g.tags g.state in
-      subst (λ b. BeginsAlike b (pgn [] g.tags g.state) after 0) (sym none)
-      (begins_first (pgn [] g.tags g.state) after
-      (inl (tail.0 ++ 10 ∷ [], tail.1 ∙ sym (append_assoc tail.0 (10 ∷ []) (10 ∷ [])))))
-  begins_at before after g (inr (front, is)) =
-      subst (λ b. BeginsAlike b (pgn [] g.tags g.state) after 0) (sym is)
-      (begins_later front (pgn [] g.tags g.state) after (text_unmarked g.tags g.state))
+    begins_at : (before after : List ℕ) (g : TaggedGame) → Starts before
+        → BeginsAlike before (pgn [] g.tags g.state) after 0
+    begins_at before after g (inl none) =
+        let tail = text_ends g.tags g.state in
+        subst (λ b. BeginsAlike b (pgn [] g.tags g.state) after 0) (sym none)
+        (begins_first (pgn [] g.tags g.state) after
+        (inl (tail.0 ++ 10 ∷ [], tail.1 ∙ sym (append_assoc tail.0 (10 ∷ []) (10 ∷ [])))))
+    begins_at before after g (inr (front, is)) =
+        subst (λ b. BeginsAlike b (pgn [] g.tags g.state) after 0) (sym is)
+        (begins_later front (pgn [] g.tags g.state) after (text_unmarked g.tags g.state))
 
-  next_starts : (before : List ℕ) (g : TaggedGame) → Starts (before ++ pgn [] g.tags g.state)
-  next_starts before g =
-      let tail = text_ends g.tags g.state in
-      inr (
-        before ++ (tail.0 ++ 10 ∷ []),
-        ap (λ l. before ++ l) (tail.1 ∙ sym (append_assoc tail.0 (10 ∷ []) (10 ∷ [])))
-            ∙ sym (append_assoc before (tail.0 ++ 10 ∷ []) (10 ∷ [])),
-      )
+    next_starts : (before : List ℕ) (g : TaggedGame) → Starts (before ++ pgn [] g.tags g.state)
+    next_starts before g =
+        let tail = text_ends g.tags g.state in
+        inr (
+          before ++ (tail.0 ++ 10 ∷ []),
+          ap (λ l. before ++ l) (tail.1 ∙ sym (append_assoc tail.0 (10 ∷ []) (10 ∷ [])))
+              ∙ sym (append_assoc before (tail.0 ++ 10 ∷ []) (10 ∷ [])),
+        )
 
-  all_held : (games : List TaggedGame) → AreWritable games → (before : List ℕ) → Starts before
-      → (reports : List Report) × AllHoldWhole strict before (map text_of games) reports
-  all_held [] h before starts = ([], no_parts)
-  all_held (g ∷ games) (texts, playable, h) before starts =
-      let part : List ℕ = pgn [] g.tags g.state in
-      let after : List ℕ = concat (map text_of games) in
-      let tail = text_ends g.tags g.state in
-      let begins = begins_at before after g starts in
-      let one = part_holds law strict plain 0 before part after
-      (inl (tail.0 ++ 10 ∷ [], tail.1 ∙ sym (append_assoc tail.0 (10 ∷ []) (10 ∷ [])))) begins
-      (ap (list_all is_game) (one_report 0 g texts playable)) in
-      let rest = all_held games h (before ++ part) (next_starts before g) in
-      (one.games ++ rest.0, next_part begins one.holds rest.1)
+    all_held : (games : List TaggedGame) → AreWritable games → (before : List ℕ) → Starts before
+        → (reports : List Report) × AllHoldWhole strict before (map text_of games) reports
+    all_held [] h before starts = ([], no_parts)
+    all_held (g ∷ games) (texts, playable, h) before starts =
+        let part : List ℕ = pgn [] g.tags g.state in
+        let after : List ℕ = concat (map text_of games) in
+        let tail = text_ends g.tags g.state in
+        let begins = begins_at before after g starts in
+        let one = part_holds law strict plain 0 before part after
+        (inl (tail.0 ++ 10 ∷ [], tail.1 ∙ sym (append_assoc tail.0 (10 ∷ []) (10 ∷ [])))) begins
+        (ap (list_all is_game) (one_report 0 g texts playable)) in
+        let rest = all_held games h (before ++ part) (next_starts before g) in
+        (one.games ++ rest.0, next_part begins one.holds rest.1)
 
-  all_reports : (start : ℕ) (games : List TaggedGame) → AreWritable games
-      → flat_map (λ part. reports_on strict start part) (map text_of games) ≡ map report_of games
-  all_reports start [] h = refl
-  all_reports start (g ∷ games) (texts, playable, h) =
-      ap (λ l. l ++ flat_map (λ part. reports_on strict start part) (map text_of games))
-      (one_report start g texts playable)
-      ∙ ap (λ l. report_of g ∷ l) (all_reports start games h)
+    all_reports : (start : ℕ) (games : List TaggedGame) → AreWritable games
+        → flat_map (λ part. reports_on strict start part) (map text_of games) ≡ map report_of games
+    all_reports start [] h = refl
+    all_reports start (g ∷ games) (texts, playable, h) =
+        ap (λ l. l ++ flat_map (λ part. reports_on strict start part) (map text_of games))
+        (one_report start g texts playable)
+        ∙ ap (λ l. report_of g ∷ l) (all_reports start games h)
 
-  joined : (games : List TaggedGame) → written_text games ≡ concat (map text_of games)
-  joined [] = refl
-  joined (g ∷ games) = ap (λ l. pgn [] g.tags g.state ++ l) (joined games)
+    joined : (games : List TaggedGame) → written_text games ≡ concat (map text_of games)
+    joined [] = refl
+    joined (g ∷ games) = ap (λ l. pgn [] g.tags g.state ++ l) (joined games)
 
 pub written_texts : TokenByToken → PgnIsReadBack → TagsAreWritten → WrittenTextsHaveNoFault
 written_texts law read result strict plain start games h =
