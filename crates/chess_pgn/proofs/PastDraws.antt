@@ -22,7 +22,8 @@ use Rattle.chess_pgn.specs.declared.token.TokenFault.TheVariants as fault
 use Rattle.chess_pgn.specs.declared.word_kind.WordKind.TheVariants.{End, Number, Marks, Move}
 use Rattle.chess_pgn.specs.GameRead.{GameRead, Row, Goes_on, Ends, Fails, after_row, ending, failed, fen_read, last_start, move_row, moves_read, not_of_2014, pgn_read, read_after_tags, read_of_split, row, tagged_variant}
 use Rattle.chess_pgn.specs.Tokens.{Token, Skip, Tag, Word, Bad_tag, Unclosed_comment, Unclosed_variation, Bad, tokens_from}
-use Rattle.chess_pgn.specs.ties.PastDraws.{IsAnswer, IsReadAgain, Stands, closing_fault, is_at_past_draw, is_past_draw, move_effect, next_position, stops_past_draw, token_effect, unread_fault, word_effect}
+use Rattle.chess_pgn.specs.PastDraws.{IsAnswer, Stands}
+use Rattle.chess_pgn.specs.ties.PastDraws.{IsReadAgain, closing_fault, is_at_past_draw, is_past_draw, move_effect, next_position, stops_past_draw, token_effect, unread_fault, word_effect}
 use Rattle.chess_pgn.proofs.GamesByTags.{fens, termination_in}
 
 -- ---- the verdict without the two draws

@@ -13,7 +13,8 @@ ghost use Rattle.chess_pgn.specs.LastTags.{tag_section, last_tag};
 ghost use Rattle.chess_pgn.specs.Tokens.{tokens_from};
 ghost use Rattle.chess_pgn.specs.laws.WordKinds.{word_kind};
 ghost use Rattle.chess_pgn.specs.ties.GameSteps.{IsWithin};
-ghost use Rattle.chess_pgn.specs.ties.PastDraws.{IsAnswer, IsReadAgain, Stands, closing_fault, is_past_draw, move_effect, next_position, stops_past_draw, token_effect, unread_fault, word_effect};
+ghost use Rattle.chess_pgn.specs.PastDraws.{IsAnswer, Stands};
+ghost use Rattle.chess_pgn.specs.ties.PastDraws.{IsReadAgain, closing_fault, is_past_draw, move_effect, next_position, stops_past_draw, token_effect, unread_fault, word_effect};
 ghost use Rattle.chess_pgn.specs.ties.Seen.{found_seen, token_seen, fault_seen};
 
 use crate::game_end::after_tags;

@@ -1,7 +1,7 @@
 -- The lines on a fault, by what its label says, are those of its report.
 use Rattle.std.proofs.Common.{◌≡◌, ℕ, ◌+◌, List, [], ◌++◌, length, drop, Option, Some, ap, ◌∙◌, if◌then◌else◌, option_map, unwrap_or}
 use Rattle.chess_game.specs.Game.{State}
-use Rattle.chess_pgn.specs.ties.PastDraws.{Stands}
+use Rattle.chess_pgn.specs.PastDraws.{Stands}
 use Rattle.pgn_verifier.specs.Explanations.{is_at_begin, shown, wrong_part, explanation_line}
 use Rattle.pgn_verifier.specs.Reports.{game_begin, names_text, span_text, unread_from, unread_text}
 use Rattle.pgn_verifier.specs.{declared.after_fault.AfterFault.AfterFault, declared.game_fault.GameFault.GameFault, declared.label.FaultLabel.FaultLabel, declared.options.VerifyOptions.VerifyOptions, declared.start.TextStart.TextStart, declared.tally.Tally.Tally, laws.Reasons.explanation_of, laws.Reported.names_at, laws.Reported.next_at, laws.Reported.fault_placed}

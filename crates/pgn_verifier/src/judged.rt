@@ -3,7 +3,7 @@
 ghost use Rattle.std.specs.Prelude.{◌≡◌, ◌≤◌, ◌<◌, ◌+◌, true, false, length, IfOk, IfErr};
 ghost use Rattle.std.specs.Option.{IfSome};
 ghost use Rattle.chess_game.specs.declared.game.TheConstants.{MOST_MOVES};
-ghost use Rattle.chess_pgn.specs.ties.PastDraws.{Stands};
+ghost use Rattle.chess_pgn.specs.PastDraws.{Stands};
 ghost use Rattle.pgn_verifier.specs.laws.Reported.{read_at, judged_of, judged_at};
 ghost use Rattle.pgn_verifier.specs.ties.OnTheWay.{end_seen};
 

@@ -11,7 +11,6 @@ use Rattle.chess_text.specs.declared.reading.Reading.TheVariants as reads
 use Rattle.chess_text.specs.Moves.{reading}
 use Rattle.chess_pgn.specs.declared.past_draws.Effect as code
 use Rattle.chess_pgn.specs.declared.past_draws.Effect.TheVariants as does
-use Rattle.chess_pgn.specs.declared.past_draws.ReadGame.{ReadGame}
 use Rattle.chess_pgn.specs.declared.read.PgnEnd.{PgnEnd}
 use Rattle.chess_pgn.specs.declared.read.PgnFault.{PgnFault}
 use Rattle.chess_pgn.specs.declared.read.PgnFaultKind.{PgnFaultKind}
@@ -35,19 +34,6 @@ is_at_past_draw s (Err fault) = is_past_draw fault.kind s
 -- whether reading stopped at such a move, by what was read
 abbrev pub stops_past_draw : GameRead → Bool
 stops_past_draw r = is_at_past_draw r.state r.answer
-
--- the game `g` is at the position of the game `s`, and the same verdict ends both, if any. `draws`: whether the two
--- draws of 2014 end a game
-pub record Stands (draws : Bool) (g s : State) : Type 0 where
-  pub position : current g ≡ current s
-  pub ends : ending draws g ≡ ending draws s
-
--- what code returned of a game is what was read of it (`r`)
-abbrev pub IsAnswer : GameRead → Result (Option ReadGame) PgnFault → Type 0
-IsAnswer r (Ok None) = r.answer ≡ Ok None
-IsAnswer r (Ok (Some game)) = (r.answer ≡ Ok (Some game.end)) × (game.start ≡ r.state.start)
-    × (game.plies ≡ length r.state.moves)
-IsAnswer r (Err fault) = r.answer ≡ Err fault
 
 -- what code returned of a game's moves is what was read of them (`r`), and the game `g` began anew at the position in
 -- which reading stopped

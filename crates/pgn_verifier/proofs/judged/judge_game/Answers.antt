@@ -1,6 +1,6 @@
 -- The game is read either way, as `strict` says.
 use Rattle.std.proofs.Common.{◌≡◌, ◌∙◌, Bool, IfOk, IfSome, ap, length, subst, sym, true}
-use Rattle.chess_pgn.specs.ties.PastDraws.{Stands}
+use Rattle.chess_pgn.specs.PastDraws.{Stands}
 use Rattle.pgn_verifier.specs.laws.Reported.{judged_of, read_at}
 use Rattle.pgn_verifier.proofs.Judging.{stands_same}
 use Rattle.pgn_verifier.proofs.judged.judge_game.Goals as goal
