@@ -58,17 +58,22 @@ is_set name value = bytes_eq (unwrap_or (value name) (codes "false")) (codes "tr
 abbrev pub number_of : Text → ℕ
 number_of text = digits_value 10 (without_leading_plus text)
 
--- whether the text names a kind of fault that `verify` may ignore
+-- whether the text names a kind that `verify` may ignore
 abbrev pub is_kind : Text → Bool
-is_kind name = bytes_eq name (codes "variant") || (bytes_eq name (codes "result") || bytes_eq name (codes "board"))
+is_kind name = bytes_eq name (codes "variant")
+    || (bytes_eq name (codes "result") || (bytes_eq name (codes "board") || bytes_eq name (codes "after-end")))
 
 -- the names in the value of `--ignore`, between its commas (byte 44); none without the option
 abbrev pub ignored_in : Values → List Text
 ignored_in value = option_map_or (slice_split (λ b. b == 44)) (value (codes "ignore")) []
 
+-- whether `--ignore` names this kind
+abbrev pub is_ignored : Text → Values → Bool
+is_ignored kind value = list_any (bytes_eq kind) (ignored_in value)
+
 -- whether faults of this kind are looked for: with `--strict`, unless `--ignore` names the kind
 abbrev pub is_looked_for : Text → Values → Bool
-is_looked_for kind value = is_set (codes "strict") value && not (list_any (bytes_eq kind) (ignored_in value))
+is_looked_for kind value = is_set (codes "strict") value && not (is_ignored kind value)
 
 -- what the options of `verify` ask for
 abbrev pub verify_plan_of : Values → VerifyPlan
@@ -82,6 +87,8 @@ verify_plan_of value = record {
   spans = is_set (codes "spans") value;
   names = is_set (codes "names") value;
   variations = is_set (codes "variations") value;
+  -- fivefold repetition and 75 moves end a game
+  draws_of_2014 = not (is_ignored (codes "after-end") value);
 }
 
 -- ---- what they mean

@@ -94,6 +94,7 @@ fn verify_plan(found: &ArgMatches<'_>, ignored: Option<&str>) -> VerifyPlan
         spans: is_set(found, "spans"),
         names: is_set(found, "names"),
         variations: is_set(found, "variations"),
+        draws_of_2014: !is_ignored(ignored, "after-end"),
     }
 }
 

@@ -1,5 +1,5 @@
 -- What arguments ask for, and which of them are refused.
-use Rattle.std.specs.Prelude.{◌≡◌, List, [], codes, false}
+use Rattle.std.specs.Prelude.{◌≡◌, List, [], codes, false, true}
 use Rattle.std.specs.List.{list_any}
 use Rattle.clap.specs.Words.{Kinds, Text}
 use Rattle.clap.specs.Facts.{explicit_source}
@@ -47,6 +47,7 @@ bare_plan = record {
   spans = false;
   names = false;
   variations = false;
+  draws_of_2014 = true;
 }
 
 -- the options of these arguments make the plan of `verify` without flags

@@ -48,7 +48,7 @@ wrong_part _ text = (0, shown text)
 -- ---- the reason
 
 -- `reason` is the reason for a fault, or `None` if none is given. `text` is the text from the fault's byte on, and
--- `verdict` is the board's where reading stopped
+-- `verdict` is the one that ended the game where reading stopped, if any
 abbrev pub IsReason : FaultKind → List ℕ → Option Verdict → Option (List ℕ) → Type 0
 -- what a bad tag lacks, and what is wrong with a bad FEN or token
 IsReason (Pgn BadTag) text verdict reason = IsTagReason text reason

@@ -1,11 +1,11 @@
 -- The faults of a game, and when its result contradicts its text or the board.
 use Rattle.std.specs.Prelude.{◌≡◌, ℕ, ◌-◌, ◌++◌, Bool, if◌then◌else◌, List, length, take, codes, Option, Some, None, Result, Ok, Err}
 use Rattle.std.specs.Option.{option_eq, option_map, option_map_or, option_or}
-use Rattle.chess_game.specs.Game.{State, contradicts_verdict, verdict_now}
+use Rattle.chess_game.specs.Game.{State, contradicts_verdict}
 use Rattle.chess_game.specs.Results.{outcome_text, same_outcome}
 use Rattle.chess_game.specs.declared.verdicts.Verdict.{Verdict}
 use Rattle.chess_game.specs.declared.game.TheConstants.{MOST_MOVES}
-use Rattle.chess_pgn.specs.GameRead.{read_of_split}
+use Rattle.chess_pgn.specs.GameRead.{ending, read_of_split}
 use Rattle.chess_pgn.specs.LastTags.{result_tag_of}
 use Rattle.chess_pgn.specs.UnknownVariants.{unknown_variant_in}
 use Rattle.chess_pgn.specs.Variations.{variations_fault}
@@ -67,7 +67,8 @@ variation_in split text at start end =
 
 -- `answer` is what is reported (`judged`) of the first game from the offset `at` of the text on, and `s` is this game
 -- as far as it was read, at most 20,000 half-moves. It is read by the only split of the text into tokens, and its
--- variations by the only splits (`split_of`) of the text that ends where the game does
+-- variations by the only splits (`split_of`) of the text that ends where the game does. `strict.draws_of_2014` says
+-- whether the draws of 2014 end it
 pub record IsJudged (strict : Strictness) (text : List ℕ) (at : ℕ) (s : State)
     (answer : Result (Option PgnEnd) GameFault) : Type 0 where
   pub tokens : List (ℕ × Token)
@@ -76,9 +77,9 @@ pub record IsJudged (strict : Strictness) (text : List ℕ) (at : ℕ) (s : Stat
   pub splits : (other : List ℕ) (from : ℕ) → IsSplit other from (split_of other from)
   -- how reading the game ended
   pub ended : Result (Option PgnEnd) PgnFault
-  pub read : read_of_split MOST_MOVES (length text) tokens ≡ record { state = s; answer = ended }
+  pub read : read_of_split strict.draws_of_2014 MOST_MOVES (length text) tokens ≡ record { state = s; answer = ended }
   pub is : answer ≡ judged strict (variation_in split_of text at s.start) (unknown_variant_in (length text) tokens)
-      (result_tag_of (length text) tokens) (verdict_now s) ended
+      (result_tag_of (length text) tokens) (ending strict.draws_of_2014 s) ended
 
 -- ---- names
 

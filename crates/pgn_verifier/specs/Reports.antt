@@ -4,10 +4,11 @@ use Rattle.std.specs.List.{count_by, prefix_len, sum_by}
 use Rattle.std.specs.Bool.{MatchBool}
 use Rattle.std.specs.Option.{unwrap_or, option_map, option_map_or}
 use Rattle.byte_devices.specs.Bytes.{new_line, shown_byte, after_byte_order_mark}
-use Rattle.chess_game.specs.Game.{State, verdict_now}
+use Rattle.chess_game.specs.Game.{State}
 use Rattle.chess_game.specs.Results.{outcome_text}
 use Rattle.chess_game.specs.declared.results.Outcome.{Outcome}
 use Rattle.chess_pgn.specs.GameEnds.{game_end}
+use Rattle.chess_pgn.specs.GameRead.{ending}
 use Rattle.chess_pgn.specs.LastTags.{last_tag, tag_section}
 use Rattle.chess_pgn.specs.Tokens.{Token, is_white_space}
 use Rattle.chess_pgn.specs.declared.read.PgnEnd.{PgnEnd}
@@ -103,7 +104,7 @@ pub data AreReportsOf (goes_on : Bool) (strict : Strictness) (start : ℕ) (text
   -- games after that
   next_fault : {at : ℕ} {s : State} {fault : GameFault} {reports : List Placed} (reason : Option (List ℕ))
       (next : Option ℕ) (game : IsJudged strict text at s (Err fault))
-      → IsReason fault.kind (drop fault.offset text) (verdict_now s) reason
+      → IsReason fault.kind (drop fault.offset text) (ending strict.draws_of_2014 s) reason
       → next ≡ next_begin goes_on (length text) game.tokens
       → AreReportsOf goes_on strict start text (unwrap_or next (length text)) reports
       → AreReportsOf goes_on strict start text at (record {

@@ -5,7 +5,7 @@ ghost use Rattle.std.specs.Option.{option_map, option_map_or};
 ghost use Rattle.arrayvec.specs.ArrayVec.{array_vec_len};
 ghost use Rattle.chess_fen.specs.Writing.{fen};
 ghost use Rattle.chess_game.specs.Ends.{verdict_result, result_text};
-ghost use Rattle.chess_game.specs.Game.{current, verdict_now};
+ghost use Rattle.chess_game.specs.Game.{current};
 ghost use Rattle.chess_pgn.specs.declared.read.PgnFaultKind.TheVariants.{TooLong};
 ghost use Rattle.pgn_verifier.specs.Explanations.{is_at_begin, wrong_part, has_position, explanation_line, shown};
 ghost use Rattle.chess_game.specs.Results.{outcome_text};
@@ -20,6 +20,7 @@ ghost use Rattle.pgn_verifier.specs.declared.explanation.TheConstants.{FAULT_LIN
 use crate::fen_field::{fen_reason, fen_text, field_offset, wrong_field};
 use crate::game_fault::{FaultKind, GameFault, pgn_fault_name};
 use crate::label::{FaultLabel, Span, append_span};
+use crate::options::VerifyOptions;
 use crate::place::Place;
 use crate::shown::{Shown, shown, shown_field};
 use crate::start::TextStart;
@@ -29,7 +30,7 @@ use byte_devices::{append, append_number};
 use chess_fen::write_fen;
 use chess_game::{Game, Outcome, Verdict};
 use chess_moves::Board;
-use chess_pgn::PgnFaultKind;
+use chess_pgn::{PgnFaultKind, ending};
 
 // The most bytes of the lines on a fault: of its own 320, and of the one that explains it 466.
 const FAULT_LINES_LEN: usize = 786;
@@ -300,26 +301,28 @@ fn append_unread(lines: &mut FaultLines, unread: Option<Span>)
     }
 }
 
-// Appends the text that explains a fault of the game; `text` is the text from the fault's byte on.
+// Appends the text that explains a fault of the game; `text` is the text from the fault's byte on. `draws_of_2014`:
+// whether these draws end a game.
 fn append_explanation<B: Board>(
     lines: &mut FaultLines,
+    draws_of_2014: bool,
     text: &[u8],
     kind: FaultKind,
     game: &Game<B>,
 )
     requires { array_vec_len lines.old + 258 ≤ FAULT_LINES_LEN }
-    ensures text { lines.new.items ≡ lines.old.items ++ explanation_of game.now.state text.now kind }
+    ensures text { lines.new.items ≡ lines.old.items ++ explanation_of draws_of_2014 game.now.state text.now kind }
     ensures len { array_vec_len lines.new ≤ array_vec_len lines.old + 258 }
 {
     append(lines, shown_part(kind, text).as_slice());
     append_position(lines, kind, game);
-    append_reason(lines, kind, text, game.verdict());
+    append_reason(lines, kind, text, ending(draws_of_2014, game));
 }
 
-/// The lines on a fault of the game: its own, and with `explain` the one that explains it. The fault is in this text,
-/// and is explained at this place.
+/// The lines on a fault of the game: its own, and with `options.explain` the one that explains it. The fault is in this
+/// text, and is explained at this place.
 pub(crate) fn fault_lines<B: Board>(
-    explain: bool,
+    options: VerifyOptions,
     label: &FaultLabel,
     place: Place,
     text: &[u8],
@@ -328,23 +331,31 @@ pub(crate) fn fault_lines<B: Board>(
 ) -> FaultLines
     requires within { fault.offset ≤ length text.now }
     requires few { place.start.offset + length text.now ≤ 2 ^ 63 }
-    requires there { explain ≡ true → place.offset ≡ (if is_at_begin fault.kind then label.now.begin
+    requires there { options.explain ≡ true → place.offset ≡ (if is_at_begin fault.kind then label.now.begin
         else fault.offset + (wrong_part fault.kind (drop fault.offset text.now)).0) }
-    ensures { (input : List ℕ) → (explain ≡ true → IsHere place input)
+    ensures { (input : List ℕ) → (options.explain ≡ true → IsHere place input)
         → result.items
         ≡ fault_line label.now.game.number (moved place.start.offset fault) (span_written label.now.game.span)
-        label.now.names.items ++ (if explain
+        label.now.names.items ++ (if options.explain
         then explanation_line input (if is_at_begin fault.kind then place.start.offset + label.now.begin
         else place.start.offset + fault.offset + (wrong_part fault.kind (drop fault.offset text.now)).0)
         ((if is_at_begin fault.kind then label.now.first.items else [])
-        ++ (explanation_of game.now.state (drop fault.offset text.now) fault.kind ++ unread_written label.now.unread))
+        ++ (explanation_of options.strict.draws_of_2014 game.now.state (drop fault.offset text.now) fault.kind
+        ++ unread_written label.now.unread))
         else []) }
 {
     let mut lines = fault_line(label, fault.moved(place.start.offset));
-    if explain {
+    if options.explain {
+        let draws_of_2014 = options.strict.draws_of_2014;
         append_place(&mut lines, place.line, place.column);
         append_first(&mut lines, fault.kind, label.first.as_slice());
-        append_explanation(&mut lines, &text[fault.offset..], fault.kind, game);
+        append_explanation(
+            &mut lines,
+            draws_of_2014,
+            &text[fault.offset..],
+            fault.kind,
+            game,
+        );
         append_unread(&mut lines, label.unread);
         lines.push(b'\n');
     }

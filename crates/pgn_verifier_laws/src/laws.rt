@@ -29,10 +29,10 @@ use pgn_pieces::shards_are_cut;
 /// other laws speak.
 pub fn reports_are_the_only_ones()
     ensures game { (strict : Strictness) (text : List ℕ) (at : ℕ)
-        → IsJudged strict text at (read_at text at).state (judged_at strict text at) }
+        → IsJudged strict text at (read_at strict.draws_of_2014 text at).state (judged_at strict text at) }
     ensures no_other_game { (strict : Strictness) (text : List ℕ) (at : ℕ) (s : State)
         (answer : Result (Option PgnEnd) GameFault) → IsJudged strict text at s answer
-        → (s ≡ (read_at text at).state) × (answer ≡ judged_at strict text at) }
+        → (s ≡ (read_at strict.draws_of_2014 text at).state) × (answer ≡ judged_at strict text at) }
     ensures text { (strict : Strictness) (start : ℕ) (text : List ℕ)
         → AreReports strict start text 0 (placed_on strict start text) }
     ensures no_other_of_text { (strict : Strictness) (start : ℕ) (text : List ℕ) (reports : List Placed)
@@ -106,7 +106,8 @@ pub fn spans_make_up_the_text()
 
 /// States a law: a game that `verify` counts is a game. It has a sound start, and as many moves as the report says, one
 /// for each word between the tags and the termination marker that is no number and no marks. Each move is legal where it
-/// is made, and the one legal move that its word denotes. Before the last one there was no verdict. The next game begins
+/// is made, and the one legal move that its word denotes. Before the last one no verdict had ended the game: neither mate,
+/// stalemate nor a dead position, nor, unless they are ignored, fivefold repetition or 75 moves. The next game begins
 /// where this one ends.
 ///
 /// It refuses a move after mate, a word that is passed over, and a report of another number of half-moves.

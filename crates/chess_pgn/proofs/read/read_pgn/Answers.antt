@@ -59,25 +59,25 @@ returns-in_err-further-in-Ok-Some-clause-undeclared g c =
 
 pub returns-in_err-further-in-Ok-Some-clause-said : goal.returns-in_err-further-in-Ok-Some-clause-said
 returns-in_err-further-in-Ok-Some-clause-said g c =
-    as_said c.args.game.now.limit c.args.text.now c.args.at c.args.game.now c.apply_token.new.game
+    as_said true c.args.game.now.limit c.args.text.now c.args.at c.args.game.now c.apply_token.new.game
     c.from_residual.result (search rules) (search rules)
 
 pub returns-in-Ended-clause-said : goal.returns-in-Ended-clause-said
 returns-in-Ended-clause-said g c =
-    as_said c.args.game.now.limit c.args.text.now c.args.at c.args.game.now c.apply_token.new.game
+    as_said true c.args.game.now.limit c.args.text.now c.args.at c.args.game.now c.apply_token.new.game
     (Ok (Some c.in-Ended.end)) (search rules) (search rules)
 
 pub returns-in-Ok-None-clause-said : goal.returns-in-Ok-None-clause-said
 returns-in-Ok-None-clause-said g c =
-    as_said c.args.game.now.limit c.args.text.now c.args.at c.args.game.now c.loop-token.game
+    as_said true c.args.game.now.limit c.args.text.now c.args.at c.args.game.now c.loop-token.game
     (Err (record { kind = NoResult; offset = length c.args.text.now })) (search rules) (search rules)
 
 pub returns-in-Ok-None-2-clause-said : goal.returns-in-Ok-None-2-clause-said
 returns-in-Ok-None-2-clause-said g c =
-    as_said c.args.game.now.limit c.args.text.now c.args.at c.args.game.now c.loop-token.game (Ok None) (search rules)
+    as_said true c.args.game.now.limit c.args.text.now c.args.at c.args.game.now c.loop-token.game (Ok None) (search rules)
     (search rules)
 
 pub returns-in-Err-clause-said : goal.returns-in-Err-clause-said
 returns-in-Err-clause-said g c =
-    as_said c.args.game.now.limit c.args.text.now c.args.at c.args.game.now c.loop-token.game
+    as_said true c.args.game.now.limit c.args.text.now c.args.at c.args.game.now c.loop-token.game
     (Err c.reported_fault.result) (search rules) (search rules)
