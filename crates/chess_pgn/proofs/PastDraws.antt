@@ -3,7 +3,7 @@ use Rattle.std.proofs.Common.{◌≡◌, ◌<◌, ◌≤◌, ℕ, suc, ◌+◌, 
 use Rattle.std.specs.List.{cons_option, filter_map, list_all}
 use Rattle.std.specs.Option.{option_map_or, unwrap_or}
 use Rattle.std.specs.Result.{result_err, result_map_both}
-use Rattle.std.proofs.lemmas.List.Folds.{length-prefix_len}
+use Rattle.std.proofs.{lemmas.Bool.false≢true, lemmas.List.Folds.length-prefix_len}
 use Rattle.byte_devices.specs.Bytes.{is_digit, after_byte_order_mark}
 use Rattle.chess_base.specs.{declared.fen_fault.FenFault.FenFault, declared.man.Move.Move as Played, declared.man.Variant.Variant, declared.setup.Setup.Setup, Attacks.is_in_check, ByColour.by_colour, Initial.initial_setup_of, Men.other, MoveList.moves, Moves.after}
 use Rattle.chess_fen.specs.Reading.{fen_reading_as}
@@ -18,7 +18,7 @@ use Rattle.chess_pgn.specs.{declared.past_draws.ReadGame.ReadGame, declared.read
 use Rattle.chess_pgn.specs.declared.past_draws.Effect as code
 use Rattle.chess_pgn.specs.declared.past_draws.Effect.TheVariants as does
 use Rattle.chess_pgn.specs.declared.read.PgnFaultKind.TheVariants.{BadTag, BadFen, AmbiguousMove, AfterEnd, BadToken, IllegalMove, NoResult, TooLong}
-use Rattle.chess_pgn.specs.declared.token.TokenFault.TheVariants as fault
+use Rattle.chess_pgn.specs.declared.token.TokenFault.TheVariants as unreadable
 use Rattle.chess_pgn.specs.declared.word_kind.WordKind.TheVariants.{End, Number, Marks, Move}
 use Rattle.chess_pgn.specs.GameRead.{GameRead, Row, Goes_on, Ends, Fails, after_row, ending, failed, fen_read, last_start, move_row, moves_read, not_of_2014, pgn_read, read_after_tags, read_of_split, row, tagged_variant}
 use Rattle.chess_pgn.specs.Tokens.{Token, Skip, Tag, Word, Bad_tag, Unclosed_comment, Unclosed_variation, Bad, tokens_from}
@@ -82,7 +82,7 @@ module _ (limit total : ℕ) (termination : Option Termination) (s : State) (lat
       by_kept None k =
           let none : is_none (option_and_then not_of_2014 (verdict_now s)) ≡ true =
           ap (λ o. is_none (option_and_then not_of_2014 o)) e ∙ ap is_none k in
-          let both : true ≡ false = sym none ∙ h in absurd (cc)
+          absurd (false≢true (sym h ∙ none))
 
   move_alike : (at : ℕ) (r : Reading) → ((next : State) → Same (Goes_on next) (Goes_on next))
       → Same (move_row true limit s at r) (move_row false limit s at r)
@@ -242,8 +242,7 @@ first_bad total v s (x ∷ xs) f e =
         → is_past_draw f.kind s ≡ false
     by_reading (Ok start) later k = later k
     by_reading (Err fault) later k =
-        let same : f ≡ record { kind = BadFen fault; offset = total - x.1 } = cc in
-        ap (λ (g : PgnFault). is_past_draw g.kind s) same
+        sym (ap (λ (o : Option PgnFault). option_map_or (λ (g : PgnFault). is_past_draw g.kind s) o false) k)
 
 -- its moves, read so that the two draws end no game, from its start on
 after_tags_again : (limit total : ℕ) (s : State) (tags rest : List (ℕ × Token))
@@ -251,7 +250,7 @@ after_tags_again : (limit total : ℕ) (s : State) (tags rest : List (ℕ × Tok
     → (read_after_tags false limit total s tags rest ≡ moves_read false limit total (termination_in tags) s rest)
     × ((read_after_tags true limit total s tags rest).state.start ≡ s.start)
 after_tags_again limit total s tags [] h = (refl, refl)
-after_tags_again limit total s tags ((left, Bad_tag) ∷ rest) h = absurd (cc)
+after_tags_again limit total s tags ((left, Bad_tag) ∷ rest) h = absurd (false≢true h)
 after_tags_again limit total s tags ((left, Skip) ∷ rest) h =
     (refl, start_kept true limit total (termination_in tags) s ((left, Skip) ∷ rest))
 after_tags_again limit total s tags ((left, Tag name string at_string) ∷ rest) h =
@@ -295,9 +294,9 @@ split_again limit total tokens h =
         → (by_parts s is_empty bad (read_after_tags false limit total s tags rest)
         ≡ moves_read false limit total (termination_in tags) s rest)
         × ((by_parts s is_empty bad (read_after_tags true limit total s tags rest)).state.start ≡ s.start)
-    by_cases true bad e k = absurd (cc)
+    by_cases true bad e k = absurd (false≢true k)
     by_cases false (Some f) e k =
-        let no : true ≡ false = sym k ∙ first_bad total v s (tags_named (codes "FEN") tags) f e in absurd (cc)
+        absurd (false≢true (sym (first_bad total v s (tags_named (codes "FEN") tags) f e) ∙ k))
     by_cases false None e k = after_tags_again limit total s tags rest k
 
 -- where reading stopped so, the moves are to be read again from there on where the tags end
@@ -528,10 +527,10 @@ module _ (text : List ℕ) (termination : Option Termination) (all : GameRead) (
     -- what can't be read
     unread_found : (f : TokenFault) → Err (unread_fault (length text) (length text - here) (fault_seen f))
         ≡ token_effect plies (length text) game.state (length text - here) (fault_seen f)
-    unread_found fault.BadTag = refl
-    unread_found (fault.UnclosedComment left) = refl
-    unread_found fault.UnclosedVariation = refl
-    unread_found fault.BadByte = refl
+    unread_found unreadable.BadTag = refl
+    unread_found (unreadable.UnclosedComment left) = refl
+    unread_found unreadable.UnclosedVariation = refl
+    unread_found unreadable.BadByte = refl
 
     pub unread : (f : TokenFault) (stop : PgnFault)
         → tokens_from text here ≡ (length text - here, fault_seen f) ∷ []
@@ -543,6 +542,16 @@ module _ (text : List ℕ) (termination : Option Termination) (all : GameRead) (
         (sym e) (unread_found f))
 
 -- ---- what is returned
+
+-- what `read_pgn` gave of a game of the most half-moves
+pub read_of_most : (text : List ℕ) (at : ℕ) (result : Result (Option PgnEnd) PgnFault) (old new : Seen)
+    → old.limit ≡ MOST_MOVES → result ≡ (pgn_read true old.limit text at).answer
+    → new ≡ left_at old (pgn_read true old.limit text at).state
+    → (result ≡ (pgn_read true MOST_MOVES text at).answer) × (new.state ≡ (pgn_read true MOST_MOVES text at).state)
+read_of_most text at result old new most answer game = (
+  answer ∙ ap (λ n. (pgn_read true n text at).answer) most,
+  ap (λ (g : Seen). g.state) game ∙ ap (λ n. (pgn_read true n text at).state) most,
+)
 
 -- a game without a move after one of the two draws
 pub alike_answer : (text : List ℕ) (at : ℕ) (result : Result (Option PgnEnd) PgnFault) (g : State)

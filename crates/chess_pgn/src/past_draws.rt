@@ -17,7 +17,7 @@ ghost use Rattle.chess_pgn.specs.PastDraws.{IsAnswer, Stands};
 ghost use Rattle.chess_pgn.specs.ties.PastDraws.{IsReadAgain, closing_fault, is_past_draw, move_effect, next_position, stops_past_draw, token_effect, unread_fault, word_effect};
 ghost use Rattle.chess_pgn.specs.ties.Seen.{found_seen, token_seen, fault_seen};
 
-use crate::game_end::after_tags;
+use crate::game_ends::after_tags;
 use crate::last_tag::last_tag;
 use crate::read::{PgnEnd, PgnFault, PgnFaultKind, read_pgn};
 use crate::tag::Tag;
@@ -248,11 +248,6 @@ fn read_moves<B: Board>(
             Ok(Some((token, token_end))) => {
                 let effect = token_effect(game, plies, text.len(), offset, &token)?;
                 match effect {
-                    Effect::Nothing => {}
-                    Effect::Move(next) => {
-                        game.restart(&next);
-                        plies += 1;
-                    }
                     Effect::End(outcome, end) => {
                         let end = PgnEnd {
                             outcome,
@@ -261,6 +256,11 @@ fn read_moves<B: Board>(
                         };
                         return Ok((end, plies));
                     }
+                    Effect::Move(next) => {
+                        game.restart(&next);
+                        plies += 1;
+                    }
+                    Effect::Nothing => {}
                 }
                 offset = token_end;
             }

@@ -1,6 +1,6 @@
 -- Texts of games without a move, in which a number, a comment or a variation could be taken for moves or for a result
 -- (PGN standard of 1994, sections 5, 6 and 8.2).
-use Rattle.std.specs.Prelude.{◌≡◌, ℕ, [], codes, Some, None, Ok, Err}
+use Rattle.std.specs.Prelude.{◌≡◌, ℕ, true, [], codes, Some, None, Ok, Err}
 use Prim.Native.String.{String as Text}
 use Rattle.chess_game.specs.declared.results.Outcome.TheVariants.{Unfinished}
 use Rattle.chess_pgn.specs.GameRead.{pgn_read}
@@ -13,8 +13,8 @@ unfinished_at end = record { outcome = Unfinished; termination = None; offset = 
 
 -- the text is read, from its first byte on, as a game without moves and with the marker `*`, which ends at this offset
 abbrev pub IsEmptyGame : Text → ℕ → Type 0
-IsEmptyGame text end = ((pgn_read 1 (codes text) 0).state.moves ≡ [])
-    × ((pgn_read 1 (codes text) 0).answer ≡ Ok (Some (unfinished_at end)))
+IsEmptyGame text end = ((pgn_read true 1 (codes text) 0).state.moves ≡ [])
+    × ((pgn_read true 1 (codes text) 0).answer ≡ Ok (Some (unfinished_at end)))
 
 -- these texts are such games
 pub record EmptyGamesAreRead : Type 0 where
@@ -29,4 +29,4 @@ pub record EmptyGamesAreRead : Type 0 where
   pub glyph : IsEmptyGame "$4 *" 4
   pub marks : IsEmptyGame "!? *" 4
   -- a number with its dots, and nothing more: a game too, but without a result
-  pub no_result : (pgn_read 1 (codes "12...") 0).answer ≡ Err (record { kind = NoResult; offset = 5 })
+  pub no_result : (pgn_read true 1 (codes "12...") 0).answer ≡ Err (record { kind = NoResult; offset = 5 })

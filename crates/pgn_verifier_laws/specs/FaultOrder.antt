@@ -18,7 +18,13 @@ won_by_white = record { outcome = WhiteWins; termination = None; offset = 93 }
 -- the board Black has mated
 abbrev pub found : (variations variant result board : Bool) → Result (Option PgnEnd) GameFault
 found variations variant result board =
-    judged (record { variations = variations; variant = variant; result = result; board = board })
+    judged (record {
+      draws_of_2014 = true;
+      variations = variations;
+      variant = variant;
+      result = result;
+      board = board;
+    })
     (λ end. Some (record { kind = IllegalMove; offset = 60 })) (Some 10)
     (Some (record { outcome = Some Draw; offset = 30; len = 7 })) (Some BlackMates) (Ok (Some won_by_white))
 

@@ -31,7 +31,7 @@ returns-in_err-end-clause-answer g c =
     let mark = c.after_byte_order_mark-first.ensures.offset in
     let begins = ap (λ (s : State). s.start) c.requires.game in
     let p = err_from_is_err_and c.from_residual.result c.from_residual.ensures.1 in
-    rw p.1 (anew_failed c.args.text.now c.args.at c.after_tags-moves_begin.result c.start-begin.result
+    rw (p.1, p.2) (anew_failed c.args.text.now c.args.at c.after_tags-moves_begin.result c.start-begin.result
     c.tagged_termination-termination.result c.requires.past (c.start-begin.ensures ∙ begins)
     (rw mark at c.after_tags-moves_begin.ensures.passed) (rw mark at c.tagged_termination-termination.ensures)
     c.in_err-end.field-0.0 c.read_moves.new.game.state c.in_err-end.ensures.read).0

@@ -21,8 +21,8 @@ token_effect-requires-clause-within g c =
     token_within c.args.text.now c.loop-token.offset (token_seen c.in-Ok-Some.token) _
     c.loop-token.invariant.0.offset (rw c.in-Ok-Some.field-0-is at c.in-Ok-Some.ensures).0
 
-pub loop-token-preserved-in-Nothing : goal.loop-token-preserved-in-Nothing
-loop-token-preserved-in-Nothing g c =
+pub loop-token-preserved : goal.loop-token-preserved
+loop-token-preserved g c =
     let text = c.args.text.now in
     let all = moves_read false MOST_MOVES (length text) c.args.termination (from_start c.args.start.now)
     (tokens_from text c.args.at) in
@@ -41,9 +41,9 @@ loop-token-preserved-in-Move g c =
     let next = rw c.in-Ok-Some.field-0-is at c.in-Ok-Some.ensures in (
       moved text c.args.termination all c.loop-token.game c.loop-token.plies c.loop-token.offset
           c.loop-token.invariant.0 (token_seen c.in-Ok-Some.token) c.in-Ok-Some.token_end next.0 next.1 next.2
-          c.in-Move.next c.restart-2.new.self (rw c.in-Move.is at c.in_ok-effect-in-Ok-Some.ensures)
-          c.restart-2.ensures,
-      ap (λ (s : Seen). s.limit) c.restart-2.ensures ∙ c.loop-token.invariant.1,
+          c.in-Move.next c.restart-in-Move.new.self (rw c.in-Move.is at c.in_ok-effect-in-Ok-Some.ensures)
+          c.restart-in-Move.ensures,
+      ap (λ (s : Seen). s.limit) c.restart-in-Move.ensures ∙ c.loop-token.invariant.1,
     )
 
 pub returns-in-End-clause-read : goal.returns-in-End-clause-read
@@ -63,7 +63,7 @@ returns-in_err-effect-in-Ok-Some-clause-read g c =
     (tokens_from text c.args.at) in
     let next = rw c.in-Ok-Some.field-0-is at c.in-Ok-Some.ensures in
     let p = err_from_is_err_and c.from_residual.result c.from_residual.ensures.1 in
-    rw p.1 (stopped text c.args.termination all c.loop-token.game c.loop-token.plies c.loop-token.offset
+    rw (p.1, p.2) (stopped text c.args.termination all c.loop-token.game c.loop-token.plies c.loop-token.offset
     c.loop-token.invariant.0 (token_seen c.in-Ok-Some.token) (tokens_from text c.in-Ok-Some.token_end) next.0
     c.in_err-effect-in-Ok-Some.field-0.0 c.in_err-effect-in-Ok-Some.ensures)
 

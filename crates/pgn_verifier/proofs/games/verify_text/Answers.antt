@@ -64,8 +64,8 @@ returns-in_err-write_game-in-Ok-Some-clause-written g c input stands =
     game_line c.of_game-label.result.number c.in-Ok-Some.judged.plies end.outcome end.termination t))
     c.of_game-label.ensures.span c.in_err-write_game-in-Ok-Some.ensures))))
 
-pub loop-judged-preserved : goal.loop-judged-preserved
-loop-judged-preserved g c =
+pub loop-judged-preserved-in_ok-write_game-in-Ok-Some : goal.loop-judged-preserved-in_ok-write_game-in-Ok-Some
+loop-judged-preserved-in_ok-write_game-in-Ok-Some g c =
     let end = c.in-Ok-Some.judged.end in
     let s = (read_at c.args.options.strict.draws_of_2014 c.args.text.now c.loop-judged.at).state in
     let plies = rw c.in-Ok-Some.field-0-is at c.in-Ok-Some.ensures.plies in
@@ -113,8 +113,8 @@ loop-judged-preserved g c =
     )
 
 -- a fault after which reading goes on
-pub loop-judged-preserved-in-Some : goal.loop-judged-preserved-in-Some
-loop-judged-preserved-in-Some g c =
+pub loop-judged-preserved : goal.loop-judged-preserved
+loop-judged-preserved g c =
     let w = g.W.Output.seen c.args.output.now in
     let w' = g.W.Output.seen c.loop-judged.output in
     let w'' = g.W.Output.seen c.put.new.writer in
@@ -153,8 +153,8 @@ loop-judged-preserved-in-Some g c =
     )
 
 -- one after which it doesn't
-pub returns-in-None-clause-written : goal.returns-in-None-clause-written
-returns-in-None-clause-written g c input stands =
+pub returns-in_default-clause-written : goal.returns-in_default-clause-written
+returns-in_default-clause-written g c input stands =
     let w = g.W.Output.seen c.args.output.now in
     let w' = g.W.Output.seen c.loop-judged.output in
     let w'' = g.W.Output.seen c.put.new.writer in
@@ -175,7 +175,7 @@ returns-in-None-clause-written g c input stands =
     (placed_of c.args.start.goes_on c.args.options.strict c.args.start.offset text)) (sym c.with_fault-tally.ensures)
     (fault_written c.args.options c.args.start text c.args.before w w' w'' c.loop-judged.at c.loop-judged.tally
     c.loop-judged.invariant.1.0 c.loop-judged.invariant.1.1 fault s (sym c.in-Err.ensures.judged) refl
-    WriteFault input stands (sym after.next ∙ c.in-None.is)
+    WriteFault input stands (sym after.next ∙ c.in_default.is)
     (subst (Took w' w'') (c.as_slice.ensures.value ∙ written input stands ∙ lines input)
     c.in_ok-put-in-Err.ensures))
 

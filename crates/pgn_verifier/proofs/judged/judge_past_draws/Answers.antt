@@ -18,13 +18,13 @@ pub returns-in-Some-clause-judged : goal.returns-in-Some-clause-judged
 returns-in-Some-clause-judged c =
     end_judged c.args.strict c.args.text.now c.args.at c.in-Ok-Some.read c.read_past_draws.new.game.state
     (Some c.in-Some.fault) c.requires.draws (rw c.in-Ok-Some.field-0-is at c.in-Ok-Some.ensures.answer)
-    c.in-Ok-Some.ensures.game (sym c.in-Some.is ∙ c.end_fault_from.ensures.fault)
+    c.in-Ok-Some.ensures.game c.in-Some.ensures.fault
 
 pub returns-in-None-clause-judged : goal.returns-in-None-clause-judged
 returns-in-None-clause-judged c =
     end_judged c.args.strict c.args.text.now c.args.at c.in-Ok-Some.read c.read_past_draws.new.game.state None
     c.requires.draws (rw c.in-Ok-Some.field-0-is at c.in-Ok-Some.ensures.answer) c.in-Ok-Some.ensures.game
-    (sym c.in-None.is ∙ c.end_fault_from.ensures.fault)
+    c.in-None.ensures.fault
 
 pub returns-in-None-clause-plies : goal.returns-in-None-clause-plies
 returns-in-None-clause-plies c =
