@@ -289,8 +289,8 @@ fn verify_by_its_options(rt: HostRuntime) -> Result<(), Fail> {
     Ok(())
 }
 
-// Arguments of `verify` with `--ignore`, and what is looked for: an unknown variant, another result than the tag's, than
-// the board's, and a move after one of the draws of 2014.
+// Arguments of `verify` with `--ignore`, and what is looked for: an unknown variant, another result than the tag's, and
+// than the board's, and a move after one of the draws of 2014.
 const IGNORED: [(&[&str], bool, bool, bool, bool); 13] = [
     (&["verify", "--ignore", "board"], false, false, false, true),
     (

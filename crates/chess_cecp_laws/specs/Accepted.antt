@@ -25,4 +25,5 @@ abbrev pub ReadGamesAreAccepted : Type 0
 ReadGamesAreAccepted =
     (tags : Tags) → (limit : ℕ) → (text : List ℕ) → (at : ℕ) → (end : PgnEnd)
     → (pgn_read true limit text at).answer ≡ Ok (Some end)
-    → AreAccepted tags limit (from_start (pgn_read true limit text at).state.start) (pgn_read true limit text at).state.moves
+    → AreAccepted tags limit (from_start (pgn_read true limit text at).state.start)
+    (pgn_read true limit text at).state.moves

@@ -64,7 +64,8 @@ game_in_place draws limit total (suc n) begins g (c ∷ rest) h =
     let nearer : total - suc (length rest) + 1 ≤ total - length t.1 = omega (arith, fewer, h) in
     let few : length t.1 ≤ total = omega (arith, fewer, h) in
     gone_on (total - suc (length rest)) (total - length t.1) total (length g.state.moves)
-    (step draws limit total g (suc (length rest)) t.0) (λ u. game_of draws limit total u (tokens_of n (eqb c 10) t.1)) nearer
+    (step draws limit total g (suc (length rest)) t.0)
+    (λ u. game_of draws limit total u (tokens_of n (eqb c 10) t.1)) nearer
     (step_in_place (suc (length rest)) total g h
     (step_is draws limit total g (suc (length rest)) t.0 (within begins c rest)))
     (λ u. game_in_place draws limit total n (eqb c 10) u t.1 few)

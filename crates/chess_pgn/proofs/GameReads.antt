@@ -48,7 +48,8 @@ pub record Reads (limit : ℕ) (text : List ℕ) (from : ℕ) (game : Seen) (pro
   pub offset : here ≤ length text
   pub undeclared : game.state.declared ≡ None
   pub same_limit : game.limit ≡ limit
-  pub whole : game_of true limit (length text) (so_far game.state progress) (tokens_from text here) ≡ pgn_read true limit text
+  pub whole : game_of true limit (length text) (so_far game.state progress) (tokens_from text here)
+      ≡ pgn_read true limit text
       from
 
 pub read_from : (limit : ℕ) (game : Seen) (p : Progress) (text : List ℕ) (from begin here : ℕ)
@@ -112,15 +113,18 @@ pub record ReadsWords (limit : ℕ) (text : List ℕ) (from : ℕ) (game : Seen)
   pub offset : here ≤ length text
   pub undeclared : game.state.declared ≡ None
   pub same_limit : game.limit ≡ limit
-  pub whole : game_of true limit (length text) (so_far game.state progress) (tokens_from text here) ≡ pgn_read true limit text
+  pub whole : game_of true limit (length text) (so_far game.state progress) (tokens_from text here)
+      ≡ pgn_read true limit text
       from
   pub left : StopsAt game (tokens_from text here)
 
 -- a token: what its step gives is gone on with
 stepped : (limit : ℕ) (text : List ℕ) (from : ℕ) (game : Seen) (p : Progress) (here : ℕ) (t : Token)
     (ts : List (ℕ × Token)) (after : Step) → ReadsWords limit text from game p here
-    → tokens_from text here ≡ (length text - here, t) ∷ ts → after ≡ step true game.limit (length text) (so_far game.state p)
-    (length text - here) t → read_rest_with after (λ g. game_of true limit (length text) g ts) ≡ pgn_read true limit text from
+    → tokens_from text here ≡ (length text - here, t) ∷ ts
+    → after ≡ step true game.limit (length text) (so_far game.state p)
+    (length text - here) t → read_rest_with after (λ g. game_of true limit (length text) g ts)
+    ≡ pgn_read true limit text from
 stepped limit text from game p here t ts after r is step_is =
     ap (λ s. read_rest_with s (λ g. game_of true limit (length text) g ts))
     (step_is ∙ ap (λ n. step true n (length text) (so_far game.state p) (length text - here) t) r.same_limit)
@@ -278,7 +282,8 @@ one_more text from old game new before p q here onward there word taken g is lat
       same_limit = same ∙ g.same_limit;
       whole = sym (alike old.limit (so_far new.state q))
           ∙ ap (λ s. read_rest_with s (λ h. game_of true old.limit (length text) h (tokens_from text onward)))
-          (step_is ∙ ap (λ n. step true n (length text) (so_far game.state p) (length text - here) (Word word)) g.same_limit)
+          (step_is ∙ ap (λ n. step true n (length text) (so_far game.state p) (length text - here)
+          (Word word)) g.same_limit)
           ∙ ap (game_of true old.limit (length text) (so_far game.state p)) (sym is)
           ∙ g.whole;
     }

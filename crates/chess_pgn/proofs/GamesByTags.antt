@@ -84,12 +84,15 @@ moves_are draws limit total termination s (t ∷ ts) =
     by_token t.0 t.1 (λ r. moves_are draws limit total termination r ts)
   where
     by_token : (left : ℕ) (t : Token)
-        → ((r : State) → game_of draws limit total (started termination r) ts ≡ moves_read draws limit total termination r ts)
+        → ((r : State)
+        → game_of draws limit total (started termination r) ts ≡ moves_read draws limit total termination r ts)
         → read_rest_with (step draws limit total (started termination s) left t) (λ g. game_of draws limit total g ts)
-        ≡ after_row termination s (row draws limit total s (left, t)) (λ r. moves_read draws limit total termination r ts)
+        ≡ after_row termination s (row draws limit total s (left, t))
+        (λ r. moves_read draws limit total termination r ts)
     by_token left Skip same = same s
     by_token left (Tag name string at_string) same = refl
-    by_token left (Word word) same = by_word draws limit total termination true true s (λ g. game_of draws limit total g ts)
+    by_token left (Word word) same =
+        by_word draws limit total termination true true s (λ g. game_of draws limit total g ts)
         (λ r. moves_read draws limit total termination r ts) same left word (λ e. same s)
     by_token left Bad_tag same = refl
     by_token left (Unclosed_comment brace) same = refl
@@ -157,9 +160,11 @@ abbrev Stops : List (ℕ × Token) → Type 0
 Stops [] = Unit {0}
 Stops (t ∷ ts) = may_precede_tags t.1 ≡ false
 
-first_token : (draws : Bool) (limit total : ℕ) (met : Bool) (termination : Option Termination) (s : State) (ts : List (ℕ × Token))
+first_token : (draws : Bool) (limit total : ℕ) (met : Bool) (termination : Option Termination) (s : State)
+    (ts : List (ℕ × Token))
     (left : ℕ) (t : Token) → may_precede_tags t ≡ false
-    → read_rest_with (step draws limit total (so_far met false termination s) left t) (λ g. game_of draws limit total g ts)
+    → read_rest_with (step draws limit total (so_far met false termination s) left t)
+    (λ g. game_of draws limit total g ts)
     ≡ after_tags_by draws limit total termination s met ((left, t) ∷ ts)
 first_token draws limit total met termination s ts left Skip h = absurd (cc)
 first_token draws limit total met termination s ts left (Tag name string at_string) h = absurd (cc)
@@ -172,12 +177,14 @@ first_token draws limit total met termination s ts left (Unclosed_comment brace)
 first_token draws limit total met termination s ts left Unclosed_variation h = refl
 first_token draws limit total met termination s ts left Bad h = refl
 
-tags_end : (draws : Bool) (limit total : ℕ) (met : Bool) (termination : Option Termination) (p : Setup) (rest : List (ℕ × Token))
+tags_end : (draws : Bool) (limit total : ℕ) (met : Bool) (termination : Option Termination) (p : Setup)
+    (rest : List (ℕ × Token))
     → Stops rest → game_of draws limit total (opened met termination p) rest
     ≡ after_tags_by draws limit total termination (from_start p) met rest
 tags_end draws limit total true termination p [] h = refl
 tags_end draws limit total false termination p [] h = refl
-tags_end draws limit total met termination p (t ∷ ts) h = first_token draws limit total met termination (from_start p) ts t.0 t.1 h
+tags_end draws limit total met termination p (t ∷ ts) h =
+    first_token draws limit total met termination (from_start p) ts t.0 t.1 h
 
 -- ---- the tags
 
@@ -208,7 +215,8 @@ abbrev pub fens : ℕ → Variant → List (ℕ × Token) → List (Result Setup
 fens total v tags = map (fen_read total v) (tags_named (codes "FEN") tags)
 
 -- what is said of these tags and of the tokens after them, where `before` is known before them
-abbrev said : Bool → ℕ → ℕ → Option Termination → Setup → List (Result Setup PgnFault) → Bool → List (ℕ × Token) → GameRead
+abbrev said : Bool → ℕ → ℕ → Option Termination → Setup → List (Result Setup PgnFault) → Bool → List (ℕ × Token)
+    → GameRead
 said draws limit total termination p fs met rest =
     option_map_or (failed (from_start (last_start p fs))) (slice_get (filter_map result_err fs) 0)
     (after_tags_by draws limit total termination (from_start (last_start p fs)) met rest)
@@ -238,7 +246,8 @@ module _ (draws : Bool) (limit total : ℕ) (v : Variant) (rest : List (ℕ × T
       → ((q : Setup) → q.variant ≡ v → Whole draws limit total v true before q tags rest)
       → read_rest_with (fen_step (opened met before p) (total - at_string) r)
       (λ g. game_of draws limit total g (tags ++ rest))
-      ≡ said draws limit total (termination_from before tags) p (with_place total at_string r ∷ fens total v tags) true rest
+      ≡ said draws limit total (termination_from before tags) p
+      (with_place total at_string r ∷ fens total v tags) true rest
   by_fen met before p left at_string string tags (Ok q) e later =
       later q (read_variant v string q e)
       ∙ ap (λ t. option_map_or (failed (from_start t)) (slice_get (filter_map result_err (fens total v tags)) 0)
@@ -431,9 +440,11 @@ tokens_are draws limit total ts = by_nothing (list_all (λ (t : ℕ × Token). s
 
 -- what is read of a text is what is read of it token by token
 pub reads_alike : (draws : Bool) (limit : ℕ) (text : List ℕ) (at : ℕ)
-    → pgn_read draws limit text at ≡ tokens_read draws limit (length text) (tokens_from text (after_byte_order_mark text at))
+    → pgn_read draws limit text at ≡ tokens_read draws limit (length text)
+    (tokens_from text (after_byte_order_mark text at))
 unfolding pgn_read
-reads_alike draws limit text at = tokens_are draws limit (length text) (tokens_from text (after_byte_order_mark text at))
+reads_alike draws limit text at =
+    tokens_are draws limit (length text) (tokens_from text (after_byte_order_mark text at))
 
 -- what the split of the text says is that and nothing else
 pub only_read : (draws : Bool) (limit : ℕ) (text : List ℕ) (at : ℕ) (r : GameRead) → IsRead draws limit text at r
@@ -443,7 +454,8 @@ only_read draws limit text at r h =
     h.is ∙ ap (read_of_split draws limit (length text)) (split_read text h.split)
 
 -- what was read is what the split of the text says
-pub as_said : (draws : Bool) (limit : ℕ) (text : List ℕ) (at : ℕ) (old new : Seen) (result : Result (Option PgnEnd) PgnFault)
+pub as_said : (draws : Bool) (limit : ℕ) (text : List ℕ) (at : ℕ) (old new : Seen)
+    (result : Result (Option PgnEnd) PgnFault)
     → result ≡ (pgn_read draws limit text at).answer → new ≡ left_at old (pgn_read draws limit text at).state
     → (r : GameRead) → IsRead draws limit text at r → (result ≡ r.answer) × (new ≡ left_at old r.state)
 as_said draws limit text at old new result answer state r is =

@@ -44,7 +44,7 @@ without true bare a b c v = refl
 without false true a b c v = refl
 without false false a b c v = gone a b ∙ sym (gone c b)
 
--- so the position alone tells it
+-- so only the position counts
 pub anew_alike : (s : State) → ending false (from_start (current s)) ≡ ending false s
 unfolding verdict
 anew_alike s =
@@ -316,7 +316,8 @@ module _ (text : List ℕ) (at begin : ℕ) (start : Setup) (termination : Optio
         let first = (read_of_split true MOST_MOVES (length text) tokens).state.start in
         split_again MOST_MOVES (length text) tokens h
         ∙ ap (λ t. moves_read false MOST_MOVES (length text) t (from_start first) (after_tags tokens)) (sym says)
-        ∙ ap (λ p. moves_read false MOST_MOVES (length text) termination (from_start p) (after_tags tokens)) (sym begins)
+        ∙ ap (λ p. moves_read false MOST_MOVES (length text) termination (from_start p) (after_tags tokens))
+        (sym begins)
         ∙ ap (moves_read false MOST_MOVES (length text) termination (from_start start)) tags_end
 
     same_start : (pgn_read false MOST_MOVES text at).state.start ≡ start
@@ -456,7 +457,8 @@ module _ (text : List ℕ) (termination : Option Termination) (all : GameRead) (
       row_found : (effect : Found) → effect ≡ found → IsRow r.s does_row effect
       row_found effect e =
           subst (IsRow r.s does_row) (sym e)
-          (subst (λ n. IsRow r.s does_row (token_effect n (length text) game.state (length text - here) t)) (sym r.count)
+          (subst (λ n. IsRow r.s does_row (token_effect n (length text) game.state (length text - here) t))
+          (sym r.count)
           (subst (λ g. IsRow r.s does_row (token_effect (length r.s.moves) (length text) g (length text - here) t))
           (sym r.begun) (token_row (length text) (length text - here) r.s t)))
 
@@ -538,7 +540,8 @@ module _ (text : List ℕ) (termination : Option Termination) (all : GameRead) (
         → IsReadAgain all (Err stop) game.state
     unread f stop is e =
         stopped (fault_seen f) [] is stop
-        (subst (λ (x : PgnFault). Err x ≡ token_effect plies (length text) game.state (length text - here) (fault_seen f))
+        (subst (λ (x : PgnFault). Err x ≡ token_effect plies (length text) game.state (length text - here)
+        (fault_seen f))
         (sym e) (unread_found f))
 
 -- ---- what is returned

@@ -16,7 +16,8 @@ initial_is = refl
 
 read_so : (draws : Bool) (limit : ℕ) (text : List ℕ) (at : ℕ)
     → last_tag (codes "Variant") (tag_section (tokens_from text (after_byte_order_mark text at))) ≡ None
-    → pgn_read draws limit text at ≡ normal_read draws limit (length text) (tokens_from text (after_byte_order_mark text at))
+    → pgn_read draws limit text at ≡ normal_read draws limit (length text)
+    (tokens_from text (after_byte_order_mark text at))
 unfolding pgn_read
 read_so draws limit text at none =
     let tokens : List (ℕ × Token) = tokens_from text (after_byte_order_mark text at) in

@@ -29,8 +29,9 @@ any_more p ts t = list_any-append p ts (t ∷ []) ∙ ap (λ b. list_any p ts ||
 
 -- ---- one token more
 
-read_more : (draws : Bool) (limit : ℕ) (start : Setup) (done : List Played) (ws : List (List ℕ)) (ms : List Played) (w : List ℕ)
-    (m : Played) → AreReadAs draws limit start done ws ms → ending draws (game_by start (done ++ ms)) ≡ None → length (done ++ ms) < limit
+read_more : (draws : Bool) (limit : ℕ) (start : Setup) (done : List Played) (ws : List (List ℕ)) (ms : List Played)
+    (w : List ℕ) (m : Played) → AreReadAs draws limit start done ws ms
+    → ending draws (game_by start (done ++ ms)) ≡ None → length (done ++ ms) < limit
     → reading (position_after start (done ++ ms)) w ≡ reads.Move m
     → AreReadAs draws limit start done (ws ++ w ∷ []) (ms ++ m ∷ [])
 read_more draws limit start done [] [] w m h none few k =
@@ -47,7 +48,8 @@ read_more draws limit start done (v ∷ ws) (n ∷ ms) w m h none few k =
       h.0,
       h.1,
       h.2,
-      read_more draws limit start (done ++ n ∷ []) ws ms w m h.3 (ap (λ ds. ending draws (game_by start ds)) same ∙ none)
+      read_more draws limit start (done ++ n ∷ []) ws ms w m h.3
+          (ap (λ ds. ending draws (game_by start ds)) same ∙ none)
           (subst (λ ds. length ds < limit) (sym same) few) (ap (λ ds. reading (position_after start ds) w) same ∙ k),
     )
 
@@ -114,7 +116,8 @@ module _ (draws : Bool) (limit total : ℕ) (v : Variant) where
     can_be = taken_more v false done (left, t) s.can_be (ap (λ b. can_be_taken v b t) s.begun ∙ n.can_be);
     start = n.start ∙ ap (λ p. start_by v p t) s.start ∙ sym (start_more v (initial_setup_of v) done (left, t));
     variant = n.variant;
-    moves = subst (λ ws. AreReadAs draws limit h.state.start [] ws h.state.moves) (sym (words_more done (left, t))) n.moves;
+    moves =
+        subst (λ ws. AreReadAs draws limit h.state.start [] ws h.state.moves) (sym (words_more done (left, t))) n.moves;
     undeclared = n.undeclared;
     met = any_more (λ u. counts u.1) done (left, t) ∙ ap (λ b. b || counts t) s.met ∙ n.met;
     begun = any_more (λ u. begins u.1) done (left, t) ∙ ap (λ b. b || begins t) s.begun ∙ n.begun;
@@ -136,7 +139,8 @@ module _ (draws : Bool) (limit total : ℕ) (v : Variant) where
     can_be = can;
     start = start;
     variant = s.variant;
-    moves = subst (λ ws. AreReadAs draws limit g.state.start [] ws g.state.moves) (sym (same_words done t none)) s.moves;
+    moves =
+        subst (λ ws. AreReadAs draws limit g.state.start [] ws g.state.moves) (sym (same_words done t none)) s.moves;
     undeclared = s.undeclared;
     met = is_met;
     begun = is_begun;
@@ -186,7 +190,8 @@ module _ (draws : Bool) (limit total : ℕ) (v : Variant) where
     open_leaves r is o fault next later = by_tests (is_some (ending draws g.state)) refl
         (nat_lt (length g.state.moves) limit) refl
       where
-        by_tests : (a : Bool) → is_some (ending draws g.state) ≡ a → (b : Bool) → nat_lt (length g.state.moves) limit ≡ b
+        by_tests : (a : Bool) → is_some (ending draws g.state) ≡ a → (b : Bool)
+            → nat_lt (length g.state.moves) limit ≡ b
             → Leaves done (left, Word word) (cond a (fails g AfterEnd (total - left))
             (cond b next (fails g TooLong (total - left))))
         by_tests true ea b eb = move_fails r is AfterEnd
@@ -349,7 +354,8 @@ module _ (draws : Bool) (limit total : ℕ) (v : Variant) where
       (step draws limit total g t.0 t.1) (step_leaves done t.0 t.1 g s)
     where
       by_step : (tokens done : List (ℕ × Token)) (t : ℕ × Token) (ts : List (ℕ × Token)) → done ++ t ∷ ts ≡ tokens
-          → ((k : SoFar) → IsSoFar (done ++ t ∷ []) k → IsOfTokens draws limit total v tokens (game_of draws limit total k ts))
+          → ((k : SoFar) → IsSoFar (done ++ t ∷ []) k → IsOfTokens draws limit total v tokens
+          (game_of draws limit total k ts))
           → (x : Step) → Leaves done t x → IsOfTokens draws limit total v tokens
           (read_rest_with x (λ k. game_of draws limit total k ts))
       by_step tokens done t ts all later (Stop r) k =

@@ -163,7 +163,8 @@ module _ (draws : Bool) (limit total : ℕ) where
       → (is_first : Bool) (p : Setup) (done ms : List Move) → done ++ ms ≡ all → position_after start done
       ≡ p → IsSound p → IsLine p ms → Reads said start done (numbered_moves is_first p ms ++ last_token ∷ []) rest r
   moves_read law said start all whole o rest r ended is_first p done [] same at sound line is_begun begins column =
-      ap (λ d. read_on draws limit total (read_so_far said start d is_begun) begins (filled_from [] column (o ∷ []) ++ rest))
+      ap (λ d. read_on draws limit total (read_so_far said start d is_begun) begins
+      (filled_from [] column (o ∷ []) ++ rest))
       (sym (append-nil done) ∙ same) ∙ ended is_begun begins column
   moves_read law said start all whole o rest r ended is_first p done (m ∷ ms) same at sound line is_begun begins
       column =
@@ -178,7 +179,8 @@ module _ (draws : Bool) (limit total : ℕ) where
       (law p m sound line.0) line.1 in
       let tokens : numbered_moves is_first p (m ∷ ms) ++ o ∷ [] ≡ number_if_due p.side is_first p.fullmove
       ++ san p m ∷ more = simp append_assoc in
-      ap (λ ts. read_on draws limit total (read_so_far said start done is_begun) begins (filled_from [] column ts ++ rest))
+      ap (λ ts. read_on draws limit total (read_so_far said start done is_begun) begins
+      (filled_from [] column ts ++ rest))
       tokens
       ∙ number_read said start done p.side is_first p.fullmove (san p m ∷ more) rest r
       (leb-true _ _ sound.fullmove_high) (λ x b k.

@@ -64,7 +64,8 @@ module _ (draws : Bool) (limit total : ℕ) where
       s : State
       s = from_start start
 
-      shown : (v : Variant) → start.variant ≡ v → read_on draws limit total (tagged true t (from_start (initial_setup_of v)))
+      shown : (v : Variant) → start.variant ≡ v
+          → read_on draws limit total (tagged true t (from_start (initial_setup_of v)))
           true (ended [] (fen_lines start ++ last) ++ rest) ≡ read_on draws limit total (tagged true t s) true
           (ended [] last ++ rest)
       shown v is =
@@ -76,9 +77,11 @@ module _ (draws : Bool) (limit total : ℕ) where
 
       by_test : start.variant ≡ Normal → (b : Bool) → is_initial start ≡ b
           → read_on draws limit total (tagged true t (from_start (initial_setup_of Normal))) true
-          (ended [] (list_if (not b) (fen_lines start) ++ last) ++ rest) ≡ read_on draws limit total (tagged true t s) true
+          (ended [] (list_if (not b) (fen_lines start) ++ last) ++ rest)
+          ≡ read_on draws limit total (tagged true t s) true
           (ended [] last ++ rest)
-      by_test is true e = ap (λ p. read_on draws limit total (tagged true t (from_start p)) true (ended [] last ++ rest))
+      by_test is true e =
+          ap (λ p. read_on draws limit total (tagged true t (from_start p)) true (ended [] last ++ rest))
           (sym (initial_is law initial start is sound e))
       by_test is false e = shown Normal is
 
@@ -91,7 +94,8 @@ module _ (draws : Bool) (limit total : ℕ) where
 
   -- the last tags, and the empty line
   last_read : (t : Option Termination) (u : Termination) (s : State) (v : Variant) (rest : List ℕ)
-      → read_on draws limit total (tagged true t s) true (ended [] (last_lines v u ++ [] ∷ []) ++ rest) ≡ read_on draws limit total
+      → read_on draws limit total (tagged true t s) true (ended [] (last_lines v u ++ [] ∷ []) ++ rest)
+      ≡ read_on draws limit total
       (tagged true (Some u) s) true rest
   last_read t u s Normal rest =
       line_read (tagged true t s) (tagged true (Some u) s) true (tag_line (codes "Termination") (termination_text u))
@@ -122,7 +126,8 @@ module _ (draws : Bool) (limit total : ℕ) where
 
   -- all tags
   tags_read : WrittenIsReadBack → IsSound (initial_setup_of Normal) → (tags : Tags) → AreTagTexts tags → (s : State)
-      → IsSound s.start → (begins : Bool) (rest : List ℕ) → read_on draws limit total (nothing_read s.start.variant) begins
+      → IsSound s.start → (begins : Bool) (rest : List ℕ)
+      → read_on draws limit total (nothing_read s.start.variant) begins
       (ended [] (tag_lines tags s ++ [] ∷ []) ++ rest) ≡ read_on draws limit total
       (tagged true (Some (termination_of tags.ended (outcome_now s))) (from_start s.start)) true rest
   tags_read law initial t texts s sound begins rest =
@@ -137,7 +142,8 @@ module _ (draws : Bool) (limit total : ℕ) where
       let site : List ℕ = tag_line (codes "Site") t.site in
       line_read (nothing_read s.start.variant) g begins (tag_line (codes "Event") t.event)
       (site ∷ date ∷ round ∷ white ∷ black ∷ result ∷ last) rest _
-      (plain_tag draws limit total false None (from_start (initial_setup_of s.start.variant)) (codes "Event") t.event refl
+      (plain_tag draws limit total false None (from_start (initial_setup_of s.start.variant))
+      (codes "Event") t.event refl
       refl refl (tag_text_in_line t.event texts.event))
       (line_read g g true site (date ∷ round ∷ white ∷ black ∷ result ∷ last) rest _
       (plain_tag draws limit total true None (from_start (initial_setup_of s.start.variant)) (codes "Site") t.site refl
@@ -146,13 +152,16 @@ module _ (draws : Bool) (limit total : ℕ) where
       (plain_tag draws limit total true None (from_start (initial_setup_of s.start.variant)) (codes "Date") t.date refl
       refl refl (tag_text_in_line t.date texts.date))
       (line_read g g true round (white ∷ black ∷ result ∷ last) rest _
-      (plain_tag draws limit total true None (from_start (initial_setup_of s.start.variant)) (codes "Round") t.round refl
+      (plain_tag draws limit total true None (from_start (initial_setup_of s.start.variant))
+      (codes "Round") t.round refl
       refl refl (tag_text_in_line t.round texts.round))
       (line_read g g true white (black ∷ result ∷ last) rest _
-      (plain_tag draws limit total true None (from_start (initial_setup_of s.start.variant)) (codes "White") t.white refl
+      (plain_tag draws limit total true None (from_start (initial_setup_of s.start.variant))
+      (codes "White") t.white refl
       refl refl (tag_text_in_line t.white texts.white))
       (line_read g g true black (result ∷ last) rest _
-      (plain_tag draws limit total true None (from_start (initial_setup_of s.start.variant)) (codes "Black") t.black refl
+      (plain_tag draws limit total true None (from_start (initial_setup_of s.start.variant))
+      (codes "Black") t.black refl
       refl refl (tag_text_in_line t.black texts.black))
       (line_read g g true result last rest _
       (plain_tag draws limit total true None (from_start (initial_setup_of s.start.variant)) (codes "Result")
@@ -218,11 +227,13 @@ named ts = by_string (last_tag (codes "Variant") (tag_section ts))
     ∙ ap (λ o. option_map_or variant_named o Normal) (sym (text_is (codes "Variant") ts))
 
 -- reading from the offset after `before` on
-read_after : (draws : Bool) (limit : ℕ) (before text : List ℕ) (v : Variant) → after_byte_order_mark (before ++ text) (length before)
+read_after : (draws : Bool) (limit : ℕ) (before text : List ℕ) (v : Variant)
+    → after_byte_order_mark (before ++ text) (length before)
     ≡ length before
     → option_map_or variant_named
     (said_on (codes "Variant") None (begins_line (before ++ text) (length before)) text) Normal ≡ v
-    → pgn_read draws limit (before ++ text) (length before) ≡ read_on draws limit (length (before ++ text)) (nothing_read v)
+    → pgn_read draws limit (before ++ text) (length before)
+    ≡ read_on draws limit (length (before ++ text)) (nothing_read v)
     (begins_line (before ++ text) (length before)) text
 read_after draws limit before text v offset said =
     let whole : List ℕ = before ++ text in

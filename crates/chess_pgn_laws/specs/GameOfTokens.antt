@@ -173,8 +173,10 @@ token_fault draws limit total v begun s to_end (Tag name text string) =
     else (if is_fen name then fault_at (total - string) (fen_fault (fen_reading_as v text)) else None)
 token_fault draws limit total v begun s to_end (Word word) =
     fault_at (total - to_end) (word_fault draws limit s word (word_kind word))
-token_fault draws limit total v begun s to_end Bad_tag = fault_at (total - to_end) (Some (if begun then NoResult else BadTag))
-token_fault draws limit total v begun s to_end (Unclosed_comment brace) = fault_at (total - brace) (Some UnclosedComment)
+token_fault draws limit total v begun s to_end Bad_tag =
+    fault_at (total - to_end) (Some (if begun then NoResult else BadTag))
+token_fault draws limit total v begun s to_end (Unclosed_comment brace) =
+    fault_at (total - brace) (Some UnclosedComment)
 token_fault draws limit total v begun s to_end Unclosed_variation = fault_at (total - to_end) (Some UnclosedVariation)
 token_fault draws limit total v begun s to_end Bad = fault_at (total - to_end) (Some BadToken)
 
@@ -183,7 +185,8 @@ token_fault draws limit total v begun s to_end Bad = fault_at (total - to_end) (
 -- why reading stopped after the tokens `taken`, before the others (the next argument), in a text of `total` bytes: at
 -- the text's end with no game (`Ok None`), at an outcome (`Ok (Some e)`), or at a fault. `s` is the game then; only an
 -- outcome declares a result. `limit` is the most half-moves
-abbrev pub StopsAt : Bool → ℕ → ℕ → Variant → List (ℕ × Token) → List (ℕ × Token) → State → Result (Option PgnEnd) PgnFault
+abbrev pub StopsAt : Bool → ℕ → ℕ → Variant → List (ℕ × Token) → List (ℕ × Token) → State
+    → Result (Option PgnEnd) PgnFault
     → Type 0
 -- at the text's end
 StopsAt draws limit total v taken [] s (Ok None) = (s.declared ≡ None) × (list_any (λ t. counts t.1) taken ≡ false)
@@ -202,7 +205,8 @@ StopsAt draws limit total v taken (t ∷ ts) s (Err f) =
 -- the game read (`r`) is that of a first part of the tokens, `taken`: its start is what their last FEN denotes,
 -- otherwise the initial position of variant `v`, its moves are those of their words, and reading stopped rightly after
 -- them. `limit` is the most half-moves of a game, `total` the text's length
-pub record IsOfTokens (draws : Bool) (limit total : ℕ) (v : Variant) (tokens : List (ℕ × Token)) (r : GameRead) : Type 0 where
+pub record IsOfTokens (draws : Bool) (limit total : ℕ) (v : Variant) (tokens : List (ℕ × Token))
+    (r : GameRead) : Type 0 where
   pub taken : List (ℕ × Token)
   pub others : List (ℕ × Token)
   pub all : taken ++ others ≡ tokens

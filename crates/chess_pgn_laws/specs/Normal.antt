@@ -49,4 +49,5 @@ pub record NormalIsKept : Type 0 where
   pub written : (t : Tags) (s : State) → s.start.variant ≡ Normal → tag_lines t s ≡ normal_tag_lines t s
   pub read : (draws : Bool) (limit : ℕ) (text : List ℕ) (at : ℕ)
       → last_tag (codes "Variant") (tag_section (tokens_from text (after_byte_order_mark text at))) ≡ None
-      → pgn_read draws limit text at ≡ normal_read draws limit (length text) (tokens_from text (after_byte_order_mark text at))
+      → pgn_read draws limit text at ≡ normal_read draws limit (length text)
+      (tokens_from text (after_byte_order_mark text at))

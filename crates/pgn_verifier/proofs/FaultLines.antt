@@ -40,7 +40,7 @@ module _ (options : VerifyOptions) (place : TextStart) (text : List ℕ) (at : �
     left begin o =
         unread_text (option_map (λ offset. place.offset + offset) begin) (place.offset + unwrap_or o (length text))
 
-    -- the game that stands at the same position is explained alike
+    -- a game at the same position is explained alike
     lines_alike : (input : List ℕ) (n : ℕ) (end named : List ℕ) (there : ℕ) (word rest : List ℕ)
         → lines_by g input n end named there word rest ≡ lines input n end named there word rest
     lines_alike input n end named there word rest =
@@ -54,7 +54,8 @@ module _ (options : VerifyOptions) (place : TextStart) (text : List ℕ) (at : �
         → lines_by g input label.game.number (span_written label.game.span) label.names.items label.begin
         label.first.items (unread_written label.unread)
         ≡ placed_line options input (next_number tally)
-        (fault_placed options.strict.draws_of_2014 place.goes_on place.offset text at (next_at place.goes_on text at) fault s)
+        (fault_placed options.strict.draws_of_2014 place.goes_on place.offset text at
+        (next_at place.goes_on text at) fault s)
     fault_lines_are input =
         let n : ℕ = next_number tally in
         let there : Option ℕ = next_at place.goes_on text at in

@@ -54,7 +54,8 @@ module _ (strict : Strictness) (text : List ℕ) (at : ℕ) where
       ap (λ (b : Bool). ending b g) draws ∙ alike.ends ∙ ap (λ (b : Bool). ending b r.state) (sym draws) in
       let whole : Setup → Option Verdict → Result (Option PgnEnd) PgnFault → Result (Option PgnEnd) GameFault =
       λ p v answer. judged strict (variation_in tokens_from text at p) unknown tag v answer in
-      ap (λ (f : Option GameFault). (let all : Result (Option PgnEnd) GameFault = option_map_or Err f (Ok (Some read.end))
+      ap (λ (f : Option GameFault). (let all : Result (Option PgnEnd) GameFault = option_map_or Err f
+      (Ok (Some read.end))
       in all)) found
       ∙ ap (λ (p : Setup). whole p (ending strict.draws_of_2014 g) (Ok (Some read.end))) is.1
       ∙ ap (λ (v : Option Verdict). whole r.state.start v (Ok (Some read.end))) same

@@ -21,7 +21,8 @@ left : (goes_on : Bool) (strict : Strictness) (start n : ℕ) (text : List ℕ) 
     (λ next. placed_from goes_on strict start n text next)
 unfolding placed_from
 left goes_on strict start n text at answer s h k =
-    ap (λ r. placed_then strict.draws_of_2014 goes_on start text at (next_at goes_on text at) r (read_at strict.draws_of_2014 text at).state
+    ap (λ r. placed_then strict.draws_of_2014 goes_on start text at (next_at goes_on text at) r
+    (read_at strict.draws_of_2014 text at).state
     (λ next. placed_from goes_on strict start n text next)) h
     ∙ ap (λ g. placed_then strict.draws_of_2014 goes_on start text at (next_at goes_on text at) answer g
     (λ next. placed_from goes_on strict start n text next)) (sym k)
@@ -88,7 +89,8 @@ module _ (options : VerifyOptions) (place : TextStart) (text : List ℕ) (before
     pub all_written : (E : Type 0) (input : List ℕ) → Stands input → judged_at options.strict text at ≡ Ok None
         → Writes {E = E} options input before w w' (Ok tally) reports
     all_written E input stands h =
-        let only : reports ≡ done = due (Ok None) (read_at options.strict.draws_of_2014 text at).state h refl ∙ append-nil done in
+        let only : reports ≡ done = due (Ok None) (read_at options.strict.draws_of_2014 text at).state h refl
+        ∙ append-nil done in
         subst (Writes {E = E} options input before w w' (Ok tally)) (sym only) (s.took input stands, s.is)
 
     -- a report more, after which the text is read on from the offset `there`

@@ -85,7 +85,7 @@ fn variation_fault(
     fault_in_variations(text, at, &game.start(), game, end)
 }
 
-// The same of a game that started in the position `start`, which `game` may not say.
+// The same for a game that started in the position `start`, which may not be that of `game`.
 fn variation_fault_from(
     is_looked_for: bool,
     text: &[u8],
@@ -125,8 +125,8 @@ fn variant_fault(is_looked_for: bool, text: &[u8], at: usize) -> Option<GameFaul
     })
 }
 
-// The first of the faults that `strict` names in the game that was read from `at` on and ended with `end`, but for those
-// in its variations: of its variant, or of its outcome. `game` stands at its last position.
+// The first of the faults that `strict` names in the game that was read from `at` on and ended with `end`, but not in
+// its variations: of its variant, or of its outcome. `game` is at its last position.
 fn fault_but_variations(
     strict: Strictness,
     text: &[u8],
@@ -148,7 +148,7 @@ fn fault_but_variations(
 }
 
 // The first of the faults that `strict` names in the game that was read from `at` on and ended with `end`: in its
-// variations, of its variant, or of its outcome. `game` has the game's start, and stands at its last position.
+// variations, of its variant, or of its outcome. `game` has the game's start, and is at its last position.
 pub(crate) fn end_fault(
     strict: Strictness,
     text: &[u8],
@@ -169,7 +169,7 @@ pub(crate) fn end_fault(
     variation_fault(strict.variations, text, at, game, end).or(found)
 }
 
-// The same of a game that started in the position `start`; `game` only stands at its last position.
+// The same for a game that started in the position `start`; `game` is only at its last position.
 pub(crate) fn end_fault_from(
     strict: Strictness,
     text: &[u8],

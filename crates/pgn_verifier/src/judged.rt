@@ -57,8 +57,7 @@ fn judge_by_laws(
     }
 }
 
-// The same, but fivefold repetition and 75 moves end no game. `game` then stands at the position in which reading
-// stopped.
+// The same, but fivefold repetition and 75 moves end no game. `game` is then at the position in which reading stopped.
 fn judge_past_draws(
     strict: Strictness,
     text: &[u8],
@@ -96,7 +95,7 @@ fn judge_past_draws(
 }
 
 /// Reads the game of a text from the offset `at` on, and returns its end or its fault; `None` if no game is left. What
-/// `strict` names is a fault, too. `game` is only room for the game; it then stands at the position in which reading
+/// `strict` names is a fault, too. `game` is only room for the game; it is then at the position in which reading
 /// stopped, and the same verdict ends it as the game that was read, if any.
 pub(crate) fn judge_game(
     strict: Strictness,

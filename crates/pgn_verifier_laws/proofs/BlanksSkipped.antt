@@ -79,7 +79,8 @@ pub begins_alike : TokenByToken → (draws : Bool) (limit : ℕ) (text : List �
 begins_alike law draws limit text at =
     let first : ℕ = after_byte_order_mark text at in
     law draws limit text at
-    ∙ run_skipped (tokens_read draws limit (length text)) (one_skipped draws limit (length text)) text (drop first text) first refl
+    ∙ run_skipped (tokens_read draws limit (length text)) (one_skipped draws limit (length text)) text
+    (drop first text) first refl
     ∙ ap (λ n. tokens_read draws limit (length text) (tokens_from text n)) (sym (mark_passed text at))
     ∙ sym (law draws limit text (game_begin text at))
 

@@ -35,7 +35,8 @@ alone p word m h = at (shape word) h
     at true e = one_alone (filter (λ n. denotes p word n) (moves p)) m e
     at false e = absurd (cc)
 
-told : ReadMovesAreLegal → (draws : Bool) (limit : ℕ) (start : Setup) (done : List Move) (words : List (List ℕ)) (ms : List Move)
+told : ReadMovesAreLegal
+    → (draws : Bool) (limit : ℕ) (start : Setup) (done : List Move) (words : List (List ℕ)) (ms : List Move)
     → AreReadAs draws limit start done words ms → AreTold (position_after start done) words ms
 told legal draws limit start done [] [] h = tt
 told legal draws limit start done [] (m ∷ ms) h = absurd h
@@ -86,7 +87,8 @@ record Ended (text : List ℕ) (tokens : List (ℕ × Token)) (taken : List (ℕ
   pub marks : outcome_of marker ≡ Some end.outcome
   pub ends : end.offset ≡ length text - left + length marker
 
-ended_at : (draws : Bool) (text : List ℕ) (v : Variant) (tokens taken others : List (ℕ × Token)) (s : State) (end : PgnEnd)
+ended_at : (draws : Bool) (text : List ℕ) (v : Variant) (tokens taken others : List (ℕ × Token)) (s : State)
+    (end : PgnEnd)
     → taken ++ others ≡ tokens → StopsAt draws MOST_MOVES (length text) v taken others s (Ok (Some end))
     → Ended text tokens taken end
 ended_at draws text v tokens taken [] s end all stop = absurd stop
@@ -102,7 +104,8 @@ ended_at draws text v tokens taken ((left, t) ∷ ts) s end all (word, is, kind,
 module _ (legal : ReadMovesAreLegal) (law : GamesAreOfTokens)
     (initial : (v : Variant) → IsSound (initial_setup_of v)) where
   has_game : (strict : Strictness) (text : List ℕ) (at : ℕ) (s : State) (end : PgnEnd)
-      → IsJudged strict text at s (Ok (Some end)) → HasGame strict.draws_of_2014 text at end.offset (length s.moves) end.outcome
+      → IsJudged strict text at s (Ok (Some end))
+      → HasGame strict.draws_of_2014 text at end.offset (length s.moves) end.outcome
   has_game strict text at s end j =
       let so = judged_so strict (variation_in j.split_of text at s.start)
       (unknown_variant_in (length text) j.tokens)
@@ -114,7 +117,8 @@ module _ (legal : ReadMovesAreLegal) (law : GamesAreOfTokens)
         is = ap (λ a. (let g : GameRead = record { state = s; answer = a } in g)) (sym so.0) ∙ sym j.read;
       } in
       let v : Variant = tagged_variant (tag_section j.tokens) in
-      let of : IsOfTokens strict.draws_of_2014 MOST_MOVES (length text) v j.tokens r = law strict.draws_of_2014 MOST_MOVES text at r read in
+      let of : IsOfTokens strict.draws_of_2014 MOST_MOVES (length text) v j.tokens r =
+      law strict.draws_of_2014 MOST_MOVES text at r read in
       let over = ended_at strict.draws_of_2014 text v j.tokens of.taken of.others s end of.all of.stop in
       record {
         start = s.start;
@@ -135,7 +139,8 @@ module _ (legal : ReadMovesAreLegal) (law : GamesAreOfTokens)
       }
 
   has_games : {goes_on : Bool} {strict : Strictness} {start : ℕ} {text : List ℕ} {at : ℕ} {reports : List Placed}
-      → AreReportsOf goes_on strict start text at reports → HasGames strict.draws_of_2014 text at (without_spans reports)
+      → AreReportsOf goes_on strict start text at reports
+      → HasGames strict.draws_of_2014 text at (without_spans reports)
   has_games (none_left j) = tt
   has_games {goes_on} {strict} {start} {text} (next_game {at} {s} {end} {reports} j h) =
       (end.offset, has_game strict text at s end j, has_games h)
@@ -161,4 +166,5 @@ counted_games_of_pieces legal law initial strict offset piece reports h = at (na
         } ∷ [])
         → HasGames strict.draws_of_2014 piece 0 (without_spans reports)
     at true are = has_games legal law initial are
-    at false is = subst (λ (all : List Placed). HasGames strict.draws_of_2014 piece 0 (without_spans all)) (sym is) (0, tt)
+    at false is =
+        subst (λ (all : List Placed). HasGames strict.draws_of_2014 piece 0 (without_spans all)) (sym is) (0, tt)

@@ -93,7 +93,8 @@ fault_moved draws goes_on by start text at next fault =
     let why : List ℕ = explanation_of draws (read_at draws text at).state (drop fault.offset text) fault.kind in
     let from : Option ℕ = unread_from goes_on (length text) fault.offset next in
     let here : Placed = fault_placed draws goes_on (by + start) text at next fault (read_at draws text at).state in
-    let there : Placed = moved_placed by (fault_placed draws goes_on start text at next fault (read_at draws text at).state) in
+    let there : Placed = moved_placed by (fault_placed draws goes_on start text at next fault
+    (read_at draws text at).state) in
     ap₂ (λ (b e : ℕ). record here { begin = b; end = e }) (grouped by start (game_begin text at))
     (grouped by start (unwrap_or next (length text)))
     ∙ ap (λ (o : Option ℕ). record there { unread = o; report = here.report }) (grouped_in by start from)
@@ -121,15 +122,19 @@ moved_from goes_on strict by start (suc n) text at =
     on (Some m) later = later m
 
     by_answer : (r : Result (Option PgnEnd) GameFault) → ((m : ℕ) → far m ≡ map (moved_placed by) (near m))
-        → placed_then strict.draws_of_2014 goes_on (by + start) text at (next_at goes_on text at) r (read_at strict.draws_of_2014 text at).state far
+        → placed_then strict.draws_of_2014 goes_on (by + start) text at (next_at goes_on text at) r
+        (read_at strict.draws_of_2014 text at).state far
         ≡ map (moved_placed by)
-        (placed_then strict.draws_of_2014 goes_on start text at (next_at goes_on text at) r (read_at strict.draws_of_2014 text at).state near)
+        (placed_then strict.draws_of_2014 goes_on start text at (next_at goes_on text at) r
+        (read_at strict.draws_of_2014 text at).state near)
     by_answer (Ok None) later = refl
     by_answer (Ok (Some end)) later =
-        ap₂ (λ (p : Placed) (ps : List Placed). p ∷ ps) (game_moved strict.draws_of_2014 by start text at end) (later end.offset)
+        ap₂ (λ (p : Placed) (ps : List Placed). p ∷ ps) (game_moved strict.draws_of_2014 by start text at end)
+        (later end.offset)
     by_answer (Err fault) later =
         ap₂ (λ (p : Placed) (ps : List Placed). p ∷ ps)
-        (fault_moved strict.draws_of_2014 goes_on by start text at (next_at goes_on text at) fault) (on (next_at goes_on text at) later)
+        (fault_moved strict.draws_of_2014 goes_on by start text at (next_at goes_on text at) fault)
+        (on (next_at goes_on text at) later)
 
 moved_in : (strict : Strictness) (by offset : ℕ) (bytes : List ℕ)
     → placed_in strict (record { offset = by + offset; bytes = bytes })

@@ -60,7 +60,8 @@ module _ (draws : Bool) (limit : ℕ) (old new : List ℕ) (a b size : ℕ)
           let fit = fits at kind front rest e long near in
           let left : ℕ = length fit.rest' in
           let here = goes_on (step draws limit (length old) g x (token_of kind front (length rest)))
-          (step draws limit (length new) g (length new - (b + at)) (token_of kind front left)) later s end (steps left) h in
+          (step draws limit (length new) g (length new - (b + at)) (token_of kind front left)) later s end
+          (steps left) h in
           let found = again here.g here.rest in
           record {
             within = omega (arith, near);
@@ -106,7 +107,8 @@ module _ (draws : Bool) (limit : ℕ) (old new : List ℕ) (a b size : ℕ)
           passes alike =
               subst (λ t. Found at g ((x, t) ∷ tokens)) (is_word (length rest))
               (further at x kind front rest tokens g e long
-              (λ m. subst (λ t. OnOrFails (step draws limit total g x t) (step draws limit (length new) g (length new - (b + at))
+              (λ m. subst (λ t. OnOrFails (step draws limit total g x t)
+              (step draws limit (length new) g (length new - (b + at))
               (token_of kind front m)))
               (sym (is_word (length rest)))
               (subst (λ t. OnOrFails (step draws limit total g x (Word front)) (step draws limit (length new) g
@@ -120,7 +122,8 @@ module _ (draws : Bool) (limit : ℕ) (old new : List ℕ) (a b size : ℕ)
               again
               (subst (λ t. game_of draws limit total g ((x, t) ∷ tokens) ≡ over s end) (sym (is_word (length rest))) h))
 
-          by_step : Does front (λ k m. word_step draws limit k m front (word_kind front)) (may_precede_tags (Word front))
+          by_step : Does front (λ k m. word_step draws limit k m front (word_kind front))
+              (may_precede_tags (Word front))
               → Found at g ((x, Word front) ∷ tokens)
           by_step (no_end alike) = passes (alike g)
           by_step (ends_game o step_is no_tag) =

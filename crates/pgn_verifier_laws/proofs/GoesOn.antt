@@ -26,8 +26,10 @@ module _ (strict : Strictness) (start : ℕ) (text : List ℕ) (a b : Bool) wher
           → games_from b strict start n text m ≡ games_from a strict start n text m)
           → list_all is_game (report_then strict.draws_of_2014 start text (next_at a text at) r s
           (λ m. games_from a strict start n text m)) ≡ true
-          → report_then strict.draws_of_2014 start text (next_at b text at) r s (λ m. games_from b strict start n text m)
-          ≡ report_then strict.draws_of_2014 start text (next_at a text at) r s (λ m. games_from a strict start n text m)
+          → report_then strict.draws_of_2014 start text (next_at b text at) r s
+          (λ m. games_from b strict start n text m)
+          ≡ report_then strict.draws_of_2014 start text (next_at a text at) r s
+          (λ m. games_from a strict start n text m)
       by_answer (Ok None) later k = refl
       by_answer (Ok (Some end)) later k =
           ap (λ rs. Game (length s.moves) end.outcome end.termination ∷ rs) (later end.offset k)

@@ -21,7 +21,8 @@ same_split : (split : List ℕ → ℕ → List (ℕ × Token))
 same_split split splits = fun_ext (λ other. fun_ext (λ from. split_read other (splits other from)))
 
 pub only_judged : (strict : Strictness) (text : List ℕ) (at : ℕ) (s : State) (answer : Result (Option PgnEnd) GameFault)
-    → IsJudged strict text at s answer → (s ≡ (read_at strict.draws_of_2014 text at).state) × (answer ≡ judged_at strict text at)
+    → IsJudged strict text at s answer
+    → (s ≡ (read_at strict.draws_of_2014 text at).state) × (answer ≡ judged_at strict text at)
 unfolding pgn_read
 only_judged strict text at s answer j =
     let all : List (ℕ × Token) = tokens_from text (after_byte_order_mark text at) in
@@ -30,12 +31,15 @@ only_judged strict text at s answer j =
       ap (λ (r : GameRead). r.state) read,
       j.is
           ∙ ap (λ (split : List ℕ → ℕ → List (ℕ × Token)). judged strict (variation_in split text at s.start)
-          (unknown_variant_in (length text) j.tokens) (result_tag_of (length text) j.tokens) (ending strict.draws_of_2014 s) j.ended)
+          (unknown_variant_in (length text) j.tokens) (result_tag_of (length text) j.tokens)
+          (ending strict.draws_of_2014 s) j.ended)
           (same_split j.split_of j.splits)
           ∙ ap (λ (ts : List (ℕ × Token)). judged strict (variation_in tokens_from text at s.start)
-          (unknown_variant_in (length text) ts) (result_tag_of (length text) ts) (ending strict.draws_of_2014 s) j.ended) same
+          (unknown_variant_in (length text) ts) (result_tag_of (length text) ts)
+          (ending strict.draws_of_2014 s) j.ended) same
           ∙ ap (λ (r : GameRead). judged strict (variation_in tokens_from text at r.state.start)
-          (unknown_variant_in (length text) all) (result_tag_of (length text) all) (ending strict.draws_of_2014 r.state) r.answer) read,
+          (unknown_variant_in (length text) all) (result_tag_of (length text) all)
+          (ending strict.draws_of_2014 r.state) r.answer) read,
     )
 
 -- ---- a text
@@ -67,7 +71,8 @@ ReportsBy goes_on strict start text at s (Err fault) reports =
 fault_explained : (draws goes_on : Bool) (start : ℕ) (text : List ℕ) (at : ℕ) (next : Option ℕ) (fault : GameFault)
     (names : List ℕ) (s : State) (reason : Option (List ℕ)) → next ≡ next_at goes_on text at
     → names ≡ names_at text at → IsReason fault.kind (drop fault.offset text) (ending draws s) reason
-    → fault_report draws goes_on start text at next fault names (explanation s (drop fault.offset text) fault.kind reason)
+    → fault_report draws goes_on start text at next fault names
+    (explanation s (drop fault.offset text) fault.kind reason)
     ≡ fault_placed draws goes_on start text at (next_at goes_on text at) fault s
 fault_explained draws goes_on start text at next fault names s reason there are h =
     ap (λ o. fault_report draws goes_on start text at o fault names
@@ -81,7 +86,8 @@ fault_explained draws goes_on start text at next fault names s reason there are 
 module _ (goes_on : Bool) (strict : Strictness) (start : ℕ) (text : List ℕ) where
   abbrev ReportsAt : ℕ → List Placed → Type 0
   ReportsAt at reports =
-      ReportsBy goes_on strict start text at (read_at strict.draws_of_2014 text at).state (judged_at strict text at) reports
+      ReportsBy goes_on strict start text at (read_at strict.draws_of_2014 text at).state
+      (judged_at strict text at) reports
 
   reports_at : {at : ℕ} {reports : List Placed} → AreReportsOf goes_on strict start text at reports
       → ReportsAt at reports
@@ -96,7 +102,8 @@ module _ (goes_on : Bool) (strict : Strictness) (start : ℕ) (text : List ℕ) 
         reports,
         h,
         ap (λ (g : State). game_report start text at end own g ∷ reports) is.0
-            ∙ ap (λ ns. game_report start text at end ns (read_at strict.draws_of_2014 text at).state ∷ reports) (named j),
+            ∙ ap (λ ns. game_report start text at end ns (read_at strict.draws_of_2014 text at).state ∷ reports)
+            (named j),
       )
   reports_at (next_fault {at} {s} {fault} {reports} reason next j h there later) =
       let is = only_judged strict text at s (Err fault) j in
@@ -107,35 +114,45 @@ module _ (goes_on : Bool) (strict : Strictness) (start : ℕ) (text : List ℕ) 
         reports,
         subst (λ o. AreReportsOf goes_on strict start text (unwrap_or o (length text)) reports) on later,
         ap (λ (p : Placed). p ∷ reports)
-            (fault_explained strict.draws_of_2014 goes_on start text at next fault (names_of j.tokens) s reason on (named j) h)
-            ∙ ap (λ (g : State). fault_placed strict.draws_of_2014 goes_on start text at (next_at goes_on text at) fault g ∷ reports) is.0,
+            (fault_explained strict.draws_of_2014 goes_on start text at next fault (names_of j.tokens) s reason on
+            (named j) h)
+            ∙ ap (λ (g : State). fault_placed strict.draws_of_2014 goes_on start text at
+            (next_at goes_on text at) fault g ∷ reports) is.0,
       )
 
   one_list : {at : ℕ} {reports : List Placed} → AreReportsOf goes_on strict start text at reports
       → (others : List Placed) → AreReportsOf goes_on strict start text at others → others ≡ reports
   one_list (none_left {at} {s} j) others k =
       let is = only_judged strict text at s (Ok None) j in
-      subst (λ r. ReportsBy goes_on strict start text at (read_at strict.draws_of_2014 text at).state r others) (sym is.1) (reports_at k)
+      subst (λ r. ReportsBy goes_on strict start text at (read_at strict.draws_of_2014 text at).state r others)
+      (sym is.1) (reports_at k)
   one_list (next_game {at} {s} {end} {reports} j h) others k =
       let is = only_judged strict text at s (Ok (Some end)) j in
-      let more = subst (λ r. ReportsBy goes_on strict start text at (read_at strict.draws_of_2014 text at).state r others) (sym is.1)
+      let more = subst (λ r. ReportsBy goes_on strict start text at
+      (read_at strict.draws_of_2014 text at).state r others) (sym is.1)
       (reports_at k) in
       more.2
-      ∙ ap (λ rs. game_placed start text at end (read_at strict.draws_of_2014 text at).state ∷ rs) (one_list h more.0 more.1)
-      ∙ ap (λ ns. game_report start text at end ns (read_at strict.draws_of_2014 text at).state ∷ reports) (sym (named j))
+      ∙ ap (λ rs. game_placed start text at end (read_at strict.draws_of_2014 text at).state ∷ rs)
+      (one_list h more.0 more.1)
+      ∙ ap (λ ns. game_report start text at end ns (read_at strict.draws_of_2014 text at).state ∷ reports)
+      (sym (named j))
       ∙ ap (λ (g : State). game_report start text at end (names_of j.tokens) g ∷ reports) (sym is.0)
   one_list (next_fault {at} {s} {fault} {reports} reason next j h there later) others k =
       let is = only_judged strict text at s (Err fault) j in
       let on : next ≡ next_at goes_on text at = there ∙ goes_on_there goes_on j in
-      let more = subst (λ r. ReportsBy goes_on strict start text at (read_at strict.draws_of_2014 text at).state r others) (sym is.1)
+      let more = subst (λ r. ReportsBy goes_on strict start text at
+      (read_at strict.draws_of_2014 text at).state r others) (sym is.1)
       (reports_at k) in
       let same : more.0 ≡ reports = one_list later more.0
       (subst (λ o. AreReportsOf goes_on strict start text (unwrap_or o (length text)) more.0) (sym on) more.1) in
       more.2
-      ∙ ap (λ rs. fault_placed strict.draws_of_2014 goes_on start text at (next_at goes_on text at) fault (read_at strict.draws_of_2014 text at).state ∷ rs) same
-      ∙ ap (λ (g : State). fault_placed strict.draws_of_2014 goes_on start text at (next_at goes_on text at) fault g ∷ reports) (sym is.0)
+      ∙ ap (λ rs. fault_placed strict.draws_of_2014 goes_on start text at (next_at goes_on text at) fault
+      (read_at strict.draws_of_2014 text at).state ∷ rs) same
+      ∙ ap (λ (g : State). fault_placed strict.draws_of_2014 goes_on start text at
+      (next_at goes_on text at) fault g ∷ reports) (sym is.0)
       ∙ ap (λ (p : Placed). p ∷ reports)
-      (sym (fault_explained strict.draws_of_2014 goes_on start text at next fault (names_of j.tokens) s reason on (named j) h))
+      (sym (fault_explained strict.draws_of_2014 goes_on start text at next fault (names_of j.tokens) s reason on
+      (named j) h))
 
   pub only_reports_of : (reports : List Placed) → AreReportsOf goes_on strict start text 0 reports
       → reports ≡ placed_of goes_on strict start text
@@ -200,7 +217,8 @@ same_from goes_on strict start (suc n) text at =
     by_answer (Ok (Some end)) later =
         ap (λ rs. Game (length s.moves) end.outcome end.termination ∷ rs) (later end.offset)
     by_answer (Err fault) later =
-        ap (λ rs. (fault_placed strict.draws_of_2014 goes_on start text at (next_at goes_on text at) fault s).report ∷ rs)
+        ap (λ rs. (fault_placed strict.draws_of_2014 goes_on start text at
+        (next_at goes_on text at) fault s).report ∷ rs)
         (on (next_at goes_on text at) later)
 
 pub same_of : (goes_on : Bool) (strict : Strictness) (start : ℕ) (text : List ℕ)

@@ -80,14 +80,16 @@ move_pass draws limit g m reads.NoSuch =
 word_pass : (draws : Bool) (limit : ℕ) (word : List ℕ) (g : SoFar) (m : ℕ)
     → Pass (may_precede_tags (Word word)) g (word_step draws limit g m word (word_kind word))
 word_pass draws limit word =
-    word_cases (λ steps precedes. (g : SoFar) (m : ℕ) → Pass precedes g (steps g m)) draws limit word (λ o g m. wins _ _ refl)
+    word_cases (λ steps precedes. (g : SoFar) (m : ℕ) → Pass precedes g (steps g m)) draws limit word
+    (λ o g m. wins _ _ refl)
     (λ g m. meets _ refl refl) (λ g m. passes refl) (λ g m. move_pass draws limit g m (reading (current g.state) word))
 
 fen_pass : (g : SoFar) (m : ℕ) (r : Result Setup FenFault) → Pass false g (fen_step g m r)
 fen_pass g m (Ok start) = meets _ refl refl
 fen_pass g m (Err fault) = fails _ _ refl
 
-pass : (draws : Bool) (limit total : ℕ) (g : SoFar) (x : ℕ) (t : Token) → Pass (is_passed t) g (step draws limit total g x t)
+pass : (draws : Bool) (limit total : ℕ) (g : SoFar) (x : ℕ) (t : Token)
+    → Pass (is_passed t) g (step draws limit total g x t)
 pass draws limit total g x Skip = passes refl
 pass draws limit total g x (Tag name text left) =
     one_of false g g.is_begun _ _ (fails _ _ refl)
@@ -105,8 +107,10 @@ is_on b g s (meets k e met) h = absurd (cc)
 is_on b g s (fails u f e) h = absurd (cc)
 is_on b g s (wins u end e) h = absurd (cc)
 
-passed_step : (draws : Bool) (limit total : ℕ) (g : SoFar) (x : ℕ) (t : Token) → is_passed t ≡ true → step draws limit total g x t ≡ On g
-passed_step draws limit total g x t p = is_on (is_passed t) g (step draws limit total g x t) (pass draws limit total g x t) p
+passed_step : (draws : Bool) (limit total : ℕ) (g : SoFar) (x : ℕ) (t : Token) → is_passed t ≡ true
+    → step draws limit total g x t ≡ On g
+passed_step draws limit total g x t p =
+    is_on (is_passed t) g (step draws limit total g x t) (pass draws limit total g x t) p
 
 passed_tags : (name : List ℕ) (x : ℕ) (t : Token) (ts : List (ℕ × Token)) → is_passed t ≡ true
     → tags_named name (tag_section ((x, t) ∷ ts)) ≡ tags_named name (tag_section ts)
@@ -139,7 +143,8 @@ met_stays draws limit total g [] met h = by_met g.is_met (record { kind = NoResu
     by_met true f e k = cc
     by_met false f e k = absurd (cc)
 met_stays draws limit total g (t ∷ ts) met h =
-    by_step (step draws limit total g t.0 t.1) (pass draws limit total g t.0 t.1) (λ k e none. met_stays draws limit total k ts e none) h
+    by_step (step draws limit total g t.0 t.1) (pass draws limit total g t.0 t.1)
+    (λ k e none. met_stays draws limit total k ts e none) h
   where
     by_step : (s : Step) → Pass (is_passed t.1) g s
         → ((k : SoFar) → k.is_met ≡ true → (game_of draws limit total k ts).answer ≡ Ok None → ⊥)
@@ -293,15 +298,18 @@ in_text law strict plain before part after at end begins closed is =
     let alone : tokens_read strict.draws_of_2014 MOST_MOVES (length part) us ≡ over r.state end =
     sym (law strict.draws_of_2014 MOST_MOVES part at) ∙ ap (λ a. record { state = r.state; answer = a }) said.0 in
     let k = found strict.draws_of_2014 MOST_MOVES part text 0 (length before) (length part)
-    (fits_text strict.draws_of_2014 MOST_MOVES before part after begins.line closed) r.state end (λ m low is_end. omega (arith, low))
+    (fits_text strict.draws_of_2014 MOST_MOVES before part after begins.line closed) r.state end
+    (λ m low is_end. omega (arith, low))
     (read_kinds part here) here (omega arith)
     (nothing_read (tagged_variant (tag_section us))) alone in
     let own : k.own ≡ ts = kinds_read text k.split ∙ ap (tokens_from text) (sym begins.first) in
     let shift : end.offset - 0 + length before ≡ length before + end.offset = omega arith in
     let moved : PgnEnd = record end { offset = length before + end.offset } in
     let whole : pgn_read strict.draws_of_2014 MOST_MOVES text (length before + at) ≡ over r.state moved =
-    law strict.draws_of_2014 MOST_MOVES text (length before + at) ∙ ap (tokens_read strict.draws_of_2014 MOST_MOVES (length text)) (sym own)
-    ∙ ap (λ w. game_of strict.draws_of_2014 MOST_MOVES (length text) (nothing_read w) k.own) (same_variant k.own us k.tags) ∙ k.is
+    law strict.draws_of_2014 MOST_MOVES text (length before + at)
+    ∙ ap (tokens_read strict.draws_of_2014 MOST_MOVES (length text)) (sym own)
+    ∙ ap (λ w. game_of strict.draws_of_2014 MOST_MOVES (length text) (nothing_read w) k.own)
+    (same_variant k.own us k.tags) ∙ k.is
     ∙ ap (λ m. over r.state (record end { offset = m })) shift in
     let outcomes : outcome_in (result_tag_of (length text) ts) ≡ outcome_in (result_tag_of (length part) us) =
     ap (λ l. outcome_in (result_tag_of (length text) l)) (sym own)
@@ -311,7 +319,8 @@ in_text law strict plain before part after at end begins closed is =
     ∙ same_known (length part) (length text) k.own us k.tags in
     record {
       judged = ap (λ (g : GameRead). judged strict (variation_in tokens_from text (length before + at) g.state.start)
-          (unknown_variant_in (length text) ts) (result_tag_of (length text) ts) (ending strict.draws_of_2014 g.state) g.answer)
+          (unknown_variant_in (length text) ts) (result_tag_of (length text) ts)
+          (ending strict.draws_of_2014 g.state) g.answer)
           whole
           ∙ ap (λ fault. option_map_or Err fault (Ok (Some moved)))
           (agrees strict plain (variation_in tokens_from part at r.state.start)
@@ -389,7 +398,8 @@ skips_to_end law strict plain before part after at begins closed within none sta
         ∙ judged_none strict (variation_in tokens_from part at (read_at strict.draws_of_2014 part at).state.start)
         (unknown_variant_in (length part) (tokens_from part (after_byte_order_mark part at)))
         (result_tag_of (length part) (tokens_from part (after_byte_order_mark part at)))
-        (ending strict.draws_of_2014 (read_at strict.draws_of_2014 part at).state) (read_at strict.draws_of_2014 part at).answer none) in
+        (ending strict.draws_of_2014 (read_at strict.draws_of_2014 part at).state)
+        (read_at strict.draws_of_2014 part at).answer none) in
         let ts : List (ℕ × Token) = tokens_from text (after_byte_order_mark text (length before + at)) in
         let us : List (ℕ × Token) =
         tokens_from text (after_byte_order_mark text (length before + length part)) in
@@ -405,10 +415,13 @@ skips_to_end law strict plain before part after at begins closed within none sta
         ap (unknown_in (length text)) (tags (codes "Variant")) in
         let results : result_tag_of (length text) ts ≡ result_tag_of (length text) us =
         ap (result_in (length text)) (tags (codes "Result")) in
-        let games : tokens_read strict.draws_of_2014 MOST_MOVES (length text) ts ≡ tokens_read strict.draws_of_2014 MOST_MOVES (length text) us =
-        ap (game_of strict.draws_of_2014 MOST_MOVES (length text) (nothing_read (tagged_variant (tag_section ts)))) (sym own)
+        let games : tokens_read strict.draws_of_2014 MOST_MOVES (length text) ts
+        ≡ tokens_read strict.draws_of_2014 MOST_MOVES (length text) us =
+        ap (game_of strict.draws_of_2014 MOST_MOVES (length text) (nothing_read (tagged_variant (tag_section ts))))
+        (sym own)
         ∙ p.reads_on (nothing_read (tagged_variant (tag_section ts)))
-        ∙ ap (game_of strict.draws_of_2014 MOST_MOVES (length text) (nothing_read (tagged_variant (tag_section ts)))) at_end
+        ∙ ap (game_of strict.draws_of_2014 MOST_MOVES (length text)
+        (nothing_read (tagged_variant (tag_section ts)))) at_end
         ∙ ap (λ v. game_of strict.draws_of_2014 MOST_MOVES (length text) (nothing_read v) us) variants in
         let same_read : pgn_read strict.draws_of_2014 MOST_MOVES text (length before + at)
         ≡ pgn_read strict.draws_of_2014 MOST_MOVES text (length before + length part) =
@@ -418,18 +431,26 @@ skips_to_end law strict plain before part after at begins closed within none sta
         let there : ℕ = length before + length part in
         ap (λ (r : GameRead). report_then strict.draws_of_2014 start text None
         (judged strict (variation_in tokens_from text here r.state.start)
-        (unknown_variant_in (length text) ts) (result_tag_of (length text) ts) (ending strict.draws_of_2014 r.state) r.answer) r.state
+        (unknown_variant_in (length text) ts) (result_tag_of (length text) ts)
+        (ending strict.draws_of_2014 r.state) r.answer) r.state
         (λ next. reports_from strict start most text next)) same_read
         ∙ ap (λ unknown. report_then strict.draws_of_2014 start text None (judged strict
-        (variation_in tokens_from text here (read_at strict.draws_of_2014 text there).state.start) unknown (result_tag_of (length text) ts)
-        (ending strict.draws_of_2014 (read_at strict.draws_of_2014 text there).state) (read_at strict.draws_of_2014 text there).answer) (read_at strict.draws_of_2014 text there).state
+        (variation_in tokens_from text here (read_at strict.draws_of_2014 text there).state.start) unknown
+        (result_tag_of (length text) ts)
+        (ending strict.draws_of_2014 (read_at strict.draws_of_2014 text there).state)
+        (read_at strict.draws_of_2014 text there).answer) (read_at strict.draws_of_2014 text there).state
         (λ next. reports_from strict start most text next)) unknowns
         ∙ ap (λ tag. report_then strict.draws_of_2014 start text None (judged strict
-        (variation_in tokens_from text here (read_at strict.draws_of_2014 text there).state.start) (unknown_variant_in (length text) us) tag
-        (ending strict.draws_of_2014 (read_at strict.draws_of_2014 text there).state) (read_at strict.draws_of_2014 text there).answer) (read_at strict.draws_of_2014 text there).state
+        (variation_in tokens_from text here (read_at strict.draws_of_2014 text there).state.start)
+        (unknown_variant_in (length text) us) tag
+        (ending strict.draws_of_2014 (read_at strict.draws_of_2014 text there).state)
+        (read_at strict.draws_of_2014 text there).answer) (read_at strict.draws_of_2014 text there).state
         (λ next. reports_from strict start most text next)) results
         ∙ ap (λ r. report_then strict.draws_of_2014 start text None r (read_at strict.draws_of_2014 text there).state
         (λ next. reports_from strict start most text next))
-        (plain_alike strict plain (variation_in tokens_from text here (read_at strict.draws_of_2014 text there).state.start)
-        (variation_in tokens_from text there (read_at strict.draws_of_2014 text there).state.start) (unknown_variant_in (length text) us)
-        (result_tag_of (length text) us) (ending strict.draws_of_2014 (read_at strict.draws_of_2014 text there).state) (read_at strict.draws_of_2014 text there).answer)
+        (plain_alike strict plain (variation_in tokens_from text here
+        (read_at strict.draws_of_2014 text there).state.start)
+        (variation_in tokens_from text there (read_at strict.draws_of_2014 text there).state.start)
+        (unknown_variant_in (length text) us)
+        (result_tag_of (length text) us) (ending strict.draws_of_2014 (read_at strict.draws_of_2014 text there).state)
+        (read_at strict.draws_of_2014 text there).answer)

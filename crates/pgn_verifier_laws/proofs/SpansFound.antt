@@ -29,7 +29,8 @@ abbrev EndsAfter : ℕ → ℕ → Result (Option PgnEnd) PgnFault → Type 0
 EndsAfter begin total r = IfOk r (λ o. IfSome o (λ e. (begin < e.offset) × (e.offset ≤ total)))
 
 module _ (law : TokenByToken) (strict : Strictness) (text : List ℕ) (at : ℕ) (within : at ≤ length text) where
-  alike : pgn_read strict.draws_of_2014 MOST_MOVES text (game_begin text at) ≡ pgn_read strict.draws_of_2014 MOST_MOVES text at
+  alike : pgn_read strict.draws_of_2014 MOST_MOVES text (game_begin text at)
+      ≡ pgn_read strict.draws_of_2014 MOST_MOVES text at
   alike = sym (begins_alike law strict.draws_of_2014 MOST_MOVES text at)
 
   game_there : (end : PgnEnd) → judged_at strict text at ≡ Ok (Some end)
@@ -38,7 +39,8 @@ module _ (law : TokenByToken) (strict : Strictness) (text : List ℕ) (at : ℕ)
       let read = (judged_so strict (variation_in tokens_from text at (read_at strict.draws_of_2014 text at).state.start)
       (unknown_variant_in (length text) (tokens_from text (after_byte_order_mark text at)))
       (result_tag_of (length text) (tokens_from text (after_byte_order_mark text at)))
-      (ending strict.draws_of_2014 (read_at strict.draws_of_2014 text at).state) end (read_at strict.draws_of_2014 text at).answer is).0 in
+      (ending strict.draws_of_2014 (read_at strict.draws_of_2014 text at).state) end
+      (read_at strict.draws_of_2014 text at).answer is).0 in
       subst (EndsAfter (game_begin text at) (length text)) (ap (λ (r : GameRead). r.answer) alike ∙ read)
       (ends_in_text strict.draws_of_2014 MOST_MOVES text (game_begin text at) (begins_within text at within))
 
@@ -47,7 +49,8 @@ module _ (law : TokenByToken) (strict : Strictness) (text : List ℕ) (at : ℕ)
   none_there e =
       let none : [] ≡ tokens_from text (length text) = kinds_read text (kinds.ended (drop-length text)) in
       let passed : after_byte_order_mark text (length text) ≡ length text = mark_at_end text in
-      ap (λ (r : GameRead). r.answer) (sym alike ∙ ap (pgn_read strict.draws_of_2014 MOST_MOVES text) e ∙ law strict.draws_of_2014 MOST_MOVES text (length text)
+      ap (λ (r : GameRead). r.answer) (sym alike
+      ∙ ap (pgn_read strict.draws_of_2014 MOST_MOVES text) e ∙ law strict.draws_of_2014 MOST_MOVES text (length text)
       ∙ ap (λ n. tokens_read strict.draws_of_2014 MOST_MOVES (length text) (tokens_from text n)) passed
       ∙ ap (tokens_read strict.draws_of_2014 MOST_MOVES (length text)) (sym none))
     where
@@ -111,7 +114,8 @@ text_made law goes_on strict start (suc n) text at within =
 
     after_fault : (fault : GameFault) → game_begin text at < length text → (next : Option ℕ)
         → IfSome next (λ m. (game_begin text at < m) × (m ≤ length text)) → Later
-        → MakeUp (start + at) (drop at text) (fault_placed strict.draws_of_2014 goes_on start text at next fault (read_at strict.draws_of_2014 text at).state
+        → MakeUp (start + at) (drop at text) (fault_placed strict.draws_of_2014 goes_on start text at next fault
+        (read_at strict.draws_of_2014 text at).state
         ∷ option_map_or (λ m. placed_from goes_on strict start n text m) next [])
     after_fault fault some None k later =
         placed_next start text at (game_begin text at) (length text) _ _ (begins_later text at) some (omega arith) refl
@@ -120,7 +124,8 @@ text_made law goes_on strict start (suc n) text at within =
         placed_next start text at (game_begin text at) m _ _ (begins_later text at) k.0 k.1 refl refl (later m k.1)
 
     by_answer : (r : Result (Option PgnEnd) GameFault) → judged_at strict text at ≡ r → Later
-        → MakeUp (start + at) (drop at text) (placed_then strict.draws_of_2014 goes_on start text at (next_at goes_on text at) r
+        → MakeUp (start + at) (drop at text) (placed_then strict.draws_of_2014 goes_on start text at
+        (next_at goes_on text at) r
         (read_at strict.draws_of_2014 text at).state (λ m. placed_from goes_on strict start n text m))
     by_answer (Ok None) e later = no_more
     by_answer (Ok (Some end)) e later =

@@ -82,17 +82,21 @@ none_after law strict body some =
     (length text - length body, Skip) ∷ (length text - (length body + 1), Skip) ∷ [] in
     let same : ts ≡ own =
     ap (tokens_from text) (no_mark text (length body) some) ∙ sym (kinds_read text (last_tokens body)) in
-    let is : pgn_read strict.draws_of_2014 MOST_MOVES text (length body) ≡ tokens_read strict.draws_of_2014 MOST_MOVES (length text) own =
-    law strict.draws_of_2014 MOST_MOVES text (length body) ∙ ap (tokens_read strict.draws_of_2014 MOST_MOVES (length text)) same in
+    let is : pgn_read strict.draws_of_2014 MOST_MOVES text (length body)
+    ≡ tokens_read strict.draws_of_2014 MOST_MOVES (length text) own =
+    law strict.draws_of_2014 MOST_MOVES text (length body)
+    ∙ ap (tokens_read strict.draws_of_2014 MOST_MOVES (length text)) same in
     ap (λ (r : GameRead). judged strict (variation_in tokens_from text (length body) r.state.start)
-    (unknown_variant_in (length text) ts) (result_tag_of (length text) ts) (ending strict.draws_of_2014 r.state) r.answer) is
+    (unknown_variant_in (length text) ts) (result_tag_of (length text) ts)
+    (ending strict.draws_of_2014 r.state) r.answer) is
 
 nothing_more : (strict : Strictness) (start k : ℕ) (text : List ℕ) (at : ℕ) → judged_at strict text at ≡ Ok None
     → reports_from strict start k text at ≡ []
 unfolding games_from
 nothing_more strict start zero text at none = refl
 nothing_more strict start (suc k) text at none =
-    ap (λ j. report_then strict.draws_of_2014 start text None j (read_at strict.draws_of_2014 text at).state (λ next. reports_from strict start k text next)) none
+    ap (λ j. report_then strict.draws_of_2014 start text None j (read_at strict.draws_of_2014 text at).state
+    (λ next. reports_from strict start k text next)) none
 
 -- ---- one game
 
@@ -127,7 +131,8 @@ module _ (law : TokenByToken) (read : PgnIsReadBack) (result : TagsAreWritten) (
         let said = judged_so strict (variation_in tokens_from text 0 (read_at strict.draws_of_2014 text 0).state.start)
         (unknown_variant_in (length text) (tokens_from text (after_byte_order_mark text 0)))
         (result_tag_of (length text) (tokens_from text (after_byte_order_mark text 0)))
-        (ending strict.draws_of_2014 (read_at strict.draws_of_2014 text 0).state) found.end (read_at strict.draws_of_2014 text 0).answer is in
+        (ending strict.draws_of_2014 (read_at strict.draws_of_2014 text 0).state) found.end
+        (read_at strict.draws_of_2014 text 0).answer is in
         let termination : found.end.termination ≡ Some T =
         same_termination found.end (outcome_now g.state) T back.offset (sym said.0 ∙ back.answer) in
         let tail = text_ends g.tags g.state in
@@ -147,7 +152,8 @@ module _ (law : TokenByToken) (read : PgnIsReadBack) (result : TagsAreWritten) (
         ap (λ k. reports_from strict start k text 0) count
         ∙ ap (λ j. report_then strict.draws_of_2014 start text None j (read_at strict.draws_of_2014 text 0).state
         (λ next. reports_from strict start (length text) text next)) is
-        ∙ ap (λ l. Game (length (read_at strict.draws_of_2014 text 0).state.moves) found.end.outcome found.end.termination ∷ l)
+        ∙ ap (λ l. Game (length (read_at strict.draws_of_2014 text 0).state.moves) found.end.outcome
+        found.end.termination ∷ l)
         (nothing_more strict start (length text) text found.end.offset none)
         ∙ ap (λ ms. Game (length ms) found.end.outcome found.end.termination ∷ []) moves
         ∙ ap (λ o. Game (length g.state.moves) o found.end.termination ∷ []) found.outcome

@@ -24,7 +24,8 @@ pub record BeginsAlike (before part after : List ℕ) (at : ℕ) : Type 0 where
 -- which ends at `end`
 pub record HasGame (strict : Strictness) (before part after : List ℕ) (at : ℕ) (end : PgnEnd) : Type 0 where
   pub judged : judged_at strict part at ≡ Ok (Some (record end { offset = end.offset - length before }))
-  pub state : (read_at strict.draws_of_2014 part at).state ≡ (read_at strict.draws_of_2014 (before ++ (part ++ after)) (length before + at)).state
+  pub state : (read_at strict.draws_of_2014 part at).state
+      ≡ (read_at strict.draws_of_2014 (before ++ (part ++ after)) (length before + at)).state
   pub some_bytes : at < end.offset - length before
 
 -- a game without a fault, which is read in a text from a place in one of its parts on, and which ends in that part, is
@@ -53,7 +54,8 @@ pub data HoldsWhole (strict : Strictness) (before part after : List ℕ) : ℕ �
       → end.offset ≤ length before + length part
       → HoldsWhole strict before part after (end.offset - length before) games
       → HoldsWhole strict before part after at
-      (Game (length (read_at strict.draws_of_2014 (before ++ (part ++ after)) (length before + at)).state.moves) end.outcome end.termination
+      (Game (length (read_at strict.draws_of_2014 (before ++ (part ++ after))
+      (length before + at)).state.moves) end.outcome end.termination
       ∷ games)
 
 -- of a part that holds whole games, the reports are theirs. From the part's beginning on, those on the text are theirs

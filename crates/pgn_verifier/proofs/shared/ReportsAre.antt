@@ -59,7 +59,8 @@ ends strict text at h =
     judged_end strict (variation_in tokens_from text at (read_at strict.draws_of_2014 text at).state.start)
     (unknown_variant_in (length text) (tokens_from text (after_byte_order_mark text at)))
     (result_tag_of (length text) (tokens_from text (after_byte_order_mark text at)))
-    (ending strict.draws_of_2014 (read_at strict.draws_of_2014 text at).state) (length text) at (read_at strict.draws_of_2014 text at).answer (ends_in_text strict.draws_of_2014 MOST_MOVES text at h)
+    (ending strict.draws_of_2014 (read_at strict.draws_of_2014 text at).state) (length text) at
+    (read_at strict.draws_of_2014 text at).answer (ends_in_text strict.draws_of_2014 MOST_MOVES text at h)
 
 -- where reading goes on after a fault, by the tokens by which the game was judged
 pub goes_on_there : {strict : Strictness} {text : List ℕ} {at : ℕ} {s : State} {r : Result (Option PgnEnd) GameFault}
@@ -78,14 +79,16 @@ pub none_at_end : (strict : Strictness) (text : List ℕ) → judged_at strict t
 unfolding pgn_read
 none_at_end strict text =
     ap (λ ts. judged strict
-    (variation_in tokens_from text (length text) (read_of_split strict.draws_of_2014 MOST_MOVES (length text) ts).state.start)
+    (variation_in tokens_from text (length text)
+    (read_of_split strict.draws_of_2014 MOST_MOVES (length text) ts).state.start)
     (unknown_variant_in (length text) ts) (result_tag_of (length text) ts)
     (ending strict.draws_of_2014 (read_of_split strict.draws_of_2014 MOST_MOVES (length text) ts).state)
     (read_of_split strict.draws_of_2014 MOST_MOVES (length text) ts).answer) (none_from_end text)
 
 module _ (goes_on : Bool) (strict : Strictness) (start : ℕ) (text : List ℕ) where
   nothing_there : AreReportsOf goes_on strict start text (length text) []
-  nothing_there = none_left (subst (IsJudged strict text (length text) (read_at strict.draws_of_2014 text (length text)).state)
+  nothing_there =
+      none_left (subst (IsJudged strict text (length text) (read_at strict.draws_of_2014 text (length text)).state)
       (none_at_end strict text) (judged_is strict text (length text)))
 
   from_here : (n at : ℕ) → at ≤ length text → length text < n + at
@@ -126,7 +129,8 @@ module _ (goes_on : Bool) (strict : Strictness) (start : ℕ) (text : List ℕ) 
           let next : Option ℕ = next_at goes_on text at in
           let more : List Placed = option_map_or (λ m. placed_from goes_on strict start n text m) next [] in
           subst (λ ns. AreReportsOf goes_on strict start text at
-          (record (fault_placed strict.draws_of_2014 goes_on start text at next fault s) { names = Some ns } ∷ more)) (named j)
+          (record (fault_placed strict.draws_of_2014 goes_on start text at next fault s) { names = Some ns } ∷ more))
+          (named j)
           (next_fault (reason fault.kind rest verdict) next j (reason_is fault.kind rest verdict)
           (sym (goes_on_there goes_on j)) (after_fault next (later_there goes_on text at h) later))
 

@@ -114,8 +114,8 @@ game_placed start text at end s = record {
 }
 
 -- the report on the game of a text from its offset `at` on, with its span and names, if it has this fault. Reading
--- continues at `next`; if that is `None`, it doesn't, and the span goes to the text's end. `draws` says whether the draws
--- of 2014 end a game
+-- continues at `next`; if that is `None`, it doesn't, and the span goes to the text's end. `draws`: whether the draws of
+-- 2014 end a game
 abbrev pub fault_placed : Bool → Bool → ℕ → List ℕ → ℕ → Option ℕ → GameFault → State → Placed
 fault_placed draws goes_on start text at next fault s = record {
   begin = start + game_begin text at;

@@ -74,7 +74,8 @@ returns-in-Ok-None-clause-said g c =
 
 pub returns-in-Ok-None-2-clause-said : goal.returns-in-Ok-None-2-clause-said
 returns-in-Ok-None-2-clause-said g c =
-    as_said true c.args.game.now.limit c.args.text.now c.args.at c.args.game.now c.loop-token.game (Ok None) (search rules)
+    as_said true c.args.game.now.limit c.args.text.now c.args.at c.args.game.now c.loop-token.game (Ok None)
+    (search rules)
     (search rules)
 
 pub returns-in-Err-clause-said : goal.returns-in-Err-clause-said
