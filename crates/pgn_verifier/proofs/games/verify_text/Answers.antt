@@ -63,8 +63,8 @@ returns-in_err-write_game-in-Ok-Some-clause-written g c input stands =
     game_line c.of_game-label.result.number c.ply-plies.result end.outcome end.termination t))
     c.of_game-label.ensures.span c.in_err-write_game-in-Ok-Some.ensures))))
 
-pub loop-end-preserved : goal.loop-end-preserved
-loop-end-preserved g c =
+pub loop-end-preserved-in-Ok-Some : goal.loop-end-preserved-in-Ok-Some
+loop-end-preserved-in-Ok-Some g c =
     let end = c.in-Ok-Some.end in
     let s = c.judge_game.new.game.state in
     let w = g.W.Output.seen c.args.output.now in
@@ -111,8 +111,8 @@ loop-end-preserved g c =
     )
 
 -- a fault after which reading goes on
-pub loop-end-preserved-in-Some : goal.loop-end-preserved-in-Some
-loop-end-preserved-in-Some g c =
+pub loop-end-preserved : goal.loop-end-preserved
+loop-end-preserved g c =
     let w = g.W.Output.seen c.args.output.now in
     let w' = g.W.Output.seen c.loop-end.output in
     let w'' = g.W.Output.seen c.put.new.writer in
@@ -151,8 +151,8 @@ loop-end-preserved-in-Some g c =
     )
 
 -- one after which it doesn't
-pub returns-in-None-clause-written : goal.returns-in-None-clause-written
-returns-in-None-clause-written g c input stands =
+pub returns-in_default-clause-written : goal.returns-in_default-clause-written
+returns-in_default-clause-written g c input stands =
     let w = g.W.Output.seen c.args.output.now in
     let w' = g.W.Output.seen c.loop-end.output in
     let w'' = g.W.Output.seen c.put.new.writer in
@@ -173,7 +173,7 @@ returns-in-None-clause-written g c input stands =
     (placed_of c.args.start.goes_on c.args.options.strict c.args.start.offset text)) (sym c.with_fault-tally.ensures)
     (fault_written c.args.options c.args.start text c.args.before w w' w'' c.loop-end.at c.loop-end.tally
     c.loop-end.invariant.1.0 c.loop-end.invariant.1.1 fault s (sym c.in-Err.ensures.judged) c.in-Err.ensures.game
-    WriteFault input stands (sym after.next ∙ c.in-None.is)
+    WriteFault input stands (sym after.next ∙ c.in_default.is)
     (subst (Took w' w'') (c.as_slice.ensures.value ∙ written input stands ∙ lines input)
     c.in_ok-put-in-Err.ensures))
 
