@@ -5,6 +5,7 @@ use Rattle.pgn_verifier.proofs.explanation.append_fault_name.Goals as goal
 pub returns-in-InVariation-clause-text : goal.returns-in-InVariation-clause-text
 returns-in-InVariation-clause-text c =
     rw (
+      c.in-InVariation.is,
       c.append-in-InVariation-2.ensures.text,
       c.append-in-InVariation.ensures.text,
       c.pgn_fault_name-in-InVariation.ensures.value,
