@@ -80,7 +80,7 @@ fn is_looked_for(strict: bool, ignored: Option<&str>, kind: &str) -> bool
 
 // What the flags of `verify` and the list `ignored` of `--ignore` ask for; `found` are the flags as matched.
 fn verify_plan(found: &ArgMatches<'_>, ignored: Option<&str>) -> VerifyPlan
-    requires { option_map (λ t. t.now) ignored.entry ≡ first_of (codes "ignore") (rows_of (found_of found.now)) }
+    requires { option_map (λ t. t.now) ignored ≡ first_of (codes "ignore") (rows_of (found_of found.now)) }
     ensures { result ≡ verify_plan_of (matched (rows_of (found_of found.now))) }
 {
     let strict = is_set(found, "strict");

@@ -2,7 +2,7 @@
 use Rattle.std.proofs.Common.{◌≡◌, refl, codes}
 use Rattle.std.specs.Fmt.{digits}
 use Rattle.chess_base.specs.Attacks.{is_clear, could_capture, attacks, is_attacked, is_in_check}
-use Rattle.chess_base.specs.Castling.{is_castling_to, castling, castle_of, castling_way_is_empty, castling_way_is_safe, castles}
+use Rattle.chess_base.specs.Castling.{is_castling_to, castling, castle_of, castling_needs_empty, castling_way_is_empty, castling_way_is_safe, castles}
 use Rattle.chess_base.specs.{Initial.initial_setup, Initial.initial_setup_of, Men.is_of, Men.is_man, MoveList.all_moves, MoveList.moves}
 use Rattle.chess_base.specs.Moves.{is_double_advance, is_en_passant, pawn_advances, pawn_captures, pawn_moves, man_moves, is_pseudo_legal, captured_square, men_after, rights_after, target_after, resets_clock, halfmove_after, after, is_legal}
 use Rattle.chess_base.specs.Squares.{squares, some_square, each_square, is_between}
@@ -21,18 +21,18 @@ fen_shown = refl
 pub moves_shown : moves_text (current (from_start initial_setup)) (moves (current (from_start initial_setup)))
     ≡ codes "20 b1a3 b1c3 g1f3 g1h3 a2a3 a2a4 b2b3 b2b4 c2c3 c2c4 d2d3 d2d4 e2e3 e2e4 f2f3 f2f4 g2g3 g2g4 h2h3 h2h4"
 unfolding squares some_square each_square is_between is_of is_man is_clear could_capture attacks is_attacked is_in_check
-    is_castling_to castling castle_of castling_way_is_empty castling_way_is_safe castles initial_setup initial_setup_of
-    all_moves moves is_double_advance is_en_passant pawn_advances pawn_captures pawn_moves man_moves is_pseudo_legal
-    captured_square men_after rights_after target_after resets_clock halfmove_after after is_legal digits shown_move
-    moves_text
+    is_castling_to castling castle_of castling_needs_empty castling_way_is_empty castling_way_is_safe castles
+    initial_setup initial_setup_of all_moves moves is_double_advance is_en_passant pawn_advances pawn_captures
+    pawn_moves man_moves is_pseudo_legal captured_square men_after rights_after target_after resets_clock halfmove_after
+    after is_legal digits shown_move moves_text
 moves_shown = refl
 
 pub state_shown : state_text (from_start initial_setup)
     ≡ codes "0 rep 1 clock 0 claims none verdict none declared none"
 unfolding squares some_square each_square is_between is_of is_man is_clear could_capture attacks is_attacked is_in_check
-    is_castling_to castling castle_of castling_way_is_empty castling_way_is_safe castles initial_setup initial_setup_of
-    all_moves moves is_double_advance is_en_passant pawn_advances pawn_captures pawn_moves man_moves is_pseudo_legal
-    captured_square men_after rights_after target_after resets_clock halfmove_after after is_legal digits verdict
-    has_bishop_on has_insufficient_material same_men same_rights legal_en_passant_square is_same_position
-    repetition_count result_text state_text
+    is_castling_to castling castle_of castling_needs_empty castling_way_is_empty castling_way_is_safe castles
+    initial_setup initial_setup_of all_moves moves is_double_advance is_en_passant pawn_advances pawn_captures
+    pawn_moves man_moves is_pseudo_legal captured_square men_after rights_after target_after resets_clock halfmove_after
+    after is_legal digits verdict has_bishop_on has_insufficient_material same_men same_rights legal_en_passant_square
+    is_same_position repetition_count result_text state_text
 state_shown = refl

@@ -9,7 +9,7 @@ returns-clause-within c =
     err_weaker (length (take c.args.end.offset c.args.text.now)) (length c.args.text.now) c.read_variations.result
     (take_few c.args.end.offset c.args.text.now) c.read_variations.ensures.within
 
-pub returns-then-end_offset-lt-first-clause-fault : goal.returns-then-end_offset-lt-first-clause-fault
-returns-then-end_offset-lt-first-clause-fault c =
+pub returns-then-end-first-clause-fault : goal.returns-then-end-first-clause-fault
+returns-then-end-first-clause-fault c =
     let first = c.after_byte_order_mark-first.ensures.offset in
     sym (none_without_bytes c.args.text.now c.args.at c.args.start.now c.args.end (omega (arith, first)))

@@ -8,18 +8,18 @@ use Rattle.pgn_verifier.proofs.end_faults.variant_fault.Goals as goal
 
 pub returns-in_err-offset-clause-fault : goal.returns-in_err-offset-clause-fault
 returns-in_err-offset-clause-fault c =
-    let (tokens, split, is) = c.unknown_variant-offset.ensures.offset in
+    let (tokens, split, is) = c.unknown_variant.ensures.offset in
     let text = c.args.text.now in
-    let offset : c.unknown_variant-offset.result
+    let offset : c.unknown_variant.result
     ≡ unknown_variant_in (length text) (tokens_from text (after_byte_order_mark text c.args.at)) =
     is ∙ ap (unknown_variant_in (length text)) (split_read text split) in
     grind (arith, common_steps, offset)
 
 pub returns-clause-fault : goal.returns-clause-fault
 returns-clause-fault c =
-    let (tokens, split, is) = c.unknown_variant-offset.ensures.offset in
+    let (tokens, split, is) = c.unknown_variant.ensures.offset in
     let text = c.args.text.now in
-    let offset : c.unknown_variant-offset.result
+    let offset : c.unknown_variant.result
     ≡ unknown_variant_in (length text) (tokens_from text (after_byte_order_mark text c.args.at)) =
     is ∙ ap (unknown_variant_in (length text)) (split_read text split) in
     grind (arith, common_steps, offset)

@@ -5,7 +5,8 @@ use Rattle.pgn_verifier.proofs.explanation.append_fault_name.Goals as goal
 pub returns-in-InVariation-clause-text : goal.returns-in-InVariation-clause-text
 returns-in-InVariation-clause-text c =
     rw (
-      c.append-3.ensures.text,
-      c.append-2.ensures.text,
-      c.pgn_fault_name-2.ensures.value,
+      c.in-InVariation.is,
+      c.append-in-InVariation-2.ensures.text,
+      c.append-in-InVariation.ensures.text,
+      c.pgn_fault_name-in-InVariation.ensures.value,
     ) (simp append_assoc)

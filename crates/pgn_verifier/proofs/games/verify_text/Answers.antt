@@ -64,8 +64,8 @@ returns-in_err-write_game-in-Ok-Some-clause-written g c input stands =
     game_line c.of_game-label.result.number c.in-Ok-Some.judged.plies end.outcome end.termination t))
     c.of_game-label.ensures.span c.in_err-write_game-in-Ok-Some.ensures))))
 
-pub loop-judged-preserved-in_ok-write_game-in-Ok-Some : goal.loop-judged-preserved-in_ok-write_game-in-Ok-Some
-loop-judged-preserved-in_ok-write_game-in-Ok-Some g c =
+pub loop-judged-preserved-in-Ok-Some : goal.loop-judged-preserved-in_ok-write_game-in-Ok-Some
+loop-judged-preserved-in-Ok-Some g c =
     let end = c.in-Ok-Some.judged.end in
     let s = (read_at c.args.options.strict.draws_of_2014 c.args.text.now c.loop-judged.at).state in
     let plies = rw c.in-Ok-Some.field-0-is at c.in-Ok-Some.ensures.plies in

@@ -16,8 +16,8 @@ moved_to-requires-clause-column c =
     let offset = c.requires.known.offset in
     let few = c.requires.few in omega (arith, column, offset, few)
 
-pub returns-then-self-clause-known : goal.returns-then-self-clause-known
-returns-then-self-clause-known c = c.moved_to.ensures.known c.args.explain c.requires.known
+pub returns-then-self-offset-clause-known : goal.returns-then-self-offset-clause-known
+returns-then-self-offset-clause-known c = c.moved_to.ensures.known c.args.explain c.requires.known
 
 pub returns-clause-known : goal.returns-clause-known
 returns-clause-known c =
