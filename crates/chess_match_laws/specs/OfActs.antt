@@ -332,8 +332,9 @@ OtherTimesAreClocks r H m = (S : Colour) → (rest : List ℕ) × (length rest �
     else drop 1 (centiseconds (r.level (other S)) 0 0 (m.seat (other S)).used))
     else []))
 
--- the milliseconds from when each turn of the side `S` was opened to its first `move` line after that (0 if the clock
--- went back). `opened` is when the present turn of `S` was opened; `None` if no move of `S` is awaited
+-- the times in these acts, in milliseconds, from when each turn of the side `S` was opened to its first `move` line
+-- after that (0 if the clock went back). `opened` is when the present turn of `S` was opened before them; `None` if no
+-- move of `S` is awaited
 abbrev pub move_times : Colour → Option ℕ → List Act → List ℕ
 move_times S opened [] = []
 move_times S opened (Happens (Line side text moment) ∷ H) =

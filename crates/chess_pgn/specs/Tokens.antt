@@ -122,14 +122,14 @@ name_at text = let name = take_while is_name_byte text in
     if length name == 0 then None else Some (name, drop (length name) text)
 
 -- a tag, from the text after its `[`, and the text after its `]`: a name, a string in quotes and the bracket, perhaps
--- with a gap before each (`after_gap`); none if this is no tag
+-- with a gap before each (`after_gap`); none if this is no tag. `after_quote` is all that comes after the opening quote
 abbrev pub tag_at : List ℕ → Option (Token × List ℕ)
 tag_at text = do
   name ← name_at (after_gap text)
-  string ← after_next (byte "\"") name.1
-  inside ← string_at string
+  after_quote ← after_next (byte "\"") name.1
+  inside ← string_at after_quote
   rest ← after_next (byte "]") inside.1
-  Some (Tag name.0 inside.0 (length string), rest)
+  Some (Tag name.0 inside.0 (length after_quote), rest)
 
 -- ---- tokens
 

@@ -135,15 +135,17 @@ pub record Outputs : Type 0 where
   pub output : OutputState
   pub log : LogSeen
 
--- what playing a match does, by its result, to its output and its log, from `d` to `d'`. `games` were written, maybe
--- none; `unwritten` was played after them, if there is one, and logged too. All came in turn by a clock that would show
--- the moments `coming`. `passes` is the claim that just these steps passed
+-- a match by this plan ended with `result`, and its output and log went from `d` to `d'`. There are `games`, maybe
+-- none, that were played and written, and maybe one more (`unwritten`) that was played but could not be written
 abbrev pub PlaysBy : GamesPlan → Result (Unit {0}) GamesFault → (ℕ → Option ℕ) → (List GamesStep → Type 0) → Outputs
     → Outputs → Type 0
 PlaysBy plan result coming passes d d' = (games : List GameRecord) × (unwritten : Option GameRecord)
+    -- the output took the games, and what else `WritesGames` says; the log got all of them, the unwritten one too
     × ((o : ToOutput) × WritesGames plan result games unwritten o × OutputTook d.output d'.output o
     × LogsGames plan d.log d'.log (games ++ option_to_list unwritten))
+    -- each game had engines that were just started; all had one clock, whose reading n shows `coming n`
     × ComeInTurn coming (games ++ option_to_list unwritten)
+    -- the steps of the games, and then those after the last one written, satisfy `passes`
     × passes (games_steps plan games ++ last_steps plan (length games + 1) result unwritten)
 
 -- what playing a match at a table does, by its result, to its output and its log, from `d` to `d'`. The table's clock

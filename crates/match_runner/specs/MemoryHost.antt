@@ -37,8 +37,8 @@ text_of_start engines command times =
 abbrev pub next_text : List MemoryEngine → List (List ℕ) → List ℕ → Option (List ℕ)
 next_text engines earlier command = text_of_start engines command (count_by (λ c. bytes_eq c command) earlier)
 
--- the pipes of an engine that was just started and will say just this text: nothing was read of it and nothing sent to
--- it, and no call was made
+-- the pipes of an engine that was just started and will say just this text. `input` is what the arbiter reads of it,
+-- `output` what the arbiter sends to it: nothing was read or sent yet, and no call was made
 abbrev pub fresh_pipes : List ℕ → Devices
 fresh_pipes text = record {
   input = record {
@@ -46,6 +46,7 @@ fresh_pipes text = record {
     failure_count = 0;
     end_count = 0;
     last_len = 0;
+    -- as many reads may still succeed as a u64 can count
     pieces_left = 2 ^ 64 - 1;
     silence_count = 0;
   };

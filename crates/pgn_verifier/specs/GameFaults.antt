@@ -59,8 +59,9 @@ judged strict variation unknown tag verdict (Ok (Some end)) = option_map_or Err
     (looked_for strict.board (board_says_otherwise verdict end))))) (Ok (Some end))
 judged strict variation unknown tag verdict (Err fault) = Err (record { kind = Pgn fault.kind; offset = fault.offset })
 
--- the first fault in the variations of a game of the text that is read from the offset `at` on, begins in the position
--- `start` and ends with `end`. `split` gives the tokens of each text from an offset on
+-- the first fault in the variations of one game of `text`. The game is read from the offset `at` on, starts in the
+-- position `start` and ends at `end.offset`; nothing after that is looked at. `split other from` are the tokens of a
+-- text `other` from its offset `from` on
 abbrev pub variation_in : (List ℕ → ℕ → List (ℕ × Token)) → List ℕ → ℕ → Setup → PgnEnd → Option PgnFault
 variation_in split text at start end =
     variations_fault split (take end.offset text) start (after_byte_order_mark text at)

@@ -20,12 +20,16 @@ pub record BeginsAlike (before part after : List ℕ) (at : ℕ) : Type 0 where
   pub first : after_byte_order_mark (before ++ (part ++ after)) (length before + at)
       ≡ length before + after_byte_order_mark part at
 
--- from the part's offset `at` on, the part alone has a game without a fault: the one that the whole text has there,
--- which ends at `end`
+-- the part, read alone from its offset `at` on, has the same game, without a fault, as the text `before ++ part ++
+-- after` has from the same byte on. `end` is how that game ends in the text, where each offset is greater by `length
+-- before`; `strict`: what is looked for at a game's end
 pub record HasGame (strict : Strictness) (before part after : List ℕ) (at : ℕ) (end : PgnEnd) : Type 0 where
+  -- alone it is judged alike: the same outcome and termination, and it ends at the same byte
   pub judged : judged_at strict part at ≡ Ok (Some (record end { offset = end.offset - length before }))
+  -- the same start, moves and declared result
   pub state : (read_at strict.draws_of_2014 part at).state
       ≡ (read_at strict.draws_of_2014 (before ++ (part ++ after)) (length before + at)).state
+  -- the game has at least one byte
   pub some_bytes : at < end.offset - length before
 
 -- a game without a fault, which is read in a text from a place in one of its parts on, and which ends in that part, is
