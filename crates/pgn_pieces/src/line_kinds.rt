@@ -8,7 +8,8 @@
 //!   tag: `[Result "1-0"] 1. e4 1-0`
 //!
 //! The functions that `kind_of` calls are inlined, since `verify --keep-going` calls it for every line of a collection
-//! (the workload collections). What that gains was not measured apart.
+//! (the workload collections); those that only a tag line needs (`has_moves`, `after_tag`) are not. What that gains was
+//! not measured apart.
 
 ghost use Rattle.std.specs.Prelude.{◌≡◌, ◌≤◌, true, false, ◌||◌, ◌==◌, if◌then◌else◌, [], ◌∷◌, length, take, drop, codes};
 ghost use Rattle.std.specs.Str.{bytes_eq};
@@ -78,7 +79,8 @@ fn has_moves(front: &[u8], name: &[u8]) -> bool
 }
 
 // What comes after the first tag in the front of a tag line, and after any spaces and tabs there; empty if no `"]` ends
-// the tag. `name` is what `tag_name` returned for this front.
+// the tag. Its value goes to the next quote, even one after a backslash. `name` is what `tag_name` returned for this
+// front.
 fn after_tag<'t>(front: &'t [u8], name: &[u8]) -> &'t [u8]
     requires { name.now ≡ tag_name front.now }
     ensures { result.now ≡ after_tag front.now }
@@ -86,7 +88,7 @@ fn after_tag<'t>(front: &'t [u8], name: &[u8]) -> &'t [u8]
     let value = without_first(after_name(front, name));
     match split_while(value, |byte| byte != b'"').1 {
         [b'"', b']', rest @ ..] => without_blanks(rest),
-        _ => &front[..0],
+        _ => &front[..0], // nothing
     }
 }
 

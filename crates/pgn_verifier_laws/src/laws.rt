@@ -49,8 +49,8 @@ pub fn reports_are_the_only_ones()
 {}
 
 /// States a law and does nothing: the text that `write_pgn` of chess_pgn writes of a game has no fault when it is
-/// verified from its first byte on, with `strict` neither, whatever text comes before and after it. Variations aren't
-/// looked at.
+/// verified from its first byte on, with `strict` neither, and is read as that game, whatever text comes before and
+/// after it. Variations aren't looked at.
 pub fn written_games_have_no_fault()
     ensures { WrittenGamesHaveNoFault }
 {
