@@ -1,6 +1,6 @@
--- If the square ahead holds a piece, the pawn doesn't advance (blocked); off its home rank it goes just there
--- (one_only), from home also to the second square, if that is empty (two_too, all of TargetsOf). A pawn is on neither
--- end rank, so the square ahead of it is on the board (off_lowest, on_board of OriginsOf).
+-- If the square ahead holds a piece, the pawn doesn't advance (blocked of TargetsOf); off its home rank it goes just
+-- there (one_only), from home also to the second square, if that is empty (two_too). A pawn is on neither end rank, so
+-- the square ahead of it is on the board (off_lowest, on_board of OriginsOf).
 use mathlib.Core.Bool.{not-not}
 use Rattle.std.proofs.Common.{◌≡◌, ◌<◌, ◌≤◌, ◌==◌, ◌&&◌, ℕ, not, true, is_none, sym, arith, ◌∙◌}
 use Rattle.chess_base.specs.Men.{forward, is_man, man_at, pawn_rank}
