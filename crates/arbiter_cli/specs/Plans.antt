@@ -137,6 +137,7 @@ patience_of value = record {
 pub record IsMatchPlan (value : Values) (plan : GamesPlan) : Type 0 where
   pub white : value (codes "white") ≡ Some plan.white.now
   pub black : value (codes "black") ≡ Some plan.black.now
+  -- the time controls of both engines, the start of each game and the date
   pub read : levels_start_and_date value ≡ Ok ((plan.white_level, plan.black_level), plan.start, plan.date.now)
   -- as many games as `--games` asks for; 1 without `--games`
   pub games : plan.games ≡ option_map_or number_of (value (codes "games")) 1
@@ -148,8 +149,10 @@ pub record IsMatchPlan (value : Values) (plan : GamesPlan) : Type 0 where
 -- the plan is what the arguments ask for, which say `said`
 abbrev pub IsPlanOf : Said → Plan → Type 0
 IsPlanOf said Session = said.command ≡ codes "session"
+-- each name that `--ignore` gives is that of a kind of fault
 IsPlanOf said (Verify v) = (said.command ≡ codes "verify") × (v ≡ verify_plan_of said.value)
     × (list_all is_kind (ignored_in said.value) ≡ true)
+-- the stub plays what comes after `stub`
 IsPlanOf said (Stub arguments) = (said.command ≡ codes "stub") × (map (λ w. w.now) arguments.items ≡ said.replies)
 IsPlanOf said (Match plan) = (said.command ≡ codes "match") × IsMatchPlan said.value plan
 

@@ -26,9 +26,12 @@ VerifyIsAsAsked = (said : Said) (v : VerifyPlan) → IsPlanOf said (Verify v) �
 
 -- `clap` accepts these arguments, and they ask for the subcommand `name` with no options given
 pub record AskFor (arguments : List Text) (name : Text) : Type 0 where
+  -- they have no fault
   pub taken : (names : OptionNames) → faults_in names arguments ≡ []
   pub named : (names : OptionNames) → (asked names arguments).0 ≡ name
+  -- no option was given
   pub bare : (names : OptionNames) → list_any (λ r. explicit_source r.source) (asked names arguments).1 ≡ false
+  -- no kind of fault is to be ignored
   pub ignores : (names : OptionNames) → ignored_in (said_by (asked names arguments)).value ≡ []
 
 -- `clap` refuses these arguments, and `kinds` are the kinds of fault that it may report for them

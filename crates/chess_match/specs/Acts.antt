@@ -73,9 +73,11 @@ waits_until r _ m = option_map (λ limit. option_map_or (λ since. first_beyond 
 -- this event may come in this phase. A failed write is no act `Happens`, but an act `SendFails`
 abbrev pub MayCome : Patience → Phase → Event → Type 0
 MayCome patience phase (Line S text moment) = awaits_line phase S ≡ true
+-- a look finds no line only where it has a limit
 MayCome patience phase (Silent S moment) = (awaits_line phase S && is_limited patience phase) ≡ true
 MayCome patience phase (OutputEnds S) = awaits_line phase S ≡ true
 MayCome patience phase (FailsToRead S) = awaits_line phase S ≡ true
+-- the clock is read once the lines of an opening are sent
 MayCome patience phase (Opened S moment) = phase ≡ Opening S
 MayCome patience phase (FailsToWrite S) = ⊥
 

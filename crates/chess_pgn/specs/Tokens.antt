@@ -12,14 +12,19 @@ use Rattle.text_lines.specs.Lines.{parts}
 -- a token of a PGN text (section 7): what is skipped, such as white space, a comment or a variation; a tag; a word,
 -- such as a move; or what can't be read. A field `to_end` is the number of bytes from a place to the text's end
 pub data Token : Type 0 where
+  -- what is skipped
   Skip : Token
   -- a tag's name, the bytes between its quotes as they are, and how many are left at the first of them
   Tag : (name : List ℕ) (text : List ℕ) (to_end : ℕ) → Token
+  -- such as a move, a number or a result
   Word : (bytes : List ℕ) → Token
+  -- a `[` that begins no tag
   Bad_tag : Token
   -- how many are left at the comment's brace
   Unclosed_comment : (to_end : ℕ) → Token
+  -- a `(` whose variation is not closed
   Unclosed_variation : Token
+  -- a byte that begins no token
   Bad : Token
 
 -- ---- bytes

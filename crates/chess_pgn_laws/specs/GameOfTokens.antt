@@ -127,6 +127,7 @@ game_by start ms = record { start = start; moves = ms; declared = None }
 -- moves
 abbrev pub AreReadAs : Bool → ℕ → Setup → List Played → List (List ℕ) → List Played → Type 0
 AreReadAs draws limit start done [] [] = Unit {0}
+-- more moves than words, or fewer
 AreReadAs draws limit start done [] (m ∷ ms) = ⊥
 AreReadAs draws limit start done (w ∷ ws) [] = ⊥
 AreReadAs draws limit start done (w ∷ ws) (m ∷ ms) =
@@ -190,15 +191,19 @@ abbrev pub StopsAt : Bool → ℕ → ℕ → Variant → List (ℕ × Token) �
     → Type 0
 -- at the text's end
 StopsAt draws limit total v taken [] s (Ok None) = (s.declared ≡ None) × (list_any (λ t. counts t.1) taken ≡ false)
+-- no outcome is there
 StopsAt draws limit total v taken [] s (Ok (Some e)) = ⊥
+-- a game was begun, and has no result
 StopsAt draws limit total v taken [] s (Err f) =
     (s.declared ≡ None) × (list_any (λ t. counts t.1) taken ≡ true) × (f ≡ record { kind = NoResult; offset = total })
 -- before the token `t`
 StopsAt draws limit total v taken (t ∷ ts) s (Ok None) = ⊥
+-- it is the word of an outcome
 StopsAt draws limit total v taken (t ∷ ts) s (Ok (Some e)) =
     (word : List ℕ) × (t.1 ≡ Word word) × (word_kind word ≡ End e.outcome)
     × (s.declared ≡ declared_after (is_some (verdict_now s)) e.outcome)
     × (e.termination ≡ tagged_termination None taken) × (e.offset ≡ total - t.0 + length word)
+-- it can't be taken
 StopsAt draws limit total v taken (t ∷ ts) s (Err f) =
     (s.declared ≡ None) × (token_fault draws limit total v (list_any (λ u. begins u.1) taken) s t.0 t.1 ≡ Some f)
 
@@ -207,9 +212,11 @@ StopsAt draws limit total v taken (t ∷ ts) s (Err f) =
 -- them. `limit` is the most half-moves of a game, `total` the text's length
 pub record IsOfTokens (draws : Bool) (limit total : ℕ) (v : Variant) (tokens : List (ℕ × Token))
     (r : GameRead) : Type 0 where
+  -- the tokens of the game, and those after them
   pub taken : List (ℕ × Token)
   pub others : List (ℕ × Token)
   pub all : taken ++ others ≡ tokens
+  -- reading goes on after each
   pub can_be : can_all_be_taken v false taken ≡ true
   pub start : r.state.start ≡ tagged_start v (initial_setup_of v) taken
   pub moves : AreReadAs draws limit r.state.start [] (move_words taken) r.state.moves

@@ -29,9 +29,11 @@ pub record IsReadBack (s : State) (termination : Termination) (text_end : ℕ) (
   pub start : r.state.start ≡ s.start
   pub moves : r.state.moves ≡ s.moves
   pub outcome : outcome_now r.state ≡ outcome_now s
+  -- the offset after its termination marker
   pub offset : ℕ
   pub answer : r.answer ≡ Ok
       (Some (record { outcome = outcome_now s; termination = Some termination; offset = offset }))
+  -- after it come two bytes: the line's end and the empty line
   pub two_before_end : offset + 2 ≡ text_end
 
 -- the text that is written of a playable game `s` of at most `limit` half-moves, with no line prefix, is read back as

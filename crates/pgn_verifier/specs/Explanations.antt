@@ -58,6 +58,7 @@ IsReason (Pgn BadToken) text verdict reason = reason ≡ Some (token_reason text
 IsReason (Pgn IllegalMove) text verdict reason = reason ≡ move_reason text
 -- a move after the end: the verdict that ended the game
 IsReason (Pgn AfterEnd) text verdict reason = reason ≡ option_map (λ v. result_text (verdict_result v)) verdict
+-- a bad token in a variation
 IsReason (InVariation BadToken) text verdict reason = reason ≡ Some (token_reason text)
 -- `unknown variant`
 IsReason UnknownVariant text verdict reason =

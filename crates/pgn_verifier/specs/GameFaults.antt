@@ -74,6 +74,7 @@ pub record IsJudged (strict : Strictness) (text : List ℕ) (at : ℕ) (s : Stat
     (answer : Result (Option PgnEnd) GameFault) : Type 0 where
   pub tokens : List (ℕ × Token)
   pub split : IsSplit text (after_byte_order_mark text at) tokens
+  -- the tokens of each text, from an offset on
   pub split_of : List ℕ → ℕ → List (ℕ × Token)
   pub splits : (other : List ℕ) (from : ℕ) → IsSplit other from (split_of other from)
   -- how reading the game ended

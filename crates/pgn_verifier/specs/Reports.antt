@@ -38,13 +38,15 @@ pub data Report : Type 0 where
   Faulty : (fault : GameFault) (wrong_at : ℕ) (explanation : List ℕ) → Report
 
 -- a report with its span, the part of the input that it is on: from the byte at the offset `begin` to the last one
--- before the offset `end`; with its game's first word; with the offset from which on the span isn't read, if that is to
--- be said; and with what names its game (`names_of`), or `None` of a piece that is too long
+-- before the offset `end`
 pub record Placed : Type 0 where
   pub begin : ℕ
   pub end : ℕ
+  -- its game's first word
   pub first : List ℕ
+  -- the offset from which on the span isn't read, if that is to be said
   pub unread : Option ℕ
+  -- what names its game (`names_of`); `None` of a piece that is too long
   pub names : Option (List ℕ)
   pub report : Report
 

@@ -34,11 +34,13 @@ pub record HasGame (draws : Bool) (text : List ℕ) (from to plies : ℕ) (outco
   pub tokens : List (ℕ × Token)
   pub split : IsSplit text (after_byte_order_mark text from) tokens
   pub own : List (ℕ × Token)
+  -- how many bytes are left at the marker
   pub left : ℕ
   pub marker : List ℕ
   pub others : List (ℕ × Token)
   pub all : own ++ (left, Word marker) ∷ others ≡ tokens
   pub marks : outcome_of marker ≡ Some outcome
+  -- the game ends where its marker does
   pub ends : to ≡ length text - left + length marker
   -- a move for each word of the game that is no number and no marks such as `!?`, and so many in all
   pub moves : List Move

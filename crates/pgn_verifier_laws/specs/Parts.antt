@@ -53,6 +53,7 @@ EndsAlike part after = ((front : List ℕ) × (part ≡ front ++ new_line ∷ []
 pub data HoldsWhole (strict : Strictness) (before part after : List ℕ) : ℕ → List Report → Type 0 where
   no_more : {at : ℕ} → judged_at strict part at ≡ Ok None → EndsAlike part after
       → HoldsWhole strict before part after at []
+  -- a game without a fault, which ends in the part, and those after it
   game : {at : ℕ} {games : List Report} (end : PgnEnd)
       → judged_at strict (before ++ (part ++ after)) (length before + at) ≡ Ok (Some end)
       → end.offset ≤ length before + length part
@@ -68,6 +69,7 @@ pub data HoldsWhole (strict : Strictness) (before part after : List ℕ) : ℕ �
 pub record AreReportedAlike (strict : Strictness) (start : ℕ) (before part after : List ℕ) (games : List Report)
     : Type 0 where
   pub alone : reports_on strict start part ≡ games
+  -- `most`: how many reports at most come after those of the part
   pub in_text : (most : ℕ)
       → reports_from strict start (length games + most) (before ++ (part ++ after)) (length before + 0)
       ≡ games ++ reports_from strict start most (before ++ (part ++ after)) (length before + length part)
