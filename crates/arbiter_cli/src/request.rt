@@ -118,6 +118,7 @@ fn number_in(found: &ArgMatches<'_>, name: &str) -> Option<u16>
         None => None,
         Some(text) => match text.parse::<u16>() {
             Ok(number) => Some(number),
+            // The grammar takes only numbers, and none above 1,000.
             Err(_) => unreachable!(),
         },
     }
@@ -204,6 +205,7 @@ pub(crate) fn request_in<'a>(
     if name == "match" {
         return match match_request(found) {
             Some(arguments) => Ok(Request::Match(arguments)),
+            // The grammar takes `match` only with `--white` and `--black`.
             None => unreachable!(),
         };
     }

@@ -10,8 +10,8 @@ use Rattle.pgn_pieces.specs.Places.{line_ends}
 pub record State : Type 0 where
   -- where the current piece begins in the input
   pub offset : ℕ
-  -- its bytes so far; if they are too many, only some bytes with the same length, the same first 40 bytes and the same
-  -- number of line ends
+  -- its bytes so far; if the piece is too long, only some bytes with the same length, the same first 40 bytes and the
+  -- same number of line ends
   pub part : List ℕ
   -- the bytes that were read after these
   pub coming : List ℕ
