@@ -12,7 +12,7 @@ NAME = r"[A-Za-z][\w'+-]*"
 LEMMA = r"[a-z][a-z0-9]*(?:[_+-][\w'+-]+)+"
 NO_WORD = re.compile(rf"[A-Z][\w'+-]*|{LEMMA}")
 MODULE = r"(?:[a-z]\w*[./])*[A-Z]\w*"
-WHERE = rf"(?:(?P<of>[a-z]\w*)'s )?(?P<module>{MODULE})"
+WHERE = rf"(?:(?P<of>[a-z]\w*)'s? )?(?P<module>{MODULE})"
 # What a list in parentheses may have.
 IN_MODULE = re.compile(rf"(?P<name>{NAME}) of {WHERE}")
 IN_CRATE = re.compile(rf"(?P<name>{NAME}) of (?P<crate>[a-z]+(?:_[a-z]+)+)")

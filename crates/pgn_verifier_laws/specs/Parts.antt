@@ -20,9 +20,9 @@ pub record BeginsAlike (before part after : List ℕ) (at : ℕ) : Type 0 where
   pub first : after_byte_order_mark (before ++ (part ++ after)) (length before + at)
       ≡ length before + after_byte_order_mark part at
 
--- the part, read alone from its offset `at` on, has the same game, without a fault, as the text `before ++ part ++
--- after` has from the same byte on. `end` is how that game ends in the text, where each offset is greater by `length
--- before`; `strict`: what is looked for at a game's end
+-- the part, read alone from its offset `at` on, has the same game, without a fault, as the text
+-- `before ++ part ++ after` has from the same byte on. `end` is how that game ends in the text, where each offset is
+-- greater by `length before`; `strict`: what is looked for at a game's end
 pub record HasGame (strict : Strictness) (before part after : List ℕ) (at : ℕ) (end : PgnEnd) : Type 0 where
   -- alone it is judged alike: the same outcome and termination, and it ends at the same byte
   pub judged : judged_at strict part at ≡ Ok (Some (record end { offset = end.offset - length before }))

@@ -33,7 +33,7 @@ pub record GotLine (n : ℕ) (r r' : InputState) (held held' : Held) (given : Li
   pub failures : r'.failure_count ≡ r.failure_count
   pub ends : r'.end_count ≡ r.end_count
   pub silences : r'.silence_count ≡ r.silence_count
-  -- fewer such calls can follow
+  -- what can still come gets less
   pub falls : work r' held' < work r held
 
 -- `line` was returned, the last one; the end of the stream ended it, not `\n`. `given` was read, which took the input
@@ -91,7 +91,7 @@ pub record GotSilence (n : ℕ) (r r' : InputState) (held held' : Held) (given :
   pub failures : r'.failure_count ≡ r.failure_count
   pub ends : r'.end_count ≡ r.end_count
   pub silences : r'.silence_count ≡ saturating_increment r.silence_count
-  -- fewer such calls can follow
+  -- what can still come gets less
   pub falls : work r' held' < work r held
 
 -- what the call for the next line returned after it read the bytes `given`: a line (too long if of more than `n`
