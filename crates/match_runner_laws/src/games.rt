@@ -10,8 +10,8 @@ pub fn only_last_games_have_failed_writes()
 {}
 
 /// States a law and does nothing: in odd games the engine of `--white` has White, in even games Black, and each engine
-/// has its own level in all games. Its name in the tags is its own too: the one that it gave itself, or else its command.
-/// The tags of the twelfth game are worked out, as far as they don't depend on the game.
+/// has its own level in all games. So it is with its name in the tags: the one that it gave itself, or if it gave none,
+/// its command. The tags Event and Round of the twelfth game are written out.
 ///
 /// It refuses a level or a name that stays with its colour, another event, and another round.
 pub fn levels_stay_with_engines()

@@ -39,10 +39,21 @@ illegal = Faulty (record { kind = Pgn IllegalMove; offset = 39 }) 39 []
 
 -- the first goes up to the byte 9, the second from the byte 10 on up to the byte 45
 abbrev pub both : List Placed
-both =
-    record { begin = 0; end = 9; first = codes "1."; unread = None; names = Some (codes "C - D, E F"); report = lost }
-    ∷ record { begin = 10; end = 45; first = codes "1."; unread = None; names = Some (codes "A - B, E F"); report = illegal }
-    ∷ []
+both = record {
+  begin = 0;
+  end = 9;
+  first = codes "1.";
+  unread = None;
+  names = Some (codes "C - D, E F");
+  report = lost;
+} ∷ record {
+  begin = 10;
+  end = 45;
+  first = codes "1.";
+  unread = None;
+  names = Some (codes "A - B, E F");
+  report = illegal;
+} ∷ []
 
 -- the lines of these two reports, with these options, are this text
 abbrev pub AreWritten : VerifyOptions → Text → Type 0
