@@ -1,5 +1,5 @@
--- What options mean, worked out: the time controls of a match, how long its engines are waited for, whether draws must be
--- claimed, and what `verify` looks for and writes.
+-- What options mean, worked out: the time controls of a match, how long its engines are waited for, whether draws must
+-- be claimed, and what `verify` looks for and writes.
 use Rattle.std.specs.Prelude.{◌≡◌, true, false, List, [], ◌∷◌, codes, Some, None, Ok, Err}
 use Rattle.arbiter_cli.specs.Plans.{Values, draws_in, levels_by, patience_of, verify_plan_of}
 use Rattle.arbiter_cli.specs.declared.plan.VerifyPlan.{VerifyPlan}
