@@ -46,6 +46,11 @@ were changed alike, since a law rests only on definitions. `tools/checks/mutatio
 what refuses each. In brackets is the file of specs/ (`CRATE/FILE`), or *the law* where its own words were made wrong. \
 What no law refuses is [listed](README.md#held-only-by-the-definition-and-by-tests).
 
+The rows *a proof of the crate* show less. If they don't name *the law*, only one definition was made wrong, and the code \
+was left as it is. So the code's proof refuses it, or a second definition of the same: a text's tokens are defined by \
+Tokens (one after another) and by Split (which splits there are), a written line by Written and by PgnText. If both of \
+them and the code were wrong alike, these rows don't say that anything would notice.
+
 `tools/checks/theorems --fill` writes this page, from crates/*/definition-edits.
 """
 

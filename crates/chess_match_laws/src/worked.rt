@@ -2,7 +2,7 @@
 //! What a law refuses are wrong definitions: with one of them it can't be proved.
 
 ghost use Rattle.chess_match_laws.specs.Worked.{EndsAreOfKinds, EndsAreWorded, FeaturesAreOn, ItemsAreRead, KingsAreBare, LevelsGive, LinesAreSent, LinesSay, LosersLose};
-ghost use Rattle.chess_match_laws.specs.WorkedTurns.{ClaimsAreJudged, RepliesAreTimed};
+ghost use Rattle.chess_match_laws.specs.WorkedTurns.{ClaimsAreJudged, OffersAreJudged, RepliesAreTimed};
 
 /// States a law and does nothing: what some lines of engines say, which items a `feature` line has, and which features
 /// an engine has on by them.
@@ -42,11 +42,20 @@ pub fn losers_lose()
 {}
 
 /// States a law and does nothing: a side that says in its turn, by `1-0` or `0-1`, that it has won loses by a false
-/// claim; one that says that the other side has won resigns.
+/// claim; one that says that the other side has won resigns. One that answers a move by `Illegal move` loses by that;
+/// without a move to reject the line is ignored.
 ///
-/// It refuses to call the latter a false claim.
+/// It refuses to call the second a false claim, and a move that may be rejected, or that nobody made.
 pub fn claims_are_worked_out()
     ensures { ClaimsAreJudged }
+{}
+
+/// States a law and does nothing: `offer draw` is passed on to the other side as `draw`, once, and if that side has
+/// offered a draw, both agree. So it is with `1/2-1/2` where no draw may be claimed.
+///
+/// It refuses an offer that is ignored, is sent back, or is never agreed to, and such a claim that is no offer.
+pub fn offers_are_worked_out()
+    ensures { OffersAreJudged }
 {}
 
 /// States a law and does nothing: from which line on the time for a reply runs, in examples. In a handshake each

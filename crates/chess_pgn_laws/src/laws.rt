@@ -118,9 +118,11 @@ pub fn texts_are_worked_out()
 {}
 
 /// States a law and does nothing: some texts are games without moves, though a number, a comment or a variation in them
-/// could be taken for moves or for a result.
+/// could be taken for moves or for a result. `*` declares nothing, `1-0` does. The tags Variant and Termination name in
+/// capital or small letters what they name.
 ///
-/// It refuses a number that is compared with the moves, and moves of a comment that count.
+/// It refuses a number that is compared with the moves, moves of a comment that count, and a variation that ends in a
+/// comment.
 pub fn empty_games_are_read()
     ensures { EmptyGamesAreRead }
 {}

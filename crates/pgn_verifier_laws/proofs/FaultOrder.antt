@@ -9,4 +9,5 @@ faults_are_in_order = record {
   then_tag = refl;
   then_board = refl;
   unless_lenient = refl;
+  unfinished = refl;
 }

@@ -1,10 +1,12 @@
 -- Positions that are the same for repetition, and some that look alike and are not, by computation.
 use Rattle.std.proofs.Common.{refl}
 use Rattle.chess_base.specs.Attacks.{is_clear, could_capture, attacks, is_attacked, is_in_check}
-use Rattle.chess_base.specs.Castling.{is_castling_to, castling, castle_of, castling_needs_empty, castling_way_is_empty, castling_way_is_safe, castles}
-use Rattle.chess_base.specs.{Initial.initial_setup, Initial.initial_setup_of, Men.is_of, Men.is_man, MoveList.all_moves, MoveList.moves}
+use Rattle.chess_base.specs.Castling.{king_square, right_is_sound, is_castling_to, castling, castle_of, castling_needs_empty, castling_way_is_empty, castling_way_is_safe, castles}
+use Rattle.chess_base.specs.{Faults.rights_are_sound, Initial.initial_setup, Initial.initial_setup_of, Men.is_of, Men.is_man, MoveList.all_moves, MoveList.moves}
 use Rattle.chess_base.specs.Moves.{is_double_advance, is_en_passant, pawn_advances, pawn_captures, pawn_moves, man_moves, is_pseudo_legal, captured_square, men_after, rights_after, target_after, resets_clock, halfmove_after, after, is_legal}
+use Rattle.chess_base.specs.Sound.{has_one_king, no_pawn_on_end_ranks, has_at_most_16, target_is_sound}
 use Rattle.chess_base.specs.Squares.{squares, some_square, each_square, is_between}
+use Rattle.chess_fen.specs.Texts.{may_name_right}
 use Rattle.chess_game.specs.Same.{same_men, same_rights, legal_en_passant_square, is_same_position}
 use Rattle.rules_laws.specs.KnownPositions.{PositionsAreTheSame}
 
@@ -13,5 +15,14 @@ unfolding squares some_square each_square is_between is_of is_man is_clear could
     is_castling_to castling castle_of castling_needs_empty castling_way_is_empty castling_way_is_safe castles
     is_double_advance is_en_passant pawn_advances pawn_captures pawn_moves man_moves is_pseudo_legal captured_square
     men_after rights_after target_after resets_clock halfmove_after after is_legal initial_setup initial_setup_of
-    all_moves moves same_men same_rights legal_en_passant_square is_same_position
-positions_are_the_same = record { knights = refl; target = refl; en_passant = refl; side = refl; rights = refl }
+    all_moves moves king_square right_is_sound rights_are_sound has_one_king no_pawn_on_end_ranks has_at_most_16
+    target_is_sound may_name_right same_men same_rights legal_en_passant_square is_same_position
+positions_are_the_same = record {
+  knights = refl;
+  target = refl;
+  en_passant = refl;
+  pinned = refl;
+  not_pinned = refl;
+  side = refl;
+  rights = refl;
+}

@@ -29,6 +29,7 @@ moves_are_written = record {
   promotion = refl;
   castling = refl;
   mate = refl;
+  stalemate = refl;
 }
 
 pub texts_denote_moves : TextsDenoteMoves

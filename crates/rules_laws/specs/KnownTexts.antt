@@ -48,6 +48,8 @@ pub record MovesAreWritten : Type 0 where
   pub promotion : IsWritten "4k3/P7/8/8/8/8/8/4K3 w - - 0 1" (promotes "a7" "a8") "a8=Q+"
   pub castling : IsWritten "4k3/8/8/8/8/8/8/R3K3 w Q - 0 1" (move_by "e1" "c1") "O-O-O"
   pub mate : IsWritten "6k1/5ppp/8/8/8/8/8/R3K3 w - - 0 1" (move_by "a1" "a8") "Ra8#"
+  -- no legal move is left, but there is no check
+  pub stalemate : IsWritten "7k/8/6K1/8/8/8/8/5Q2 w - - 0 1" (move_by "f1" "f7") "Qf7"
 
 -- in the position of a FEN each of the first texts denotes the move, and none of the others
 abbrev pub AreItsTexts : Text → Move → List (List ℕ) → List (List ℕ) → Type 0
