@@ -46,6 +46,7 @@ const VARIATIONS: [(&[u8], usize, Option<(PgnFaultKind, usize)>); 14] = [
 fn is_found(rt: &impl Abort, text: &[u8], at: usize, wanted: Option<(PgnFaultKind, usize)>) {
     let mut board = Plain::new();
     let start = Position::initial();
+    assert!(rt; at <= text.len());
     let found = read_variations(text, at, &start, &mut board);
     let wanted = match wanted {
         Some((kind, offset)) => Err(PgnFault { kind, offset }),
