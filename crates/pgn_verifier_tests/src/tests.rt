@@ -738,7 +738,7 @@ fn tags_are_explained(rt: HostRuntime) {
 }
 
 // Bad tokens, and what is written of them.
-const TOKENS: [(&[u8], &[u8]); 14] = [
+const TOKENS: [(&[u8], &[u8]); 15] = [
     (
         b"1. e4 & *",
         b"game 1: bad token at byte 6\n# line 1 column 7 & | rnbqkbnr/pppppppp/8/8/4P3/8/PPPP1PPP/RNBQKBNR b KQkq e3 0 1 | begins no token\n",
@@ -761,7 +761,11 @@ const TOKENS: [(&[u8], &[u8]); 14] = [
     ),
     (
         b"1. e4\n1... --\n2. d4 *",
-        b"game 1: bad token at byte 11\n# line 2 column 6 -- | rnbqkbnr/pppppppp/8/8/4P3/8/PPPP1PPP/RNBQKBNR b KQkq e3 0 1 | not a move\n",
+        b"game 1: bad token at byte 11\n# line 2 column 6 -- | rnbqkbnr/pppppppp/8/8/4P3/8/PPPP1PPP/RNBQKBNR b KQkq e3 0 1 | a null move, which chess does not have\n",
+    ),
+    (
+        b"1. e4 Z0 *",
+        b"game 1: bad token at byte 6\n# line 1 column 7 Z0 | rnbqkbnr/pppppppp/8/8/4P3/8/PPPP1PPP/RNBQKBNR b KQkq e3 0 1 | a null move, which chess does not have\n",
     ),
     (
         b"1. Sf3 *",
