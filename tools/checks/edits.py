@@ -41,9 +41,9 @@ def read_edits(crate):
 PAGE = """# Wrong definitions
 
 Where a definition and the code are wrong alike, every contract still holds: only a law that says the same in other words \
-can notice. Each of these definitions was made wrong, and the proof of the law named refuses it; so it would if the code \
-were changed alike, since a law rests only on definitions. `tools/checks/mutations --definitions` tries them, and prints \
-what refuses each. In brackets is the file of specs/ (`CRATE/FILE`), or *the law* where its own words were made wrong. \
+can notice. Each edit here makes a definition wrong, and names the law whose proof is to refuse it, also if the code is \
+changed alike, since a law rests only on definitions. `tools/checks/mutations --definitions` tries them, and prints what \
+refuses each; not all have been tried yet ([which](README.md#held-only-by-the-definition-and-by-tests)). In brackets is the file of specs/ (`CRATE/FILE`), or *the law* where its own words were made wrong. \
 What no law refuses is [listed](README.md#held-only-by-the-definition-and-by-tests).
 
 `tools/checks/theorems --fill` writes this page, from crates/*/definition-edits.
