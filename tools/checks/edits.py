@@ -43,8 +43,14 @@ PAGE = """# Wrong definitions
 Where a definition and the code are wrong alike, every contract still holds: only a law that says the same in other words \
 can notice. Each edit here makes a definition wrong, and names the law whose proof is to refuse it, also if the code is \
 changed alike, since a law rests only on definitions. `tools/checks/mutations --definitions` tries them, and prints what \
-refuses each; not all have been tried yet ([which](README.md#held-only-by-the-definition-and-by-tests)). In brackets is the file of specs/ (`CRATE/FILE`), or *the law* where its own words were made wrong. \
+refuses each; not all have been tried yet ([which](README.md#held-only-by-the-definition-and-by-tests)). In brackets is \
+the file of specs/ (`CRATE/FILE`), or *the law* where its own words were made wrong. \
 What no law refuses is [listed](README.md#held-only-by-the-definition-and-by-tests).
+
+The rows *a proof of the crate* show less. If they don't name *the law*, only one definition was made wrong, and the code \
+was left as it is. So the code's proof refuses it, or a second definition of the same: a text's tokens are defined by \
+Tokens (one after another) and by Split (which splits there are), a written line by Written and by PgnText. If both of \
+them and the code were wrong alike, these rows don't say that anything would notice.
 
 `tools/checks/theorems --fill` writes this page, from crates/*/definition-edits.
 """

@@ -4,8 +4,8 @@ The file of the good games has all of a text but the spans of games with a fault
 else lies between games stays. The other file has these spans: each from its game's first byte to where reading goes on,
 or to the end of its piece. Bytes are copied as they are. A line end is added where two copied parts would share a line,
 and a line with an empty comment where the second part would else not begin a piece: so the good games have the pieces
-that they had, and no fault. A comment that belonged to no game, before one with a fault, then belongs to the next good
-one."""
+that they had, and no fault. A comment or variation that belonged to no game, before one with a fault, then belongs to
+the next good one; if that has no move before it, `--variations` reports the variation."""
 
 from pgn_files import EMPTY_LINE, MARK, TAG_LINE, front, line_start
 

@@ -33,7 +33,7 @@ use Rattle.cecp_engine.specs.declared.level_fault.LevelFault.{LevelFault}
 abbrev pub Values : Type 0
 Values = Text → Option Text
 
--- what arguments say: the subcommand's name, the values of its options, and as `replies` the arguments after `stub`
+-- what arguments say: the subcommand's name, the values of its options, and as `replies` the positional arguments
 pub record Said : Type 0 where
   pub command : Text
   pub value : Values
@@ -58,17 +58,22 @@ is_set name value = bytes_eq (unwrap_or (value name) (codes "false")) (codes "tr
 abbrev pub number_of : Text → ℕ
 number_of text = digits_value 10 (without_leading_plus text)
 
--- whether the text names a kind of fault that `verify` may ignore
+-- whether the text names a kind that `verify` may ignore
 abbrev pub is_kind : Text → Bool
-is_kind name = bytes_eq name (codes "variant") || (bytes_eq name (codes "result") || bytes_eq name (codes "board"))
+is_kind name = bytes_eq name (codes "variant")
+    || (bytes_eq name (codes "result") || (bytes_eq name (codes "board") || bytes_eq name (codes "after-end")))
 
--- the names in the value of `--ignore`, between its commas (byte 44); none without the option
+-- the names in the value of `--ignore`, between its commas (byte 44), empty ones too; none without the option
 abbrev pub ignored_in : Values → List Text
 ignored_in value = option_map_or (slice_split (λ b. b == 44)) (value (codes "ignore")) []
 
+-- whether `--ignore` names this kind
+abbrev pub is_ignored : Text → Values → Bool
+is_ignored kind value = list_any (bytes_eq kind) (ignored_in value)
+
 -- whether faults of this kind are looked for: with `--strict`, unless `--ignore` names the kind
 abbrev pub is_looked_for : Text → Values → Bool
-is_looked_for kind value = is_set (codes "strict") value && not (list_any (bytes_eq kind) (ignored_in value))
+is_looked_for kind value = is_set (codes "strict") value && not (is_ignored kind value)
 
 -- what the options of `verify` ask for
 abbrev pub verify_plan_of : Values → VerifyPlan
@@ -82,18 +87,20 @@ verify_plan_of value = record {
   spans = is_set (codes "spans") value;
   names = is_set (codes "names") value;
   variations = is_set (codes "variations") value;
+  -- fivefold repetition and 75 moves end a game
+  draws_of_2014 = not (is_ignored (codes "after-end") value);
 }
 
 -- ---- what they mean
 
 -- the position in which each game of a match starts: the one that the value of `--fen` denotes in the variant that is
--- asked for, or the FEN's fault; without `--fen` that variant's initial position
+-- asked for, or the FEN's fault; without `--fen` the initial position of normal chess, in that variant
 abbrev pub start_asked : Values → Result Setup FenFault
 start_asked value = let v = variant_in value in
     option_map_or (fen_reading_as v) (value (codes "fen")) (Ok (initial_setup_of v))
 
 -- the time controls of a match's two engines: each has its own, if there is one (`white`, `black`), otherwise the
--- common one (`text`). The fault is that of the first of all three that is invalid
+-- common one (`text`). The fault is that of the first of `text`, `white` and `black` that is invalid
 abbrev pub levels_by : Text → Option Text → Option Text → Result (LevelSeen × LevelSeen) LevelFault
 levels_by text white black = do
   level ← level_reading text
@@ -118,7 +125,7 @@ levels_start_and_date value = let date = unwrap_or (value (codes "date")) (codes
   start ← result_map_both (λ setup. setup) BadFen (start_asked value)
   if is_date date then Ok (levels, start, date) else Err BadDate
 
--- how long a match waits for its engines; `--reply-timeout` is in seconds
+-- how long a match waits for its engines; `reply` is in milliseconds, `--reply-timeout` in seconds
 abbrev pub patience_of : Values → Patience
 patience_of value = record {
   flag = is_set (codes "flag") value;
@@ -130,6 +137,7 @@ patience_of value = record {
 pub record IsMatchPlan (value : Values) (plan : GamesPlan) : Type 0 where
   pub white : value (codes "white") ≡ Some plan.white.now
   pub black : value (codes "black") ≡ Some plan.black.now
+  -- the time controls of both engines, the start of each game and the date
   pub read : levels_start_and_date value ≡ Ok ((plan.white_level, plan.black_level), plan.start, plan.date.now)
   -- as many games as `--games` asks for; 1 without `--games`
   pub games : plan.games ≡ option_map_or number_of (value (codes "games")) 1
@@ -141,8 +149,10 @@ pub record IsMatchPlan (value : Values) (plan : GamesPlan) : Type 0 where
 -- the plan is what the arguments ask for, which say `said`
 abbrev pub IsPlanOf : Said → Plan → Type 0
 IsPlanOf said Session = said.command ≡ codes "session"
+-- each name that `--ignore` gives is that of a kind of fault
 IsPlanOf said (Verify v) = (said.command ≡ codes "verify") × (v ≡ verify_plan_of said.value)
     × (list_all is_kind (ignored_in said.value) ≡ true)
+-- the stub plays the positional arguments
 IsPlanOf said (Stub arguments) = (said.command ≡ codes "stub") × (map (λ w. w.now) arguments.items ≡ said.replies)
 IsPlanOf said (Match plan) = (said.command ≡ codes "match") × IsMatchPlan said.value plan
 
@@ -164,7 +174,7 @@ IsReadAs kinds said (Err f) = (kinds ≡ []) × (said.command ≡ codes "match")
 -- ---- by the grammar
 
 -- what arguments say; `p` is the subcommand's name and its options as `clap` matched them. The first value of an option
--- counts. `clap` knows the arguments after `stub` as `words`
+-- counts. `clap` knows the positional arguments, which only `stub` has, as `words`
 abbrev pub said_by : Text × List Row → Said
 said_by p =
     record { command = p.0; value = λ name. first_of name p.1; replies = unwrap_or (all_of (codes "words") p.1) [] }

@@ -27,8 +27,8 @@ pub enum WordsFault {
     /// The date of a match has more than 60 bytes, or one outside 32 to 126.
     #[error("bad date")]
     BadDate,
-    /// `--ignore` of `verify` names a kind of fault that can't be ignored.
-    #[error("bad kind (variant, result or board, with commas between)")]
+    /// `--ignore` of `verify` names a kind that can't be ignored.
+    #[error("bad kind (variant, result, board or after-end, with commas between)")]
     BadKind,
 }
 

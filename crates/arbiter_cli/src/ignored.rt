@@ -1,4 +1,4 @@
-//! The kinds of faults that `--ignore` names.
+//! The kinds that `--ignore` names.
 
 ghost use Rattle.std.specs.Prelude.{◌≡◌, ◌==◌, option_map};
 ghost use Rattle.std.specs.List.{list_all, list_any, slice_split};
@@ -6,11 +6,11 @@ ghost use Rattle.std.specs.Str.{bytes_eq};
 ghost use Rattle.arbiter_cli.specs.Plans.{is_kind as kind_test};
 ghost use Rattle.arbiter_cli.specs.ties.Requests.{names_in};
 
-// Whether faults of a kind with this name can be ignored.
+// Whether a kind with this name can be ignored.
 fn is_kind(name: &str) -> bool
     ensures { result ≡ kind_test name.now }
 {
-    name == "variant" || (name == "result" || name == "board")
+    name == "variant" || (name == "result" || (name == "board" || name == "after-end"))
 }
 
 // Whether a list, whose commas part its names, has only names of kinds that can be ignored.
@@ -27,7 +27,7 @@ fn has_name(list: &str, name: &str) -> bool
     list.split(',').any(|part| name == part)
 }
 
-// Whether faults of this kind are ignored, by the list that `--ignore` was given, if it was given.
+// Whether this kind is ignored, by the list that `--ignore` was given, if it was given.
 pub(crate) fn is_ignored(list: Option<&str>, kind: &str) -> bool
     ensures { result ≡ list_any (bytes_eq kind.now) (names_in (option_map (λ t. t.now) list.entry)) }
 {

@@ -38,6 +38,8 @@ pub struct VerifyPlan {
     pub names: bool,
     /// Whether the moves in variations are read, too.
     pub variations: bool,
+    /// Whether fivefold repetition and 75 moves end a game, as they do since the Laws of Chess of 2014.
+    pub draws_of_2014: bool,
 }
 
 /// What the arguments ask for.

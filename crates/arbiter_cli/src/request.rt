@@ -94,6 +94,7 @@ fn verify_plan(found: &ArgMatches<'_>, ignored: Option<&str>) -> VerifyPlan
         spans: is_set(found, "spans"),
         names: is_set(found, "names"),
         variations: is_set(found, "variations"),
+        draws_of_2014: !is_ignored(ignored, "after-end"),
     }
 }
 
@@ -117,6 +118,7 @@ fn number_in(found: &ArgMatches<'_>, name: &str) -> Option<u16>
         None => None,
         Some(text) => match text.parse::<u16>() {
             Ok(number) => Some(number),
+            // The grammar takes only numbers, and none above 1,000.
             Err(_) => unreachable!(),
         },
     }
@@ -203,6 +205,7 @@ pub(crate) fn request_in<'a>(
     if name == "match" {
         return match match_request(found) {
             Some(arguments) => Ok(Request::Match(arguments)),
+            // The grammar takes `match` only with `--white` and `--black`.
             None => unreachable!(),
         };
     }

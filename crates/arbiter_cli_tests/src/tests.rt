@@ -282,6 +282,7 @@ fn verify_by_its_options(rt: HostRuntime) -> Result<(), Fail> {
                 spans: *spans,
                 names: *names,
                 variations: *variations,
+                draws_of_2014: true,
             },
         );
     }
@@ -289,24 +290,27 @@ fn verify_by_its_options(rt: HostRuntime) -> Result<(), Fail> {
 }
 
 // Arguments of `verify` with `--ignore`, and what is looked for: an unknown variant, another result than the tag's, and
-// than the board's.
-const IGNORED: [(&[&str], bool, bool, bool); 9] = [
-    (&["verify", "--ignore", "board"], false, false, false),
+// than the board's, and a move after one of the draws of 2014.
+const IGNORED: [(&[&str], bool, bool, bool, bool); 13] = [
+    (&["verify", "--ignore", "board"], false, false, false, true),
     (
         &["verify", "--strict", "--ignore", "board"],
         true,
         true,
         false,
+        true,
     ),
     (
         &["verify", "--ignore", "result", "--strict"],
         true,
         false,
         true,
+        true,
     ),
     (
         &["verify", "--strict", "--ignore=variant"],
         false,
+        true,
         true,
         true,
     ),
@@ -315,17 +319,20 @@ const IGNORED: [(&[&str], bool, bool, bool); 9] = [
         false,
         true,
         false,
+        true,
     ),
     (
         &["verify", "--strict", "--ignore", "variant,board"],
         false,
         true,
         false,
+        true,
     ),
     (
         &["verify", "--strict", "--ignore", "result,result"],
         true,
         false,
+        true,
         true,
     ),
     (
@@ -333,26 +340,56 @@ const IGNORED: [(&[&str], bool, bool, bool); 9] = [
         false,
         false,
         false,
+        true,
     ),
-    (&["verify", "--strict", "--quiet"], true, true, true),
+    (&["verify", "--strict", "--quiet"], true, true, true, true),
+    (
+        &["verify", "--ignore", "after-end"],
+        false,
+        false,
+        false,
+        false,
+    ),
+    (
+        &["verify", "--ignore=after-end", "--strict"],
+        true,
+        true,
+        true,
+        false,
+    ),
+    (
+        &["verify", "--strict", "--ignore", "board,after-end"],
+        true,
+        true,
+        false,
+        false,
+    ),
+    (
+        &["verify", "--ignore", "after-end,after-end,result"],
+        false,
+        false,
+        false,
+        false,
+    ),
 ];
 
-// Kinds that are ignored are not looked for; without `--strict` none is.
+// Kinds that are ignored are not looked for; without `--strict` only `after-end` is.
 #[test]
 fn kinds_are_ignored(rt: HostRuntime) -> Result<(), Fail> {
-    for (arguments, variant, result, board) in &IGNORED {
+    for (arguments, variant, result, board, draws_of_2014) in &IGNORED {
         let Plan::Verify(plan) = read_words(rt.alloc(), arguments)? else {
             return Err(Fail::new("another plan"));
         };
         is_equal(&rt, &plan.variant, variant);
         is_equal(&rt, &plan.result, result);
         is_equal(&rt, &plan.board, board);
+        is_equal(&rt, &plan.draws_of_2014, draws_of_2014);
     }
     Ok(())
 }
 
 // Values of `--ignore` that are not names of kinds with commas between.
-const NO_KINDS: [&str; 9] = [
+const NO_KINDS: [&str; 12] = [
     "",
     "Board",
     "board,",
@@ -360,8 +397,11 @@ const NO_KINDS: [&str; 9] = [
     "board,,result",
     "board, result",
     "board;result",
-    "after-end",
     "boards",
+    "after",
+    "after_end",
+    "After-end",
+    "after-end-board",
 ];
 
 #[test]

@@ -27,7 +27,7 @@ AreOptionNames names = (map (λ n. n.now) names.variants.now ≡ codes "normal" 
     × (map (λ n. n.now) names.draws.now ≡ codes "claimed" ∷ codes "automatic" ∷ [])
 
 -- the subcommand `match` with its options, of which `--white` and `--black` are required. `names` are the lists of
--- names
+-- names; `Unsigned` takes both its bounds
 abbrev pub match_app : OptionNames → App
 match_app names = fold with_rule (new_app (codes "match")) (
     record (option_rule (codes "white")) { required = true } ∷ record (option_rule (codes "black")) { required = true }

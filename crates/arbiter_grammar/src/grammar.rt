@@ -72,6 +72,9 @@ replaces the move just before it.
 With --strict --ignore board the result is not compared with the final position, as for studies that end with `*` after
 mate. Further kinds are `result` (the Result tag) and `variant`; commas go between several: `--ignore board,variant`.
 
+With --ignore after-end a game may go on after the fifth time that a position is there, and after 75 moves of each side
+without a capture or pawn move, as games from before July 2014 do: since then both end a game. This needs no --strict.
+
 With --names the line of a fault ends with ` | White - Black, Event Date`, each as the last tag of this name has it, but
 at most 40 bytes, with `?` for each byte that is not printable ASCII, and for a tag that is missing.
 
@@ -226,6 +229,18 @@ fn reply_timeout_option<'a>(alloc: Global) -> Arg<'a>
     .value_parser(ValueParser::unsigned(1, 999))
 }
 
+// The option `--log`.
+fn log_option<'a>(alloc: Global) -> Arg<'a>
+    ensures rule { rule_of result ≡ flag_rule (codes "log") }
+    ensures local { result.global ≡ false }
+{
+    flag(
+        alloc,
+        "log",
+        "Log the lines from and to both engines on standard error, in the format of XBoard's debug file",
+    )
+}
+
 // The subcommand `match` with its options, of which `--white` and `--black` must be given.
 fn match_command<'a>(alloc: Global) -> Result<Command<'a>, AllocError>
     ensures app { IfOk result (λ c. GivesMatchApp (app_of c)) }
@@ -277,11 +292,7 @@ fn match_command<'a>(alloc: Global) -> Result<Command<'a>, AllocError>
     ))?
     .arg(variant_option(alloc))?
     .arg(draws_option(alloc))?
-    .arg(flag(
-        alloc,
-        "log",
-        "Log the lines from and to both engines on standard error, in the format of XBoard's debug file",
-    ))?
+    .arg(log_option(alloc))?
     .arg(flag(
         alloc,
         "flag",
@@ -346,7 +357,7 @@ fn verify_command<'a>(alloc: Global) -> Result<Command<'a>, AllocError>
             alloc,
             "ignore",
             "KINDS",
-            "Leave out faults of these kinds, which --strict looks for: variant, result, board, with commas between",
+            "Leave out faults of these kinds, with commas between: variant, result, board (of --strict); after-end",
         ))
 }
 

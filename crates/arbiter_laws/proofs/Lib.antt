@@ -8,3 +8,4 @@ mod PlainStub
 mod PlainWalk
 mod RefusedArguments
 mod Statuses
+mod WorkedOptions

@@ -210,6 +210,7 @@ plan_with a b c d e f g ignored = record {
   spans = e;
   names = f;
   variations = g;
+  draws_of_2014 = not (list_any (bytes_eq (codes "after-end")) ignored);
 }
 
 -- the names in the value of `--ignore`

@@ -1,5 +1,5 @@
 -- What arguments ask for, and which of them are refused.
-use Rattle.std.specs.Prelude.{◌≡◌, List, [], codes, false}
+use Rattle.std.specs.Prelude.{◌≡◌, List, [], codes, false, true}
 use Rattle.std.specs.List.{list_any}
 use Rattle.clap.specs.Words.{Kinds, Text}
 use Rattle.clap.specs.Facts.{explicit_source}
@@ -26,9 +26,12 @@ VerifyIsAsAsked = (said : Said) (v : VerifyPlan) → IsPlanOf said (Verify v) �
 
 -- `clap` accepts these arguments, and they ask for the subcommand `name` with no options given
 pub record AskFor (arguments : List Text) (name : Text) : Type 0 where
+  -- they have no fault
   pub taken : (names : OptionNames) → faults_in names arguments ≡ []
   pub named : (names : OptionNames) → (asked names arguments).0 ≡ name
+  -- no option was given
   pub bare : (names : OptionNames) → list_any (λ r. explicit_source r.source) (asked names arguments).1 ≡ false
+  -- no kind of fault is to be ignored
   pub ignores : (names : OptionNames) → ignored_in (said_by (asked names arguments)).value ≡ []
 
 -- `clap` refuses these arguments, and `kinds` are the kinds of fault that it may report for them
@@ -47,6 +50,7 @@ bare_plan = record {
   spans = false;
   names = false;
   variations = false;
+  draws_of_2014 = true;
 }
 
 -- the options of these arguments make the plan of `verify` without flags

@@ -2,3 +2,4 @@ pub mod Arguments
 pub mod PlainArguments
 pub mod Programs
 pub mod Statuses
+pub mod WorkedOptions

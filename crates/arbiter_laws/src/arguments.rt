@@ -4,6 +4,7 @@ ghost use Rattle.std.specs.Prelude.{[], ◌∷◌, codes};
 ghost use Rattle.clap.specs.declared.error.kind.ErrorKind.TheVariants.{DisplayHelp, DisplayVersion, MissingRequiredArgument};
 ghost use Rattle.arbiter_laws.specs.Arguments.{AreRefused, AskFor, PlansAreNamed, VerifyAsBare, VerifyIsAsAsked};
 ghost use Rattle.arbiter_laws.specs.PlainArguments.{PlainArgumentsAreRead};
+ghost use Rattle.arbiter_laws.specs.WorkedOptions.{LevelsAreRead, OptionsMean};
 
 /// States a law and does nothing: plain arguments are read as what they say. These are none; `session`; `verify` and
 /// `match` with their options, in any order and each at most once; and `stub` with what it plays.
@@ -37,4 +38,15 @@ pub fn plans_are_named()
 /// States a law and does nothing: a plan to verify has just the flags that were given after `verify`.
 pub fn verify_is_as_asked()
     ensures { VerifyIsAsAsked }
+{}
+
+/// States a law and does nothing: what some options of `match` and of `verify` mean. Each engine of a match has its own
+/// level or the common one, `--reply-timeout` is in seconds, and `--strict` looks for three faults but for those that
+/// `--ignore` names.
+///
+/// It refuses a common level that is not looked at if each engine has its own, a level of White that is Black's, and a
+/// flag that sets another.
+pub fn options_are_worked_out()
+    ensures levels { LevelsAreRead }
+    ensures options { OptionsMean }
 {}

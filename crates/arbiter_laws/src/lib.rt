@@ -6,8 +6,8 @@ mod arguments;
 mod program;
 
 pub use arguments::{
-    plain_arguments_are_read, plain_arguments_are_refused, plain_arguments_are_taken,
-    plans_are_named, verify_is_as_asked,
+    options_are_worked_out, plain_arguments_are_read, plain_arguments_are_refused,
+    plain_arguments_are_taken, plans_are_named, verify_is_as_asked,
 };
 pub use program::{
     limits_are_as_stated, plain_arguments_are_followed, plain_arguments_do_what_they_say,

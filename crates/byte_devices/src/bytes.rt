@@ -42,7 +42,7 @@ pub fn is_name_byte(byte: u8) -> bool
     NAMES[byte as usize] == b'n'
 }
 
-/// A byte as tags, comments, logs and explanations show it: `?` in place of what is no printable ASCII.
+/// A byte as tags, comments, logs and explanations show it: `?` in place of what is no printable ASCII (32 to 126).
 #[inline(always)]
 pub fn shown_byte(byte: u8) -> u8
     ensures { result ≡ shown_byte byte }

@@ -49,6 +49,7 @@ pub fn read_engine_line(text: &[u8]) -> EngineLine<'_>
     ensures { seen result ≡ kind_of text.now }
 {
     let word = first_word(text);
+    // These are two words, after which anything may come: `Illegal move: e2e4`.
     if text.len() >= 12 && &text[..12] == b"Illegal move".as_slice() {
         EngineLine::Rejection
     } else if word == b"feature".as_slice() {

@@ -12,7 +12,7 @@ use byte_devices::{append, append_number};
 use std::str::FromStr;
 use std::{fmt, str};
 
-/// The text of a level: at most 80 bytes of ASCII.
+/// The text of a level: at most 80 bytes of ASCII, with room for three numbers of 20 digits (`append_number`).
 pub type LevelText = ArrayVec<u8, 80>;
 
 // Appends a part of a second, given in milliseconds, as it is written after whole seconds: nothing, or a point and

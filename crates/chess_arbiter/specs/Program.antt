@@ -48,10 +48,15 @@ abbrev pub Serves : {S : Type 0} → Server S → S → Devices → Devices → 
 Serves {S} respond s d d' status =
     (result : Result End Fault) × (s' : S) × Ran (Served respond s s' result) d d' × (status ≡ status_of result)
 
--- the faults that are looked for in a game that is read to its end, by `--variations`, `--strict` and `--ignore`
+-- which faults are looked for in a game, by `--variations`, `--strict` and `--ignore`
 abbrev pub strictness_of : VerifyPlan → Strictness
-strictness_of plan =
-    record { variations = plan.variations; variant = plan.variant; result = plan.result; board = plan.board }
+strictness_of plan = record {
+  draws_of_2014 = plan.draws_of_2014;
+  variations = plan.variations;
+  variant = plan.variant;
+  result = plan.result;
+  board = plan.board;
+}
 
 -- the options of verifying that these flags ask for
 abbrev pub options_of : VerifyPlan → VerifyOptions
@@ -79,7 +84,7 @@ ReportsArguments (faults.Words e) w w' status =
     ⊎ ((kind_of e ≢ DisplayHelp) × (kind_of e ≢ DisplayVersion) × (w' ≡ w) × (status ≡ 2))
 -- memory ran out
 ReportsArguments faults.NoMemory w w' status = (w' ≡ w) × (status ≡ 1)
--- an invalid level, FEN or date of a match, or an invalid kind of fault
+-- an invalid level, FEN or date of a match, or an invalid kind to ignore
 ReportsArguments _ w w' status = (w' ≡ w) × (status ≡ 2)
 
 -- from the state `l` of a log to `l'` this text was written where the log goes, even if the log was broken; a write of

@@ -95,11 +95,12 @@ fn verified_status(verified: Verified) -> u8
     }
 }
 
-// The faults that the options of `verify` ask for in a game that is read to its end.
+// Which faults the options of `verify` ask for.
 fn strictness_of(plan: VerifyPlan) -> Strictness
     ensures { result ≡ strictness_of plan }
 {
     Strictness {
+        draws_of_2014: plan.draws_of_2014,
         variations: plan.variations,
         variant: plan.variant,
         result: plan.result,
@@ -271,9 +272,10 @@ fn matched<H: Host, W: Output, E: Output>(
 ///   length, cut into pieces: one begins at the first byte, at a tag line after a line of moves, and at a second Event
 ///   tag line. After a fault reading continues where its game ends, and totals follow at the end. `--quiet` leaves out
 ///   games without a fault; with `--strict` a result that contradicts the tag Result or the final position is a fault
-///   too, and a variant that is not known, unless `--ignore` names the kind; with `--variations` so is one in a
-///   variation; with `--spans` each line says where its game is; with `--names` the line of a fault ends with the
-///   game's players, event and date; with `--explain` a second line explains each fault.
+///   too, and a variant that is not known, unless `--ignore` names the kind; with `--ignore after-end` neither fivefold
+///   repetition nor 75 moves end a game; with `--variations` a fault in a variation is one, too; with `--spans` each
+///   line says where its game is; with `--names` the line of a fault ends with the game's players, event and date; with
+///   `--explain` a second line explains each fault.
 /// - `match` with `--white`, `--black` and perhaps `--games`, `--level`, `--fen`, `--variant`, `--draws`, `--date`,
 ///   `--log`, `--flag` and `--reply-timeout`: games between two engines that the host starts, the text of each game, and
 ///   then the score. The input is left untouched.

@@ -1,9 +1,10 @@
 //! Each law of match_runner_laws, of match_pgn_laws and of arbiter_laws can be called, without a condition.
 
 use arbiter_laws::{
-    limits_are_as_stated, plain_arguments_are_followed, plain_arguments_are_read,
-    plain_arguments_are_refused, plain_arguments_are_taken, plain_arguments_do_what_they_say,
-    plans_are_named, refused_arguments_are_reported, statuses_are_stated, verify_is_as_asked,
+    limits_are_as_stated, options_are_worked_out, plain_arguments_are_followed,
+    plain_arguments_are_read, plain_arguments_are_refused, plain_arguments_are_taken,
+    plain_arguments_do_what_they_say, plans_are_named, refused_arguments_are_reported,
+    statuses_are_stated, verify_is_as_asked,
 };
 use match_pgn_laws::{matches_pass_verify, scores_are_sums};
 use match_runner_laws::{
@@ -26,6 +27,7 @@ fn laws_of_matches_are_called() {
 #[test]
 fn laws_of_the_program_are_called() {
     limits_are_as_stated();
+    options_are_worked_out();
     plain_arguments_are_followed();
     plain_arguments_are_read();
     plain_arguments_are_refused();

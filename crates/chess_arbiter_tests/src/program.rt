@@ -141,7 +141,7 @@ const RUNS: [ProgramRun; 26] = [
         input: b"*",
         fails: (0, 0),
         output: b"",
-        errors: b"arbiter: bad kind (variant, result or board, with commas between)\n",
+        errors: b"arbiter: bad kind (variant, result, board or after-end, with commas between)\n",
         status: 2,
     },
     ProgramRun {

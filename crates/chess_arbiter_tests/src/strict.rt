@@ -233,3 +233,100 @@ fn ignored_kinds_are_left_out(rt: HostRuntime) {
         );
     }
 }
+
+// Games that go on after an end by the board: what is written of them; the same with `--ignore after-end`, and the status
+// then.
+const AFTER_END: [(&[u8], &[u8], &[u8], u8); 6] = [
+    // The draws of 2014: five times the same position, and 75 moves of each side.
+    (
+        b"Nf3 Nf6 Ng1 Ng8 Nf3 Nf6 Ng1 Ng8 Nf3 Nf6 Ng1 Ng8 Nf3 Nf6 Ng1 Ng8 e4 *",
+        b"game 1: move after the end at byte 64\n",
+        b"game 1: 17 half-moves, *\n",
+        0,
+    ),
+    (
+        b"[FEN \"4k3/8/8/8/8/8/8/R3K3 w - - 149 100\"] Ra2 Kd7 *",
+        b"game 1: move after the end at byte 47\n",
+        b"game 1: 2 half-moves, *\n",
+        0,
+    ),
+    // Mate, stalemate and a dead position.
+    (
+        b"1. f3 e5 2. g4 Qh4 3. a3 *",
+        b"game 1: move after the end at byte 22\n",
+        b"game 1: move after the end at byte 22\n",
+        1,
+    ),
+    (
+        b"[FEN \"7k/8/6K1/8/8/8/5Q2/8 w - - 0 1\"] Qf7 Kg8 *",
+        b"game 1: move after the end at byte 43\n",
+        b"game 1: move after the end at byte 43\n",
+        1,
+    ),
+    (
+        b"[FEN \"4k3/8/8/8/8/8/4p3/4K3 w - - 0 1\"] Kxe2 Kd7 *",
+        b"game 1: move after the end at byte 45\n",
+        b"game 1: move after the end at byte 45\n",
+        1,
+    ),
+    // Mate after the position was there for the fifth time.
+    (
+        b"Nf3 Nf6 Ng1 Ng8 Nf3 Nf6 Ng1 Ng8 Nf3 Nf6 Ng1 Ng8 Nf3 Nf6 Ng1 Ng8 f3 e5 g4 Qh4 a3 *",
+        b"game 1: move after the end at byte 64\n",
+        b"game 1: move after the end at byte 77\n",
+        1,
+    ),
+];
+
+#[test]
+fn games_go_on_after_draws_of_2014(rt: HostRuntime) {
+    for (text, lines, ignoring, status) in &AFTER_END {
+        check_output(&rt, &rt, &["verify"], text, SOUND, lines, 1);
+        let arguments = ["verify", "--ignore", "after-end"];
+        check_output(
+            &rt,
+            &rt,
+            arguments.as_slice(),
+            text,
+            SOUND,
+            ignoring,
+            *status,
+        );
+    }
+}
+
+// A game that a position ends which is there for the fifth time, with a result that it doesn't have.
+const FIVE_TIMES: &[u8] = b"Nf3 Nf6 Ng1 Ng8 Nf3 Nf6 Ng1 Ng8 Nf3 Nf6 Ng1 Ng8 Nf3 Nf6 Ng1 Ng8 1-0";
+
+// Arguments, and what is written of that game, and the status.
+const FIVE_TIMES_BY_ARGUMENTS: [(&[&str], &[u8], u8); 4] = [
+    (&["verify"], b"game 1: 16 half-moves, 1-0\n", 0),
+    (
+        &["verify", "--strict"],
+        b"game 1: board says otherwise at byte 64\n",
+        1,
+    ),
+    (
+        &["verify", "--strict", "--ignore", "after-end"],
+        b"game 1: 16 half-moves, 1-0\n",
+        0,
+    ),
+    (
+        &[
+            "verify",
+            "--strict",
+            "--keep-going",
+            "--ignore",
+            "result,after-end",
+        ],
+        b"game 1: 16 half-moves, 1-0\ngames 1 half-moves 16 faults 0\n",
+        0,
+    ),
+];
+
+#[test]
+fn ignored_draws_are_not_compared_with_the_result(rt: HostRuntime) {
+    for (arguments, lines, status) in &FIVE_TIMES_BY_ARGUMENTS {
+        check_output(&rt, &rt, arguments, FIVE_TIMES, SOUND, lines, *status);
+    }
+}

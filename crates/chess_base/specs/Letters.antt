@@ -9,8 +9,8 @@ use Rattle.chess_base.specs.declared.man.Man.{Man}
 use Rattle.chess_base.specs.ByColour.{by_colour}
 use Rattle.chess_base.specs.Squares.{file, rank}
 
--- the code of a text's first character, 0 for the empty text; it is used for one ASCII character: `byte "A"` is 65. (As
--- in byte_devices, for which this crate doesn't wait.)
+-- the code of a text's first character, 0 for the empty text; it is used for one ASCII character: `byte "A"` is 65.
+-- (The same as `byte` of byte_devices, which this crate doesn't use.)
 abbrev pub byte : Text → ℕ
 byte text = slice_index_or (codes text) 0 0
 

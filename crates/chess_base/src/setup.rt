@@ -3,7 +3,7 @@
 use crate::man::{Colour, Man, Rights, Variant};
 use crate::square::Square;
 
-/// The largest halfmove clock and fullmove number; both stop there.
+/// The largest halfmove clock and fullmove number; both stop there, so that in a FEN each has at most six digits.
 pub const COUNTER_LIMIT: u32 = 999_999;
 
 /// The greatest limit, in half-moves, that a game can be opened with. It is here for crates that don't use chess_game,

@@ -66,6 +66,7 @@ pub fn reached_among(
         Kind::Rook => met_on_lines(tables, square, occupied, men),
         Kind::Bishop => met_on_diagonals(tables, square, occupied, men),
         Kind::Knight => tables.at(Shape::Knight, square).intersection(men),
+        // No caller asks for these.
         Kind::King | Kind::Pawn => unreachable!(),
     }
 }

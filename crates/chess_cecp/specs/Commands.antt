@@ -23,8 +23,8 @@ unfoldable pub is_ignored : List ℕ → Bool
 is_ignored word = list_any (bytes_eq word) ignored_commands
 
 -- the commands that are not ignored: each name, with the command of a line that has the name as its first word and
--- `argument` after it. `usermove` with nothing after it is `Unknown`; `ping` and `protover` without a number of 1 to 9
--- digits are `BadNumber`
+-- `argument` after it. `usermove` with nothing after it is `Unknown`; `ping` and `protover` are `BadNumber` if
+-- `argument` is no number of 1 to 9 digits
 abbrev pub commands : List ℕ → List (List ℕ × Command)
 commands argument =
     (codes "new", New) ∷ (codes "setboard", SetBoard)
@@ -36,7 +36,7 @@ commands argument =
     ∷ (codes "showstate", ShowState) ∷ (codes "showpgn", ShowPgn) ∷ (codes "quit", Quit) ∷ []
 
 -- the command of a line with this first word and, after it, this argument: `Silent` for an ignored command or an empty
--- line; `None` if the word is no command's name, as `e2e4`
+-- word; `None` if the word is no command's name, as `e2e4`
 unfoldable pub named_command : List ℕ → List ℕ → Option Command
 named_command word argument = if bytes_eq word [] || is_ignored word then Some Silent
     else option_map (λ c. c.1) (find (λ c. bytes_eq word c.0) (commands argument))

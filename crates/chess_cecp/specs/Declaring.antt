@@ -21,8 +21,8 @@ result_comment text = if length text == 0 then Some []
     else None
 
 -- the result that `argument`, what follows the word `result` in a line, declares: an outcome (`1-0`, `0-1`, `1/2-1/2`
--- or `*`), and after it nothing or a comment in braces, of which 60 bytes are kept (`cut_comment`); `None` for any
--- other text
+-- or `*`), and after it nothing or a comment in braces, of which at most 60 bytes are kept (`cut_comment`); `None` for
+-- any other text
 unfoldable pub read_result : List ℕ → Option Declared
 read_result argument = do
   outcome ← outcome_of (word_of argument)

@@ -6,7 +6,7 @@ use Rattle.chess_game.specs.Game as game
 use Rattle.chess_game.specs.Game.{State, from_start}
 use Rattle.pgn_writer.specs.declared.tags.Tags.{Tags}
 
--- a session as contracts see it: the tags that `showpgn` writes, the most half-moves that its game may have, and the
+-- a session as contracts see it: the tags that `showpgn` is given, the most half-moves that its game may have, and the
 -- state of its game
 pub record SessionSeen : Type 0 where
   pub tags : Tags

@@ -20,9 +20,10 @@ lines_read i = stream_lines COMMAND_LEN i.ended i.text
 abbrev pub lines_before_last_read : FromInput → List LineSeen
 lines_before_last_read i = stream_lines COMMAND_LEN false i.early
 
--- the server `respond` answered the lines that were read: all of them if it ends with none (`ends` is false), otherwise
--- those up to the first with which it ends. Just their answers were written, and flushed, and no write or flush failed;
--- if a line was read, a flush succeeded, even if all answers are empty. `s` and `s'` are the states before and after
+-- the server `respond` answered the lines that were read: all if it ends with none (`ends` is false), otherwise the
+-- first with which it ends and those before it. Just their answers were written and flushed, and no write or flush
+-- failed; a flush succeeded just if a line was read, even with empty answers. `s` and `s'` are the states before and
+-- after
 abbrev pub AnswersAll : {S : Type 0} → Server S → S → S → Bool → FromInput → ToOutput → Type 0
 AnswersAll respond s s' ends i o = let due = responses respond s (lines_read i) in
     (o ≡ all_flushed (nat_lt 0 (length (lines_read i))) due.text) × (s' ≡ due.state) × (due.ends ≡ ends)
@@ -44,7 +45,7 @@ Served respond s s' (Ok Quit) i o = (i.failed ≡ false) × AnswersAll respond s
 Served respond s s' (Ok InputEnded) i o = IsWhole i × AnswersAll respond s s' false i o
 -- a read failed, and the input's end was not reported; the server answered all complete lines and ends with none
 Served respond s s' (Err Read) i o = (i.ended ≡ false) × (i.failed ≡ true) × AnswersAll respond s s' false i o
--- no read failed, but a write or a flush did, in the answer to a line after `n` others, which the last read completed
+-- no read failed, but a write or a flush did, in the answer to `line`, which the last read completed, after `n` others
 Served respond s s' (Err Write) i o =
     (i.failed ≡ false) × ((n : ℕ) × (line : LineSeen) × (slice_get (lines_read i) n ≡ Some line)
     × (length (lines_before_last_read i) ≤ n) × BreaksOffAt respond s s' (take n (lines_read i)) line o)

@@ -91,8 +91,8 @@ result_row s text (Some d) =
 abbrev pub declares : State → Declared → Response State
 declares s d = says (record s { declared = Some d }) (result_text d ++ new_line ∷ [])
 
--- the answer to `claim` in the game `s`: if the game is not over and a draw can be claimed (Laws, articles 9.2 and
--- 9.3), it is declared; otherwise the claim is refused
+-- the answer to `claim` in the game `s`: if the game is not over and a draw can be claimed (Laws, articles 9.2.2 and
+-- 9.3.2), it is declared; otherwise the claim is refused
 abbrev pub claim_row : State → Response State
 claim_row s = if is_over s then answers s (codes "Error (command not legal now): ") (codes "claim")
     else option_map_or (λ claim. declares s (record { outcome = Draw; comment = claim_comment claim }))
@@ -100,7 +100,7 @@ claim_row s = if is_over s then answers s (codes "Error (command not legal now):
 
 -- the answer to `variant` in the game `s`, by its argument (`text` is the whole line): `fischerandom` starts a new game
 -- of Chess960 at the initial position of normal chess; `normal` starts one of normal chess if `s` is of Chess960, and
--- otherwise changes nothing; any other variant is refused
+-- otherwise changes nothing; any other argument is refused
 abbrev pub variant_row : State → List ℕ → List ℕ → Response State
 variant_row s text argument =
     if bytes_eq argument (codes "fischerandom") then becomes (from_start (initial_setup_of Fischerandom))

@@ -148,6 +148,7 @@ impl<B: Board> Session<B> {
             Some(PlayRefusal::TooLong) => {
                 return write_line(answer, b"Error (game too long): ", text);
             }
+            // A move that was read is legal, so `refusal` never returns this.
             Some(PlayRefusal::Illegal) => unreachable!(),
             None => {}
         }

@@ -32,5 +32,6 @@ accepted tags limit s (w ∷ ws) (m ∷ ms) bare (unended, room, denotes, more) 
 pub read_games : ReadGamesAreAccepted
 read_games tags limit text at end is =
     let words = game_words limit text at end is in
-    accepted tags limit (from_start (pgn_read limit text at).state.start) words.0 (pgn_read limit text at).state.moves
+    accepted tags limit (from_start (pgn_read true limit text at).state.start) words.0
+    (pgn_read true limit text at).state.moves
     refl words.1

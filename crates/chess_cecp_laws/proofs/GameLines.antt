@@ -21,9 +21,9 @@ use Rattle.chess_cecp.specs.{Commands.command_of, Commands.is_ignored, Commands.
 use Rattle.chess_cecp.specs.Session.{answers, becomes_judged, claim_row, declares, move_row, moves_text, reading_row, result_row, row, setboard_row, take_back_row}
 use Rattle.chess_cecp.specs.declared.command.Command.TheVariants.{Claim, Declare, Remove, SetBoard, ShowFen, ShowMoves, ShowState, Undo, UserMove}
 use Rattle.chess_cecp.specs.declared.command.Command.TheVariants as commands
-use Rattle.chess_cecp_laws.specs.{GameLines.Declares, GameLines.GameLinesAreAnswered, GameLines.Plays, SessionLines.Becomes, SessionLines.IsAnswered, SessionLines.IsIgnored}
+use Rattle.chess_cecp_laws.specs.{GameLines.Declares, GameLines.GameLinesAreAnswered, GameLines.Plays, SessionLines.Becomes, SessionLines.IsAnswered, SessionLines.IsIgnored, SessionLines.response_to}
 use Rattle.chess_cecp_laws.proofs.SessionLines.{answered, if_false, if_true, responds, with_game}
-use Rattle.chess_cecp_laws.proofs.ShownLines.{fen_shown, moves_shown, state_shown}
+use Rattle.chess_cecp_laws.proofs.ShownLines.{fen_shown, moves_shown, stalemate_set, state_shown}
 
 -- the row of this line in the table
 abbrev row_of : SessionSeen → List ℕ → Command → Response State
@@ -377,6 +377,16 @@ module _ (session : SessionSeen) where
       (setboard_row s (Err faults.Kings)) refl
       (fen_row s (argument_of (codes "setboard 8/8/8/8/8/8/8/4K3 w - - 0 1")) faults.Kings e one_king) refl refl refl
 
+  ended : s.start.variant ≡ Normal
+      → (response_to session "setboard 7k/5Q2/6K1/8/8/8/8/8 b - - 0 1").text ≡ codes "1/2-1/2 {Stalemate}\n"
+  unfolding command_of named_command is_ignored
+  ended e =
+      ap (λ (r : Response SessionSeen). r.text)
+      (responds session "setboard 7k/5Q2/6K1/8/8/8/8/8 b - - 0 1" SetBoard refl)
+      ∙ ap (λ (v : Variant). (setboard_row s (fen_reading_as v
+      (argument_of (codes "setboard 7k/5Q2/6K1/8/8/8/8/8 b - - 0 1")))).text) e
+      ∙ stalemate_set s
+
 pub game_lines_are_answered : GameLinesAreAnswered
 game_lines_are_answered session = record {
   move_after_end = move_after_end session;
@@ -402,4 +412,5 @@ game_lines_are_answered session = record {
   other_result = other_result session;
   no_fen = no_fen session;
   no_king = no_king session;
+  ended = ended session;
 }

@@ -58,7 +58,7 @@ abbrev After : ℕ → State → State → Type 0
 After limit s next = (next ≡ s) ⊎ ((m : Move) × IsPlayed limit s m × (next ≡ played s m))
 
 word_plays : (limit : ℕ) (s : State) (left : ℕ) (word : List ℕ) (next : State) (r : Reading)
-    → reading (current s) word ≡ r → move_row limit s left r ≡ Goes_on next → After limit s next
+    → reading (current s) word ≡ r → move_row true limit s left r ≡ Goes_on next → After limit s next
 word_plays limit s left word next reads.NotAMove is e = absurd (cc)
 word_plays limit s left word next (reads.Move m) is e =
     let open_yet = open_row (verdict_now s) (nat_lt (length s.moves) limit) left (Goes_on (played s m)) next e in
@@ -73,7 +73,7 @@ word_plays limit s left word next reads.NoSuch is e =
 same_game : (s next : State) → Goes_on s ≡ Goes_on next → next ≡ s
 same_game s next e = cc
 
-token_goes_on : (limit total : ℕ) (s : State) (t : ℕ × Token) (next : State) → row limit total s t ≡ Goes_on next
+token_goes_on : (limit total : ℕ) (s : State) (t : ℕ × Token) (next : State) → row true limit total s t ≡ Goes_on next
     → After limit s next
 token_goes_on limit total s (left, Skip) next e = inl (same_game s next e)
 token_goes_on limit total s (left, Tag name string at_string) next e = absurd (cc)
@@ -82,7 +82,7 @@ token_goes_on limit total s (left, Word word) next e =
   where
     by_kind : (o : Option Outcome) (is_number is_mark : Bool)
         → option_map_or (λ k. Ends k (total - left + length word)) o
-        (cond (is_number || is_mark) (Goes_on s) (move_row limit s (total - left) (reading (current s) word)))
+        (cond (is_number || is_mark) (Goes_on s) (move_row true limit s (total - left) (reading (current s) word)))
         ≡ Goes_on next → After limit s next
     by_kind (Some o) is_number is_mark e = absurd (cc)
     by_kind None true is_mark e = inl (same_game s next e)
@@ -96,26 +96,26 @@ token_goes_on limit total s (left, Bad) next e = absurd (cc)
 -- ---- the moves
 
 moves_words : (limit total : ℕ) (termination : Option Termination) (s : State) (ts : List (ℕ × Token))
-    → IsEnd (moves_read limit total termination s ts).answer
-    → Words limit s (moves_read limit total termination s ts).state
+    → IsEnd (moves_read true limit total termination s ts).answer
+    → Words limit s (moves_read true limit total termination s ts).state
 moves_words limit total termination s [] h = absurd h
 moves_words limit total termination s (t ∷ ts) h =
-    by_row (row limit total s t) refl (λ n k. moves_words limit total termination n ts k) h
+    by_row (row true limit total s t) refl (λ n k. moves_words limit total termination n ts k) h
   where
-    by_row : (x : Row) → row limit total s t ≡ x
-        → ((n : State) → IsEnd (moves_read limit total termination n ts).answer
-        → Words limit n (moves_read limit total termination n ts).state)
-        → IsEnd (after_row termination s x (λ n. moves_read limit total termination n ts)).answer
-        → Words limit s (after_row termination s x (λ n. moves_read limit total termination n ts)).state
+    by_row : (x : Row) → row true limit total s t ≡ x
+        → ((n : State) → IsEnd (moves_read true limit total termination n ts).answer
+        → Words limit n (moves_read true limit total termination n ts).state)
+        → IsEnd (after_row termination s x (λ n. moves_read true limit total termination n ts)).answer
+        → Words limit s (after_row termination s x (λ n. moves_read true limit total termination n ts)).state
     by_row (Goes_on next) e later k = by_next (token_goes_on limit total s t next e) (later next k)
       where
-        by_next : After limit s next → Words limit next (moves_read limit total termination next ts).state
-            → Words limit s (moves_read limit total termination next ts).state
+        by_next : After limit s next → Words limit next (moves_read true limit total termination next ts).state
+            → Words limit s (moves_read true limit total termination next ts).state
         by_next (inl same) more =
-            subst (λ g. Words limit g (moves_read limit total termination next ts).state) same more
+            subst (λ g. Words limit g (moves_read true limit total termination next ts).state) same more
         by_next (inr (m, here, same)) later_words =
-            let more : Words limit (played s m) (moves_read limit total termination next ts).state =
-            subst (λ g. Words limit g (moves_read limit total termination next ts).state) same later_words in
+            let more : Words limit (played s m) (moves_read true limit total termination next ts).state =
+            subst (λ g. Words limit g (moves_read true limit total termination next ts).state) same later_words in
             record {
               words = here.word ∷ more.words;
               moves = m ∷ more.moves;
@@ -128,8 +128,8 @@ moves_words limit total termination s (t ∷ ts) h =
     by_row (Fails kind left) e later k = absurd k
 
 tags_words : (limit total : ℕ) (s : State) (tags ts : List (ℕ × Token))
-    → IsEnd (read_after_tags limit total s tags ts).answer
-    → Words limit s (read_after_tags limit total s tags ts).state
+    → IsEnd (read_after_tags true limit total s tags ts).answer
+    → Words limit s (read_after_tags true limit total s tags ts).state
 tags_words limit total s tags [] h = absurd h
 tags_words limit total s tags ((left, Skip) ∷ ts) h =
     moves_words limit total (termination_in tags) s ((left, Skip) ∷ ts) h
@@ -162,9 +162,9 @@ from_words limit p r w = subst (λ q. AreRead limit (from_start q) w.words r.mov
     (subst (λ ms. AreRead limit (from_start p) w.words ms) w.all w.are)
 
 pub game_words : (limit : ℕ) (text : List ℕ) (at : ℕ) (end : PgnEnd)
-    → (pgn_read limit text at).answer ≡ Ok (Some end)
-    → (words : List (List ℕ)) × AreRead limit (from_start (pgn_read limit text at).state.start) words
-    (pgn_read limit text at).state.moves
+    → (pgn_read true limit text at).answer ≡ Ok (Some end)
+    → (words : List (List ℕ)) × AreRead limit (from_start (pgn_read true limit text at).state.start) words
+    (pgn_read true limit text at).state.moves
 unfolding pgn_read
 game_words limit text at end is =
     let total : ℕ = length text in
@@ -173,12 +173,12 @@ game_words limit text at end is =
     let v : Variant = tagged_variant tags in
     let p : Setup = last_start (initial_setup_of v) (fens total v tags) in
     let rest : List (ℕ × Token) = drop (length tags) tokens in
-    let w : Words limit (from_start p) (pgn_read limit text at).state =
+    let w : Words limit (from_start p) (pgn_read true limit text at).state =
     by_game limit (from_start p) (from_start p) (list_all (λ (t : ℕ × Token). says_nothing t.1) tokens)
     (option_map_or (failed (from_start p)) (slice_get (filter_map result_err (fens total v tags)) 0)
-    (read_after_tags limit total (from_start p) tags rest))
+    (read_after_tags true limit total (from_start p) tags rest))
     (by_fault limit (from_start p) (slice_get (filter_map result_err (fens total v tags)) 0)
-    (read_after_tags limit total (from_start p) tags rest)
+    (read_after_tags true limit total (from_start p) tags rest)
     (tags_words limit total (from_start p) tags rest))
     (subst IsEnd (sym is) tt) in
-    (w.words, from_words limit p (pgn_read limit text at).state w)
+    (w.words, from_words limit p (pgn_read true limit text at).state w)

@@ -1,17 +1,19 @@
--- What a session shows of a game that has just begun, by computation.
+-- What a session shows of a game that has just begun, and how it answers the FEN of a stalemate, by computation.
 use Rattle.std.proofs.Common.{◌≡◌, refl, codes}
 use Rattle.std.specs.Fmt.{digits}
 use Rattle.chess_base.specs.Attacks.{is_clear, could_capture, attacks, is_attacked, is_in_check}
-use Rattle.chess_base.specs.Castling.{is_castling_to, castling, castle_of, castling_needs_empty, castling_way_is_empty, castling_way_is_safe, castles}
-use Rattle.chess_base.specs.{Initial.initial_setup, Initial.initial_setup_of, Men.is_of, Men.is_man, MoveList.all_moves, MoveList.moves}
+use Rattle.chess_base.specs.Castling.{king_square, right_is_sound, is_castling_to, castling, castle_of, castling_needs_empty, castling_way_is_empty, castling_way_is_safe, castles}
+use Rattle.chess_base.specs.{Faults.rights_are_sound, Initial.initial_setup, Initial.initial_setup_of, Men.is_of, Men.is_man, MoveList.all_moves, MoveList.moves, declared.man.Variant.TheVariants.Normal}
 use Rattle.chess_base.specs.Moves.{is_double_advance, is_en_passant, pawn_advances, pawn_captures, pawn_moves, man_moves, is_pseudo_legal, captured_square, men_after, rights_after, target_after, resets_clock, halfmove_after, after, is_legal}
+use Rattle.chess_base.specs.Sound.{has_one_king, no_pawn_on_end_ranks, has_at_most_16, target_is_sound}
 use Rattle.chess_base.specs.Squares.{squares, some_square, each_square, is_between}
-use Rattle.chess_fen.specs.Writing.{fen, placement_text}
+use Rattle.chess_fen.specs.{Reading.fen_reading_as, Texts.may_name_right, Writing.fen, Writing.placement_text}
 use Rattle.chess_game.specs.Ends.{has_bishop_on, has_insufficient_material, result_text, verdict}
-use Rattle.chess_game.specs.Game.{current, from_start}
+use Rattle.chess_game.specs.Game.{State, current, from_start}
 use Rattle.chess_game.specs.Same.{is_same_position, legal_en_passant_square, repetition_count, same_men, same_rights}
 use Rattle.chess_text.specs.San.{shown_move}
-use Rattle.chess_cecp.specs.{Declaring.state_text, Session.moves_text}
+use Rattle.chess_cecp.specs.{Declaring.state_text, Session.moves_text, Session.setboard_row}
+use Rattle.text_lines.specs.Words.{argument_of}
 
 pub fen_shown : fen (current (from_start initial_setup))
     ≡ codes "rnbqkbnr/pppppppp/8/8/8/8/PPPPPPPP/RNBQKBNR w KQkq - 0 1"
@@ -36,3 +38,13 @@ unfolding squares some_square each_square is_between is_of is_man is_clear could
     after is_legal digits verdict has_bishop_on has_insufficient_material same_men same_rights legal_en_passant_square
     is_same_position repetition_count result_text state_text
 state_shown = refl
+
+pub stalemate_set : (s : State) → (setboard_row s (fen_reading_as Normal
+    (argument_of (codes "setboard 7k/5Q2/6K1/8/8/8/8/8 b - - 0 1")))).text ≡ codes "1/2-1/2 {Stalemate}\n"
+unfolding squares some_square each_square is_between is_of is_man is_clear could_capture attacks is_attacked is_in_check
+    king_square right_is_sound rights_are_sound has_one_king no_pawn_on_end_ranks has_at_most_16 target_is_sound
+    may_name_right is_castling_to castling castle_of castling_needs_empty castling_way_is_empty castling_way_is_safe
+    castles all_moves moves is_double_advance is_en_passant pawn_advances pawn_captures pawn_moves man_moves
+    is_pseudo_legal captured_square men_after rights_after target_after resets_clock halfmove_after after is_legal
+    verdict result_text argument_of
+stalemate_set s = refl

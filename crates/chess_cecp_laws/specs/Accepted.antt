@@ -1,5 +1,5 @@
 -- Games that were read are accepted by a session, move by move.
-use Rattle.std.specs.Prelude.{◌≡◌, ℕ, List, [], ◌∷◌, Some, Ok}
+use Rattle.std.specs.Prelude.{◌≡◌, ℕ, true, List, [], ◌∷◌, Some, Ok}
 use Rattle.chess_base.specs.declared.man.Move.{Move}
 use Rattle.chess_game.specs.Game.{State, from_start, played, current}
 use Rattle.chess_text.specs.declared.reading.Reading.TheVariants as reads
@@ -24,5 +24,6 @@ AreAccepted tags limit s (m ∷ ms) =
 abbrev pub ReadGamesAreAccepted : Type 0
 ReadGamesAreAccepted =
     (tags : Tags) → (limit : ℕ) → (text : List ℕ) → (at : ℕ) → (end : PgnEnd)
-    → (pgn_read limit text at).answer ≡ Ok (Some end)
-    → AreAccepted tags limit (from_start (pgn_read limit text at).state.start) (pgn_read limit text at).state.moves
+    → (pgn_read true limit text at).answer ≡ Ok (Some end)
+    → AreAccepted tags limit (from_start (pgn_read true limit text at).state.start)
+    (pgn_read true limit text at).state.moves

@@ -94,6 +94,9 @@ pub record ByTheGame (session : SessionSeen) : Type 0 where
       → IsAnswered session "setboard e4" "tellusererror Illegal position (fields)\n"
   pub no_king : session.state.start.variant ≡ Normal
       → IsAnswered session "setboard 8/8/8/8/8/8/8/4K3 w - - 0 1" "tellusererror Illegal position (kings)\n"
+  -- a FEN of a position that ends its game: a stalemate (5.2.1)
+  pub ended : session.state.start.variant ≡ Normal
+      → (response_to session "setboard 7k/5Q2/6K1/8/8/8/8/8 b - - 0 1").text ≡ codes "1/2-1/2 {Stalemate}\n"
 
 -- in every session these lines are answered as `ByTheGame` says
 abbrev pub GameLinesAreAnswered : Type 0

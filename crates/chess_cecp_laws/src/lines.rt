@@ -22,11 +22,11 @@ pub fn session_lines_are_answered()
 
 /// A law: the contract says it, and the function does nothing. By what a session's game is, some lines have these
 /// answers: a move while the game is on, moves and `claim` after the end, a move beyond the limit, `undo` and `remove`
-/// of one or two half-moves, `variant normal`, `claim`, `result`, `setboard` of two FENs that are refused, and what is
-/// shown of a game that has just begun.
+/// of one or two half-moves, `variant normal`, `claim`, `result`, `setboard` of two FENs that are refused and of a
+/// stalemate's, and what is shown of a game that has just begun.
 ///
-/// It refuses a result against the board's verdict that is taken, a move more than the limit, a mate that is not
-/// answered, and an `undo` that keeps a declared result.
+/// It refuses a result against the board's verdict that is taken, a move more than the limit, a mate or a stalemate
+/// that is not answered, and an `undo` that keeps a declared result.
 pub fn game_lines_are_answered()
     ensures { GameLinesAreAnswered }
 {}

@@ -55,6 +55,7 @@ pub record DenotesFields (v : Variant) (a b c d : List ℕ) (counters_text : Lis
   pub variant : p.variant ≡ v
   pub men : DenotesPlacement a p.men
   pub side : b ≡ side_text p.side
+  -- c has the form of a castling field; which rights it names depends on the pieces
   pub castling : IsTrue (is_castling_field v c)
   pub rights : p.rights ≡ rights_in v p.men c
   pub target : DenotesTarget d p.target

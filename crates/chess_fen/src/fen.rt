@@ -61,6 +61,7 @@ fn fen_text(position: &Position) -> ArrayString<95>
     let mut text = ArrayString::new();
     match str::from_utf8(fen.as_slice()) {
         Ok(written) => text.push_str(written),
+        // All its bytes are ASCII.
         Err(_) => unreachable!(),
     }
     text

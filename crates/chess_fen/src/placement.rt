@@ -42,8 +42,8 @@ fn ends_field(text: &[u8]) -> bool
 }
 
 // Reads the pieces that a FEN's first field denotes, eight ranks, rank 8 first, with `/` between them, onto a board
-// that is still empty. Returns the text after the field, whose first space ends it; `None` if the field denotes no
-// pieces.
+// that is still empty. Returns the text from the space on that ends the field (an empty one if none does); `None` if
+// the field denotes no pieces.
 pub(crate) fn read_placement<'t>(text: &'t [u8], men: &mut [Option<Man>; 64]) -> Option<&'t [u8]>
     requires empty { men.old ≡ replicate 64 None }
     ensures read { IfSome result (λ rest. PlacementIsRead text.now men.new rest.now) }

@@ -17,7 +17,7 @@ use crate::repetition::Hashed;
 use chess_base::reserve_never_grows;
 use std::alloc::{AllocError, Global};
 
-// How many buckets there are.
+// How many buckets there are: more than a game has positions, which are at most 20,001 (`MOST_MOVES` and the start).
 const BUCKETS: usize = 32_768;
 
 // What the index keeps for a position that a played move reached.

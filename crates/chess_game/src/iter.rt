@@ -208,7 +208,7 @@ impl<'g> ExactSizeIterator for Positions<'g> {
 impl<'g> FusedIterator for Positions<'g> {}
 
 impl<'g> fmt::Debug for Positions<'g> {
-    // Writes how many positions are left.
+    // Writes only how many positions are left: each, written out, has 64 squares.
     fn fmt<W: fmt::Write>(&self, f: &mut fmt::Formatter<W>) -> fmt::Result {
         let left = self.len();
         f.debug_struct("Positions").field("left", &left).finish()

@@ -9,9 +9,9 @@ use Rattle.chess_match.specs.Table.{Does, LooksFor, ReadsLine, FindsNoLine, Pass
 use Rattle.chess_match.specs.ties.Driving.{is_line_event, is_of_output, is_silence, looks_of, steps_of}
 
 -- an event without items that is no line and no silence
-pub bare : (plays : Rules → Type 0) (old new : Passing) (core : MatchState) (played : List Move) (core' : MatchState)
-    (given : Actions) (text : List ℕ) (S : Colour) (n n' : ℕ) (until : Option ℕ) (e : Event) → is_of_output S e ≡ true
-    → is_line_event e ≡ false → is_silence e ≡ false → text ≡ []
+pub without_items : (plays : Rules → Type 0) (old new : Passing) (core : MatchState) (played : List Move)
+    (core' : MatchState) (given : Actions) (text : List ℕ) (S : Colour) (n n' : ℕ) (until : Option ℕ) (e : Event)
+    → is_of_output S e ≡ true → is_line_event e ≡ false → is_silence e ≡ false → text ≡ []
     → Passes old new (looks_of until e ++ steps_of e)
     → ((r : Rules) (m : Match) → plays r → awaits_line m.phase S ≡ true → Represents r core played m
     → Goes r core' played given nothing_said (effect r m e))
@@ -22,7 +22,7 @@ pub bare : (plays : Rules → Type 0) (old new : Passing) (core : MatchState) (p
     × ((r : Rules) (m : Match) → plays r → awaits_line m.phase S ≡ true → Represents r core played m
     → Goes r core' played given items (effect r m x))
 unfolding bytes_of
-bare plays old new core played core' given text S n n' until e is line silence empty passes goes = (
+without_items plays old new core played core' given text S n n' until e is line silence empty passes goes = (
   e,
   nothing_said,
   is,
@@ -84,6 +84,7 @@ as_line old new S result line u until at e whole p = subst (λ (b : Bool). Passe
     (LooksFor S until ∷ (if b then ReadsLine S (text_read line) else Does (Happens (OutputEnds S))) ∷ [])) whole
     (by_result old new S result (Ok (Some true)) line u until at e p)
 
+-- a line that was read leaves fewer to come
 pub line_falls : {E : Type 0} (S : Colour) (result : Result (Option Bool) E) (line : LineSeen) (n n' : ℕ)
     → result ≡ Ok (Some true) → line.ended ≡ true
     → ((text : Option (List ℕ)) → reading_until S result line ≡ ReadsLine S text → n' < n) → n' < n

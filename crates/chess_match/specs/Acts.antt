@@ -49,8 +49,9 @@ awaits_line (BeforeMove side opened) S = same_colour side S
 awaits_line (AfterMove side) S = same_colour side S
 awaits_line _ S = false
 
--- whether a line is waited for only until some moment in this phase: before a move, if a flag falls without a line
--- (`patience.flag`); otherwise, if replies have a limit (`patience.reply`)
+-- whether in this phase a line is waited for only up to a limit: before a move, if a flag falls without a line
+-- (`patience.flag`); otherwise, if replies have a limit (`patience.reply`). It means nothing where no line is awaited
+-- (`awaits_line`)
 abbrev pub is_limited : Patience → Phase → Bool
 is_limited patience (BeforeMove side opened) = patience.flag
 is_limited patience _ = is_some patience.reply
@@ -73,9 +74,11 @@ waits_until r _ m = option_map (λ limit. option_map_or (λ since. first_beyond 
 -- this event may come in this phase. A failed write is no act `Happens`, but an act `SendFails`
 abbrev pub MayCome : Patience → Phase → Event → Type 0
 MayCome patience phase (Line S text moment) = awaits_line phase S ≡ true
+-- a look finds no line only where it has a limit
 MayCome patience phase (Silent S moment) = (awaits_line phase S && is_limited patience phase) ≡ true
 MayCome patience phase (OutputEnds S) = awaits_line phase S ≡ true
 MayCome patience phase (FailsToRead S) = awaits_line phase S ≡ true
+-- the clock is read once the lines of an opening are sent
 MayCome patience phase (Opened S moment) = phase ≡ Opening S
 MayCome patience phase (FailsToWrite S) = ⊥
 
@@ -91,8 +94,8 @@ due_after (Line S text moment) done = blocks_from (if is_over done.after.phase t
 due_after event done = blocks_from White done.to
 
 -- the state and the blocks due after a block for this side could not be sent; `m` is the state before, and `due` are
--- the other blocks due. If the match was over, these are still sent. Otherwise the failure ends it, and only the other
--- side's last lines are due
+-- the other blocks due. If the match was over, these are still sent. Otherwise the failure ends it; the effect of that
+-- has no lines for this side, so only the other side's last lines are due
 abbrev pub after_failed_send : Rules → Match → List Block → Colour → Match × List Block
 after_failed_send r m due side = let done = effect r m (FailsToWrite side) in
     if is_over m.phase then (m, due) else (done.after, blocks_from White done.to)

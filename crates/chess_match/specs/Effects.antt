@@ -55,10 +55,10 @@ pub record Match : Type 0 where
   pub seat : Colour → Seat
   -- the moves so far
   pub played : List Move
-  -- how many lines came so far in this handshake, or were ignored so far in this setup or turn
+  -- how many lines came so far in this handshake, or were ignored so far in this setup or turn; meaningless at the end
   pub count : ℕ
-  -- the moment from which the time for a reply runs: that of the last line that counted (a `feature` line, `pong 1` or
-  -- a line before a move), until one counts that of the first silence; `None` before both
+  -- the moment from which the time for a reply runs: that of the last line that counted (`feature` in a handshake,
+  -- `pong 1` in a setup, any before a move), until one counts that of the first silence; `None` before both
   pub since : Option ℕ
 
 -- what an event does: the match after it, and the lines that each side is then sent (`to`)
@@ -114,7 +114,7 @@ move_line r m S = MoveSent (takes (codes "usermove") (m.seat S).items)
     (text_of_last (takes (codes "san") (m.seat S).items) r.start m.played)
 
 -- the lines that open a turn of the side `S`: in its first turn the last move (if one was made), the clocks and `go`;
--- in later turns the clocks and the last move. The clocks, in centiseconds rounded down, are left out after `time=0`
+-- in later turns the clocks and the last move. The clocks (centiseconds, rounded down) are left out if `time` is off
 abbrev pub opening : Rules → Match → Colour → List SentLine
 opening r m S = let last = list_if (nat_lt 0 (length m.played)) (move_line r m S ∷ []) in
     let times = Time (clock r m S / 10) ∷ Otim (clock r m (other S) / 10) ∷ [] in
@@ -222,7 +222,7 @@ flag_row r S m = let bare = has_bare_king (other S) (position_after r.start m.pl
 
 -- ---- silences
 
--- the match `m` once its reply is awaited since this moment
+-- the match `m`, but the time for a reply runs from this moment
 abbrev pub awaited_since : ℕ → Match → Match
 awaited_since moment m = record m { since = Some moment }
 
@@ -238,7 +238,7 @@ reply_row r S fault moment m = let since = unwrap_or m.since moment in
 abbrev pub silence_row : Rules → Phase → Colour → ℕ → Match → Effect
 silence_row r (Handshake side) S moment m = reply_row r S NoHandshake moment m
 silence_row r (Setup side) S moment m = reply_row r S NoAnswer moment m
--- before a move: if `S` has used more than it has left, its flag has fallen, as with a line
+-- before a move: if `S` has used more than it had left, its flag has fallen, as with a line
 silence_row r (BeforeMove side opened) S moment m =
     if nat_lt (clock r m S) (moment - opened) then flag_row r S m else sends_nothing m
 silence_row r (AfterMove side) S moment m = reply_row r S NoAnswer moment m
@@ -257,7 +257,7 @@ judged r None (Some fault) m = ends r (Faulted Black fault) (record m { count = 
 -- neither does: White's setup begins
 judged r None None m = sends_to White (setup_lines r White) (record m { phase = Setup White; count = 0 })
 
--- what follows when the handshake of this side is done: after White's comes Black's, and then what each engine lacks
+-- what follows when the handshake of this side is done: after White's comes Black's, and then both engines are `judged`
 abbrev pub handshake_done : Rules → Colour → Match → Effect
 handshake_done r White m = sends_to Black handshake_lines (record m { phase = Handshake Black; count = 0 })
 handshake_done r Black m = judged r (missing r (m.seat White).items) (missing r (m.seat Black).items) m
@@ -298,7 +298,7 @@ line_row r (Handshake S) kind _ m = handshake_row r S [] m
 line_row r (Setup S) (Answers n) moment m =
     if n == 1 then setup_done r S (awaited_since moment m) else ignores r S m
 line_row r (Setup S) kind _ m = ignores r S m
--- before a move: if the time used is more than `S` has left, the flag has fallen, whatever the line says
+-- before a move: if the time used is more than `S` had left, the flag has fallen, whatever the line says
 line_row r (BeforeMove S opened) kind moment m =
     if nat_lt (clock r m S) (moment - opened) then flag_row r S m
     else before_move r S (moment - opened) kind (awaited_since moment m)

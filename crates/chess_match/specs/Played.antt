@@ -84,8 +84,8 @@ pub record ReportedAs (r : Rules) (H : List Act) (final : Match) (reason : Reaso
   pub fault : end.fault ≡ reported_fault reason (λ S. nat_lt 0 (length (flat_map (broken_block S) H)))
 
 -- a match of the acts `H` was played from the world `w` to `w'`, as `setup` says, for at most as many half-moves as the
--- game's limit. It ended for this reason, and was reported as `end`. In `w'` the game has the moves of the match, and
--- the reason's result is declared in it, unless the board has a verdict; what was in it before is gone
+-- game's limit. It ended for this reason, and was reported as `end`. In `w'` the game has the match's start and moves,
+-- and the reason's result is declared in it, unless the board has a verdict; of the game before, only the limit stays
 abbrev pub PlayedBy : List Act → Reason → Setup → MatchEnd → World → World → Type 0
 PlayedBy H reason setup end w w' =
     let r = rules_of setup.start (of_colour setup.levels) setup.patience setup.draws w.game.limit in

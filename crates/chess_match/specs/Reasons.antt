@@ -38,8 +38,9 @@ fault_comment NoHandshake = codes " sent no done=1 (a UCI engine needs polyglot)
 fault_comment NoAnswer = codes " did not answer"
 
 -- how a match that ended for this reason is reported: its outcome; its comment, without braces; and how it ended, for
--- the tag Termination. The side `c` that a reason names loses, but by a fault of its engine or a device (`Faulted`):
--- then, and if the game is too long, the outcome is `*`
+-- the tag Termination. The side `c` that a reason names loses, except by a fault of its engine or a device (`Faulted`):
+-- then, and if the game is too long, the outcome is `*`. With `*` the third part says nothing: the tag is
+-- `unterminated`, whatever it is (`termination_of` of pgn_writer)
 abbrev pub reported : Reason → Outcome × List ℕ × HowEnded
 reported (Decided v) = ((verdict_result v).outcome, (verdict_result v).comment, Normal)
 reported (Claimed claim) = (Draw, claim_comment claim, Normal)

@@ -404,7 +404,7 @@ fn said(line: &Line<ENGINE_LINE_LEN>) -> EngineLine<'_>
 
 // Takes a line of this side's engine: the clock is read, the line is noted, and the match goes on by it. Returns what
 // is to be sent; the answers to the line's items go to `block`, which must be empty.
-#[tactic(auto, using(crate::proofs::Delivers::counted, crate::proofs::Delivers::few, crate::proofs::Delivers::undecided))]
+#[tactic(auto, using(crate::proofs::LineNeeds::counted, crate::proofs::LineNeeds::few, crate::proofs::LineNeeds::undecided))]
 fn take_line<T: MatchTable, G: MatchGame>(
     table: &mut T,
     core: &mut MatchState,

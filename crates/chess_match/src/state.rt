@@ -61,10 +61,10 @@ pub(crate) struct MatchState {
     pub draws: Draws,
 }
 
-/// So many ignored lines in one setup or turn end the match.
+/// So many ignored lines in one setup or turn end the match, so that no flood of lines goes on for ever.
 pub(crate) const FLOOD_LEN: u32 = 10_000;
 
-/// So many lines in one handshake without `done=1` end the match.
+/// So many lines in one handshake without `done=1` end the match, for the same reason.
 pub(crate) const HANDSHAKE_LEN: u32 = 1_000;
 
 /// Nothing is sent.

@@ -1,9 +1,9 @@
 -- A side is sent `draw` only where the other side offers one.
-use Rattle.std.proofs.Common.{◌≡◌, ◌∙◌, ◌⊎◌, ℕ, suc, ◌+◌, ◌-◌, ◌≤◌, Bool, true, false, not, ◌&&◌, List, [], ◌∷◌, ◌++◌, length, length-append, refl, sym, ap, subst, inl, inr, append-nil, arith, Option, flat_map, codes, if◌then◌else◌}
+use Rattle.std.proofs.Common.{◌≡◌, ◌∙◌, ◌⊎◌, ℕ, suc, ◌+◌, ◌-◌, ◌≤◌, Bool, true, false, not, ◌&&◌, List, [], ◌∷◌, ◌++◌, length, length-append, refl, sym, ap, subst, inl, inr, arith, Option, flat_map, codes, if◌then◌else◌}
 use Rattle.std.proofs.{lemmas.Bool.and_parts, lemmas.Bool.or_cases, lemmas.Grind.flat_map-append}
 use Rattle.chess_base.specs.{declared.man.Colour.Colour, declared.man.Colour.TheVariants.White, declared.man.Colour.TheVariants.Black, Men.other, Men.same_colour, Options.list_if}
 use Rattle.cecp_engine.specs.{EngineLines.LineKind, Items.takes}
-use Rattle.chess_match.specs.Acts.{Act, Block, IsMatchFrom, awaits_line, blocks_from, is_over}
+use Rattle.chess_match.specs.Acts.{Act, Block, awaits_line, blocks_from, is_over}
 use Rattle.chess_match.specs.Effects.{Effect, Match, Phase, Handshake, Setup, Opening, BeforeMove, AfterMove, Over, beginning, effect, ends, handshake_lines, line_row, moved, opening}
 use Rattle.chess_match.specs.{Events.Line, Lines.SentLine, Lines.Says, Lines.setup_lines, Rules.Rules, declared.reason.MatchFault.TheVariants.Ended, declared.reason.MatchFault.TheVariants.Read, declared.reason.MatchFault.TheVariants.Write, declared.reason.Reason.Reason, declared.reason.Reason.TheVariants.Claimed, declared.reason.Reason.TheVariants.Decided, declared.reason.Reason.TheVariants.Faulted, laws.Laws.line_kind, laws.Laws.lines_given, laws.Laws.lines_read}
 use Rattle.chess_match.proofs.shared.LineCases.{in_turn, line_cases, offering, said_by}

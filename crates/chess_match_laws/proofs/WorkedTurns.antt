@@ -1,10 +1,17 @@
 -- What lines of engines do in a match, by computation.
-use Rattle.std.proofs.Common.{refl}
+use Rattle.std.proofs.Common.{◌≡◌, false, true, refl}
+use Rattle.chess_base.specs.Attacks.{is_clear, could_capture, attacks, is_attacked, is_in_check}
+use Rattle.chess_base.specs.Castling.{is_castling_to, castling, castle_of, castling_needs_empty, castling_way_is_empty, castling_way_is_safe, castles}
+use Rattle.chess_base.specs.{Initial.initial_setup, Initial.initial_setup_of, Men.is_of, Men.is_man, MoveList.all_moves, MoveList.moves, declared.man.Colour.TheVariants.White}
+use Rattle.chess_base.specs.Moves.{is_double_advance, is_en_passant, pawn_advances, pawn_captures, pawn_moves, man_moves, is_pseudo_legal, captured_square, men_after, rights_after, target_after, resets_clock, halfmove_after, after, is_legal}
+use Rattle.chess_base.specs.Squares.{squares, some_square, each_square, is_between}
+use Rattle.chess_game.specs.Same.{is_same_position, legal_en_passant_square, repetition_count, same_men, same_rights}
+use Rattle.chess_match.specs.{Effects.Over, Lines.bytes_of, declared.reason.Reason.TheVariants.Agreed}
 use Rattle.text_lines.specs.Words.{argument_of, command_number}
 use Rattle.cecp_engine.specs.EngineLines.{kind_of}
-use Rattle.cecp_engine.specs.Items.{item_of, items_of}
+use Rattle.cecp_engine.specs.Items.{item_of, items_of, takes}
 use Rattle.cecp_engine.specs.Levels.{allotted}
-use Rattle.chess_match_laws.specs.WorkedTurns.{ClaimsAreJudged, RepliesAreTimed}
+use Rattle.chess_match_laws.specs.WorkedTurns.{ClaimsAreJudged, IgnoredAreCounted, OffersAreJudged, RepliesAreTimed, SendsBlack, by_line, offered_by}
 
 pub claims_are_judged : ClaimsAreJudged
 unfolding allotted argument_of command_number kind_of
@@ -14,9 +21,52 @@ claims_are_judged = record {
   white_gives_in = refl;
   black_gives_in = refl;
   resigns = refl;
+  rejects = refl;
+  rejects_nothing = refl;
   claims_later = refl;
   gives_in_later = refl;
 }
+
+-- ---- a claim of a draw before any move, where none may be claimed
+
+claim_passed_on : SendsBlack (by_line (offered_by false false) White "1/2-1/2") "draw\n"
+unfolding squares some_square each_square is_between is_of is_man is_clear could_capture attacks is_attacked is_in_check
+    is_castling_to castling castle_of castling_needs_empty castling_way_is_empty castling_way_is_safe castles
+    initial_setup initial_setup_of all_moves moves is_double_advance is_en_passant pawn_advances pawn_captures
+    pawn_moves man_moves is_pseudo_legal captured_square men_after rights_after target_after resets_clock halfmove_after
+    after is_legal same_men same_rights legal_en_passant_square is_same_position repetition_count allotted
+    argument_of bytes_of command_number item_of items_of kind_of takes
+claim_passed_on = refl
+
+claim_agreed : (by_line (offered_by false true) White "1/2-1/2").after.phase ≡ Over Agreed
+unfolding squares some_square each_square is_between is_of is_man is_clear could_capture attacks is_attacked is_in_check
+    is_castling_to castling castle_of castling_needs_empty castling_way_is_empty castling_way_is_safe castles
+    initial_setup initial_setup_of all_moves moves is_double_advance is_en_passant pawn_advances pawn_captures
+    pawn_moves man_moves is_pseudo_legal captured_square men_after rights_after target_after resets_clock halfmove_after
+    after is_legal same_men same_rights legal_en_passant_square is_same_position repetition_count allotted
+    argument_of command_number kind_of
+claim_agreed = refl
+
+pub offers_are_judged : OffersAreJudged
+unfolding allotted argument_of bytes_of command_number item_of items_of kind_of takes
+offers_are_judged = record {
+  offer = refl;
+  not_back = refl;
+  is_open = refl;
+  again = refl;
+  agreed = refl;
+  claim = claim_passed_on;
+  claim_agreed = claim_agreed;
+}
+
+pub ignored_are_counted : IgnoredAreCounted
+unfolding squares some_square each_square is_between is_of is_man is_clear could_capture attacks is_attacked is_in_check
+    is_castling_to castling castle_of castling_needs_empty castling_way_is_empty castling_way_is_safe castles
+    initial_setup initial_setup_of all_moves moves is_double_advance is_en_passant pawn_advances pawn_captures
+    pawn_moves man_moves is_pseudo_legal captured_square men_after rights_after target_after resets_clock halfmove_after
+    after is_legal same_men same_rights legal_en_passant_square is_same_position repetition_count allotted
+    argument_of command_number kind_of
+ignored_are_counted = record { setup = refl; turn = refl }
 
 pub replies_are_timed : RepliesAreTimed
 unfolding argument_of command_number item_of items_of kind_of

@@ -140,10 +140,14 @@ AreSilent silent H = (S : Colour) (n : ℕ) → n < length (looks S H) → slice
 -- lines, or all of them if its output ended or a read failed; none had come where `s.silent` says so; and the moments
 -- shown are the first of the clock's
 pub record ReadFrom (s : Streams) (H : List Act) : Type 0 where
+  -- `rest` are the lines that were not read
   pub lines : (S : Colour) → (rest : List (Option (List ℕ))) × (s.lines S ≡ lines_read S H ++ rest)
+  -- an output that ended gave all its lines, and did not fail
   pub ends : (S : Colour) → has_ended S H ≡ true → (s.lines S ≡ lines_read S H) × (s.fails S ≡ false)
+  -- one of which a read failed gave all its lines, and fails
   pub failures : (S : Colour) → has_failed_read S H ≡ true → (s.lines S ≡ lines_read S H) × (s.fails S ≡ true)
   pub silences : AreSilent s.silent H
+  -- the moment at the index n is that of the reading n
   pub moments : (n : ℕ) → n < length (moments_shown H) → slice_get (moments_shown H) n ≡ Some (s.moments n)
 
 -- the acts `H` come from these engines and this clock (`s`): they read what these give, and sending a block failed just
@@ -184,6 +188,7 @@ pub record ShowsAll (w w' : World) : Type 0 where
   pub reads : (S : Colour) → (w.engines S).input.failure_count < 2 ^ 64 - 1
   pub writes : (S : Colour) → (w.engines S).output.failure_count < 2 ^ 64 - 1
   pub moments : (n : ℕ) → is_some (w.coming n) ≡ true
+  -- no failure was counted, or the input shows how much was flushed
   pub sent : (S : Colour) → ((w'.engines S).output.failure_count ≡ (w.engines S).output.failure_count)
       ⊎ ShowsFlushed (w.engines S).output (w'.engines S).output
 
@@ -332,8 +337,9 @@ OtherTimesAreClocks r H m = (S : Colour) → (rest : List ℕ) × (length rest �
     else drop 1 (centiseconds (r.level (other S)) 0 0 (m.seat (other S)).used))
     else []))
 
--- the milliseconds from when each turn of the side `S` was opened to its first `move` line after that (0 if the clock
--- went back). `opened` is when the present turn of `S` was opened; `None` if no move of `S` is awaited
+-- the times in these acts, in milliseconds, from when each turn of the side `S` was opened to its first `move` line
+-- after that (0 if the clock went back). `opened` is when the present turn of `S` was opened before them; `None` if no
+-- move of `S` is awaited
 abbrev pub move_times : Colour → Option ℕ → List Act → List ℕ
 move_times S opened [] = []
 move_times S opened (Happens (Line side text moment) ∷ H) =

@@ -105,21 +105,25 @@ abbrev pub is_move_of : Colour → Act → Bool
 is_move_of S (Happens (Line side text moment)) = same_colour side S && is_move (line_kind text)
 is_move_of S _ = false
 
--- a draw was agreed by these acts: one side offered it, and then the other, by the last line of all; and in between the
--- latter made no move, since by that the offer would have lapsed
+-- a draw was agreed by these acts: the other side offered it by the line `offer`, and later `side` did so by the line
+-- `answer`, the last line of the match. In between `side` made no move, by which the offer would have lapsed
 pub record IsAgreed (H : List Act) : Type 0 where
+  -- the side that answers
   pub side : Colour
   pub before : List Act
   pub offer : Option (List ℕ)
+  -- the moment that the clock showed after that line
   pub offered_at : ℕ
   pub between : List Act
   pub answer : Option (List ℕ)
   pub answered_at : ℕ
   pub after : List Act
   pub acts : H ≡ before ++ Happens (Line (other side) offer offered_at) ∷ between ++ Happens (Line side answer answered_at) ∷ after
+  -- each of the two lines is `offer draw` or `1/2-1/2`
   pub offered : is_offer (line_kind offer) ≡ true
   pub answered : is_offer (line_kind answer) ≡ true
   pub no_move : list_any (is_move_of side) between ≡ false
+  -- after the answer only blocks were sent: no line was read
   pub last : only_sends after ≡ true
 
 -- in every match that ended by agreement one side offered a draw, and then the other (`IsAgreed`)

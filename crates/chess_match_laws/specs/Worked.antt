@@ -99,6 +99,7 @@ pub record LevelsGive : Type 0 where
   pub forty : level_of (codes "40 5 0") ≡ Some forty_in_five
   pub twelve : level_of (codes "0 2 12") ≡ Some two_and_twelve
   pub short : level_of (codes "0 0:30 0.1") ≡ Some (record { moves = 0; base = 30000; increment = 100 })
+  -- seconds are below 60
   pub seconds : level_of (codes "0 0:60 0") ≡ None
   pub shown : level_text (record { moves = 0; base = 8500; increment = 100 }) ≡ codes "0 0:08.5 0.1"
   -- before the first move, after 39 moves, and after 40, with which the second session begins

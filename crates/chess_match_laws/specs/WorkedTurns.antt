@@ -1,13 +1,14 @@
--- What lines of engines do in a match, worked out: who loses by claiming a result, and from which moment on the time
--- for a reply runs.
-use Rattle.std.specs.Prelude.{◌≡◌, ℕ, List, [], ◌∷◌, codes, Option, None, Some}
+-- What lines of engines do in a match, worked out: who loses by claiming a result or rejecting a move, what an offer of
+-- a draw does, when the count of ignored lines begins anew, and from which line on the time for a reply runs.
+use Rattle.std.specs.Prelude.{◌≡◌, ℕ, Bool, true, false, List, [], ◌∷◌, codes, Option, None, Some}
 use Prim.Native.String.{String as Text}
 use Rattle.chess_base.specs.declared.man.Colour.{Colour}
 use Rattle.chess_base.specs.declared.man.Colour.TheVariants.{White, Black}
-use Rattle.chess_match.specs.Effects.{AfterMove, BeforeMove, Match, Over, Phase, Setup, beginning, effect}
+use Rattle.chess_base.specs.ByColour.{by_colour}
+use Rattle.chess_match.specs.Effects.{AfterMove, BeforeMove, Effect, Match, Over, Phase, Setup, beginning, effect}
 use Rattle.chess_match.specs.Events.{Line}
 use Rattle.chess_match.specs.declared.reason.Reason.TheVariants as over_by
-use Rattle.chess_match_laws.specs.Worked.{seat_of, worked_rules}
+use Rattle.chess_match_laws.specs.Worked.{AreSentAs, after_e4, seat_of, worked_rules}
 
 -- a match of 40 moves in 5 minutes in this phase, before any move; at the moment 2,000 came the last line that counted
 abbrev pub match_in : Phase → Match
@@ -19,11 +20,15 @@ match_in phase = record {
   since = Some 2000;
 }
 
+-- what this line of the side `S` does in the match `m`, at the moment 3,000
+abbrev pub by_line : Match → Colour → Text → Effect
+by_line m S line = effect worked_rules m (Line S (Some (codes line)) 3000)
+
 -- ---- claims of a result
 
--- the phase of the match after this line of the side `S`, at the moment 3,000
+-- the phase of the match after this line of the side `S`
 abbrev pub phase_after : Phase → Colour → Text → Phase
-phase_after phase S line = (effect worked_rules (match_in phase) (Line S (Some (codes line)) 3000)).after.phase
+phase_after phase S line = (by_line (match_in phase) S line).after.phase
 
 -- in its turn, which began at the moment 1,000, a side that claims to have won loses by a false claim, since a mate
 -- needs no claim; one that says that the other side has won resigns
@@ -33,9 +38,47 @@ pub record ClaimsAreJudged : Type 0 where
   pub white_gives_in : phase_after (BeforeMove White 1000) White "0-1 {White resigns}" ≡ Over (over_by.Resigns White)
   pub black_gives_in : phase_after (BeforeMove Black 1000) Black "1-0 {Black resigns}" ≡ Over (over_by.Resigns Black)
   pub resigns : phase_after (BeforeMove White 1000) White "resign" ≡ Over (over_by.Resigns White)
+  -- one that rejects the move that it was sent, which was legal, loses by that
+  pub rejects : (by_line (record after_e4 { phase = BeforeMove Black 1000 }) Black "Illegal move: e2e4").after.phase
+      ≡ Over (over_by.RejectsLegalMove Black)
+  -- White was sent none yet, so the line is ignored
+  pub rejects_nothing : (by_line after_e4 White "Illegal move: e2e4").after.phase ≡ AfterMove White
   -- also once it has moved
   pub claims_later : phase_after (AfterMove White) White "1-0 {White mates}" ≡ Over (over_by.ClaimsFalsely White)
   pub gives_in_later : phase_after (AfterMove Black) Black "1-0 {Black resigns}" ≡ Over (over_by.Resigns Black)
+
+-- ---- offers of a draw
+
+-- a match in White's turn, before any move, in which White's and Black's offers of a draw are open or not
+abbrev pub offered_by : Bool → Bool → Match
+offered_by white black = record (match_in (BeforeMove White 1000)) {
+  seat = by_colour (record (seat_of "ping=1" []) { offers = white }) (record (seat_of "ping=1" []) { offers = black });
+}
+
+-- Black is then sent this text
+abbrev pub SendsBlack : Effect → Text → Type 0
+SendsBlack e text = AreSentAs (e.to Black) text
+
+-- what an offer of a draw by White does (CECP, version 2: section 9)
+pub record OffersAreJudged : Type 0 where
+  -- it is passed on to the other side, and it is open
+  pub offer : SendsBlack (by_line (offered_by false false) White "offer draw") "draw\n"
+  pub not_back : AreSentAs ((by_line (offered_by false false) White "offer draw").to White) ""
+  pub is_open : ((by_line (offered_by false false) White "offer draw").after.seat White).offers ≡ true
+  -- White offers again
+  pub again : SendsBlack (by_line (offered_by true false) White "offer draw") ""
+  -- the other side has offered a draw: so both agree
+  pub agreed : (by_line (offered_by false true) White "offer draw").after.phase ≡ Over over_by.Agreed
+  -- a claim of a draw where none may be claimed is an offer too
+  pub claim : SendsBlack (by_line (offered_by false false) White "1/2-1/2") "draw\n"
+  pub claim_agreed : (by_line (offered_by false true) White "1/2-1/2").after.phase ≡ Over over_by.Agreed
+
+-- ---- ignored lines
+
+-- after 9,998 lines that were ignored the count begins anew with each setup and each turn
+pub record IgnoredAreCounted : Type 0 where
+  pub setup : (by_line (record (match_in (Setup White)) { count = 9998 }) White "pong 1").after.count ≡ 0
+  pub turn : (by_line (record after_e4 { count = 9998 }) White "pong 2").after.count ≡ 0
 
 -- ---- the time for a reply
 

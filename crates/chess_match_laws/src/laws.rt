@@ -64,6 +64,7 @@ pub fn moves_are_read()
 pub fn games_are_lines()
     ensures { GamesAreLines }
 {
+    // The prover wants this law: a move that is read is legal.
     read_moves_are_legal();
 }
 

@@ -20,5 +20,6 @@ pub use laws::{
 pub use lines::{draw_claims_end_matches, other_lines_are_ignored};
 pub use worked::{
     bare_kings_are_worked_out, claims_are_worked_out, engine_lines_are_worked_out,
-    levels_are_worked_out, losers_lose, reply_times_are_worked_out, sent_lines_are_worked_out,
+    levels_are_worked_out, losers_lose, offers_are_worked_out, reply_times_are_worked_out,
+    sent_lines_are_worked_out,
 };

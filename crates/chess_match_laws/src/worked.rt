@@ -2,14 +2,15 @@
 //! What a law refuses are wrong definitions: with one of them it can't be proved.
 
 ghost use Rattle.chess_match_laws.specs.Worked.{EndsAreOfKinds, EndsAreWorded, FeaturesAreOn, ItemsAreRead, KingsAreBare, LevelsGive, LinesAreSent, LinesSay, LosersLose};
-ghost use Rattle.chess_match_laws.specs.WorkedTurns.{ClaimsAreJudged, RepliesAreTimed};
+ghost use Rattle.chess_match_laws.specs.WorkedTurns.{ClaimsAreJudged, IgnoredAreCounted, OffersAreJudged, RepliesAreTimed};
 
-/// States a law and does nothing: what some lines of engines say, which items a `feature` line has, and which features
-/// an engine has on by them.
+/// States a law and does nothing: what some lines of engines say, which items a `feature` line has, which features an
+/// engine has on by them, and that lines that are ignored are counted anew in each setup and each turn.
 pub fn engine_lines_are_worked_out()
     ensures lines { LinesSay }
     ensures items { ItemsAreRead }
     ensures features { FeaturesAreOn }
+    ensures counts { IgnoredAreCounted }
 {}
 
 /// States a law and does nothing: what some time controls are, and how much time they give after some moves.
@@ -34,7 +35,7 @@ pub fn bare_kings_are_worked_out()
 /// States a law and does nothing: the side that resigns, forfeits on time, moves illegally or out of turn, claims
 /// falsely or rejects a legal move loses; against a bare king, and by agreement, the game is drawn; after a fault, and
 /// at the limit of half-moves, it has no outcome. And the comments on ends, word for word, and which ends are losses on
-/// time or against the rules, as PGN's tag Termination tells them apart.
+/// time or against the rules, as PGN's tag Termination distinguishes them.
 pub fn losers_lose()
     ensures outcomes { LosersLose }
     ensures comments { EndsAreWorded }
@@ -42,11 +43,20 @@ pub fn losers_lose()
 {}
 
 /// States a law and does nothing: a side that says in its turn, by `1-0` or `0-1`, that it has won loses by a false
-/// claim; one that says that the other side has won resigns.
+/// claim; one that says that the other side has won resigns. One that answers a move by `Illegal move` loses by that;
+/// without a move to reject the line is ignored.
 ///
-/// It refuses to call the latter a false claim.
+/// It refuses to call the second a false claim, and a move that may be rejected, or that nobody made.
 pub fn claims_are_worked_out()
     ensures { ClaimsAreJudged }
+{}
+
+/// States a law and does nothing: `offer draw` is passed on to the other side as `draw`, once, and if that side has
+/// offered a draw, both agree. So it is with `1/2-1/2` where no draw may be claimed.
+///
+/// It refuses an offer that is ignored, is sent back, or is never agreed to, and such a claim that is no offer.
+pub fn offers_are_worked_out()
+    ensures { OffersAreJudged }
 {}
 
 /// States a law and does nothing: from which line on the time for a reply runs, in examples. In a handshake each

@@ -49,25 +49,26 @@ ended_in_place : (total first done : ℕ) (g : SoFar) → first ≤ total
 ended_in_place total first done g h =
     pick (InPlace first total done (length g.state.moves)) g.is_met _ _ (λ _. (h, omega arith)) (λ _. tt)
 
-game_in_place : (limit total n : ℕ) (begins : Bool) (g : SoFar) (xs : List ℕ) → length xs ≤ total
+game_in_place : (draws : Bool) (limit total n : ℕ) (begins : Bool) (g : SoFar) (xs : List ℕ) → length xs ≤ total
     → InPlace (total - length xs) total (length g.state.moves)
-    (length (game_of limit total g (tokens_of n begins xs)).state.moves)
-    (game_of limit total g (tokens_of n begins xs)).answer
+    (length (game_of draws limit total g (tokens_of n begins xs)).state.moves)
+    (game_of draws limit total g (tokens_of n begins xs)).answer
 unfolding tokens_of
-game_in_place limit total zero begins g xs h =
+game_in_place draws limit total zero begins g xs h =
     ended_in_place total (total - length xs) (length g.state.moves) g (omega arith)
-game_in_place limit total (suc n) begins g [] h =
+game_in_place draws limit total (suc n) begins g [] h =
     ended_in_place total (total - 0) (length g.state.moves) g (omega arith)
-game_in_place limit total (suc n) begins g (c ∷ rest) h =
+game_in_place draws limit total (suc n) begins g (c ∷ rest) h =
     let t : Token × List ℕ = token_at begins c rest in
     let fewer = shorter begins c rest in
     let nearer : total - suc (length rest) + 1 ≤ total - length t.1 = omega (arith, fewer, h) in
     let few : length t.1 ≤ total = omega (arith, fewer, h) in
     gone_on (total - suc (length rest)) (total - length t.1) total (length g.state.moves)
-    (step limit total g (suc (length rest)) t.0) (λ u. game_of limit total u (tokens_of n (eqb c 10) t.1)) nearer
+    (step draws limit total g (suc (length rest)) t.0)
+    (λ u. game_of draws limit total u (tokens_of n (eqb c 10) t.1)) nearer
     (step_in_place (suc (length rest)) total g h
-    (step_is limit total g (suc (length rest)) t.0 (within begins c rest)))
-    (λ u. game_in_place limit total n (eqb c 10) u t.1 few)
+    (step_is draws limit total g (suc (length rest)) t.0 (within begins c rest)))
+    (λ u. game_in_place draws limit total n (eqb c 10) u t.1 few)
 
 -- ---- the offset where reading begins
 
@@ -85,11 +86,11 @@ not_before text at h = pick (λ (n : ℕ). (at ≤ n) × (n ≤ length text))
         let few = length-take 3 text in
         (omega (arith, none), omega (arith, same, few))
 
-in_place : (limit : ℕ) (text : List ℕ) (at : ℕ) → at ≤ length text
-    → let r = tokens_read limit (length text) (tokens_from text (after_byte_order_mark text at)) in
+in_place : (draws : Bool) (limit : ℕ) (text : List ℕ) (at : ℕ) → at ≤ length text
+    → let r = tokens_read draws limit (length text) (tokens_from text (after_byte_order_mark text at)) in
     InPlace at (length text) 0 (length r.state.moves) r.answer
 unfolding tokens_from
-in_place limit text at h =
+in_place draws limit text at h =
     let offset : ℕ = after_byte_order_mark text at in
     let g : SoFar = nothing_read (tagged_variant (tag_section (tokens_from text offset))) in
     let later = not_before text at h in
@@ -99,14 +100,14 @@ in_place limit text at h =
     let few : length (drop offset text) ≤ length text = omega (arith, left) in
     let near : at + 0 ≤ length text - length (drop offset text) = omega (arith, low, high, left) in
     further at (length text - length (drop offset text)) (length text) 0 0 _ 0 _ near (omega arith)
-    (game_in_place limit (length text) (length text) (begins_line text offset) g (drop offset text) few)
+    (game_in_place draws limit (length text) (length text) (begins_line text offset) g (drop offset text) few)
 
 -- ---- the laws
 
 pub fault_in_place : FaultsHaveOffsets
-fault_in_place limit text at h =
+fault_in_place draws limit text at h =
     subst (λ (r : GameRead). IfErr r.answer (λ f. (at ≤ f.offset) × (f.offset ≤ length text)))
-    (sym (reads_alike limit text at)) (by_answer _ _ (in_place limit text at h))
+    (sym (reads_alike draws limit text at)) (by_answer _ _ (in_place draws limit text at h))
   where
     by_answer : (moves : ℕ) (r : Result (Option PgnEnd) PgnFault) → InPlace at (length text) 0 moves r
         → IfErr r (λ f. (at ≤ f.offset) × (f.offset ≤ length text))
@@ -114,9 +115,9 @@ fault_in_place limit text at h =
     by_answer moves (Err f) k = k
 
 pub half_moves_have_bytes : HalfMovesHaveBytes
-half_moves_have_bytes limit text at h =
+half_moves_have_bytes draws limit text at h =
     subst (λ (r : GameRead). IfOk r.answer (λ o. IfSome o (λ e. length r.state.moves + at ≤ e.offset)))
-    (sym (reads_alike limit text at)) (by_answer _ _ (in_place limit text at h))
+    (sym (reads_alike draws limit text at)) (by_answer _ _ (in_place draws limit text at h))
   where
     by_answer : (moves : ℕ) (r : Result (Option PgnEnd) PgnFault) → InPlace at (length text) 0 moves r
         → IfOk r (λ o. IfSome o (λ e. moves + at ≤ e.offset))
@@ -125,11 +126,11 @@ half_moves_have_bytes limit text at h =
     by_answer moves (Err f) k = tt
 
 -- a game ends in the text, after the offset where reading began
-pub ends_in_text : (limit : ℕ) (text : List ℕ) (at : ℕ) → at ≤ length text
-    → IfOk (pgn_read limit text at).answer (λ o. IfSome o (λ e. (at < e.offset) × (e.offset ≤ length text)))
-ends_in_text limit text at h =
+pub ends_in_text : (draws : Bool) (limit : ℕ) (text : List ℕ) (at : ℕ) → at ≤ length text
+    → IfOk (pgn_read draws limit text at).answer (λ o. IfSome o (λ e. (at < e.offset) × (e.offset ≤ length text)))
+ends_in_text draws limit text at h =
     subst (λ (r : GameRead). IfOk r.answer (λ o. IfSome o (λ e. (at < e.offset) × (e.offset ≤ length text))))
-    (sym (reads_alike limit text at)) (by_answer _ _ (in_place limit text at h))
+    (sym (reads_alike draws limit text at)) (by_answer _ _ (in_place draws limit text at h))
   where
     by_answer : (moves : ℕ) (r : Result (Option PgnEnd) PgnFault) → InPlace at (length text) 0 moves r
         → IfOk r (λ o. IfSome o (λ e. (at < e.offset) × (e.offset ≤ length text)))

@@ -18,8 +18,8 @@ Undeclared (On g) = g.state.declared ≡ None
 Undeclared (Stop read) = OnErr read.answer (read.state.declared ≡ None)
 
 keeps : (limit total : ℕ) (g : SoFar) (left : ℕ) (t : Token) → IsWithin left t → g.state.declared ≡ None
-    → Undeclared (step limit total g left t)
-keeps limit total g left t within h = by_kind (step_is limit total g left t within)
+    → Undeclared (step true limit total g left t)
+keeps limit total g left t within h = by_kind (step_is true limit total g left t within)
   where
     by_kind : {s : Step} → StepIs g left total s → Undeclared s
     by_kind passes = h
@@ -32,7 +32,7 @@ keeps limit total g left t within h = by_kind (step_is limit total g left t with
 -- a step that ended at a fault left nothing declared, whatever is answered then
 pub bare_at_fault : (limit total : ℕ) (g : SoFar) (left : ℕ) (t : Token) (s : State) (fault : PgnFault)
     (r : Result (Option PgnEnd) PgnFault) → IsWithin left t → g.state.declared ≡ None
-    → step_seen s (Err fault) ≡ step limit total g left t
+    → step_seen s (Err fault) ≡ step true limit total g left t
     → OnErr r (IsNone s.declared)
 bare_at_fault limit total g left t s fault r within h is =
     on_error r (ap is_some (subst Undeclared (sym is) (keeps limit total g left t within h)))
@@ -48,7 +48,8 @@ pub record Reads (limit : ℕ) (text : List ℕ) (from : ℕ) (game : Seen) (pro
   pub offset : here ≤ length text
   pub undeclared : game.state.declared ≡ None
   pub same_limit : game.limit ≡ limit
-  pub whole : game_of limit (length text) (so_far game.state progress) (tokens_from text here) ≡ pgn_read limit text
+  pub whole : game_of true limit (length text) (so_far game.state progress) (tokens_from text here)
+      ≡ pgn_read true limit text
       from
 
 pub read_from : (limit : ℕ) (game : Seen) (p : Progress) (text : List ℕ) (from begin here : ℕ)
@@ -59,8 +60,8 @@ read_from limit game p text from begin here r same is onward = record {
   offset = r.offset;
   undeclared = r.undeclared;
   same_limit = same;
-  whole = r.whole ∙ ap (λ n. tokens_read limit (length text) (tokens_from text n)) is
-      ∙ sym (reads_alike limit text from);
+  whole = r.whole ∙ ap (λ n. tokens_read true limit (length text) (tokens_from text n)) is
+      ∙ sym (reads_alike true limit text from);
 }
 
 -- what was read of a game before its first token
@@ -81,9 +82,9 @@ first old game start v p text here restarted initial there variant same none h =
       offset = h;
       undeclared = ap (λ s. s.declared) state;
       whole =
-          ap (λ q. game_of old.limit (length text) (so_far game.state q) (tokens_from text here)) none
-          ∙ ap (λ s. game_of old.limit (length text) (so_far s nothing_met) (tokens_from text here)) state
-          ∙ ap (λ u. game_of old.limit (length text) (nothing_read u) (tokens_from text here)) (variant ∙ same);
+          ap (λ q. game_of true old.limit (length text) (so_far game.state q) (tokens_from text here)) none
+          ∙ ap (λ s. game_of true old.limit (length text) (so_far s nothing_met) (tokens_from text here)) state
+          ∙ ap (λ u. game_of true old.limit (length text) (nothing_read u) (tokens_from text here)) (variant ∙ same);
     }
 
 -- ---- the loop over tags: what is left gives the whole
@@ -112,26 +113,29 @@ pub record ReadsWords (limit : ℕ) (text : List ℕ) (from : ℕ) (game : Seen)
   pub offset : here ≤ length text
   pub undeclared : game.state.declared ≡ None
   pub same_limit : game.limit ≡ limit
-  pub whole : game_of limit (length text) (so_far game.state progress) (tokens_from text here) ≡ pgn_read limit text
+  pub whole : game_of true limit (length text) (so_far game.state progress) (tokens_from text here)
+      ≡ pgn_read true limit text
       from
   pub left : StopsAt game (tokens_from text here)
 
 -- a token: what its step gives is gone on with
 stepped : (limit : ℕ) (text : List ℕ) (from : ℕ) (game : Seen) (p : Progress) (here : ℕ) (t : Token)
     (ts : List (ℕ × Token)) (after : Step) → ReadsWords limit text from game p here
-    → tokens_from text here ≡ (length text - here, t) ∷ ts → after ≡ step game.limit (length text) (so_far game.state p)
-    (length text - here) t → read_rest_with after (λ g. game_of limit (length text) g ts) ≡ pgn_read limit text from
+    → tokens_from text here ≡ (length text - here, t) ∷ ts
+    → after ≡ step true game.limit (length text) (so_far game.state p)
+    (length text - here) t → read_rest_with after (λ g. game_of true limit (length text) g ts)
+    ≡ pgn_read true limit text from
 stepped limit text from game p here t ts after r is step_is =
-    ap (λ s. read_rest_with s (λ g. game_of limit (length text) g ts))
-    (step_is ∙ ap (λ n. step n (length text) (so_far game.state p) (length text - here) t) r.same_limit)
-    ∙ ap (game_of limit (length text) (so_far game.state p)) (sym is)
+    ap (λ s. read_rest_with s (λ g. game_of true limit (length text) g ts))
+    (step_is ∙ ap (λ n. step true n (length text) (so_far game.state p) (length text - here) t) r.same_limit)
+    ∙ ap (game_of true limit (length text) (so_far game.state p)) (sym is)
     ∙ r.whole
 
 pub more : (limit : ℕ) (text : List ℕ) (from : ℕ) (game new : Seen) (p q : Progress) (here onward : ℕ) (t : Token)
     → ReadsWords limit text from game p here
     → tokens_from text here ≡ (length text - here, t) ∷ tokens_from text onward
     → here < onward → onward ≤ length text → new.limit ≡ game.limit
-    → On (so_far new.state q) ≡ step game.limit (length text) (so_far game.state p) (length text - here) t
+    → On (so_far new.state q) ≡ step true game.limit (length text) (so_far game.state p) (length text - here) t
     → Reads limit text from new q onward
 more limit text from game new p q here onward t r is later h same step_is = record {
   forward = (let before = r.forward in omega (arith, before, later));
@@ -151,8 +155,8 @@ pub record ReadsNormal (limit : ℕ) (text : List ℕ) (from : ℕ) (game : Seen
   pub says : Says text from Normal here
   pub undeclared : game.state.declared ≡ None
   pub same_limit : game.limit ≡ limit
-  pub whole : game_of limit (length text) (so_far game.state progress) (tokens_from text here)
-      ≡ game_of limit (length text) (nothing_read Normal) (tokens_from text from)
+  pub whole : game_of true limit (length text) (so_far game.state progress) (tokens_from text here)
+      ≡ game_of true limit (length text) (nothing_read Normal) (tokens_from text from)
 
 pub first_normal : (old game : Seen) (start : Setup) (p : Progress) (text : List ℕ) (here : ℕ)
     → game ≡ left_at old (from_start start) → start ≡ initial_setup
@@ -168,8 +172,8 @@ first_normal old game start p text here restarted initial none h =
       undeclared = ap (λ s. s.declared) state;
       same_limit = ap (λ g. g.limit) restarted;
       whole =
-          ap (λ q. game_of old.limit (length text) (so_far game.state q) (tokens_from text here)) none
-          ∙ ap (λ s. game_of old.limit (length text) (so_far s nothing_met) (tokens_from text here)) state;
+          ap (λ q. game_of true old.limit (length text) (so_far game.state q) (tokens_from text here)) none
+          ∙ ap (λ s. game_of true old.limit (length text) (so_far s nothing_met) (tokens_from text here)) state;
     }
 
 -- the tags from here on name the variant that all of the game's name
@@ -184,7 +188,7 @@ pub more_normal : (limit : ℕ) (text : List ℕ) (from : ℕ) (game new : Seen)
     → tokens_from text here ≡ (length text - here, t) ∷ tokens_from text onward → here < onward
     → onward ≤ length text → true ≡ may_precede_tags t → found ≡ named_tag (codes "Variant") t
     → Normal ≡ variant_or Normal found → new.limit ≡ game.limit
-    → On (so_far new.state q) ≡ step game.limit (length text) (so_far game.state p) (length text - here) t
+    → On (so_far new.state q) ≡ step true game.limit (length text) (so_far game.state p) (length text - here) t
     → ReadsNormal limit text from new q onward
 more_normal limit text from game new p q here onward t found r is later h may named said same step_is = record {
   forward = (let before = r.forward in omega (arith, before, later));
@@ -194,9 +198,9 @@ more_normal limit text from game new p q here onward t found r is later h may na
       (token_within text here t (tokens_from text onward) r.says.offset is) r.undeclared);
   same_limit = same ∙ r.same_limit;
   whole =
-      ap (λ s. read_rest_with s (λ g. game_of limit (length text) g (tokens_from text onward)))
-      (step_is ∙ ap (λ n. step n (length text) (so_far game.state p) (length text - here) t) r.same_limit)
-      ∙ ap (game_of limit (length text) (so_far game.state p)) (sym is) ∙ r.whole;
+      ap (λ s. read_rest_with s (λ g. game_of true limit (length text) g (tokens_from text onward)))
+      (step_is ∙ ap (λ n. step true n (length text) (so_far game.state p) (length text - here) t) r.same_limit)
+      ∙ ap (game_of true limit (length text) (so_far game.state p)) (sym is) ∙ r.whole;
 }
 
 -- what is skipped after a tag
@@ -229,7 +233,7 @@ commented text at xs onward h is some brace closed =
 
 pub skipped_alike : (text : List ℕ) (at onward : ℕ)
     → tokens_from text at ≡ (length text - at, Skip) ∷ tokens_from text onward → ReadsAlike text at onward
-skipped_alike text at onward is = λ limit g. ap (game_of limit (length text) g) is
+skipped_alike text at onward is = λ limit g. ap (game_of true limit (length text) g) is
 
 pub alike_on : (text : List ℕ) (a b c d : ℕ) → ReadsAlike text a b → ReadsAlike text b c → ReadsAlike text c d
     → ReadsAlike text a d
@@ -260,14 +264,14 @@ pub one_more : (text : List ℕ) (from : ℕ) (old game new : Seen) (before p q 
     (word : List ℕ) (taken : Bool) → GoesOn text from old before here game p
     → tokens_from text here ≡ (length text - here, Word word) ∷ tokens_from text onward → here < onward
     → new.limit ≡ game.limit → taken ≡ true
-    → IsTaken taken game new (λ g offset. word_step game.limit g offset word (word_kind word)) → q ≡ begun p
+    → IsTaken taken game new (λ g offset. word_step true game.limit g offset word (word_kind word)) → q ≡ begun p
     → ReadsAlike text onward there → onward ≤ there → there ≤ length text → GoesOn text from old before there new q
 one_more text from old game new before p q here onward there word taken g is later same yes_is by begins alike after
     within =
     let step_is : On (so_far new.state q)
-    ≡ step game.limit (length text) (so_far game.state p) (length text - here) (Word word) =
+    ≡ step true game.limit (length text) (so_far game.state p) (length text - here) (Word word) =
     ap (λ r. On (so_far new.state r)) begins
-    ∙ was_taken taken game new (λ g offset. word_step game.limit g offset word (word_kind word)) yes_is by p
+    ∙ was_taken taken game new (λ g offset. word_step true game.limit g offset word (word_kind word)) yes_is by p
     (length text - (length text - here)) in
     record {
       forward = (let first = g.forward in omega (arith, first, later, after));
@@ -277,9 +281,10 @@ one_more text from old game new before p q here onward there word taken g is lat
           (token_within text here (Word word) (tokens_from text onward) g.offset is) g.undeclared);
       same_limit = same ∙ g.same_limit;
       whole = sym (alike old.limit (so_far new.state q))
-          ∙ ap (λ s. read_rest_with s (λ h. game_of old.limit (length text) h (tokens_from text onward)))
-          (step_is ∙ ap (λ n. step n (length text) (so_far game.state p) (length text - here) (Word word)) g.same_limit)
-          ∙ ap (game_of old.limit (length text) (so_far game.state p)) (sym is)
+          ∙ ap (λ s. read_rest_with s (λ h. game_of true old.limit (length text) h (tokens_from text onward)))
+          (step_is ∙ ap (λ n. step true n (length text) (so_far game.state p) (length text - here)
+          (Word word)) g.same_limit)
+          ∙ ap (game_of true old.limit (length text) (so_far game.state p)) (sym is)
           ∙ g.whole;
     }
 
@@ -292,8 +297,8 @@ further limit text from game new p q here there r g is_left = record {
   offset = g.offset;
   undeclared = g.undeclared;
   same_limit = g.same_limit ∙ r.same_limit;
-  whole = ap (λ n. game_of n (length text) (so_far new.state q) (tokens_from text there)) (sym r.same_limit)
-      ∙ g.whole ∙ ap (λ n. game_of n (length text) (so_far game.state p) (tokens_from text here)) r.same_limit
+  whole = ap (λ n. game_of true n (length text) (so_far new.state q) (tokens_from text there)) (sym r.same_limit)
+      ∙ g.whole ∙ ap (λ n. game_of true n (length text) (so_far game.state p) (tokens_from text here)) r.same_limit
       ∙ r.whole;
   left = is_left;
 }

@@ -7,13 +7,13 @@ use Rattle.std.proofs.{lemmas.Bool.and_parts, lemmas.List.Folds.length-prefix_le
 use Rattle.chess_base.specs.{declared.fen_fault.FenFault.FenFault, declared.man.Variant.Variant, declared.setup.Setup.Setup, Initial.initial_setup_of}
 use Rattle.byte_devices.specs.Bytes.{is_digit, after_byte_order_mark}
 use Rattle.chess_fen.specs.Reading.{fen_reading_as}
-use Rattle.chess_game.specs.Game.{Seen, State, from_start, played, current, verdict_now, with_state as left_at}
+use Rattle.chess_game.specs.Game.{Seen, State, from_start, played, current, with_state as left_at}
 use Rattle.chess_pgn.specs.{declared.read.PgnEnd.PgnEnd, declared.read.PgnFault.PgnFault, declared.read.PgnFaultKind.TheVariants.BadTag, declared.read.PgnFaultKind.TheVariants.BadFen, declared.word_kind.WordKind.WordKind, Words.is_marks, laws.WordKinds.word_kind}
 use Rattle.chess_game.specs.declared.results.Outcome.{Outcome}
 use Rattle.chess_text.specs.{declared.reading.Reading.Reading, Moves.reading}
 use Rattle.chess_text.specs.declared.reading.Reading.TheVariants as reads
 use Rattle.pgn_writer.specs.{declared.termination.Termination.Termination, Terminations.termination_named, Outcomes.outcome_of}
-use Rattle.chess_pgn.specs.GameRead.{GameRead, tagged_variant, pgn_read, Goes_on, Ends, failed, move_row, row, after_row, moves_read, fen_read, last_start, read_after_tags, read_of_split, IsRead}
+use Rattle.chess_pgn.specs.GameRead.{GameRead, ending, tagged_variant, pgn_read, Goes_on, Ends, failed, move_row, row, after_row, moves_read, fen_read, last_start, read_after_tags, read_of_split, IsRead}
 use Rattle.chess_pgn.specs.laws.TokenByToken.{SoFar, Step, On, word_step, move_step, fen_step, step, read_rest_with, game_of, termination_after, tokens_read}
 use Rattle.chess_pgn.specs.LastTags.{says_nothing, may_precede_tags, tag_section, tags_named, last_tag}
 use Rattle.chess_pgn.specs.declared.word_kind.WordKind.TheVariants.{End, Number, Marks, Move}
@@ -28,13 +28,13 @@ so_far met begun t s = record { state = s; is_met = met; is_begun = begun; termi
 abbrev started : Option Termination → State → SoFar
 started t s = so_far true true t s
 
-module _ (limit total : ℕ) (termination : Option Termination) (met begun : Bool) (s : State)
+module _ (draws : Bool) (limit total : ℕ) (termination : Option Termination) (met begun : Bool) (s : State)
     (later : SoFar → GameRead) (next : State → GameRead)
     (same : (r : State) → later (started termination r) ≡ next r) where
   by_reading : (left : ℕ) (word : List ℕ) (over room : Bool) (r : Reading)
-      → is_some (verdict_now s) ≡ over → nat_lt (length s.moves) limit ≡ room
-      → read_rest_with (move_step limit (so_far met begun termination s) (total - left) r) later
-      ≡ after_row termination s (move_row limit s (total - left) r) next
+      → is_some (ending draws s) ≡ over → nat_lt (length s.moves) limit ≡ room
+      → read_rest_with (move_step draws limit (so_far met begun termination s) (total - left) r) later
+      ≡ after_row termination s (move_row draws limit s (total - left) r) next
   by_reading left word over room reads.NotAMove o e = refl
   by_reading left word true room (reads.Move m) o e = rw o refl
   by_reading left word false true (reads.Move m) o e = rw (o, e) (same (played s m))
@@ -55,10 +55,10 @@ module _ (limit total : ℕ) (termination : Option Termination) (met begun : Boo
       → (option_map_or end o (cond is_number number (cond is_mark marks move)) ≡ marks
       → read_rest_with (steps marks) later ≡ next s)
       → read_rest_with (steps move) later
-      ≡ after_row termination s (move_row limit s (total - left) (reading (current s) word)) next
+      ≡ after_row termination s (move_row draws limit s (total - left) (reading (current s) word)) next
       → read_rest_with (steps (option_map_or end o (cond is_number number (cond is_mark marks move)))) later
       ≡ after_row termination s (option_map_or (λ k. Ends k (total - left + length word)) o
-      (cond (is_number || is_mark) (Goes_on s) (move_row limit s (total - left) (reading (current s) word)))) next
+      (cond (is_number || is_mark) (Goes_on s) (move_row draws limit s (total - left) (reading (current s) word)))) next
   by_kind left word end number marks move steps (Some o) is_number is_mark e n m r = e o
   by_kind left word end number marks move steps None true is_mark e n m r = n
   by_kind left word end number marks move steps None false true e n m r = m refl
@@ -66,31 +66,34 @@ module _ (limit total : ℕ) (termination : Option Termination) (met begun : Boo
 
   by_word : (left : ℕ) (word : List ℕ)
       → (word_kind word ≡ Marks → later (so_far met begun termination s) ≡ next s)
-      → read_rest_with (step limit total (so_far met begun termination s) left (Word word)) later
-      ≡ after_row termination s (row limit total s (left, Word word)) next
+      → read_rest_with (step draws limit total (so_far met begun termination s) left (Word word)) later
+      ≡ after_row termination s (row draws limit total s (left, Word word)) next
   by_word left word marks =
       by_kind left word End Number Marks Move
-      (λ k. word_step limit (so_far met begun termination s) (total - left) word k) (outcome_of word)
+      (λ k. word_step draws limit (so_far met begun termination s) (total - left) word k) (outcome_of word)
       (list_all is_digit word) (is_marks word) (λ o. refl) (same s) marks
-      (by_reading left word (is_some (verdict_now s)) (nat_lt (length s.moves) limit)
+      (by_reading left word (is_some (ending draws s)) (nat_lt (length s.moves) limit)
       (reading (current s) word) refl refl)
 
 -- ---- after the tags
 
-moves_are : (limit total : ℕ) (termination : Option Termination) (s : State) (ts : List (ℕ × Token))
-    → game_of limit total (started termination s) ts ≡ moves_read limit total termination s ts
-moves_are limit total termination s [] = refl
-moves_are limit total termination s (t ∷ ts) =
-    by_token t.0 t.1 (λ r. moves_are limit total termination r ts)
+moves_are : (draws : Bool) (limit total : ℕ) (termination : Option Termination) (s : State) (ts : List (ℕ × Token))
+    → game_of draws limit total (started termination s) ts ≡ moves_read draws limit total termination s ts
+moves_are draws limit total termination s [] = refl
+moves_are draws limit total termination s (t ∷ ts) =
+    by_token t.0 t.1 (λ r. moves_are draws limit total termination r ts)
   where
     by_token : (left : ℕ) (t : Token)
-        → ((r : State) → game_of limit total (started termination r) ts ≡ moves_read limit total termination r ts)
-        → read_rest_with (step limit total (started termination s) left t) (λ g. game_of limit total g ts)
-        ≡ after_row termination s (row limit total s (left, t)) (λ r. moves_read limit total termination r ts)
+        → ((r : State)
+        → game_of draws limit total (started termination r) ts ≡ moves_read draws limit total termination r ts)
+        → read_rest_with (step draws limit total (started termination s) left t) (λ g. game_of draws limit total g ts)
+        ≡ after_row termination s (row draws limit total s (left, t))
+        (λ r. moves_read draws limit total termination r ts)
     by_token left Skip same = same s
     by_token left (Tag name string at_string) same = refl
-    by_token left (Word word) same = by_word limit total termination true true s (λ g. game_of limit total g ts)
-        (λ r. moves_read limit total termination r ts) same left word (λ e. same s)
+    by_token left (Word word) same =
+        by_word draws limit total termination true true s (λ g. game_of draws limit total g ts)
+        (λ r. moves_read draws limit total termination r ts) same left word (λ e. same s)
     by_token left Bad_tag same = refl
     by_token left (Unclosed_comment brace) same = refl
     by_token left Unclosed_variation same = refl
@@ -104,11 +107,11 @@ termination_in tags = option_and_then (λ tag. termination_named tag.0) (last_ta
 
 -- what is read after the tags, where `met` says whether there was one, and `termination` is what the last tag
 -- Termination names
-abbrev after_tags_by : ℕ → ℕ → Option Termination → State → Bool → List (ℕ × Token) → GameRead
-after_tags_by limit total termination s met ((to_end, Bad_tag) ∷ rest) =
+abbrev after_tags_by : Bool → ℕ → ℕ → Option Termination → State → Bool → List (ℕ × Token) → GameRead
+after_tags_by draws limit total termination s met ((to_end, Bad_tag) ∷ rest) =
     failed s (record { kind = BadTag; offset = total - to_end })
-after_tags_by limit total termination s false [] = record { state = s; answer = Ok None }
-after_tags_by limit total termination s met rest = moves_read limit total termination s rest
+after_tags_by draws limit total termination s false [] = record { state = s; answer = Ok None }
+after_tags_by draws limit total termination s met rest = moves_read draws limit total termination s rest
 
 -- whether a token is a tag
 abbrev is_tag : ℕ × Token → Bool
@@ -116,19 +119,19 @@ is_tag (to_end, Tag name string at_string) = true
 is_tag _ = false
 
 -- if tokens come after the tags, or if there was one
-after_tags_is : (limit total : ℕ) (s : State) (tags rest : List (ℕ × Token))
+after_tags_is : (draws : Bool) (limit total : ℕ) (s : State) (tags rest : List (ℕ × Token))
     → (rest ≡ [] → list_any is_tag tags ≡ true)
-    → read_after_tags limit total s tags rest
-    ≡ after_tags_by limit total (termination_in tags) s (list_any is_tag tags) rest
-after_tags_is limit total s tags [] met =
-    ap (λ b. after_tags_by limit total (termination_in tags) s b []) (sym (met refl))
-after_tags_is limit total s tags ((left, Skip) ∷ rest) met = refl
-after_tags_is limit total s tags ((left, Tag name string at_string) ∷ rest) met = refl
-after_tags_is limit total s tags ((left, Word word) ∷ rest) met = refl
-after_tags_is limit total s tags ((left, Bad_tag) ∷ rest) met = refl
-after_tags_is limit total s tags ((left, Unclosed_comment brace) ∷ rest) met = refl
-after_tags_is limit total s tags ((left, Unclosed_variation) ∷ rest) met = refl
-after_tags_is limit total s tags ((left, Bad) ∷ rest) met = refl
+    → read_after_tags draws limit total s tags rest
+    ≡ after_tags_by draws limit total (termination_in tags) s (list_any is_tag tags) rest
+after_tags_is draws limit total s tags [] met =
+    ap (λ b. after_tags_by draws limit total (termination_in tags) s b []) (sym (met refl))
+after_tags_is draws limit total s tags ((left, Skip) ∷ rest) met = refl
+after_tags_is draws limit total s tags ((left, Tag name string at_string) ∷ rest) met = refl
+after_tags_is draws limit total s tags ((left, Word word) ∷ rest) met = refl
+after_tags_is draws limit total s tags ((left, Bad_tag) ∷ rest) met = refl
+after_tags_is draws limit total s tags ((left, Unclosed_comment brace) ∷ rest) met = refl
+after_tags_is draws limit total s tags ((left, Unclosed_variation) ∷ rest) met = refl
+after_tags_is draws limit total s tags ((left, Bad) ∷ rest) met = refl
 
 -- of tokens after which tags may come, one is a tag if one says something
 one_is_tag : (tokens : List (ℕ × Token)) → list_all (λ t. may_precede_tags t.1) tokens ≡ true
@@ -157,27 +160,31 @@ abbrev Stops : List (ℕ × Token) → Type 0
 Stops [] = Unit {0}
 Stops (t ∷ ts) = may_precede_tags t.1 ≡ false
 
-first_token : (limit total : ℕ) (met : Bool) (termination : Option Termination) (s : State) (ts : List (ℕ × Token))
+first_token : (draws : Bool) (limit total : ℕ) (met : Bool) (termination : Option Termination) (s : State)
+    (ts : List (ℕ × Token))
     (left : ℕ) (t : Token) → may_precede_tags t ≡ false
-    → read_rest_with (step limit total (so_far met false termination s) left t) (λ g. game_of limit total g ts)
-    ≡ after_tags_by limit total termination s met ((left, t) ∷ ts)
-first_token limit total met termination s ts left Skip h = absurd (cc)
-first_token limit total met termination s ts left (Tag name string at_string) h = absurd (cc)
-first_token limit total met termination s ts left (Word word) h =
-    by_word limit total termination met false s (λ g. game_of limit total g ts)
-    (λ r. moves_read limit total termination r ts) (λ r. moves_are limit total termination r ts) left word
+    → read_rest_with (step draws limit total (so_far met false termination s) left t)
+    (λ g. game_of draws limit total g ts)
+    ≡ after_tags_by draws limit total termination s met ((left, t) ∷ ts)
+first_token draws limit total met termination s ts left Skip h = absurd (cc)
+first_token draws limit total met termination s ts left (Tag name string at_string) h = absurd (cc)
+first_token draws limit total met termination s ts left (Word word) h =
+    by_word draws limit total termination met false s (λ g. game_of draws limit total g ts)
+    (λ r. moves_read draws limit total termination r ts) (λ r. moves_are draws limit total termination r ts) left word
     (λ e. let no : true ≡ false = sym (ap are_marks e) ∙ sym (marks_by_kind word) ∙ h in absurd (cc))
-first_token limit total met termination s ts left Bad_tag h = refl
-first_token limit total met termination s ts left (Unclosed_comment brace) h = refl
-first_token limit total met termination s ts left Unclosed_variation h = refl
-first_token limit total met termination s ts left Bad h = refl
+first_token draws limit total met termination s ts left Bad_tag h = refl
+first_token draws limit total met termination s ts left (Unclosed_comment brace) h = refl
+first_token draws limit total met termination s ts left Unclosed_variation h = refl
+first_token draws limit total met termination s ts left Bad h = refl
 
-tags_end : (limit total : ℕ) (met : Bool) (termination : Option Termination) (p : Setup) (rest : List (ℕ × Token))
-    → Stops rest → game_of limit total (opened met termination p) rest
-    ≡ after_tags_by limit total termination (from_start p) met rest
-tags_end limit total true termination p [] h = refl
-tags_end limit total false termination p [] h = refl
-tags_end limit total met termination p (t ∷ ts) h = first_token limit total met termination (from_start p) ts t.0 t.1 h
+tags_end : (draws : Bool) (limit total : ℕ) (met : Bool) (termination : Option Termination) (p : Setup)
+    (rest : List (ℕ × Token))
+    → Stops rest → game_of draws limit total (opened met termination p) rest
+    ≡ after_tags_by draws limit total termination (from_start p) met rest
+tags_end draws limit total true termination p [] h = refl
+tags_end draws limit total false termination p [] h = refl
+tags_end draws limit total met termination p (t ∷ ts) h =
+    first_token draws limit total met termination (from_start p) ts t.0 t.1 h
 
 -- ---- the tags
 
@@ -208,15 +215,16 @@ abbrev pub fens : ℕ → Variant → List (ℕ × Token) → List (Result Setup
 fens total v tags = map (fen_read total v) (tags_named (codes "FEN") tags)
 
 -- what is said of these tags and of the tokens after them, where `before` is known before them
-abbrev said : ℕ → ℕ → Option Termination → Setup → List (Result Setup PgnFault) → Bool → List (ℕ × Token) → GameRead
-said limit total termination p fs met rest =
+abbrev said : Bool → ℕ → ℕ → Option Termination → Setup → List (Result Setup PgnFault) → Bool → List (ℕ × Token)
+    → GameRead
+said draws limit total termination p fs met rest =
     option_map_or (failed (from_start (last_start p fs))) (slice_get (filter_map result_err fs) 0)
-    (after_tags_by limit total termination (from_start (last_start p fs)) met rest)
+    (after_tags_by draws limit total termination (from_start (last_start p fs)) met rest)
 
-abbrev Whole : ℕ → ℕ → Variant → Bool → Option Termination → Setup → List (ℕ × Token) → List (ℕ × Token) → Type 0
-Whole limit total v met before p tags rest =
-    game_of limit total (opened met before p) (tags ++ rest)
-    ≡ said limit total (termination_from before tags) p (fens total v tags) (met || list_any is_tag tags) rest
+abbrev Whole : Bool → ℕ → ℕ → Variant → Bool → Option Termination → Setup → List (ℕ × Token) → List (ℕ × Token) → Type 0
+Whole draws limit total v met before p tags rest =
+    game_of draws limit total (opened met before p) (tags ++ rest)
+    ≡ said draws limit total (termination_from before tags) p (fens total v tags) (met || list_any is_tag tags) rest
 
 -- a FEN that denotes a position gives the start, unless one after it does
 next_start : (p q : Setup) (fs : List (Result Setup PgnFault)) → last_start p (Ok q ∷ fs) ≡ last_start q fs
@@ -227,22 +235,23 @@ next_start p q fs =
     (filter_map (λ (f : Result Setup PgnFault). result_ok f) (take_while (λ (f : Result Setup PgnFault). is_ok f) fs))
     p)
 
-module _ (limit total : ℕ) (v : Variant) (rest : List (ℕ × Token)) (stops : Stops rest) where
-  no_tags : (met : Bool) (before : Option Termination) (p : Setup) → Whole limit total v met before p [] rest
-  no_tags true before p = tags_end limit total true before p rest stops
-  no_tags false before p = tags_end limit total false before p rest stops
+module _ (draws : Bool) (limit total : ℕ) (v : Variant) (rest : List (ℕ × Token)) (stops : Stops rest) where
+  no_tags : (met : Bool) (before : Option Termination) (p : Setup) → Whole draws limit total v met before p [] rest
+  no_tags true before p = tags_end draws limit total true before p rest stops
+  no_tags false before p = tags_end draws limit total false before p rest stops
 
   -- a tag FEN
   by_fen : (met : Bool) (before : Option Termination) (p : Setup) (left at_string : ℕ) (string : List ℕ)
       (tags : List (ℕ × Token)) (r : Result Setup FenFault) → fen_reading_as v string ≡ r
-      → ((q : Setup) → q.variant ≡ v → Whole limit total v true before q tags rest)
+      → ((q : Setup) → q.variant ≡ v → Whole draws limit total v true before q tags rest)
       → read_rest_with (fen_step (opened met before p) (total - at_string) r)
-      (λ g. game_of limit total g (tags ++ rest))
-      ≡ said limit total (termination_from before tags) p (with_place total at_string r ∷ fens total v tags) true rest
+      (λ g. game_of draws limit total g (tags ++ rest))
+      ≡ said draws limit total (termination_from before tags) p
+      (with_place total at_string r ∷ fens total v tags) true rest
   by_fen met before p left at_string string tags (Ok q) e later =
       later q (read_variant v string q e)
       ∙ ap (λ t. option_map_or (failed (from_start t)) (slice_get (filter_map result_err (fens total v tags)) 0)
-      (after_tags_by limit total (termination_from before tags) (from_start t) true rest))
+      (after_tags_by draws limit total (termination_from before tags) (from_start t) true rest))
       (sym (next_start p q (fens total v tags)))
   by_fen met before p left at_string string tags (Err f) e later = refl
 
@@ -266,24 +275,24 @@ module _ (limit total : ℕ) (v : Variant) (rest : List (ℕ × Token)) (stops :
 
   one_tag : (met : Bool) (before : Option Termination) (p : Setup) (left at_string : ℕ) (name string : List ℕ)
       (tags : List (ℕ × Token)) → p.variant ≡ v
-      → ((t : Option Termination) (q : Setup) → q.variant ≡ v → Whole limit total v true t q tags rest)
-      → Whole limit total v met before p ((left, Tag name string at_string) ∷ tags) rest
+      → ((t : Option Termination) (q : Setup) → q.variant ≡ v → Whole draws limit total v true t q tags rest)
+      → Whole draws limit total v met before p ((left, Tag name string at_string) ∷ tags) rest
   one_tag met before p left at_string name string tags of later = by_test (bytes_eq name (codes "FEN")) refl
     where
       by_test : (b : Bool) → bytes_eq name (codes "FEN") ≡ b
-          → Whole limit total v met before p ((left, Tag name string at_string) ∷ tags) rest
+          → Whole draws limit total v met before p ((left, Tag name string at_string) ∷ tags) rest
       by_test true e =
           let is : name ≡ codes "FEN" = (bytes_eq-Decides name (codes "FEN")).0 e in
           let no_end : bytes_eq name (codes "Termination") ≡ false = ap (λ n. bytes_eq n (codes "Termination")) is in
           rw (e, no_end, or_true met (list_any is_tag tags))
           (ap (λ u. read_rest_with (fen_step (opened met before p) (total - at_string) (fen_reading_as u string))
-          (λ g. game_of limit total g (tags ++ rest))) of
+          (λ g. game_of draws limit total g (tags ++ rest))) of
           ∙ by_fen met before p left at_string string tags (fen_reading_as v string) refl (λ q k. later before q k))
       by_test false e =
           ap (λ b. read_rest_with
           (cond b (fen_step (opened met before p) (total - at_string) (fen_reading_as p.variant string))
           (On (record (opened met before p) { is_met = true; termination = termination_after before name string })))
-          (λ g. game_of limit total g (tags ++ rest))) e
+          (λ g. game_of draws limit total g (tags ++ rest))) e
           ∙ later (termination_after before name string) p of
           ∙ rw (e, or_true met (list_any is_tag tags), termination_step before left at_string name string tags) refl
 
@@ -295,14 +304,14 @@ module _ (limit total : ℕ) (v : Variant) (rest : List (ℕ × Token)) (stops :
 
   one_token : (met : Bool) (before : Option Termination) (p : Setup) (left : ℕ) (t : Token) (tags : List (ℕ × Token))
       → p.variant ≡ v → may_precede_tags t ≡ true
-      → ((m : Bool) (t : Option Termination) (q : Setup) → q.variant ≡ v → Whole limit total v m t q tags rest)
-      → Whole limit total v met before p ((left, t) ∷ tags) rest
+      → ((m : Bool) (t : Option Termination) (q : Setup) → q.variant ≡ v → Whole draws limit total v m t q tags rest)
+      → Whole draws limit total v met before p ((left, t) ∷ tags) rest
   one_token met before p left Skip tags of h later = later met before p of
   one_token met before p left (Tag name string at_string) tags of h later =
       one_tag met before p left at_string name string tags of (λ t q k. later true t q k)
   one_token met before p left (Word word) tags of h later =
-      ap (λ k. read_rest_with (word_step limit (opened met before p) (total - left) word k)
-      (λ g. game_of limit total g (tags ++ rest))) (marks_are (word_kind word) (sym (marks_by_kind word) ∙ h))
+      ap (λ k. read_rest_with (word_step draws limit (opened met before p) (total - left) word k)
+      (λ g. game_of draws limit total g (tags ++ rest))) (marks_are (word_kind word) (sym (marks_by_kind word) ∙ h))
       ∙ later met before p of
   one_token met before p left Bad_tag tags of h later = absurd (cc)
   one_token met before p left (Unclosed_comment brace) tags of h later = absurd (cc)
@@ -310,7 +319,7 @@ module _ (limit total : ℕ) (v : Variant) (rest : List (ℕ × Token)) (stops :
   one_token met before p left Bad tags of h later = absurd (cc)
 
   all_tags : (met : Bool) (before : Option Termination) (p : Setup) (tags : List (ℕ × Token)) → p.variant ≡ v
-      → list_all (λ t. may_precede_tags t.1) tags ≡ true → Whole limit total v met before p tags rest
+      → list_all (λ t. may_precede_tags t.1) tags ≡ true → Whole draws limit total v met before p tags rest
   all_tags met before p [] of h = no_tags met before p
   all_tags met before p (t ∷ tags) of h =
       let both = and_parts (may_precede_tags t.1) (list_all (λ (u : ℕ × Token). may_precede_tags u.1) tags) h in
@@ -342,23 +351,23 @@ none_before None = refl
 none_before (Some tag) = refl
 
 -- tokens that say nothing of a game
-nothing_read_of : (limit total : ℕ) (v : Variant) (p : Setup) (termination : Option Termination)
+nothing_read_of : (draws : Bool) (limit total : ℕ) (v : Variant) (p : Setup) (termination : Option Termination)
     (tokens : List (ℕ × Token)) → list_all (λ t. says_nothing t.1) tokens ≡ true
-    → game_of limit total (opened false termination p) tokens ≡ record { state = from_start p; answer = Ok None }
-nothing_read_of limit total v p termination [] h = refl
-nothing_read_of limit total v p termination ((left, Skip) ∷ ts) h =
-    nothing_read_of limit total v p termination ts h
-nothing_read_of limit total v p termination ((left, Word word) ∷ ts) h =
+    → game_of draws limit total (opened false termination p) tokens ≡ record { state = from_start p; answer = Ok None }
+nothing_read_of draws limit total v p termination [] h = refl
+nothing_read_of draws limit total v p termination ((left, Skip) ∷ ts) h =
+    nothing_read_of draws limit total v p termination ts h
+nothing_read_of draws limit total v p termination ((left, Word word) ∷ ts) h =
     let both = and_parts (is_marks word) (list_all (λ (t : ℕ × Token). says_nothing t.1) ts) h in
-    ap (λ k. read_rest_with (word_step limit (opened false termination p) (total - left) word k)
-    (λ g. game_of limit total g ts)) (marks_are limit total v [] tt (word_kind word)
+    ap (λ k. read_rest_with (word_step draws limit (opened false termination p) (total - left) word k)
+    (λ g. game_of draws limit total g ts)) (marks_are draws limit total v [] tt (word_kind word)
     (sym (marks_by_kind word) ∙ both.0))
-    ∙ nothing_read_of limit total v p termination ts both.1
-nothing_read_of limit total v p termination ((left, Tag name string at_string) ∷ ts) h = absurd (cc)
-nothing_read_of limit total v p termination ((left, Bad_tag) ∷ ts) h = absurd (cc)
-nothing_read_of limit total v p termination ((left, Unclosed_comment brace) ∷ ts) h = absurd (cc)
-nothing_read_of limit total v p termination ((left, Unclosed_variation) ∷ ts) h = absurd (cc)
-nothing_read_of limit total v p termination ((left, Bad) ∷ ts) h = absurd (cc)
+    ∙ nothing_read_of draws limit total v p termination ts both.1
+nothing_read_of draws limit total v p termination ((left, Tag name string at_string) ∷ ts) h = absurd (cc)
+nothing_read_of draws limit total v p termination ((left, Bad_tag) ∷ ts) h = absurd (cc)
+nothing_read_of draws limit total v p termination ((left, Unclosed_comment brace) ∷ ts) h = absurd (cc)
+nothing_read_of draws limit total v p termination ((left, Unclosed_variation) ∷ ts) h = absurd (cc)
+nothing_read_of draws limit total v p termination ((left, Bad) ∷ ts) h = absurd (cc)
 
 -- they give no start
 no_start : (v : Variant) (name : List ℕ) (tokens : List (ℕ × Token)) → list_all (λ t. says_nothing t.1) tokens ≡ true
@@ -385,9 +394,9 @@ no_start v name (t ∷ ts) h =
     by_token Bad k more = absurd (cc)
 
 -- what tags and moves say of tokens is what is read of them token by token
-pub tokens_are : (limit total : ℕ) (ts : List (ℕ × Token))
-    → read_of_split limit total ts ≡ tokens_read limit total ts
-tokens_are limit total ts = by_nothing (list_all (λ (t : ℕ × Token). says_nothing t.1) ts) refl
+pub tokens_are : (draws : Bool) (limit total : ℕ) (ts : List (ℕ × Token))
+    → read_of_split draws limit total ts ≡ tokens_read draws limit total ts
+tokens_are draws limit total ts = by_nothing (list_all (λ (t : ℕ × Token). says_nothing t.1) ts) refl
   where
     v : Variant
     v = tagged_variant (tag_section ts)
@@ -412,40 +421,43 @@ tokens_are limit total ts = by_nothing (list_all (λ (t : ℕ × Token). says_no
     by_nothing : (b : Bool) → list_all (λ (t : ℕ × Token). says_nothing t.1) ts ≡ b
         → cond b (record { state = s; answer = Ok None })
         (option_map_or (failed s) (slice_get (filter_map result_err (fens total v tags)) 0)
-        (read_after_tags limit total s tags rest))
-        ≡ tokens_read limit total ts
+        (read_after_tags draws limit total s tags rest))
+        ≡ tokens_read draws limit total ts
     by_nothing true h =
         ap (λ (tagged : List (List ℕ × ℕ)). record {
           state = from_start (last_start (initial_setup_of v) (map (fen_read total v) tagged));
           answer = Ok None;
         }) (no_start v (codes "FEN") ts h)
-        ∙ sym (nothing_read_of limit total v (initial_setup_of v) None ts h)
+        ∙ sym (nothing_read_of draws limit total v (initial_setup_of v) None ts h)
     by_nothing false h =
         ap (λ (r : GameRead). option_map_or (failed s) (slice_get (filter_map result_err (fens total v tags)) 0) r)
-        (after_tags_is limit total s tags rest (met h))
-        ∙ ap (λ e. said limit total e (initial_setup_of v) (fens total v tags) (list_any is_tag tags) rest)
+        (after_tags_is draws limit total s tags rest (met h))
+        ∙ ap (λ e. said draws limit total e (initial_setup_of v) (fens total v tags) (list_any is_tag tags) rest)
         (sym (none_before (last_or None (tags_named (codes "Termination") tags))))
-        ∙ sym (all_tags limit total v rest (tags_stop ts) false None (initial_setup_of v) tags (initial_variant v)
+        ∙ sym (all_tags draws limit total v rest (tags_stop ts) false None (initial_setup_of v) tags (initial_variant v)
         (run_passes p ts))
-        ∙ ap (game_of limit total (opened false None (initial_setup_of v))) (rest_is p ts)
+        ∙ ap (game_of draws limit total (opened false None (initial_setup_of v))) (rest_is p ts)
 
 -- what is read of a text is what is read of it token by token
-pub reads_alike : (limit : ℕ) (text : List ℕ) (at : ℕ)
-    → pgn_read limit text at ≡ tokens_read limit (length text) (tokens_from text (after_byte_order_mark text at))
+pub reads_alike : (draws : Bool) (limit : ℕ) (text : List ℕ) (at : ℕ)
+    → pgn_read draws limit text at ≡ tokens_read draws limit (length text)
+    (tokens_from text (after_byte_order_mark text at))
 unfolding pgn_read
-reads_alike limit text at = tokens_are limit (length text) (tokens_from text (after_byte_order_mark text at))
+reads_alike draws limit text at =
+    tokens_are draws limit (length text) (tokens_from text (after_byte_order_mark text at))
 
 -- what the split of the text says is that and nothing else
-pub only_read : (limit : ℕ) (text : List ℕ) (at : ℕ) (r : GameRead) → IsRead limit text at r
-    → r ≡ pgn_read limit text at
+pub only_read : (draws : Bool) (limit : ℕ) (text : List ℕ) (at : ℕ) (r : GameRead) → IsRead draws limit text at r
+    → r ≡ pgn_read draws limit text at
 unfolding pgn_read
-only_read limit text at r h =
-    h.is ∙ ap (read_of_split limit (length text)) (split_read text h.split)
+only_read draws limit text at r h =
+    h.is ∙ ap (read_of_split draws limit (length text)) (split_read text h.split)
 
 -- what was read is what the split of the text says
-pub as_said : (limit : ℕ) (text : List ℕ) (at : ℕ) (old new : Seen) (result : Result (Option PgnEnd) PgnFault)
-    → result ≡ (pgn_read limit text at).answer → new ≡ left_at old (pgn_read limit text at).state
-    → (r : GameRead) → IsRead limit text at r → (result ≡ r.answer) × (new ≡ left_at old r.state)
-as_said limit text at old new result answer state r is =
-    let same : pgn_read limit text at ≡ r = sym (only_read limit text at r is) in
+pub as_said : (draws : Bool) (limit : ℕ) (text : List ℕ) (at : ℕ) (old new : Seen)
+    (result : Result (Option PgnEnd) PgnFault)
+    → result ≡ (pgn_read draws limit text at).answer → new ≡ left_at old (pgn_read draws limit text at).state
+    → (r : GameRead) → IsRead draws limit text at r → (result ≡ r.answer) × (new ≡ left_at old r.state)
+as_said draws limit text at old new result answer state r is =
+    let same : pgn_read draws limit text at ≡ r = sym (only_read draws limit text at r is) in
     (answer ∙ ap (λ (x : GameRead). x.answer) same, state ∙ ap (λ (x : GameRead). left_at old x.state) same)

@@ -30,3 +30,4 @@ mod TokenKinds
 mod TokenSplits
 mod Splits
 mod GamesByTags
+mod PastDraws

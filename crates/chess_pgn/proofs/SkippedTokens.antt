@@ -52,13 +52,13 @@ blank_more text from at so low h = (
 -- ---- at what is skipped nothing counts
 
 game_on : (limit total : ℕ) (g : SoFar) (lefts : List ℕ) (ts : List (ℕ × Token))
-    → game_of limit total g (skipped lefts ++ ts) ≡ game_of limit total g ts
+    → game_of true limit total g (skipped lefts ++ ts) ≡ game_of true limit total g ts
 game_on limit total g [] ts = refl
 game_on limit total g (left ∷ lefts) ts = game_on limit total g lefts ts
 
 pub skips_alike : (text : List ℕ) (a b : ℕ) → SkipsTo text a b → ReadsAlike text a b
 skips_alike text a b so = λ limit g.
-    ap (game_of limit (length text) g) so.1 ∙ game_on limit (length text) g so.0 (tokens_from text b)
+    ap (game_of true limit (length text) g) so.1 ∙ game_on limit (length text) g so.0 (tokens_from text b)
 
 variant_on : (v : Variant) (lefts : List ℕ) (ts : List (ℕ × Token))
     → variant_from v (skipped lefts ++ ts) ≡ variant_from v ts

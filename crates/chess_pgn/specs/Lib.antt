@@ -5,6 +5,7 @@ pub mod LastTags
 pub mod UnknownVariants
 pub mod GameTags
 pub mod GameRead
+pub mod PastDraws
 pub mod GameEnds
 pub mod Variations
 pub mod laws

@@ -25,7 +25,7 @@ skips_line line_begins c = line_begins && c == byte "%" || c == byte ";"
 pub data IsInside : Bool → List ℕ → Type 0 where
   -- no parts
   nothing : {b : Bool} → IsInside b []
-  -- a `%` line, or from `;` to the end of the line, and then more
+  -- a `%` line, or from `;` to the end of the line, with its `\n`, and then more
   line : {b : Bool} {c : ℕ} (text : List ℕ) {more : List ℕ} → skips_line b c ≡ true → lacks new_line text ≡ true
       → IsInside true more → IsInside b (c ∷ text ++ new_line ∷ more)
   -- a comment from `{` to the next `}`, and then more
@@ -43,7 +43,9 @@ pub data IsInside : Bool → List ℕ → Type 0 where
 -- white space and `%` lines; `b`: whether the first byte begins a line
 pub data IsGap : Bool → List ℕ → Type 0 where
   nothing : {b : Bool} → IsGap b []
+  -- a byte of white space, and then more
   blank : {b : Bool} {c : ℕ} {more : List ℕ} → is_white_space c ≡ true → IsGap (c == new_line) more → IsGap b (c ∷ more)
+  -- a `%` line with its `\n`, and then more
   line : (text : List ℕ) {more : List ℕ} → lacks new_line text ≡ true → IsGap true more
       → IsGap true (byte "%" ∷ text ++ new_line ∷ more)
 
@@ -68,7 +70,7 @@ pub data IsString : List ℕ → Type 0 where
 pub data IsToken (b : Bool) (left : ℕ) : List ℕ → Token → Type 0 where
   -- a byte of white space, or a dot
   blank : {c : ℕ} → (is_white_space c || c == byte ".") ≡ true → IsToken b left (c ∷ []) Skip
-  -- a `%` line, or from `;` to the end of the line
+  -- a `%` line, or from `;` to the end of the line, without its `\n`
   line : {c : ℕ} {text : List ℕ} → skips_line b c ≡ true → lacks new_line text ≡ true → IsToken b left (c ∷ text) Skip
   -- a comment from `{` to the next `}`
   comment : (text : List ℕ) → lacks (byte "}") text ≡ true → IsToken b left (byte "{" ∷ text ++ byte "}" ∷ []) Skip
@@ -95,8 +97,10 @@ IsTokenAt text at front t =
 -- the text, which begins inside a variation, has a comment that isn't closed: after whole parts comes its `{`, where so
 -- many bytes are left, or the `(` of a variation in which it is. `b`: whether the text's first byte begins a line
 pub data HasOpenComment : Bool → List ℕ → ℕ → Type 0 where
+  -- the comment, after whole parts
   here : {b : Bool} {parts : List ℕ} (text : List ℕ) → IsInside b parts → lacks (byte "}") text ≡ true
       → HasOpenComment b (parts ++ byte "{" ∷ text) (length (byte "{" ∷ text))
+  -- a variation, after whole parts, in which the comment is
   deeper : {b : Bool} {parts inner : List ℕ} {to_end : ℕ} → IsInside b parts → HasOpenComment false inner to_end
       → HasOpenComment b (parts ++ byte "(" ∷ inner) to_end
 

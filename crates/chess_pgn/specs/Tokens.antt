@@ -12,14 +12,19 @@ use Rattle.text_lines.specs.Lines.{parts}
 -- a token of a PGN text (section 7): what is skipped, such as white space, a comment or a variation; a tag; a word,
 -- such as a move; or what can't be read. A field `to_end` is the number of bytes from a place to the text's end
 pub data Token : Type 0 where
+  -- what is skipped
   Skip : Token
-  -- a tag's name, the bytes between its quotes as they are, and how many are left at the first of them
+  -- a tag's name, the bytes between its quotes as they are, and how many are left after the first quote
   Tag : (name : List ℕ) (text : List ℕ) (to_end : ℕ) → Token
+  -- such as a move, a number or a result
   Word : (bytes : List ℕ) → Token
+  -- a `[` that begins no tag
   Bad_tag : Token
   -- how many are left at the comment's brace
   Unclosed_comment : (to_end : ℕ) → Token
+  -- a `(` whose variation is not closed
   Unclosed_variation : Token
+  -- a byte that begins no token
   Bad : Token
 
 -- ---- bytes
@@ -122,14 +127,14 @@ name_at text = let name = take_while is_name_byte text in
     if length name == 0 then None else Some (name, drop (length name) text)
 
 -- a tag, from the text after its `[`, and the text after its `]`: a name, a string in quotes and the bracket, perhaps
--- with a gap before each (`after_gap`); none if this is no tag
+-- with a gap before each (`after_gap`); none if this is no tag. `after_quote` is all that comes after the opening quote
 abbrev pub tag_at : List ℕ → Option (Token × List ℕ)
 tag_at text = do
   name ← name_at (after_gap text)
-  string ← after_next (byte "\"") name.1
-  inside ← string_at string
+  after_quote ← after_next (byte "\"") name.1
+  inside ← string_at after_quote
   rest ← after_next (byte "]") inside.1
-  Some (Tag name.0 inside.0 (length string), rest)
+  Some (Tag name.0 inside.0 (length after_quote), rest)
 
 -- ---- tokens
 
@@ -165,7 +170,7 @@ tokens_of (suc most) line_begins (c ∷ rest) =
 
 -- ---- a text from an offset on
 
--- whether a line begins at an offset: it is 0, or `\n` comes before it. None begins right after a byte order mark
+-- whether a line begins at an offset: it is 0, or `\n` is right before it. None begins right after a byte order mark
 abbrev pub begins_line : List ℕ → ℕ → Bool
 begins_line text offset = (offset == 0) || (slice_index text (offset - 1) == new_line)
 

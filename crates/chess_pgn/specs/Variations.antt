@@ -32,8 +32,8 @@ word_move reads.NotAMove = Err BadToken
 word_move reads.Ambiguous = Err AmbiguousMove
 word_move reads.NoSuch = Err IllegalMove
 
--- what a token does in a line whose position is `p`: the move to be made, if it is one; a fault, if it can't be read.
--- Any other is passed over: what is skipped, a tag, a result, a number, and marks such as `!?`
+-- what a token does in a line whose position is `p`: the move to be made, if it is one. What is skipped, a tag, a
+-- result, a number, and marks such as `!?` are passed over; any other token is a fault
 abbrev pub token_move : Setup → Token → Result (Option Move) PgnFaultKind
 token_move p Skip = Ok None
 token_move p (Tag name text to_end) = Ok None
@@ -64,7 +64,7 @@ after_token at before p (Err kind) later = Some (record { kind = kind; offset = 
 
 -- the first fault of a line of the text from these tokens on, in the position `p`; the line of a variation ends at its
 -- `)`. `before` is the position before the line's last move, if it has one: there a variation begins, and without it
--- the variation is a fault. `inside` gives the first fault of the variation at an offset
+-- the variation is a fault. `inside` gives the first fault of the variation from a position, with its `(` at an offset
 abbrev pub line_fault : List ℕ → (Setup → ℕ → Option PgnFault) → Option Setup → Setup → List (ℕ × Token)
     → Option PgnFault
 line_fault text inside before p [] = None
@@ -76,15 +76,15 @@ line_fault text inside before p ((left, token) ∷ more) = let at = length text 
     else after_token at before p (token_move p token) (λ b q. line_fault text inside b q more)
 
 -- the first fault of the variation whose `(` is at the offset `at` of the text, and whose moves begin in the position
--- `start`. At most so many variations may be open (the second argument). `tokens` gives the tokens of a text from an
--- offset on
+-- `start`. It and those in it may be nested at most so deep (the second argument); one deeper is a fault, too long.
+-- `tokens` gives the tokens of a text from an offset on
 unfoldable pub variation_fault : (List ℕ → ℕ → List (ℕ × Token)) → ℕ → List ℕ → Setup → ℕ → Option PgnFault
 variation_fault tokens zero text start at = Some (record { kind = TooLong; offset = at })
 variation_fault tokens (suc depth) text start at =
     line_fault text (λ p from. variation_fault tokens depth text p from) None start (tokens text (at + 1))
 
 -- the first fault in the variations of a game without another fault, whose start is `start`, and whose text goes from
--- the offset `at` to the end of this one; without a `(` it has none. At most 64 variations may be open
+-- the offset `at` to the end of `text`; without a `(` it has none. At most 64 variations may be open
 abbrev pub variations_fault : (List ℕ → ℕ → List (ℕ × Token)) → List ℕ → Setup → ℕ → Option PgnFault
 variations_fault tokens text start at = if lacks (byte "(") (drop at text) then None
     else line_fault text (λ p from. variation_fault tokens MOST_NESTED text p from) None start (tokens text at)

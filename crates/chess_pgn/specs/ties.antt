@@ -5,3 +5,4 @@ pub mod GameSteps
 pub mod LineSteps
 pub mod TagsLeft
 pub mod TagsPassed
+pub mod PastDraws

@@ -18,7 +18,7 @@ use pgn_writer::outcome_of;
 
 // The offset after the tags of the game that begins at the offset `at`: that of its first number, move or outcome, of
 // what can't be read, or of the text's end.
-fn after_tags(text: &[u8], at: usize) -> usize
+pub(crate) fn after_tags(text: &[u8], at: usize) -> usize
     requires { at ≤ length text.now }
     ensures passed { IsAfterTags text.now at result }
     ensures within { result ≤ length text.now }

@@ -6,7 +6,7 @@
 //! Contracts here compare results with the definitions of TokenByToken, such as `word_step`. `so_far` and `step_seen`
 //! give the code's values in the form of these definitions.
 
-ghost use Rattle.std.specs.Prelude.{◌≡◌, ℕ, ◌+◌, ◌-◌, ◌^◌, ◌≤◌, ◌<◌, false, length, None, IfOk, IfErr, Err, is_some, IsNone, OnErr};
+ghost use Rattle.std.specs.Prelude.{◌≡◌, ℕ, ◌+◌, ◌-◌, ◌^◌, ◌≤◌, ◌<◌, true, false, length, None, IfOk, IfErr, Err, is_some, IsNone, OnErr};
 ghost use Rattle.std.specs.Option.{IfSome, option_map_or};
 ghost use Rattle.chess_game.specs.Game.{State, with_state, current, verdict_now, refusal_now};
 ghost use Rattle.chess_base.specs.declared.man.Variant.TheVariants.{Normal};
@@ -138,7 +138,7 @@ fn fault_of_move<B: Board>(game: &Game<B>, offset: usize, word: &[u8]) -> PgnFau
     requires undeclared { game.now.state.declared ≡ None }
     requires left { is_played game.now (reading (current game.now.state) word.now) ≡ false }
     ensures { (p : Progress) → step_seen game.now.state (Err result)
-        ≡ move_step game.now.limit (so_far game.now.state p) offset (reading (current game.now.state) word.now) }
+        ≡ move_step true game.now.limit (so_far game.now.state p) offset (reading (current game.now.state) word.now) }
 {
     let kind = match read_move(game.board(), word) {
         Reading::NotAMove => PgnFaultKind::BadToken,
@@ -183,7 +183,7 @@ fn apply_word<B: Board>(
     ensures limit { game.new.limit ≡ game.old.limit }
     ensures ended { EndsIn offset (offset + length word.now) result }
     ensures step { step_seen game.new.state result
-        ≡ word_step game.old.limit (so_far game.old.state progress) offset word.now (word_kind word.now) }
+        ≡ word_step true game.old.limit (so_far game.old.state progress) offset word.now (word_kind word.now) }
 {
     match word_kind(word) {
         WordKind::End(outcome) => {
@@ -255,7 +255,7 @@ fn apply_token<B: Board>(
     ensures limit { game.new.limit ≡ game.old.limit }
     ensures ended { EndsIn offset len result }
     ensures step { step_seen game.new.state result
-        ≡ step game.old.limit len (so_far game.old.state progress) (len - offset) (token_seen token.now) }
+        ≡ step true game.old.limit len (so_far game.old.state progress) (len - offset) (token_seen token.now) }
 {
     match token {
         Token::Skip => Ok(Step::On(progress)),
@@ -276,7 +276,7 @@ fn reported_fault(fault: TokenFault, progress: Progress, len: usize, offset: usi
     requires within { IsWithin (len - offset) (fault_seen fault) }
     requires offset { offset ≤ len }
     ensures { (limit : ℕ) (s : State)
-        → step_seen s (Err result) ≡ step limit len (so_far s progress) (len - offset) (fault_seen fault) }
+        → step_seen s (Err result) ≡ step true limit len (so_far s progress) (len - offset) (fault_seen fault) }
 {
     match fault {
         TokenFault::BadTag if progress.is_begun => PgnFault {
@@ -431,9 +431,9 @@ pub fn read_pgn<B: Board>(
     game: &mut Game<B>,
 ) -> Result<Option<PgnEnd>, PgnFault>
     requires { at ≤ length text.now }
-    ensures answer { result ≡ (pgn_read game.old.limit text.now at).answer }
-    ensures game { game.new ≡ with_state game.old (pgn_read game.old.limit text.now at).state }
-    ensures said { (r : GameRead) → IsRead game.old.limit text.now at r
+    ensures answer { result ≡ (pgn_read true game.old.limit text.now at).answer }
+    ensures game { game.new ≡ with_state game.old (pgn_read true game.old.limit text.now at).state }
+    ensures said { (r : GameRead) → IsRead true game.old.limit text.now at r
         → (result ≡ r.answer) × (game.new ≡ with_state game.old r.state) }
     ensures within { IfOk result (λ end. IfSome end (λ e. e.offset ≤ length text.now)) }
     ensures further { IfOk result (λ end. IfSome end (λ e. at < e.offset)) }

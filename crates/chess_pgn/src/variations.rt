@@ -25,7 +25,7 @@ use chess_base::{Move, Position};
 use chess_moves::Board;
 use chess_text::{Reading, read_move};
 
-/// How many variations may be open at a place of a game's text.
+/// How many variations may be open at a place of a game's text: so many calls of `read_line` may be in one another.
 pub const MOST_NESTED: usize = 64;
 
 // The legal move that a word denotes in the board's position (`Some`, as in `token_move`), or the fault of the word if

@@ -70,7 +70,7 @@ fn try_move<B: Board>(game: &mut Game<B>, word: &[u8]) -> bool
     ensures limit { game.new.limit ≡ game.old.limit }
     ensures left { result ≡ false → is_played game.new (reading (current game.new.state) word.now) ≡ false }
     ensures taken { IsTaken result game.old game.new
-        (λ g offset. move_step game.old.limit g offset (reading (current game.old.state) word.now)) }
+        (λ g offset. move_step true game.old.limit g offset (reading (current game.old.state) word.now)) }
 {
     let Reading::Move(m) = read_move(game.board(), word) else {
         return false;
@@ -96,7 +96,7 @@ fn try_word<B: Board>(game: &mut Game<B>, word: &[u8]) -> bool
     ensures some { result ≡ true → 0 < length word.now }
     ensures left { result ≡ false → IsNoMove game.new word.now (word_kind word.now) }
     ensures taken { IsTaken result game.old game.new
-        (λ g offset. word_step game.old.limit g offset word.now (word_kind word.now)) }
+        (λ g offset. word_step true game.old.limit g offset word.now (word_kind word.now)) }
 {
     match word_kind(word) {
         WordKind::Move => try_move(game, word),

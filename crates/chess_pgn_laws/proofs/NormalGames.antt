@@ -1,5 +1,5 @@
 -- On starts of normal chess, and in texts that name no variant, games are written and read as in normal chess.
-use Rattle.std.proofs.Common.{◌≡◌, ℕ, cond, List, ◌++◌, length, drop, Option, None, Ok, refl, ap, ◌∙◌, codes, slice_get}
+use Rattle.std.proofs.Common.{◌≡◌, ℕ, Bool, cond, List, ◌++◌, length, drop, Option, None, Ok, refl, ap, ◌∙◌, codes, slice_get}
 use Rattle.std.specs.{List.filter_map, List.list_all, Option.option_map_or, Result.result_err}
 use Rattle.chess_base.specs.{declared.man.Variant.Variant, declared.man.Variant.TheVariants.Normal, declared.setup.Setup.Setup, Initial.initial_setup, Initial.initial_setup_of}
 use Rattle.chess_game.specs.Game.{from_start, outcome_now}
@@ -14,11 +14,12 @@ initial_is : initial_setup_of Normal ≡ initial_setup
 unfolding initial_setup
 initial_is = refl
 
-read_so : (limit : ℕ) (text : List ℕ) (at : ℕ)
+read_so : (draws : Bool) (limit : ℕ) (text : List ℕ) (at : ℕ)
     → last_tag (codes "Variant") (tag_section (tokens_from text (after_byte_order_mark text at))) ≡ None
-    → pgn_read limit text at ≡ normal_read limit (length text) (tokens_from text (after_byte_order_mark text at))
+    → pgn_read draws limit text at ≡ normal_read draws limit (length text)
+    (tokens_from text (after_byte_order_mark text at))
 unfolding pgn_read
-read_so limit text at none =
+read_so draws limit text at none =
     let tokens : List (ℕ × Token) = tokens_from text (after_byte_order_mark text at) in
     let tags : List (ℕ × Token) = tag_section tokens in
     let read : Variant → Setup → GameRead = λ v p.
@@ -26,7 +27,7 @@ read_so limit text at none =
     (record { state = from_start (last_start p (fens (length text) v tags)); answer = Ok None })
     (option_map_or (failed (from_start (last_start p (fens (length text) v tags))))
     (slice_get (filter_map result_err (fens (length text) v tags)) 0)
-    (read_after_tags limit (length text) (from_start (last_start p (fens (length text) v tags))) tags
+    (read_after_tags draws limit (length text) (from_start (last_start p (fens (length text) v tags))) tags
     (drop (length tags) tokens))) in
     ap (λ v. read v (initial_setup_of v))
     (ap (λ (tag : Option (List ℕ × ℕ)). option_map_or (λ (t : List ℕ × ℕ). variant_named t.0) tag Normal) none)

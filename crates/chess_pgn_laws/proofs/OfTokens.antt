@@ -5,15 +5,15 @@ use Rattle.std.specs.List.{list_any}
 use Rattle.std.proofs.{lemmas.Bool.ltb-true, lemmas.Bool.and_parts, lemmas.List.Concat.flat_map-append, lemmas.List.Folds.list_any-append, lemmas.Slice.Eq.bytes_eq-Decides}
 use Rattle.chess_base.specs.{declared.fen_fault.FenFault.FenFault, declared.man.Move.Move as Played, declared.man.Variant.Variant, declared.setup.Setup.Setup, Initial.initial_setup_of}
 use Rattle.chess_fen.specs.Reading.{fen_reading_as}
-use Rattle.chess_game.specs.{declared.verdicts.Verdict.Verdict, Ends.verdict, Game.current, Game.verdict_now, Line.position_after}
+use Rattle.chess_game.specs.{declared.verdicts.Verdict.Verdict, Game.current, Line.position_after}
 use Rattle.chess_text.specs.{declared.reading.Reading.Reading, Moves.reading}
 use Rattle.chess_text.specs.declared.reading.Reading.TheVariants as reads
-use Rattle.chess_pgn.specs.{declared.read.PgnFaultKind.PgnFaultKind, declared.word_kind.WordKind.WordKind, GameRead.GameRead, GameRead.tagged_variant, LastTags.tag_section, laws.WordKinds.word_kind}
+use Rattle.chess_pgn.specs.{declared.read.PgnFaultKind.PgnFaultKind, declared.word_kind.WordKind.WordKind, GameRead.GameRead, GameRead.ending, GameRead.tagged_variant, LastTags.tag_section, laws.WordKinds.word_kind}
 use Rattle.chess_pgn.specs.declared.read.PgnFaultKind.TheVariants.{BadFen, BadToken, IllegalMove, AmbiguousMove, AfterEnd, TooLong, UnclosedComment, UnclosedVariation, NoResult}
 use Rattle.pgn_writer.specs.declared.termination.Termination.{Termination}
 use Rattle.chess_pgn.specs.declared.word_kind.WordKind.TheVariants.{End, Number, Marks, Move}
 use Rattle.chess_pgn.specs.laws.TokenByToken.{SoFar, Step, On, Stop, game_of, read_rest_with, step, nothing_read, move_step, word_step, tag_step, fen_step, fails, unless_full, termination_after}
-use Rattle.chess_pgn_laws.specs.GameOfTokens.{begins, counts, is_fen, can_be_taken, can_all_be_taken, if_move, move_words_of, move_words, start_by, tagged_start, termination_by_token, tagged_termination, AreReadAs, unless_closed, move_fault, word_fault, fault_at, token_fault, StopsAt, IsOfTokens, GamesAreOfTokens, is_number_or_move, is_outcome}
+use Rattle.chess_pgn_laws.specs.GameOfTokens.{begins, counts, is_fen, can_be_taken, can_all_be_taken, if_move, move_words_of, move_words, start_by, tagged_start, termination_by_token, tagged_termination, AreReadAs, unless_closed, move_fault, word_fault, fault_at, token_fault, StopsAt, IsOfTokens, GamesAreOfTokens, game_by, is_number_or_move, is_outcome}
 use Rattle.chess_pgn.specs.Tokens.{Token, Skip, Tag, Word, Bad_tag, Unclosed_comment, Unclosed_variation, Bad}
 use Rattle.chess_pgn.proofs.shared.Games.{tokens_are, read_variant, initial_variant}
 
@@ -29,25 +29,27 @@ any_more p ts t = list_any-append p ts (t ∷ []) ∙ ap (λ b. list_any p ts ||
 
 -- ---- one token more
 
-read_more : (limit : ℕ) (start : Setup) (done : List Played) (ws : List (List ℕ)) (ms : List Played) (w : List ℕ)
-    (m : Played) → AreReadAs limit start done ws ms → verdict start (done ++ ms) ≡ None → length (done ++ ms) < limit
+read_more : (draws : Bool) (limit : ℕ) (start : Setup) (done : List Played) (ws : List (List ℕ)) (ms : List Played)
+    (w : List ℕ) (m : Played) → AreReadAs draws limit start done ws ms
+    → ending draws (game_by start (done ++ ms)) ≡ None → length (done ++ ms) < limit
     → reading (position_after start (done ++ ms)) w ≡ reads.Move m
-    → AreReadAs limit start done (ws ++ w ∷ []) (ms ++ m ∷ [])
-read_more limit start done [] [] w m h none few k =
+    → AreReadAs draws limit start done (ws ++ w ∷ []) (ms ++ m ∷ [])
+read_more draws limit start done [] [] w m h none few k =
     let same = append-nil done in (
-      ap (verdict start) (sym same) ∙ none,
+      ap (λ ds. ending draws (game_by start ds)) (sym same) ∙ none,
       subst (λ ds. length ds < limit) same few,
       ap (λ ds. reading (position_after start ds) w) (sym same) ∙ k,
       tt,
     )
-read_more limit start done [] (n ∷ ms) w m h none few k = absurd h
-read_more limit start done (v ∷ ws) [] w m h none few k = absurd h
-read_more limit start done (v ∷ ws) (n ∷ ms) w m h none few k =
+read_more draws limit start done [] (n ∷ ms) w m h none few k = absurd h
+read_more draws limit start done (v ∷ ws) [] w m h none few k = absurd h
+read_more draws limit start done (v ∷ ws) (n ∷ ms) w m h none few k =
     let same : (done ++ n ∷ []) ++ ms ≡ done ++ n ∷ ms = append_assoc done (n ∷ []) ms in (
       h.0,
       h.1,
       h.2,
-      read_more limit start (done ++ n ∷ []) ws ms w m h.3 (ap (verdict start) same ∙ none)
+      read_more draws limit start (done ++ n ∷ []) ws ms w m h.3
+          (ap (λ ds. ending draws (game_by start ds)) same ∙ none)
           (subst (λ ds. length ds < limit) (sym same) few) (ap (λ ds. reading (position_after start ds) w) same ∙ k),
     )
 
@@ -83,13 +85,13 @@ none_by : (o : Option Verdict) → is_some o ≡ false → o ≡ None
 none_by None e = refl
 none_by (Some x) e = absurd (cc)
 
-module _ (limit total : ℕ) (v : Variant) where
+module _ (draws : Bool) (limit total : ℕ) (v : Variant) where
   -- the game of these tokens
   record IsSoFar (done : List (ℕ × Token)) (g : SoFar) : Type 0 where
     can_be : can_all_be_taken v false done ≡ true
     start : g.state.start ≡ tagged_start v (initial_setup_of v) done
     variant : g.state.start.variant ≡ v
-    moves : AreReadAs limit g.state.start [] (move_words done) g.state.moves
+    moves : AreReadAs draws limit g.state.start [] (move_words done) g.state.moves
     undeclared : g.state.declared ≡ None
     met : list_any (λ t. counts t.1) done ≡ g.is_met
     begun : list_any (λ t. begins t.1) done ≡ g.is_begun
@@ -101,7 +103,7 @@ module _ (limit total : ℕ) (v : Variant) where
     can_be : can_be_taken v g.is_begun t ≡ true
     start : h.state.start ≡ start_by v g.state.start t
     variant : h.state.start.variant ≡ v
-    moves : AreReadAs limit h.state.start [] (move_words done ++ move_words_of t) h.state.moves
+    moves : AreReadAs draws limit h.state.start [] (move_words done ++ move_words_of t) h.state.moves
     undeclared : h.state.declared ≡ None
     met : (g.is_met || counts t) ≡ h.is_met
     begun : (g.is_begun || begins t) ≡ h.is_begun
@@ -114,7 +116,8 @@ module _ (limit total : ℕ) (v : Variant) where
     can_be = taken_more v false done (left, t) s.can_be (ap (λ b. can_be_taken v b t) s.begun ∙ n.can_be);
     start = n.start ∙ ap (λ p. start_by v p t) s.start ∙ sym (start_more v (initial_setup_of v) done (left, t));
     variant = n.variant;
-    moves = subst (λ ws. AreReadAs limit h.state.start [] ws h.state.moves) (sym (words_more done (left, t))) n.moves;
+    moves =
+        subst (λ ws. AreReadAs draws limit h.state.start [] ws h.state.moves) (sym (words_more done (left, t))) n.moves;
     undeclared = n.undeclared;
     met = any_more (λ u. counts u.1) done (left, t) ∙ ap (λ b. b || counts t) s.met ∙ n.met;
     begun = any_more (λ u. begins u.1) done (left, t) ∙ ap (λ b. b || begins t) s.begun ∙ n.begun;
@@ -136,7 +139,8 @@ module _ (limit total : ℕ) (v : Variant) where
     can_be = can;
     start = start;
     variant = s.variant;
-    moves = subst (λ ws. AreReadAs limit g.state.start [] ws g.state.moves) (sym (same_words done t none)) s.moves;
+    moves =
+        subst (λ ws. AreReadAs draws limit g.state.start [] ws g.state.moves) (sym (same_words done t none)) s.moves;
     undeclared = s.undeclared;
     met = is_met;
     begun = is_begun;
@@ -149,21 +153,21 @@ module _ (limit total : ℕ) (v : Variant) where
   record IsStopped (done : List (ℕ × Token)) (t : ℕ × Token) (r : GameRead) : Type 0 where
     can_be : can_all_be_taken v false done ≡ true
     start : r.state.start ≡ tagged_start v (initial_setup_of v) done
-    moves : AreReadAs limit r.state.start [] (move_words done) r.state.moves
-    stop : (ts : List (ℕ × Token)) → StopsAt limit total v done (t ∷ ts) r.state r.answer
+    moves : AreReadAs draws limit r.state.start [] (move_words done) r.state.moves
+    stop : (ts : List (ℕ × Token)) → StopsAt draws limit total v done (t ∷ ts) r.state r.answer
 
   abbrev Leaves : List (ℕ × Token) → ℕ × Token → Step → Type 0
   Leaves done t (On h) = IsSoFar (done ++ t ∷ []) h
   Leaves done t (Stop r) = IsStopped done t r
 
   fault_leaves : (done : List (ℕ × Token)) (left : ℕ) (t : Token) (g : SoFar) (kind : PgnFaultKind) (offset : ℕ)
-      → IsSoFar done g → token_fault limit total v g.is_begun g.state left t
+      → IsSoFar done g → token_fault draws limit total v g.is_begun g.state left t
       ≡ Some (record { kind = kind; offset = offset }) → Leaves done (left, t) (fails g kind offset)
   fault_leaves done left t g kind offset s e = record {
     can_be = s.can_be;
     start = s.start;
     moves = s.moves;
-    stop = λ ts. (s.undeclared, ap (λ b. token_fault limit total v b g.state left t) s.begun ∙ e);
+    stop = λ ts. (s.undeclared, ap (λ b. token_fault draws limit total v b g.state left t) s.begun ∙ e);
   }
 
   -- ---- moves
@@ -171,22 +175,23 @@ module _ (limit total : ℕ) (v : Variant) where
   module _ (done : List (ℕ × Token)) (left : ℕ) (word : List ℕ) (g : SoFar) (kind : word_kind word ≡ Move)
       (s : IsSoFar done g) where
     move_fails : (r : Reading) → reading (current g.state) word ≡ r → (k : PgnFaultKind)
-        → move_fault limit g.state r ≡ Some k → Leaves done (left, Word word) (fails g k (total - left))
+        → move_fault draws limit g.state r ≡ Some k → Leaves done (left, Word word) (fails g k (total - left))
     move_fails r is k e =
         fault_leaves done left (Word word) g k (total - left) s
-        (ap (λ w. fault_at (total - left) (word_fault limit g.state word w)) kind
-        ∙ ap (λ q. fault_at (total - left) (move_fault limit g.state q)) is
+        (ap (λ w. fault_at (total - left) (word_fault draws limit g.state word w)) kind
+        ∙ ap (λ q. fault_at (total - left) (move_fault draws limit g.state q)) is
         ∙ ap (fault_at (total - left)) e)
 
     open_leaves : (r : Reading) → reading (current g.state) word ≡ r → (o : Option PgnFaultKind)
-        → move_fault limit g.state r ≡ unless_closed limit g.state o → (next : Step)
-        → (is_some (verdict_now g.state) ≡ false → nat_lt (length g.state.moves) limit ≡ true
+        → move_fault draws limit g.state r ≡ unless_closed draws limit g.state o → (next : Step)
+        → (is_some (ending draws g.state) ≡ false → nat_lt (length g.state.moves) limit ≡ true
         → Leaves done (left, Word word) next)
-        → Leaves done (left, Word word) (unless_full limit g (total - left) next)
-    open_leaves r is o fault next later = by_tests (is_some (verdict_now g.state)) refl
+        → Leaves done (left, Word word) (unless_full draws limit g (total - left) next)
+    open_leaves r is o fault next later = by_tests (is_some (ending draws g.state)) refl
         (nat_lt (length g.state.moves) limit) refl
       where
-        by_tests : (a : Bool) → is_some (verdict_now g.state) ≡ a → (b : Bool) → nat_lt (length g.state.moves) limit ≡ b
+        by_tests : (a : Bool) → is_some (ending draws g.state) ≡ a → (b : Bool)
+            → nat_lt (length g.state.moves) limit ≡ b
             → Leaves done (left, Word word) (cond a (fails g AfterEnd (total - left))
             (cond b next (fails g TooLong (total - left))))
         by_tests true ea b eb = move_fails r is AfterEnd
@@ -197,8 +202,8 @@ module _ (limit total : ℕ) (v : Variant) where
             ∙ ap (λ y. cond y o (Some TooLong)) eb)
 
     shut : (r : Reading) → reading (current g.state) word ≡ r → (k : PgnFaultKind)
-        → move_fault limit g.state r ≡ unless_closed limit g.state (Some k)
-        → Leaves done (left, Word word) (unless_full limit g (total - left) (fails g k (total - left)))
+        → move_fault draws limit g.state r ≡ unless_closed draws limit g.state (Some k)
+        → Leaves done (left, Word word) (unless_full draws limit g (total - left) (fails g k (total - left)))
     shut r is k fault =
         open_leaves r is (Some k) fault (fails g k (total - left))
         (λ ea eb. move_fails r is k
@@ -209,7 +214,7 @@ module _ (limit total : ℕ) (v : Variant) where
     one_word : move_words_of (Word word) ≡ word ∷ []
     one_word = ap (if_move word) kind
 
-    played_next : (m : Played) → reading (current g.state) word ≡ reads.Move m → is_some (verdict_now g.state) ≡ false
+    played_next : (m : Played) → reading (current g.state) word ≡ reads.Move m → is_some (ending draws g.state) ≡ false
         → nat_lt (length g.state.moves) limit ≡ true
         → IsNext done (Word word) g
         (record {
@@ -226,9 +231,9 @@ module _ (limit total : ℕ) (v : Variant) where
       can_be = ap (λ k. not (is_outcome k)) kind;
       start = refl;
       variant = s.variant;
-      moves = subst (λ ws. AreReadAs limit g.state.start [] (move_words done ++ ws) (g.state.moves ++ m ∷ []))
-          (sym one_word) (read_more limit g.state.start [] (move_words done) g.state.moves word m s.moves
-          (none_by (verdict_now g.state) none) (ltb-true (length g.state.moves) limit few) is);
+      moves = subst (λ ws. AreReadAs draws limit g.state.start [] (move_words done ++ ws) (g.state.moves ++ m ∷ []))
+          (sym one_word) (read_more draws limit g.state.start [] (move_words done) g.state.moves word m s.moves
+          (none_by (ending draws g.state) none) (ltb-true (length g.state.moves) limit few) is);
       undeclared = s.undeclared;
       met = ap (λ k. g.is_met || is_number_or_move k) kind ∙ or-true g.is_met;
       begun = ap (λ k. g.is_begun || is_number_or_move k) kind ∙ or-true g.is_begun;
@@ -237,7 +242,7 @@ module _ (limit total : ℕ) (v : Variant) where
     }
 
     move_leaves : (r : Reading) → reading (current g.state) word ≡ r
-        → Leaves done (left, Word word) (move_step limit g (total - left) r)
+        → Leaves done (left, Word word) (move_step draws limit g (total - left) r)
     move_leaves reads.NotAMove is = move_fails reads.NotAMove is BadToken refl
     move_leaves reads.Ambiguous is = shut reads.Ambiguous is AmbiguousMove refl
     move_leaves reads.NoSuch is = shut reads.NoSuch is IllegalMove refl
@@ -246,7 +251,7 @@ module _ (limit total : ℕ) (v : Variant) where
         (λ none few. more done left (Word word) g _ s (played_next m is none few))
 
   word_leaves : (done : List (ℕ × Token)) (left : ℕ) (word : List ℕ) (g : SoFar) (k : WordKind) → word_kind word ≡ k
-      → IsSoFar done g → Leaves done (left, Word word) (word_step limit g (total - left) word k)
+      → IsSoFar done g → Leaves done (left, Word word) (word_step draws limit g (total - left) word k)
   word_leaves done left word g (End o) kind s = record {
     can_be = s.can_be;
     start = s.start;
@@ -282,7 +287,7 @@ module _ (limit total : ℕ) (v : Variant) where
           can_be = rw (open_yet, e, f) refl;
           start = rw (e, f) refl;
           variant = read_variant v text start f;
-          moves = subst (λ ws. AreReadAs limit start [] ws []) (sym none) tt;
+          moves = subst (λ ws. AreReadAs draws limit start [] ws []) (sym none) tt;
           undeclared = refl;
           met = or-true g.is_met;
           begun = or-false g.is_begun;
@@ -309,7 +314,7 @@ module _ (limit total : ℕ) (v : Variant) where
   -- ---- all tokens
 
   step_leaves : (done : List (ℕ × Token)) (left : ℕ) (t : Token) (g : SoFar) → IsSoFar done g
-      → Leaves done (left, t) (step limit total g left t)
+      → Leaves done (left, t) (step draws limit total g left t)
   step_leaves done left Skip g s = more done left Skip g g s
       (quiet done Skip g g.is_met g.is_begun g.termination s refl refl refl (or-false g.is_met) (or-false g.is_begun)
       refl)
@@ -328,7 +333,7 @@ module _ (limit total : ℕ) (v : Variant) where
   step_leaves done left Bad g s = fault_leaves done left Bad g BadToken (total - left) s refl
 
   of_tokens : (tokens done ts : List (ℕ × Token)) (g : SoFar) → done ++ ts ≡ tokens → IsSoFar done g
-      → IsOfTokens limit total v tokens (game_of limit total g ts)
+      → IsOfTokens draws limit total v tokens (game_of draws limit total g ts)
   of_tokens tokens done [] g all s = record {
     taken = done;
     others = [];
@@ -340,18 +345,19 @@ module _ (limit total : ℕ) (v : Variant) where
   }
     where
       at_end : (met : Bool) → list_any (λ t. counts t.1) done ≡ met
-          → StopsAt limit total v done [] g.state
+          → StopsAt draws limit total v done [] g.state
           (cond met (Err (record { kind = NoResult; offset = total })) (Ok None))
       at_end true e = (s.undeclared, e, refl)
       at_end false e = (s.undeclared, e)
   of_tokens tokens done (t ∷ ts) g all s = by_step tokens done t ts all
       (λ k l. of_tokens tokens (done ++ t ∷ []) ts k (append_assoc done (t ∷ []) ts ∙ all) l)
-      (step limit total g t.0 t.1) (step_leaves done t.0 t.1 g s)
+      (step draws limit total g t.0 t.1) (step_leaves done t.0 t.1 g s)
     where
       by_step : (tokens done : List (ℕ × Token)) (t : ℕ × Token) (ts : List (ℕ × Token)) → done ++ t ∷ ts ≡ tokens
-          → ((k : SoFar) → IsSoFar (done ++ t ∷ []) k → IsOfTokens limit total v tokens (game_of limit total k ts))
-          → (x : Step) → Leaves done t x → IsOfTokens limit total v tokens
-          (read_rest_with x (λ k. game_of limit total k ts))
+          → ((k : SoFar) → IsSoFar (done ++ t ∷ []) k → IsOfTokens draws limit total v tokens
+          (game_of draws limit total k ts))
+          → (x : Step) → Leaves done t x → IsOfTokens draws limit total v tokens
+          (read_rest_with x (λ k. game_of draws limit total k ts))
       by_step tokens done t ts all later (Stop r) k =
           record {
             taken = done;
@@ -365,11 +371,11 @@ module _ (limit total : ℕ) (v : Variant) where
       by_step tokens done t ts all later (On k) l = later k l
 
 pub game_of_tokens : GamesAreOfTokens
-game_of_tokens limit text at r read =
+game_of_tokens draws limit text at r read =
     let v : Variant = tagged_variant (tag_section read.tokens) in
-    subst (IsOfTokens limit (length text) v read.tokens)
-    (sym (read.is ∙ tokens_are limit (length text) read.tokens))
-    (of_tokens limit (length text) v read.tokens [] read.tokens (nothing_read v) refl
+    subst (IsOfTokens draws limit (length text) v read.tokens)
+    (sym (read.is ∙ tokens_are draws limit (length text) read.tokens))
+    (of_tokens draws limit (length text) v read.tokens [] read.tokens (nothing_read v) refl
     (record {
       can_be = refl;
       start = refl;

@@ -92,51 +92,51 @@ read_so_far t start done is_begun = record {
   termination = t;
 }
 
-module _ (limit total : ℕ) where
+module _ (draws : Bool) (limit total : ℕ) where
   -- what is before a token in its line is skipped
   placed_read : (g : SoFar) (begins : Bool) (column : ℕ) (t more : List ℕ) (r : GameRead)
-      → ((b : Bool) → read_on limit total g b (t ++ more) ≡ r)
-      → read_on limit total g begins (wrapped_token [] column t ++ more) ≡ r
+      → ((b : Bool) → read_on draws limit total g b (t ++ more) ≡ r)
+      → read_on draws limit total g begins (wrapped_token [] column t ++ more) ≡ r
   placed_read g begins column t more r reads = by_test (eqb column 0) (leb (column + 1 + length t) 79)
     where
       by_test : (a b : Bool)
-          → read_on limit total g begins (cond (not a && b) (32 ∷ t) (cond a [] (10 ∷ []) ++ t) ++ more) ≡ r
+          → read_on draws limit total g begins (cond (not a && b) (32 ∷ t) (cond a [] (10 ∷ []) ++ t) ++ more) ≡ r
       by_test true b = reads begins
-      by_test false true = skip_space limit total g begins (t ++ more) ∙ reads false
-      by_test false false = skip_line_end limit total g begins (t ++ more) ∙ reads true
+      by_test false true = skip_space draws limit total g begins (t ++ more) ∙ reads false
+      by_test false false = skip_line_end draws limit total g begins (t ++ more) ∙ reads true
 
   -- a token, and what follows it
   token_read : (g h : SoFar) (begins : Bool) (column : ℕ) (t : List ℕ) (ts : List (List ℕ)) (rest : List ℕ)
-      (r : GameRead) → Takes limit total g h t → 0 < length t
-      → read_on limit total h false (filled_from [] (next_column column t) ts ++ rest) ≡ r
-      → read_on limit total g begins (filled_from [] column (t ∷ ts) ++ rest) ≡ r
+      (r : GameRead) → Takes draws limit total g h t → 0 < length t
+      → read_on draws limit total h false (filled_from [] (next_column column t) ts ++ rest) ≡ r
+      → read_on draws limit total g begins (filled_from [] column (t ∷ ts) ++ rest) ≡ r
   token_read g h begins column t ts rest r takes some reads =
       let more : List ℕ = filled_from [] (next_column column t) ts in
       let next = filled_ends (next_column column t) ts rest (column_after column t some) in
-      ap (read_on limit total g begins) (append_assoc (wrapped_token [] column t) more rest)
+      ap (read_on draws limit total g begins) (append_assoc (wrapped_token [] column t) more rest)
       ∙ placed_read g begins column t (more ++ rest) r (λ b.
-      ap (λ xs. read_on limit total g b (t ++ xs)) next.is ∙ takes b next.first next.rest next.off
-      ∙ ap (read_on limit total h false) (sym next.is) ∙ reads)
+      ap (λ xs. read_on draws limit total g b (t ++ xs)) next.is ∙ takes b next.first next.rest next.off
+      ∙ ap (read_on draws limit total h false) (sym next.is) ∙ reads)
 
   -- the last token, which is the outcome
   pub outcome_read : (g : SoFar) (begins : Bool) (column : ℕ) (o : Outcome) (rest : List ℕ)
-      → read_on limit total g begins (filled_from [] column (outcome_text o ∷ []) ++ rest)
+      → read_on draws limit total g begins (filled_from [] column (outcome_text o ∷ []) ++ rest)
       ≡ ended_game g.termination g.state o (total - length (outcome_text o ++ 10 ∷ rest) + length (outcome_text o))
   outcome_read g begins column o rest =
       let t : List ℕ = outcome_text o in
-      ap (read_on limit total g begins)
+      ap (read_on draws limit total g begins)
       (append_assoc (wrapped_token [] column t) (line_close (next_column column t)) rest)
       ∙ placed_read g begins column t (line_close (next_column column t) ++ rest) _ (λ b.
-      ap (λ xs. read_on limit total g b (t ++ (xs ++ rest)))
+      ap (λ xs. read_on draws limit total g b (t ++ (xs ++ rest)))
       (close_after (next_column column t) (column_after column t (outcome_some o)))
-      ∙ outcome_ends limit total g o b 10 rest refl)
+      ∙ outcome_ends draws limit total g o b 10 rest refl)
 
   -- ---- the moves of a game
 
   -- what is read from there is the same wherever a line began
   abbrev pub Reads : Option Termination → Setup → List Move → List (List ℕ) → List ℕ → GameRead → Type 0
   Reads said start done ts rest r = (is_begun begins : Bool) (column : ℕ)
-      → read_on limit total (read_so_far said start done is_begun) begins (filled_from [] column ts ++ rest) ≡ r
+      → read_on draws limit total (read_so_far said start done is_begun) begins (filled_from [] column ts ++ rest) ≡ r
 
   number_read : (said : Option Termination) (start : Setup) (done : List Move) (c : Colour) (is_first : Bool) (n : ℕ)
       (ts : List (List ℕ)) (rest : List ℕ) (r : GameRead) → n ≤ 999999 → Reads said start done ts rest r
@@ -144,12 +144,12 @@ module _ (limit total : ℕ) where
   number_read said start done White is_first n ts rest r h reads is_begun begins column =
       let g : SoFar = read_so_far said start done is_begun in
       let t : List ℕ = decimal n ++ codes "." in
-      token_read g (begun g) begins column t ts rest r (white_number limit total g n h)
+      token_read g (begun g) begins column t ts rest r (white_number draws limit total g n h)
       (omega (arith, length-append (decimal n) (codes "."))) (reads true false (next_column column t))
   number_read said start done Black true n ts rest r h reads is_begun begins column =
       let g : SoFar = read_so_far said start done is_begun in
       let t : List ℕ = decimal n ++ codes "..." in
-      token_read g (begun g) begins column t ts rest r (black_number limit total g n h)
+      token_read g (begun g) begins column t ts rest r (black_number draws limit total g n h)
       (omega (arith, length-append (decimal n) (codes "..."))) (reads true false (next_column column t))
   number_read said start done Black false n ts rest r h reads is_begun begins column = reads is_begun begins column
 
@@ -163,7 +163,8 @@ module _ (limit total : ℕ) where
       → (is_first : Bool) (p : Setup) (done ms : List Move) → done ++ ms ≡ all → position_after start done
       ≡ p → IsSound p → IsLine p ms → Reads said start done (numbered_moves is_first p ms ++ last_token ∷ []) rest r
   moves_read law said start all whole o rest r ended is_first p done [] same at sound line is_begun begins column =
-      ap (λ d. read_on limit total (read_so_far said start d is_begun) begins (filled_from [] column (o ∷ []) ++ rest))
+      ap (λ d. read_on draws limit total (read_so_far said start d is_begun) begins
+      (filled_from [] column (o ∷ []) ++ rest))
       (sym (append-nil done) ∙ same) ∙ ended is_begun begins column
   moves_read law said start all whole o rest r ended is_first p done (m ∷ ms) same at sound line is_begun begins
       column =
@@ -178,11 +179,12 @@ module _ (limit total : ℕ) where
       (law p m sound line.0) line.1 in
       let tokens : numbered_moves is_first p (m ∷ ms) ++ o ∷ [] ≡ number_if_due p.side is_first p.fullmove
       ++ san p m ∷ more = simp append_assoc in
-      ap (λ ts. read_on limit total (read_so_far said start done is_begun) begins (filled_from [] column ts ++ rest))
+      ap (λ ts. read_on draws limit total (read_so_far said start done is_begun) begins
+      (filled_from [] column ts ++ rest))
       tokens
       ∙ number_read said start done p.side is_first p.fullmove (san p m ∷ more) rest r
       (leb-true _ _ sound.fullmove_high) (λ x b k.
       token_read (read_so_far said start done x) (read_so_far said start (done ++ m ∷ []) true) b k (san p m) more rest
-      r (san_takes limit total (read_so_far said start done x) p m sound line.0 at open_yet room)
+      r (san_takes draws limit total (read_so_far said start done x) p m sound line.0 at open_yet room)
       (omega (arith, (san_short p m sound line.0).0)) (tail true false (next_column k (san p m)))) is_begun
       begins column

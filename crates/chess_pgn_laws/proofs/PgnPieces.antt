@@ -15,13 +15,13 @@ use Rattle.chess_text.specs.{Moves.reading, San.san}
 use Rattle.chess_pgn.specs.Tokens.{Token, Skip, Tag, Word, is_word_byte, token_at, tokens_of}
 use Rattle.chess_pgn_laws.proofs.PgnFen.{fen_bare}
 use Rattle.chess_pgn_laws.proofs.PgnTags.{is_in_line, is_bare, bare_escaped, bare_in_line, is_tag_name, tag_token, tag_line_bytes}
-use Rattle.chess_pgn.proofs.{shared.Bytes.differs, shared.Words.number_kind, shared.Tokens.enough, shared.Tokens.shorter}
+use Rattle.chess_pgn.proofs.{shared.Bytes.differs, shared.Games.still_open, shared.Words.number_kind, shared.Tokens.enough, shared.Tokens.shorter}
 use Rattle.chess_pgn_laws.proofs.WrittenWords.{word_token, move_kind, decimal_digits, decimal_some, number_bytes, san_bytes_in_word}
 use Rattle.chess_text.proofs.shared.San.{san_read, san_short, san_bytes, san_letter}
 
 -- reading goes on with a text, where a line begins or not
-abbrev pub read_on : ℕ → ℕ → SoFar → Bool → List ℕ → GameRead
-read_on limit total g begins text = game_of limit total g (tokens_of (length text) begins text)
+abbrev pub read_on : Bool → ℕ → ℕ → SoFar → Bool → List ℕ → GameRead
+read_on draws limit total g begins text = game_of draws limit total g (tokens_of (length text) begins text)
 
 -- ---- the game so far
 
@@ -69,49 +69,49 @@ termination_back ending.Unterminated = refl
 
 -- ---- one token
 
-module _ (limit total : ℕ) where
+module _ (draws : Bool) (limit total : ℕ) where
   -- what follows the first token's step
   step_then : SoFar → ℕ → Token × List ℕ → ℕ → ℕ → GameRead
-  step_then g c t left most = read_rest_with (step limit total g left t.0)
-      (λ h. game_of limit total h (tokens_of most (eqb c 10) t.1))
+  step_then g c t left most = read_rest_with (step draws limit total g left t.0)
+      (λ h. game_of draws limit total h (tokens_of most (eqb c 10) t.1))
 
   -- reading goes on after a token
   pub token_on : (g h : SoFar) (begins : Bool) (c : ℕ) (rest : List ℕ) (token : Token) (tail : List ℕ)
-      → token_at begins c rest ≡ (token, tail) → step limit total g (suc (length rest)) token ≡ On h
-      → read_on limit total g begins (c ∷ rest) ≡ read_on limit total h (eqb c 10) tail
+      → token_at begins c rest ≡ (token, tail) → step draws limit total g (suc (length rest)) token ≡ On h
+      → read_on draws limit total g begins (c ∷ rest) ≡ read_on draws limit total h (eqb c 10) tail
   unfolding tokens_of step_then
   token_on g h begins c rest token tail is next =
       let few : length tail ≤ length rest =
       subst (λ (t : Token × List ℕ). length t.1 ≤ length rest) is (shorter begins c rest) in
       ap (λ (t : Token × List ℕ). step_then g c t (suc (length rest)) (length rest)) is
-      ∙ ap (λ s. read_rest_with s (λ k. game_of limit total k (tokens_of (length rest) (eqb c 10) tail))) next
-      ∙ ap (game_of limit total h) (enough (length rest) (length tail) (eqb c 10) tail few (omega arith))
+      ∙ ap (λ s. read_rest_with s (λ k. game_of draws limit total k (tokens_of (length rest) (eqb c 10) tail))) next
+      ∙ ap (game_of draws limit total h) (enough (length rest) (length tail) (eqb c 10) tail few (omega arith))
 
   -- reading ends at a token
   pub token_ends : (g : SoFar) (begins : Bool) (c : ℕ) (rest : List ℕ) (token : Token) (tail : List ℕ) (r : GameRead)
-      → token_at begins c rest ≡ (token, tail) → step limit total g (suc (length rest)) token ≡ Stop r
-      → read_on limit total g begins (c ∷ rest) ≡ r
+      → token_at begins c rest ≡ (token, tail) → step draws limit total g (suc (length rest)) token ≡ Stop r
+      → read_on draws limit total g begins (c ∷ rest) ≡ r
   unfolding tokens_of step_then
   token_ends g begins c rest token tail r is next =
       ap (λ (t : Token × List ℕ). step_then g c t (suc (length rest)) (length rest)) is
-      ∙ ap (λ s. read_rest_with s (λ k. game_of limit total k (tokens_of (length rest) (eqb c 10) tail))) next
+      ∙ ap (λ s. read_rest_with s (λ k. game_of draws limit total k (tokens_of (length rest) (eqb c 10) tail))) next
 
   -- ---- skipped bytes
 
   pub skip_space : (g : SoFar) (begins : Bool) (rest : List ℕ)
-      → read_on limit total g begins (32 ∷ rest) ≡ read_on limit total g false rest
+      → read_on draws limit total g begins (32 ∷ rest) ≡ read_on draws limit total g false rest
   unfolding token_at
   skip_space g true rest = token_on g g true 32 rest Skip rest refl refl
   skip_space g false rest = token_on g g false 32 rest Skip rest refl refl
 
   pub skip_line_end : (g : SoFar) (begins : Bool) (rest : List ℕ)
-      → read_on limit total g begins (10 ∷ rest) ≡ read_on limit total g true rest
+      → read_on draws limit total g begins (10 ∷ rest) ≡ read_on draws limit total g true rest
   unfolding token_at
   skip_line_end g true rest = token_on g g true 10 rest Skip rest refl refl
   skip_line_end g false rest = token_on g g false 10 rest Skip rest refl refl
 
   skip_dot : (g : SoFar) (begins : Bool) (rest : List ℕ)
-      → read_on limit total g begins (46 ∷ rest) ≡ read_on limit total g false rest
+      → read_on draws limit total g begins (46 ∷ rest) ≡ read_on draws limit total g false rest
   unfolding token_at
   skip_dot g true rest = token_on g g true 46 rest Skip rest refl refl
   skip_dot g false rest = token_on g g false 46 rest Skip rest refl refl
@@ -121,33 +121,33 @@ module _ (limit total : ℕ) where
   -- a text takes the game from one to another, where a byte of no word follows
   abbrev pub Takes : SoFar → SoFar → List ℕ → Type 0
   Takes g h text = (begins : Bool) (d : ℕ) (rest : List ℕ) → is_word_byte d ≡ false
-      → read_on limit total g begins (text ++ d ∷ rest) ≡ read_on limit total h false (d ∷ rest)
+      → read_on draws limit total g begins (text ++ d ∷ rest) ≡ read_on draws limit total h false (d ∷ rest)
 
   word_takes : (g h : SoFar) (word : List ℕ) → 0 < length word → list_all is_word_byte word ≡ true
-      → ((offset : ℕ) → word_step limit g offset word (word_kind word) ≡ On h) → Takes g h word
+      → ((offset : ℕ) → word_step draws limit g offset word (word_kind word) ≡ On h) → Takes g h word
   word_takes g h [] some all next = absurd (omega arith)
   word_takes g h (c ∷ cs) some all next = λ begins d rest ends.
       let here = (and_parts (is_word_byte c) (list_all is_word_byte cs) all).0 in
       token_on g h begins c (cs ++ d ∷ rest) (Word (c ∷ cs)) (d ∷ rest) (word_token begins c cs d rest all ends)
       (next (total - suc (length (cs ++ d ∷ rest))))
-      ∙ ap (λ b. read_on limit total h b (d ∷ rest)) (differs is_word_byte c 10 here refl)
+      ∙ ap (λ b. read_on draws limit total h b (d ∷ rest)) (differs is_word_byte c 10 here refl)
 
   -- a number, and the dots after it
   number_takes : (g : SoFar) (n : ℕ) → n ≤ 999999 → Takes g (begun g) (decimal n)
   number_takes g n h =
       let digits = decimal_digits n h in
       word_takes g (begun g) (decimal n) (decimal_some n h) (number_bytes (decimal n) digits)
-      (λ offset. ap (word_step limit g offset (decimal n)) (number_kind (decimal n) digits))
+      (λ offset. ap (word_step draws limit g offset (decimal n)) (number_kind (decimal n) digits))
 
   pub white_number : (g : SoFar) (n : ℕ) → n ≤ 999999 → Takes g (begun g) (decimal n ++ codes ".")
   white_number g n h = λ begins d rest ends.
-      ap (read_on limit total g begins) (append_assoc (decimal n) (46 ∷ []) (d ∷ rest))
+      ap (read_on draws limit total g begins) (append_assoc (decimal n) (46 ∷ []) (d ∷ rest))
       ∙ number_takes g n h begins 46 (d ∷ rest) refl
       ∙ skip_dot (begun g) false (d ∷ rest)
 
   pub black_number : (g : SoFar) (n : ℕ) → n ≤ 999999 → Takes g (begun g) (decimal n ++ codes "...")
   black_number g n h = λ begins d rest ends.
-      ap (read_on limit total g begins) (append_assoc (decimal n) (46 ∷ 46 ∷ 46 ∷ []) (d ∷ rest))
+      ap (read_on draws limit total g begins) (append_assoc (decimal n) (46 ∷ 46 ∷ 46 ∷ []) (d ∷ rest))
       ∙ number_takes g n h begins 46 (46 ∷ 46 ∷ d ∷ rest) refl
       ∙ skip_dot (begun g) false (46 ∷ 46 ∷ d ∷ rest)
       ∙ skip_dot (begun g) false (46 ∷ d ∷ rest)
@@ -156,25 +156,25 @@ module _ (limit total : ℕ) where
   -- a legal move, where there is no verdict and the limit admits one more
   san_step : (g : SoFar) (offset : ℕ) (p : Setup) (m : Move) → IsSound p → IsTrue (is_legal p m) → current g.state ≡ p
       → verdict_now g.state ≡ None → length g.state.moves < limit
-      → move_step limit g offset (reading (current g.state) (san p m)) ≡ On (moved g m)
+      → move_step draws limit g offset (reading (current g.state) (san p m)) ≡ On (moved g m)
   san_step g offset p m sound legal at none few =
       let room : nat_lt (length g.state.moves) limit ≡ true = grind (arith, nat_tests) in
-      ap (λ q. move_step limit g offset (reading q (san p m))) at
-      ∙ ap (move_step limit g offset) (san_read p m sound legal)
-      ∙ rw (none, room) refl
+      ap (λ q. move_step draws limit g offset (reading q (san p m))) at
+      ∙ ap (move_step draws limit g offset) (san_read p m sound legal)
+      ∙ (let unended = still_open draws g.state none in rw (unended, room) refl)
 
   pub san_takes : (g : SoFar) (p : Setup) (m : Move) → IsSound p → IsTrue (is_legal p m) → current g.state ≡ p
       → verdict_now g.state ≡ None → length g.state.moves < limit → Takes g (moved g m) (san p m)
   san_takes g p m sound legal at none few =
       word_takes g (moved g m) (san p m) (omega (arith, (san_short p m sound legal).0))
       (san_bytes_in_word (san p m) (san_bytes p m sound legal))
-      (λ offset. ap (word_step limit g offset (san p m)) (move_kind (san p m) (san_letter p m sound legal))
+      (λ offset. ap (word_step draws limit g offset (san p m)) (move_kind (san p m) (san_letter p m sound legal))
       ∙ san_step g offset p m sound legal at none few)
 
   -- ---- the termination
 
   pub outcome_ends : (g : SoFar) (o : Outcome) (begins : Bool) (d : ℕ) (rest : List ℕ) → is_word_byte d ≡ false
-      → read_on limit total g begins (outcome_text o ++ d ∷ rest)
+      → read_on draws limit total g begins (outcome_text o ++ d ∷ rest)
       ≡ ended_game g.termination g.state o (total - length (outcome_text o ++ d ∷ rest) + length (outcome_text o))
   unfolding token_at
   outcome_ends g WhiteWins begins d rest off =
@@ -195,17 +195,17 @@ module _ (limit total : ℕ) where
   -- a line takes the game from one to another
   abbrev pub TakesLine : SoFar → SoFar → List ℕ → Type 0
   TakesLine g h line = (begins : Bool) (rest : List ℕ)
-      → read_on limit total g begins (line ++ 10 ∷ rest) ≡ read_on limit total h true rest
+      → read_on draws limit total g begins (line ++ 10 ∷ rest) ≡ read_on draws limit total h true rest
 
   pub empty_line : (g : SoFar) → TakesLine g g []
   empty_line g begins rest = skip_line_end g begins rest
 
   tag_takes : (g h : SoFar) (name text : List ℕ) → is_tag_name name ≡ true → list_all is_in_line text ≡ true
-      → ((left string : ℕ) → step limit total g left (Tag name (escaped text) string) ≡ On h)
+      → ((left string : ℕ) → step draws limit total g left (Tag name (escaped text) string) ≡ On h)
       → TakesLine g h (tag_line name text)
   tag_takes g h name text named line next begins rest =
       let string : List ℕ = escaped text ++ 34 ∷ 93 ∷ 10 ∷ rest in
-      ap (read_on limit total g begins) (tag_line_bytes name text (10 ∷ rest))
+      ap (read_on draws limit total g begins) (tag_line_bytes name text (10 ∷ rest))
       ∙ token_on g h begins 91 (name ++ 32 ∷ 34 ∷ string) (Tag name (escaped text) (length string)) (10 ∷ rest)
       (tag_token begins name text (10 ∷ rest) named line)
       (next (suc (length (name ++ 32 ∷ 34 ∷ string))) (length string))

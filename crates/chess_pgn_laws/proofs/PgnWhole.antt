@@ -43,78 +43,82 @@ initial_is law initial start normal sound e =
 grouped : (tags moves rest : List ℕ) → tags ++ moves ++ 10 ∷ [] ++ rest ≡ tags ++ (moves ++ 10 ∷ rest)
 grouped tags moves rest = simp append_assoc
 
-module _ (limit total : ℕ) where
+module _ (draws : Bool) (limit total : ℕ) where
   -- a line, and what follows it
   line_read : (g h : SoFar) (begins : Bool) (line : List ℕ) (lines : List (List ℕ)) (rest : List ℕ) (r : GameRead)
-      → TakesLine limit total g h line → read_on limit total h true (ended [] lines ++ rest) ≡ r
-      → read_on limit total g begins (ended [] (line ∷ lines) ++ rest) ≡ r
+      → TakesLine draws limit total g h line → read_on draws limit total h true (ended [] lines ++ rest) ≡ r
+      → read_on draws limit total g begins (ended [] (line ∷ lines) ++ rest) ≡ r
   line_read g h begins line lines rest r takes reads =
       let text : ended [] (line ∷ lines) ++ rest ≡ line ++ 10 ∷ (ended [] lines ++ rest) = simp append_assoc in
-      ap (read_on limit total g begins) text ∙ takes begins (ended [] lines ++ rest) ∙ reads
+      ap (read_on draws limit total g begins) text ∙ takes begins (ended [] lines ++ rest) ∙ reads
 
   -- the tags of a start
   start_read : WrittenIsReadBack → IsSound (initial_setup_of Normal)
       → (t : Option Termination) (v : Variant) (start : Setup) → start.variant ≡ v → IsSound start
       → (last : List (List ℕ)) (rest : List ℕ)
-      → read_on limit total (tagged true t (from_start (initial_setup_of v))) true
-      (ended [] (start_lines_in v start ++ last) ++ rest) ≡ read_on limit total (tagged true t (from_start start))
+      → read_on draws limit total (tagged true t (from_start (initial_setup_of v))) true
+      (ended [] (start_lines_in v start ++ last) ++ rest) ≡ read_on draws limit total (tagged true t (from_start start))
       true (ended [] last ++ rest)
   start_read law initial t v start is sound last rest = by_variant v is
     where
       s : State
       s = from_start start
 
-      shown : (v : Variant) → start.variant ≡ v → read_on limit total (tagged true t (from_start (initial_setup_of v)))
-          true (ended [] (fen_lines start ++ last) ++ rest) ≡ read_on limit total (tagged true t s) true
+      shown : (v : Variant) → start.variant ≡ v
+          → read_on draws limit total (tagged true t (from_start (initial_setup_of v)))
+          true (ended [] (fen_lines start ++ last) ++ rest) ≡ read_on draws limit total (tagged true t s) true
           (ended [] last ++ rest)
       shown v is =
           line_read (tagged true t (from_start (initial_setup_of v))) (tagged true t s) true
           (tag_line (codes "FEN") (fen start)) (tag_line (codes "SetUp") (codes "1") ∷ last) rest _
-          (fen_tag limit total law t (from_start (initial_setup_of v)) start sound (initial_variant v ∙ sym is))
+          (fen_tag draws limit total law t (from_start (initial_setup_of v)) start sound (initial_variant v ∙ sym is))
           (line_read (tagged true t s) (tagged true t s) true (tag_line (codes "SetUp") (codes "1")) last rest _
-          (plain_tag limit total true t s (codes "SetUp") (codes "1") refl refl refl refl) refl)
+          (plain_tag draws limit total true t s (codes "SetUp") (codes "1") refl refl refl refl) refl)
 
       by_test : start.variant ≡ Normal → (b : Bool) → is_initial start ≡ b
-          → read_on limit total (tagged true t (from_start (initial_setup_of Normal))) true
-          (ended [] (list_if (not b) (fen_lines start) ++ last) ++ rest) ≡ read_on limit total (tagged true t s) true
+          → read_on draws limit total (tagged true t (from_start (initial_setup_of Normal))) true
+          (ended [] (list_if (not b) (fen_lines start) ++ last) ++ rest)
+          ≡ read_on draws limit total (tagged true t s) true
           (ended [] last ++ rest)
-      by_test is true e = ap (λ p. read_on limit total (tagged true t (from_start p)) true (ended [] last ++ rest))
+      by_test is true e =
+          ap (λ p. read_on draws limit total (tagged true t (from_start p)) true (ended [] last ++ rest))
           (sym (initial_is law initial start is sound e))
       by_test is false e = shown Normal is
 
       by_variant : (v : Variant) → start.variant ≡ v
-          → read_on limit total (tagged true t (from_start (initial_setup_of v))) true
-          (ended [] (start_lines_in v start ++ last) ++ rest) ≡ read_on limit total (tagged true t s) true
+          → read_on draws limit total (tagged true t (from_start (initial_setup_of v))) true
+          (ended [] (start_lines_in v start ++ last) ++ rest) ≡ read_on draws limit total (tagged true t s) true
           (ended [] last ++ rest)
       by_variant Normal is = by_test is (is_initial start) refl
       by_variant Fischerandom is = shown Fischerandom is
 
   -- the last tags, and the empty line
   last_read : (t : Option Termination) (u : Termination) (s : State) (v : Variant) (rest : List ℕ)
-      → read_on limit total (tagged true t s) true (ended [] (last_lines v u ++ [] ∷ []) ++ rest) ≡ read_on limit total
+      → read_on draws limit total (tagged true t s) true (ended [] (last_lines v u ++ [] ∷ []) ++ rest)
+      ≡ read_on draws limit total
       (tagged true (Some u) s) true rest
   last_read t u s Normal rest =
       line_read (tagged true t s) (tagged true (Some u) s) true (tag_line (codes "Termination") (termination_text u))
-      ([] ∷ []) rest _ (termination_tag limit total t s u)
+      ([] ∷ []) rest _ (termination_tag draws limit total t s u)
       (line_read (tagged true (Some u) s) (tagged true (Some u) s) true [] [] rest _
-      (empty_line limit total (tagged true (Some u) s)) refl)
+      (empty_line draws limit total (tagged true (Some u) s)) refl)
   last_read t u s Fischerandom rest =
       let variant : List ℕ = tag_line (codes "Variant") (codes "fischerandom") in
       line_read (tagged true t s) (tagged true (Some u) s) true (tag_line (codes "Termination") (termination_text u))
-      (variant ∷ [] ∷ []) rest _ (termination_tag limit total t s u)
+      (variant ∷ [] ∷ []) rest _ (termination_tag draws limit total t s u)
       (line_read (tagged true (Some u) s) (tagged true (Some u) s) true variant ([] ∷ []) rest _
-      (plain_tag limit total true (Some u) s (codes "Variant") (codes "fischerandom") refl refl refl refl)
+      (plain_tag draws limit total true (Some u) s (codes "Variant") (codes "fischerandom") refl refl refl refl)
       (line_read (tagged true (Some u) s) (tagged true (Some u) s) true [] [] rest _
-      (empty_line limit total (tagged true (Some u) s)) refl))
+      (empty_line draws limit total (tagged true (Some u) s)) refl))
 
   -- the tags after the seven, and the empty line
   further_read : WrittenIsReadBack → IsSound (initial_setup_of Normal) → (start : Setup) (u : Termination)
       → IsSound start → (rest : List ℕ)
-      → read_on limit total (tagged true None (from_start (initial_setup_of start.variant))) true
-      (ended [] (further_lines start u ++ [] ∷ []) ++ rest) ≡ read_on limit total
+      → read_on draws limit total (tagged true None (from_start (initial_setup_of start.variant))) true
+      (ended [] (further_lines start u ++ [] ∷ []) ++ rest) ≡ read_on draws limit total
       (tagged true (Some u) (from_start start)) true rest
   further_read law initial start u sound rest =
-      ap (λ lines. read_on limit total (tagged true None (from_start (initial_setup_of start.variant))) true
+      ap (λ lines. read_on draws limit total (tagged true None (from_start (initial_setup_of start.variant))) true
       (ended [] lines ++ rest))
       (append_assoc (start_lines_in start.variant start) (last_lines start.variant u) ([] ∷ []))
       ∙ start_read law initial None start.variant start refl sound (last_lines start.variant u ++ [] ∷ []) rest
@@ -122,8 +126,9 @@ module _ (limit total : ℕ) where
 
   -- all tags
   tags_read : WrittenIsReadBack → IsSound (initial_setup_of Normal) → (tags : Tags) → AreTagTexts tags → (s : State)
-      → IsSound s.start → (begins : Bool) (rest : List ℕ) → read_on limit total (nothing_read s.start.variant) begins
-      (ended [] (tag_lines tags s ++ [] ∷ []) ++ rest) ≡ read_on limit total
+      → IsSound s.start → (begins : Bool) (rest : List ℕ)
+      → read_on draws limit total (nothing_read s.start.variant) begins
+      (ended [] (tag_lines tags s ++ [] ∷ []) ++ rest) ≡ read_on draws limit total
       (tagged true (Some (termination_of tags.ended (outcome_now s))) (from_start s.start)) true rest
   tags_read law initial t texts s sound begins rest =
       let g : SoFar = tagged true None (from_start (initial_setup_of s.start.variant)) in
@@ -137,25 +142,29 @@ module _ (limit total : ℕ) where
       let site : List ℕ = tag_line (codes "Site") t.site in
       line_read (nothing_read s.start.variant) g begins (tag_line (codes "Event") t.event)
       (site ∷ date ∷ round ∷ white ∷ black ∷ result ∷ last) rest _
-      (plain_tag limit total false None (from_start (initial_setup_of s.start.variant)) (codes "Event") t.event refl
+      (plain_tag draws limit total false None (from_start (initial_setup_of s.start.variant))
+      (codes "Event") t.event refl
       refl refl (tag_text_in_line t.event texts.event))
       (line_read g g true site (date ∷ round ∷ white ∷ black ∷ result ∷ last) rest _
-      (plain_tag limit total true None (from_start (initial_setup_of s.start.variant)) (codes "Site") t.site refl
+      (plain_tag draws limit total true None (from_start (initial_setup_of s.start.variant)) (codes "Site") t.site refl
       refl refl (tag_text_in_line t.site texts.site))
       (line_read g g true date (round ∷ white ∷ black ∷ result ∷ last) rest _
-      (plain_tag limit total true None (from_start (initial_setup_of s.start.variant)) (codes "Date") t.date refl
+      (plain_tag draws limit total true None (from_start (initial_setup_of s.start.variant)) (codes "Date") t.date refl
       refl refl (tag_text_in_line t.date texts.date))
       (line_read g g true round (white ∷ black ∷ result ∷ last) rest _
-      (plain_tag limit total true None (from_start (initial_setup_of s.start.variant)) (codes "Round") t.round refl
+      (plain_tag draws limit total true None (from_start (initial_setup_of s.start.variant))
+      (codes "Round") t.round refl
       refl refl (tag_text_in_line t.round texts.round))
       (line_read g g true white (black ∷ result ∷ last) rest _
-      (plain_tag limit total true None (from_start (initial_setup_of s.start.variant)) (codes "White") t.white refl
+      (plain_tag draws limit total true None (from_start (initial_setup_of s.start.variant))
+      (codes "White") t.white refl
       refl refl (tag_text_in_line t.white texts.white))
       (line_read g g true black (result ∷ last) rest _
-      (plain_tag limit total true None (from_start (initial_setup_of s.start.variant)) (codes "Black") t.black refl
+      (plain_tag draws limit total true None (from_start (initial_setup_of s.start.variant))
+      (codes "Black") t.black refl
       refl refl (tag_text_in_line t.black texts.black))
       (line_read g g true result last rest _
-      (plain_tag limit total true None (from_start (initial_setup_of s.start.variant)) (codes "Result")
+      (plain_tag draws limit total true None (from_start (initial_setup_of s.start.variant)) (codes "Result")
       (outcome_text (outcome_now s)) refl refl refl (outcome_in_line (outcome_now s)))
       (further_read law initial s.start termination sound rest)))))))
 
@@ -164,7 +173,7 @@ module _ (limit total : ℕ) where
   -- what is read of a whole text
   text_read : AfterIsSound → WrittenIsReadBack → IsSound (initial_setup_of Normal) → (tags : Tags) → AreTagTexts tags
       → (s : State) → IsPlayable (record { limit = limit; state = s }) → (begins : Bool) (rest : List ℕ)
-      → read_on limit total (nothing_read s.start.variant) begins (pgn [] tags s ++ rest)
+      → read_on draws limit total (nothing_read s.start.variant) begins (pgn [] tags s ++ rest)
       ≡ ended_game (Some (termination_of tags.ended (outcome_now s)))
       (record { start = s.start; moves = s.moves; declared = None }) (outcome_now s)
       (total - length (outcome_text (outcome_now s) ++ 10 ∷ 10 ∷ rest) + length (outcome_text (outcome_now s)))
@@ -174,16 +183,16 @@ module _ (limit total : ℕ) where
       let moves : List ℕ = filled_from [] 0 (game_tokens s) in
       let r : GameRead = ended_game said (record { start = s.start; moves = s.moves; declared = None }) o
       (total - length (outcome_text o ++ 10 ∷ 10 ∷ rest) + length (outcome_text o)) in
-      ap (λ text. read_on limit total (nothing_read s.start.variant) begins (text ++ rest))
+      ap (λ text. read_on draws limit total (nothing_read s.start.variant) begins (text ++ rest))
       (pgn_filled [] t s (game_is_short (record { limit = limit; state = s }) h))
-      ∙ ap (read_on limit total (nothing_read s.start.variant) begins)
+      ∙ ap (read_on draws limit total (nothing_read s.start.variant) begins)
       (grouped (ended [] (tag_lines t s ++ [] ∷ [])) moves rest)
       ∙ tags_read law initial t texts s h.start begins (moves ++ 10 ∷ rest)
-      ∙ ap (λ ts. read_on limit total (read_so_far said s.start [] false) true (filled_from [] 0 ts ++ 10 ∷ rest))
+      ∙ ap (λ ts. read_on draws limit total (read_so_far said s.start [] false) true (filled_from [] 0 ts ++ 10 ∷ rest))
       (game_numbered s)
-      ∙ moves_read limit total after_law said s.start s.moves (record { few = h.limit; unended = h.unended })
+      ∙ moves_read draws limit total after_law said s.start s.moves (record { few = h.limit; unended = h.unended })
       (outcome_text o) (10 ∷ rest) r
-      (λ x b k. outcome_read limit total (read_so_far said s.start s.moves x) b k o (10 ∷ rest)) true s.start []
+      (λ x b k. outcome_read draws limit total (read_so_far said s.start s.moves x) b k o (10 ∷ rest)) true s.start []
       s.moves refl refl h.start h.line false true 0
 
 -- ---- its offset
@@ -218,19 +227,21 @@ named ts = by_string (last_tag (codes "Variant") (tag_section ts))
     ∙ ap (λ o. option_map_or variant_named o Normal) (sym (text_is (codes "Variant") ts))
 
 -- reading from the offset after `before` on
-read_after : (limit : ℕ) (before text : List ℕ) (v : Variant) → after_byte_order_mark (before ++ text) (length before)
+read_after : (draws : Bool) (limit : ℕ) (before text : List ℕ) (v : Variant)
+    → after_byte_order_mark (before ++ text) (length before)
     ≡ length before
     → option_map_or variant_named
     (said_on (codes "Variant") None (begins_line (before ++ text) (length before)) text) Normal ≡ v
-    → pgn_read limit (before ++ text) (length before) ≡ read_on limit (length (before ++ text)) (nothing_read v)
+    → pgn_read draws limit (before ++ text) (length before)
+    ≡ read_on draws limit (length (before ++ text)) (nothing_read v)
     (begins_line (before ++ text) (length before)) text
-read_after limit before text v offset said =
+read_after draws limit before text v offset said =
     let whole : List ℕ = before ++ text in
     let tokens : List (ℕ × Token) = tokens_of (length text) (begins_line whole (length before)) text in
-    reads_alike limit whole (length before)
-    ∙ ap (λ at. tokens_read limit (length whole) (tokens_from whole at)) offset
-    ∙ ap (tokens_read limit (length whole)) (tokens_after before text)
-    ∙ ap (λ u. game_of limit (length whole) (nothing_read u) tokens) (named tokens ∙ said)
+    reads_alike draws limit whole (length before)
+    ∙ ap (λ at. tokens_read draws limit (length whole) (tokens_from whole at)) offset
+    ∙ ap (tokens_read draws limit (length whole)) (tokens_after before text)
+    ∙ ap (λ u. game_of draws limit (length whole) (nothing_read u) tokens) (named tokens ∙ said)
 
 -- what the tags of a game's text say
 written_says : (name : List ℕ) (tags : Tags) → AreTagTexts tags → (s : State) → IsSound s.start
@@ -290,21 +301,21 @@ same_outcome (Some v) d = refl
 same_outcome None d = declared_again (outcome_by None d)
 
 pub pgn_law : AfterIsSound → WrittenIsReadBack → IsSound (initial_setup_of Normal) → PgnIsReadBack
-pgn_law after_law law initial limit tags s before rest texts h =
+pgn_law after_law law initial draws limit tags s before rest texts h =
     let written : List ℕ = pgn [] tags s in
     let o : List ℕ = outcome_text (outcome_now s) in
     let short = game_is_short (record { limit = limit; state = s }) h in
     let total : ℕ = length (before ++ (written ++ rest)) in
     let offset : after_byte_order_mark (before ++ (written ++ rest)) (length before) ≡ length before =
     rw (first_bytes tags s) (no_mark before 91 (drop 1 written ++ rest) refl) in
-    let is : pgn_read limit (before ++ written ++ rest) (length before)
+    let is : pgn_read draws limit (before ++ written ++ rest) (length before)
     ≡ ended_game (Some (termination_of tags.ended (outcome_now s)))
     (record { start = s.start; moves = s.moves; declared = None }) (outcome_now s)
     (total - length (o ++ 10 ∷ 10 ∷ rest) + length o) =
-    ap (λ text. pgn_read limit text (length before)) (append_assoc before written rest)
-    ∙ read_after limit before (written ++ rest) s.start.variant offset
+    ap (λ text. pgn_read draws limit text (length before)) (append_assoc before written rest)
+    ∙ read_after draws limit before (written ++ rest) s.start.variant offset
     (variant_is tags texts s h.start short (begins_line (before ++ (written ++ rest)) (length before)) rest)
-    ∙ text_read limit total after_law law initial tags texts s h
+    ∙ text_read draws limit total after_law law initial tags texts s h
     (begins_line (before ++ (written ++ rest)) (length before)) rest in
     subst (IsReadBack s (termination_of tags.ended (outcome_now s)) (length (before ++ written))) (sym is) (record {
       start = refl;

@@ -30,9 +30,9 @@ texts_are_split = record {
 
 -- a word that denotes one move is played where the game is neither over nor full
 move_plays : (limit : ℕ) (s : State) (left : ℕ) (m : Move) (r : Reading) → r ≡ reads.Move m → verdict_now s ≡ None
-    → nat_lt (length s.moves) limit ≡ true → move_row limit s left r ≡ Goes_on (played s m)
+    → nat_lt (length s.moves) limit ≡ true → move_row true limit s left r ≡ Goes_on (played s m)
 move_plays limit s left m r is open_yet room =
-    ap (move_row limit s left) is
+    ap (move_row true limit s left) is
     ∙ ap (λ (o : Option Verdict). cond (is_some o) (Fails AfterEnd left)
     (cond (nat_lt (length s.moves) limit) (Goes_on (played s m)) (Fails TooLong left))) open_yet
     ∙ ap (λ t. cond t (Goes_on (played s m)) (Fails TooLong left)) room
@@ -49,20 +49,20 @@ tokens = (19, Tag (codes "Event") (codes "a") 11) ∷ (8, Skip) ∷ (7, Word (co
 
 game_is_read : (m : Move) → verdict_now (from_start (initial_setup_of Normal)) ≡ None
     → reading (current (from_start (initial_setup_of Normal))) (codes "e4") ≡ reads.Move m
-    → IsRead 1 text 0 (finished (played (from_start (initial_setup_of Normal)) m) Unfinished None 19)
+    → IsRead true 1 text 0 (finished (played (from_start (initial_setup_of Normal)) m) Unfinished None 19)
 unfolding token_at tokens_of tokens_from
 game_is_read m over says = record {
   tokens = tokens;
   split = read_split text 0;
   is = sym (ap (λ (r : Row). after_row None start r
-      (λ next. moves_read 1 19 None next ((2, Skip) ∷ (1, Word (codes "*")) ∷ [])))
+      (λ next. moves_read true 1 19 None next ((2, Skip) ∷ (1, Word (codes "*")) ∷ [])))
       (move_plays 1 start 15 m (reading (current start) (codes "e4")) says over refl));
 }
 
 -- a text is read as its tokens say
 read_so : (at_text : List ℕ) (r : GameRead)
-    → r ≡ read_of_split 1 (length at_text) (tokens_from at_text (after_byte_order_mark at_text 0))
-    → IsRead 1 at_text 0 r
+    → r ≡ read_of_split true 1 (length at_text) (tokens_from at_text (after_byte_order_mark at_text 0))
+    → IsRead true 1 at_text 0 r
 read_so at_text r is = record {
   tokens = tokens_from at_text (after_byte_order_mark at_text 0);
   split = read_split at_text (after_byte_order_mark at_text 0);

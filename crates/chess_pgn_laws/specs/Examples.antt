@@ -1,6 +1,6 @@
 -- Small texts by which the law `texts_are_worked_out` shows what the definitions of a split, of a game that is read and
 -- of a game's text mean.
-use Rattle.std.specs.Prelude.{◌≡◌, ℕ, List, [], ◌∷◌, ◌++◌, length, codes, Option, Some, None, Ok, is_some}
+use Rattle.std.specs.Prelude.{◌≡◌, ℕ, true, List, [], ◌∷◌, ◌++◌, length, codes, Option, Some, None, Ok, is_some}
 use Rattle.chess_base.specs.declared.fen_fault.FenFault.TheVariants.{Fields}
 use Rattle.chess_base.specs.declared.man.Move.{Move}
 use Rattle.chess_base.specs.declared.man.Variant.TheVariants.{Normal}
@@ -52,19 +52,19 @@ pub record TextsAreRead : Type 0 where
   -- one move, where the initial position has no verdict and `e4` denotes the move m in it
   pub game : (m : Move) → verdict_now (from_start (initial_setup_of Normal)) ≡ None
       → reading (current (from_start (initial_setup_of Normal))) (codes "e4") ≡ reads.Move m
-      → IsRead 1 (codes "[Event \"a\"]\n1. e4 *") 0
+      → IsRead true 1 (codes "[Event \"a\"]\n1. e4 *") 0
       (finished (played (from_start (initial_setup_of Normal)) m) Unfinished None 19)
   -- only what is skipped: no game
-  pub no_game : IsRead 1 (codes " {a}") 0
+  pub no_game : IsRead true 1 (codes " {a}") 0
       (record { state = from_start (initial_setup_of Normal); answer = Ok None })
   -- a tag, and then nothing
-  pub no_result : IsRead 1 (codes "[A \"b\"]") 0
+  pub no_result : IsRead true 1 (codes "[A \"b\"]") 0
       (failed (from_start (initial_setup_of Normal)) (record { kind = NoResult; offset = 7 }))
   -- a tag that can't be read, after one that can
-  pub bad_tag : IsRead 1 (codes "[A \"b\"][A b]") 0
+  pub bad_tag : IsRead true 1 (codes "[A \"b\"][A b]") 0
       (failed (from_start (initial_setup_of Normal)) (record { kind = BadTag; offset = 7 }))
   -- a FEN of one field: the fault is at the first byte of its text
-  pub bad_fen : IsRead 1 (codes "[FEN \"x\"] *") 0
+  pub bad_fen : IsRead true 1 (codes "[FEN \"x\"] *") 0
       (failed (from_start (initial_setup_of Normal)) (record { kind = BadFen Fields; offset = 6 }))
 
 -- examples of how tokens are laid out in lines

@@ -11,7 +11,6 @@ use Rattle.chess_base.specs.declared.man.Variant.{Variant}
 use Rattle.chess_base.specs.declared.setup.Setup.{Setup}
 use Rattle.chess_base.specs.Initial.{initial_setup_of}
 use Rattle.chess_fen.specs.Reading.{fen_reading_as}
-use Rattle.chess_game.specs.Ends.{verdict}
 use Rattle.chess_game.specs.Game.{State, current, verdict_now}
 use Rattle.chess_game.specs.Line.{position_after}
 use Rattle.chess_text.specs.declared.reading.Reading.{Reading}
@@ -24,7 +23,7 @@ use Rattle.chess_pgn.specs.declared.read.PgnFaultKind.TheVariants.{BadTag, BadFe
 use Rattle.pgn_writer.specs.declared.termination.Termination.{Termination}
 use Rattle.chess_pgn.specs.declared.word_kind.WordKind.{WordKind}
 use Rattle.chess_pgn.specs.declared.word_kind.WordKind.TheVariants.{End, Number, Move}
-use Rattle.chess_pgn.specs.GameRead.{GameRead, IsRead, declared_after, tagged_variant}
+use Rattle.chess_pgn.specs.GameRead.{GameRead, IsRead, declared_after, ending, tagged_variant}
 use Rattle.chess_pgn.specs.LastTags.{tag_section}
 use Rattle.chess_pgn.specs.laws.TokenByToken.{termination_after}
 use Rattle.chess_pgn.specs.Tokens.{Token, Skip, Tag, Word, Bad_tag, Unclosed_comment, Unclosed_variation, Bad}
@@ -119,36 +118,42 @@ abbrev pub tagged_termination : Option Termination → List (ℕ × Token) → O
 tagged_termination o [] = o
 tagged_termination o (t ∷ ts) = tagged_termination (termination_by_token o t.1) ts
 
+-- the game from this start by these moves, with nothing declared
+abbrev pub game_by : Setup → List Played → State
+game_by start ms = record { start = start; moves = ms; declared = None }
+
 -- after the moves `done` from a start, each of the words denotes the move at its index, in the position reached by
--- then, where the game has no verdict and fewer than `limit` moves
-abbrev pub AreReadAs : ℕ → Setup → List Played → List (List ℕ) → List Played → Type 0
-AreReadAs limit start done [] [] = Unit {0}
-AreReadAs limit start done [] (m ∷ ms) = ⊥
-AreReadAs limit start done (w ∷ ws) [] = ⊥
-AreReadAs limit start done (w ∷ ws) (m ∷ ms) =
-    (verdict start done ≡ None) × (length done < limit) × (reading (position_after start done) w ≡ reads.Move m)
-    × AreReadAs limit start (done ++ m ∷ []) ws ms
+-- then, where no verdict has ended the game (`draws`: whether the draws of 2014 end one) and it has fewer than `limit`
+-- moves
+abbrev pub AreReadAs : Bool → ℕ → Setup → List Played → List (List ℕ) → List Played → Type 0
+AreReadAs draws limit start done [] [] = Unit {0}
+-- more moves than words, or fewer
+AreReadAs draws limit start done [] (m ∷ ms) = ⊥
+AreReadAs draws limit start done (w ∷ ws) [] = ⊥
+AreReadAs draws limit start done (w ∷ ws) (m ∷ ms) =
+    (ending draws (game_by start done) ≡ None) × (length done < limit)
+    × (reading (position_after start done) w ≡ reads.Move m) × AreReadAs draws limit start (done ++ m ∷ []) ws ms
 
 -- ---- why a token is not taken
 
--- why a move is not played in the game `s`: AfterEnd if it has a verdict, TooLong if it has `limit` half-moves,
+-- why a move is not played in the game `s`: AfterEnd if a verdict has ended it, TooLong if it has `limit` half-moves,
 -- otherwise `kind`, the fault of the move itself (or none)
-abbrev pub unless_closed : ℕ → State → Option PgnFaultKind → Option PgnFaultKind
-unless_closed limit s kind = if is_some (verdict_now s) then Some AfterEnd else
+abbrev pub unless_closed : Bool → ℕ → State → Option PgnFaultKind → Option PgnFaultKind
+unless_closed draws limit s kind = if is_some (ending draws s) then Some AfterEnd else
     (if nat_lt (length s.moves) limit then kind else Some TooLong)
 
 -- why the move of a word is not played in the game `s`, by what the word denotes there; none if it is played. `limit`
 -- is the most half-moves of a game
-abbrev pub move_fault : ℕ → State → Reading → Option PgnFaultKind
-move_fault limit s reads.NotAMove = Some BadToken
-move_fault limit s (reads.Move m) = unless_closed limit s None
-move_fault limit s reads.Ambiguous = unless_closed limit s (Some AmbiguousMove)
-move_fault limit s reads.NoSuch = unless_closed limit s (Some IllegalMove)
+abbrev pub move_fault : Bool → ℕ → State → Reading → Option PgnFaultKind
+move_fault draws limit s reads.NotAMove = Some BadToken
+move_fault draws limit s (reads.Move m) = unless_closed draws limit s None
+move_fault draws limit s reads.Ambiguous = unless_closed draws limit s (Some AmbiguousMove)
+move_fault draws limit s reads.NoSuch = unless_closed draws limit s (Some IllegalMove)
 
 -- why a word of this kind can't be taken in the game `s`; none if it can. `limit` is the most half-moves of a game
-abbrev pub word_fault : ℕ → State → List ℕ → WordKind → Option PgnFaultKind
-word_fault limit s word Move = move_fault limit s (reading (current s) word)
-word_fault limit s word _ = None
+abbrev pub word_fault : Bool → ℕ → State → List ℕ → WordKind → Option PgnFaultKind
+word_fault draws limit s word Move = move_fault draws limit s (reading (current s) word)
+word_fault draws limit s word _ = None
 
 -- a fault of this kind at this offset; none if there is no kind
 abbrev pub fault_at : ℕ → Option PgnFaultKind → Option PgnFault
@@ -162,55 +167,65 @@ fen_fault (Err fault) = Some (BadFen fault)
 -- why a token can't be taken in the game `s` of the variant `v`, with the fault's offset; none if it can. `limit` is
 -- the most half-moves of a game, `total` the text's length, `to_end` how many bytes are left from the token on;
 -- `begun`: a number or move came before it
-abbrev pub token_fault : ℕ → ℕ → Variant → Bool → State → ℕ → Token → Option PgnFault
-token_fault limit total v begun s to_end Skip = None
-token_fault limit total v begun s to_end (Tag name text string) =
+abbrev pub token_fault : Bool → ℕ → ℕ → Variant → Bool → State → ℕ → Token → Option PgnFault
+token_fault draws limit total v begun s to_end Skip = None
+token_fault draws limit total v begun s to_end (Tag name text string) =
     if begun then fault_at (total - to_end) (Some NoResult)
     else (if is_fen name then fault_at (total - string) (fen_fault (fen_reading_as v text)) else None)
-token_fault limit total v begun s to_end (Word word) =
-    fault_at (total - to_end) (word_fault limit s word (word_kind word))
-token_fault limit total v begun s to_end Bad_tag = fault_at (total - to_end) (Some (if begun then NoResult else BadTag))
-token_fault limit total v begun s to_end (Unclosed_comment brace) = fault_at (total - brace) (Some UnclosedComment)
-token_fault limit total v begun s to_end Unclosed_variation = fault_at (total - to_end) (Some UnclosedVariation)
-token_fault limit total v begun s to_end Bad = fault_at (total - to_end) (Some BadToken)
+token_fault draws limit total v begun s to_end (Word word) =
+    fault_at (total - to_end) (word_fault draws limit s word (word_kind word))
+token_fault draws limit total v begun s to_end Bad_tag =
+    fault_at (total - to_end) (Some (if begun then NoResult else BadTag))
+token_fault draws limit total v begun s to_end (Unclosed_comment brace) =
+    fault_at (total - brace) (Some UnclosedComment)
+token_fault draws limit total v begun s to_end Unclosed_variation = fault_at (total - to_end) (Some UnclosedVariation)
+token_fault draws limit total v begun s to_end Bad = fault_at (total - to_end) (Some BadToken)
 
 -- ---- the game
 
 -- why reading stopped after the tokens `taken`, before the others (the next argument), in a text of `total` bytes: at
 -- the text's end with no game (`Ok None`), at an outcome (`Ok (Some e)`), or at a fault. `s` is the game then; only an
 -- outcome declares a result. `limit` is the most half-moves
-abbrev pub StopsAt : ℕ → ℕ → Variant → List (ℕ × Token) → List (ℕ × Token) → State → Result (Option PgnEnd) PgnFault
+abbrev pub StopsAt : Bool → ℕ → ℕ → Variant → List (ℕ × Token) → List (ℕ × Token) → State
+    → Result (Option PgnEnd) PgnFault
     → Type 0
 -- at the text's end
-StopsAt limit total v taken [] s (Ok None) = (s.declared ≡ None) × (list_any (λ t. counts t.1) taken ≡ false)
-StopsAt limit total v taken [] s (Ok (Some e)) = ⊥
-StopsAt limit total v taken [] s (Err f) =
+StopsAt draws limit total v taken [] s (Ok None) = (s.declared ≡ None) × (list_any (λ t. counts t.1) taken ≡ false)
+-- no outcome is there
+StopsAt draws limit total v taken [] s (Ok (Some e)) = ⊥
+-- a game was begun, and has no result
+StopsAt draws limit total v taken [] s (Err f) =
     (s.declared ≡ None) × (list_any (λ t. counts t.1) taken ≡ true) × (f ≡ record { kind = NoResult; offset = total })
 -- before the token `t`
-StopsAt limit total v taken (t ∷ ts) s (Ok None) = ⊥
-StopsAt limit total v taken (t ∷ ts) s (Ok (Some e)) =
+StopsAt draws limit total v taken (t ∷ ts) s (Ok None) = ⊥
+-- it is the word of an outcome
+StopsAt draws limit total v taken (t ∷ ts) s (Ok (Some e)) =
     (word : List ℕ) × (t.1 ≡ Word word) × (word_kind word ≡ End e.outcome)
     × (s.declared ≡ declared_after (is_some (verdict_now s)) e.outcome)
     × (e.termination ≡ tagged_termination None taken) × (e.offset ≡ total - t.0 + length word)
-StopsAt limit total v taken (t ∷ ts) s (Err f) =
-    (s.declared ≡ None) × (token_fault limit total v (list_any (λ u. begins u.1) taken) s t.0 t.1 ≡ Some f)
+-- it can't be taken
+StopsAt draws limit total v taken (t ∷ ts) s (Err f) =
+    (s.declared ≡ None) × (token_fault draws limit total v (list_any (λ u. begins u.1) taken) s t.0 t.1 ≡ Some f)
 
 -- the game read (`r`) is that of a first part of the tokens, `taken`: its start is what their last FEN denotes,
 -- otherwise the initial position of variant `v`, its moves are those of their words, and reading stopped rightly after
 -- them. `limit` is the most half-moves of a game, `total` the text's length
-pub record IsOfTokens (limit total : ℕ) (v : Variant) (tokens : List (ℕ × Token)) (r : GameRead) : Type 0 where
+pub record IsOfTokens (draws : Bool) (limit total : ℕ) (v : Variant) (tokens : List (ℕ × Token))
+    (r : GameRead) : Type 0 where
+  -- the tokens of the game, and those after them
   pub taken : List (ℕ × Token)
   pub others : List (ℕ × Token)
   pub all : taken ++ others ≡ tokens
+  -- reading goes on after each
   pub can_be : can_all_be_taken v false taken ≡ true
   pub start : r.state.start ≡ tagged_start v (initial_setup_of v) taken
-  pub moves : AreReadAs limit r.state.start [] (move_words taken) r.state.moves
-  pub stop : StopsAt limit total v taken others r.state r.answer
+  pub moves : AreReadAs draws limit r.state.start [] (move_words taken) r.state.moves
+  pub stop : StopsAt draws limit total v taken others r.state r.answer
 
 -- each game that is read is that of its text's first tokens: its start is their last FEN's, its moves their words', and
 -- the next token ends the game, or can't be taken, or there is none. `at` is the offset where reading begins, `limit`
 -- the most half-moves
 abbrev pub GamesAreOfTokens : Type 0
 GamesAreOfTokens =
-    (limit : ℕ) (text : List ℕ) (at : ℕ) (r : GameRead) (read : IsRead limit text at r)
-    → IsOfTokens limit (length text) (tagged_variant (tag_section read.tokens)) read.tokens r
+    (draws : Bool) (limit : ℕ) (text : List ℕ) (at : ℕ) (r : GameRead) (read : IsRead draws limit text at r)
+    → IsOfTokens draws limit (length text) (tagged_variant (tag_section read.tokens)) read.tokens r

@@ -1,5 +1,5 @@
 -- The definitions that Chess960 widened, as they are for normal chess alone.
-use Rattle.std.specs.Prelude.{◌≡◌, ℕ, ◌-◌, not, List, [], ◌∷◌, ◌++◌, length, drop, map, slice_get, Ok, None, codes, if◌then◌else◌}
+use Rattle.std.specs.Prelude.{◌≡◌, ℕ, ◌-◌, Bool, not, List, [], ◌∷◌, ◌++◌, length, drop, map, slice_get, Ok, None, codes, if◌then◌else◌}
 use Rattle.std.specs.List.{filter_map, list_all}
 use Rattle.std.specs.Option.{option_map_or}
 use Rattle.std.specs.Result.{result_err, result_map_both}
@@ -32,8 +32,8 @@ normal_tag_lines t s =
 
 -- what is read of these tokens, in a text of `total` bytes, if there were no Chess960: FEN is read as one of normal
 -- chess, and without it the game begins at the initial position. `limit` is the most half-moves of a game
-abbrev pub normal_read : ℕ → ℕ → List (ℕ × Token) → GameRead
-normal_read limit total tokens =
+abbrev pub normal_read : Bool → ℕ → ℕ → List (ℕ × Token) → GameRead
+normal_read draws limit total tokens =
     let tags = tag_section tokens in
     let fens = map (λ tag. result_map_both (λ start. start)
     (λ fault. record { kind = BadFen fault; offset = total - tag.1 }) (fen_reading tag.0))
@@ -41,12 +41,13 @@ normal_read limit total tokens =
     let s = from_start (last_start initial_setup fens) in
     if list_all (λ t. says_nothing t.1) tokens then record { state = s; answer = Ok None }
     else option_map_or (failed s) (slice_get (filter_map result_err fens) 0)
-    (read_after_tags limit total s tags (drop (length tags) tokens))
+    (read_after_tags draws limit total s tags (drop (length tags) tokens))
 
 -- a game of normal chess is written, and a text with no tag Variant among the game's own tags is read, as if there were
 -- no Chess960
 pub record NormalIsKept : Type 0 where
   pub written : (t : Tags) (s : State) → s.start.variant ≡ Normal → tag_lines t s ≡ normal_tag_lines t s
-  pub read : (limit : ℕ) (text : List ℕ) (at : ℕ)
+  pub read : (draws : Bool) (limit : ℕ) (text : List ℕ) (at : ℕ)
       → last_tag (codes "Variant") (tag_section (tokens_from text (after_byte_order_mark text at))) ≡ None
-      → pgn_read limit text at ≡ normal_read limit (length text) (tokens_from text (after_byte_order_mark text at))
+      → pgn_read draws limit text at ≡ normal_read draws limit (length text)
+      (tokens_from text (after_byte_order_mark text at))

@@ -1,5 +1,5 @@
 -- The law of games' texts: what is written is read back.
-use Rattle.std.specs.Prelude.{◌≡◌, ℕ, ◌+◌, List, [], ◌++◌, length, Some, None, Ok, option_and_then}
+use Rattle.std.specs.Prelude.{◌≡◌, ℕ, ◌+◌, Bool, List, [], ◌++◌, length, Some, None, Ok, option_and_then}
 use Rattle.chess_game.specs.Game.{State, outcome_now, IsPlayable}
 use Rattle.pgn_writer.specs.declared.tags.Tags.{Tags}
 use Rattle.pgn_writer.specs.declared.termination.Termination.{Termination}
@@ -29,19 +29,21 @@ pub record IsReadBack (s : State) (termination : Termination) (text_end : ℕ) (
   pub start : r.state.start ≡ s.start
   pub moves : r.state.moves ≡ s.moves
   pub outcome : outcome_now r.state ≡ outcome_now s
+  -- the offset after its termination marker
   pub offset : ℕ
   pub answer : r.answer ≡ Ok
       (Some (record { outcome = outcome_now s; termination = Some termination; offset = offset }))
+  -- after it come two bytes: the line's end and the empty line
   pub two_before_end : offset + 2 ≡ text_end
 
 -- the text that is written of a playable game `s` of at most `limit` half-moves, with no line prefix, is read back as
--- that game, whatever text comes before and after it
+-- that game, whatever text comes before and after it, and whether the draws of 2014 end a game (`draws`) or not
 abbrev pub PgnIsReadBack : Type 0
 PgnIsReadBack =
-    (limit : ℕ) → (tags : Tags) → (s : State) → (before after : List ℕ) → AreTagTexts tags
+    (draws : Bool) → (limit : ℕ) → (tags : Tags) → (s : State) → (before after : List ℕ) → AreTagTexts tags
     → IsPlayable (record { limit = limit; state = s })
     → IsReadBack s (termination_of tags.ended (outcome_now s)) (length (before ++ pgn [] tags s))
-    (pgn_read limit (before ++ pgn [] tags s ++ after) (length before))
+    (pgn_read draws limit (before ++ pgn [] tags s ++ after) (length before))
 
 -- the last tag Result of a playable game's text, as it is written, names the game's outcome, whatever text comes before
 -- and after it

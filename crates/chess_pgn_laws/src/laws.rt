@@ -1,6 +1,6 @@
 //! Laws of the definitions, each the contract of a function that does nothing.
 
-ghost use Rattle.std.specs.Prelude.{◌≡◌, List, length, ℕ};
+ghost use Rattle.std.specs.Prelude.{◌≡◌, Bool, List, length, ℕ};
 ghost use Rattle.chess_game.specs.Game.{State, IsPlayable};
 ghost use Rattle.pgn_writer.specs.declared.tags.Tags.{Tags};
 ghost use Rattle.chess_pgn.specs.GameRead.{GameRead, pgn_read};
@@ -63,13 +63,15 @@ pub fn a_text_has_one_split()
 
 /// States a law and does nothing: three definitions of what is read of a text agree. `IsRead` takes any split of the
 /// text into tokens, first its tags and then its moves; `pgn_read` is the only result of which `IsRead` holds; and
-/// `tokens_read` takes the tokens one after another, with a step for each.
+/// `tokens_read` takes the tokens one after another, with a step for each. So it is whether the draws of 2014 end a
+/// game (`draws`) or not.
 pub fn a_game_is_tags_and_moves()
-    ensures read { (limit : ℕ) → (text : List ℕ) → (at : ℕ) → IsRead limit text at (pgn_read limit text at) }
-    ensures no_other { (limit : ℕ) → (text : List ℕ) → (at : ℕ) → (r : GameRead) → IsRead limit text at r
-        → r ≡ pgn_read limit text at }
-    ensures token_by_token { (limit : ℕ) → (text : List ℕ) → (at : ℕ) → pgn_read limit text at
-        ≡ tokens_read limit (length text) (tokens_from text (after_byte_order_mark text at)) }
+    ensures read { (draws : Bool) → (limit : ℕ) → (text : List ℕ) → (at : ℕ)
+        → IsRead draws limit text at (pgn_read draws limit text at) }
+    ensures no_other { (draws : Bool) → (limit : ℕ) → (text : List ℕ) → (at : ℕ) → (r : GameRead)
+        → IsRead draws limit text at r → r ≡ pgn_read draws limit text at }
+    ensures token_by_token { (draws : Bool) → (limit : ℕ) → (text : List ℕ) → (at : ℕ) → pgn_read draws limit text at
+        ≡ tokens_read draws limit (length text) (tokens_from text (after_byte_order_mark text at)) }
 {}
 
 /// States a law and does nothing: a game that is read is made of the first tokens of its text. It begins from the
@@ -116,9 +118,11 @@ pub fn texts_are_worked_out()
 {}
 
 /// States a law and does nothing: some texts are games without moves, though a number, a comment or a variation in them
-/// could be taken for moves or for a result.
+/// could be taken for moves or for a result. `*` declares nothing, `1-0` does. The tags Variant and Termination name in
+/// capital or small letters what they name.
 ///
-/// It refuses a number that is compared with the moves, and moves of a comment that count.
+/// It refuses a number that is compared with the moves, moves of a comment that count, and a variation that ends in a
+/// comment.
 pub fn empty_games_are_read()
     ensures { EmptyGamesAreRead }
 {}

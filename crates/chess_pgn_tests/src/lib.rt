@@ -5,6 +5,8 @@
 #[cfg(test)]
 mod equal;
 #[cfg(test)]
+mod past_draws;
+#[cfg(test)]
 mod reading;
 #[cfg(test)]
 mod unknown_variants;

@@ -1,4 +1,4 @@
--- What is written of a start square fits it, and no other of the start squares that it has to be told from.
+-- What is written of a start square fits it, and no other of the start squares from which it must be distinguished.
 use Rattle.std.proofs.Common.{◌≡◌, ◌≢◌, ℕ, Bool, true, false, not, cond, List, [], ◌∷◌, refl, ap, arith, eqb-true, eq-eqb}
 use Rattle.chess_base.specs.Squares.{file, rank}
 use Rattle.chess_text.specs.ties.Fitting.{admits}

@@ -173,6 +173,7 @@ pub fn unmarked_san<B: Board>(board: &B, m: &Move) -> SanText
     ensures len { array_vec_len result ≤ 6 }
 {
     let Some(d) = describe(board.setup(), m) else {
+        // A legal move's piece is on its start square, so there is a description, and this is never returned.
         return SanText::new();
     };
     described_text(board, &d)

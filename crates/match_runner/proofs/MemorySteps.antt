@@ -1,10 +1,10 @@
 -- A step that passed at a host over memory was the next that might come there, and those after it are such as may come
 -- at the host that it left.
-use Rattle.std.proofs.Common.{◌≡◌, ◌≢◌, ◌∙◌, ◌+◌, ◌≤◌, ◌⊎◌, ℕ, zero, suc, Bool, true, false, List, [], ◌∷◌, ◌++◌, Option, Some, Result, Ok, Err, refl, sym, ap, inl, inr, arith, append-nil, append_assoc, length, IsErr, option_map, slice_get, get_or, set, IfErr, IfSome, cond, count_by}
-use Rattle.std.proofs.{lemmas.List.Concat.flat_map-append, lemmas.List.Sums.sum_by-cons, lemmas.Option.slice_get_past}
+use Rattle.std.proofs.Common.{◌≡◌, ◌≢◌, ◌∙◌, ◌+◌, ◌≤◌, ℕ, zero, suc, Bool, List, [], ◌∷◌, ◌++◌, Option, Some, refl, sym, ap, arith, append-nil, append_assoc, length, option_map, slice_get, get_or, set, IfSome, cond, count_by}
+use Rattle.std.proofs.{lemmas.List.Sums.sum_by-cons, lemmas.Option.slice_get_past}
 use Rattle.byte_devices.specs.Transfers.{Devices}
 use Rattle.chess_base.specs.{declared.man.Colour.Colour, declared.man.Colour.TheVariants.White, declared.man.Colour.TheVariants.Black}
-use Rattle.match_runner.specs.GamesTable.{HostStep, StartFails, Starts, StepsPass, starting}
+use Rattle.match_runner.specs.GamesTable.{HostStep, StartFails, Starts, StepsPass}
 use Rattle.match_runner.specs.MemoryHost.{IsFaultOfStart, IsNext, MayCome, fresh_pipes, next_text, started_by, started_for, started_in}
 use Rattle.match_runner.specs.{declared.fault.GamesFault.GamesFault, declared.memory_host.MemoryGame.MemoryGame, declared.memory_host.MemoryHost.MemoryHost}
 

@@ -181,8 +181,8 @@ score_line games = codes "score first " ++ decimal (count_of (λ number. win_of 
     ++ codes " drawn " ++ decimal (count_of (λ number. Draw) games)
     ++ codes " unfinished " ++ decimal (count_of (λ number. Unfinished) games) ++ new_line ∷ []
 
--- `games` are all games of a match by this plan: as many as planned, or those up to the first in which an engine had a
--- fault. The last argument is that fault (the number of the game, the engine's side, the fault), or `None`
+-- `games` are all games of a match by this plan: as many as planned, or those up to and with the first in which an
+-- engine had a fault. The last argument is that fault (the game's number, the engine's side, the fault), or `None`
 abbrev pub AreAllGames : GamesPlan → List GameRecord → Option (ℕ × Colour × MatchFault) → Type 0
 -- all planned games, without a fault
 AreAllGames plan games None = FaultlessGames plan games × (length games ≡ plan.games)
@@ -205,7 +205,7 @@ abbrev pub WritesGames : GamesPlan → Result (Unit {0}) GamesFault → List Gam
 -- all planned games were played without a fault; their PGN and the score were written and flushed
 WritesGames plan (Ok _) games None o =
     AreAllGames plan games None × (o ≡ all_of (game_texts plan games ++ score_line games))
--- in the last game, which has this number, an engine had the fault that `text` names; the rest is as above
+-- in the last game, which has this number, an engine had the fault that `text` names; the output is as above
 WritesGames plan (Err (Game number text)) games None o = (side : Colour) × (fault : MatchFault)
     × AreAllGames plan games (Some (number, side, fault)) × (text.now ≡ comment_of (Faulted side fault))
     × (o ≡ all_of (game_texts plan games ++ score_line games))

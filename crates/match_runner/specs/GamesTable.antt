@@ -16,12 +16,12 @@ use Rattle.match_runner.specs.Log.{LogSeen}
 
 -- one step of a host: one call of a method of the trait `Host`. A host starts and ends engines, and has the clock
 pub data HostStep : Type 0 where
-  -- a clock was opened; `coming n` is the moment of its reading n, as far as it is known
+  -- a clock was opened; `coming n` is the moment of its reading n (0 is the first), as far as it is known
   OpensClock : (coming : ℕ → Option ℕ) → HostStep
   -- the engines with these commands, White's and Black's, were started, and `engines` are their pipes. A write to them
   -- waits for at most so many milliseconds, if there is a limit
   Starts : (white : List ℕ) → (black : List ℕ) → (limit : Option ℕ) → (engines : Colour → Devices) → HostStep
-  -- one of them could not be started, and neither runs
+  -- one of them could not be started (`fault` says why), and neither runs
   StartFails : (white : List ℕ) → (black : List ℕ) → (limit : Option ℕ) → (fault : GamesFault) → HostStep
   -- the inputs of the engines with these pipes were closed, and their ends were waited for. Those that had not ended
   -- after so many milliseconds were killed, if there is a limit
@@ -122,8 +122,8 @@ pub record AreFresh (pipes : Devices) : Type 0 where
 abbrev pub BeginsAt : (ℕ → Option ℕ) → GameRecord → Type 0
 BeginsAt coming played = ((S : Colour) → AreFresh (played.before.engines S)) × (played.before.coming ≡ coming)
 
--- these games came one after another, each with engines of its own, and all with one clock, which would show the
--- moments `coming` before the first
+-- these games came one after another, each with engines that were just started, and all with one clock, which from the
+-- first game on would show the moments `coming`
 abbrev pub ComeInTurn : (ℕ → Option ℕ) → List GameRecord → Type 0
 ComeInTurn coming [] = ⊤
 ComeInTurn coming (played ∷ games) = BeginsAt coming played × ComeInTurn played.after.coming games
@@ -135,15 +135,17 @@ pub record Outputs : Type 0 where
   pub output : OutputState
   pub log : LogSeen
 
--- what playing a match does, by its result, to its output and its log, from `d` to `d'`. `games` were written, maybe
--- none; `unwritten` was played after them, if there is one, and logged too. All came in turn by a clock that would show
--- the moments `coming`. `passes` is the claim that just these steps passed
+-- a match by this plan ended with `result`, and its output and log went from `d` to `d'`. There are `games`, maybe
+-- none, that were played and written, and maybe one more (`unwritten`) that was played but could not be written
 abbrev pub PlaysBy : GamesPlan → Result (Unit {0}) GamesFault → (ℕ → Option ℕ) → (List GamesStep → Type 0) → Outputs
     → Outputs → Type 0
 PlaysBy plan result coming passes d d' = (games : List GameRecord) × (unwritten : Option GameRecord)
+    -- the output took the games, and what else `WritesGames` says; the log got all of them, the unwritten one too
     × ((o : ToOutput) × WritesGames plan result games unwritten o × OutputTook d.output d'.output o
     × LogsGames plan d.log d'.log (games ++ option_to_list unwritten))
+    -- each game had engines that were just started; all had one clock, whose reading n shows `coming n`
     × ComeInTurn coming (games ++ option_to_list unwritten)
+    -- the steps of the games, and then those after the last one written, satisfy `passes`
     × passes (games_steps plan games ++ last_steps plan (length games + 1) result unwritten)
 
 -- what playing a match at a table does, by its result, to its output and its log, from `d` to `d'`. The table's clock

@@ -1,6 +1,6 @@
 -- What a log of a match holds: a line for each line that an engine sends or is sent, as XBoard's debug file has them,
--- and one for each line that had not come or is too long, each end of an engine's output, and each failure to read or
--- write.
+-- and one for each line that had not come or is too long, each end of an engine's output, each failure to read, and a
+-- failure to write by which the match ended.
 use Rattle.std.specs.Prelude.{◌≡◌, ℕ, ◌==◌, nat_lt, if◌then◌else◌, List, [], ◌∷◌, ◌++◌, length, flat_map, map, codes, decimal, Bool, true, false, Some, None}
 use Rattle.std.specs.List.{onto_first}
 use Rattle.byte_devices.specs.Bytes.{byte, new_line, shown_byte}
@@ -52,7 +52,7 @@ moment_after moment (Happened (Silent c now)) = now
 moment_after moment _ = moment
 
 -- what the log has for these notes, one after another, in a game in which the first engine has the side `first_side`.
--- `moment` is as for the first of the notes. With 0 and all notes of a game it is the whole log of the game
+-- `moment` is as for the first of the notes. With 0 and all notes of a game it is its whole log but for `killed_lines`
 abbrev pub log_from : Colour → ℕ → List Note → List ℕ
 log_from first_side moment [] = []
 log_from first_side moment (n ∷ notes) =
@@ -61,7 +61,7 @@ log_from first_side moment (n ∷ notes) =
 -- ---- the output
 
 -- what contracts see of a log: the output that it writes to, and whether it is `broken`: after a write or flush that
--- failed it writes nothing more
+-- failed it logs nothing more
 pub record LogSeen : Type 0 where
   pub output : OutputState
   pub broken : Bool
@@ -71,7 +71,7 @@ abbrev pub log_seen : OutputState → Bool → LogSeen
 log_seen o broken = record { output = o; broken = broken }
 
 -- what logging a text writes to the output (`o`), by whether the log is then broken: all of the text, flushed, or
--- nothing for an empty text; or a beginning of it, maybe nothing or all, partly flushed, before a write or flush failed
+-- nothing for an empty text; or a beginning of it, maybe nothing or all, flushed or not, before a write or flush failed
 abbrev pub LogsText : Bool → List ℕ → ToOutput → Type 0
 LogsText false text o = o ≡ all_flushed (nat_lt 0 (length text)) text
 LogsText true text o = Begins (o.flushed ++ o.left) text × (o.failed ≡ true)

@@ -6,7 +6,7 @@
 -- (law `OnlyOneMatchOfARun` of chess_match_laws), if nobody is waited for only so long; and from the games all that is
 -- written, logged and sent. Where a plan sets limits to waiting, nothing here says which looks for a line find none,
 -- nor how many do. Nor is it said when memory runs out.
-use Rattle.std.specs.Prelude.{◌≡◌, ⊤, ℕ, ◌-◌, ◌^◌, List, [], ◌∷◌, ◌++◌, Option, None, Some}
+use Rattle.std.specs.Prelude.{◌≡◌, ℕ, ◌-◌, ◌^◌, List, [], ◌∷◌, ◌++◌, Option, None, Some}
 use Rattle.std.specs.List.{count_by, find, flat_map, last_or, slice_get}
 use Rattle.std.specs.Option.{option_and_then, option_map, option_or}
 use Rattle.std.specs.Str.{bytes_eq}
@@ -37,8 +37,8 @@ text_of_start engines command times =
 abbrev pub next_text : List MemoryEngine → List (List ℕ) → List ℕ → Option (List ℕ)
 next_text engines earlier command = text_of_start engines command (count_by (λ c. bytes_eq c command) earlier)
 
--- the pipes of an engine that was just started and will say just this text: nothing was read of it and nothing sent to
--- it, and no call was made
+-- the pipes of an engine that was just started and will say just this text. `input` is what the arbiter reads of it,
+-- `output` what the arbiter sends to it: nothing was read or sent yet, and no call was made
 abbrev pub fresh_pipes : List ℕ → Devices
 fresh_pipes text = record {
   input = record {
@@ -46,6 +46,7 @@ fresh_pipes text = record {
     failure_count = 0;
     end_count = 0;
     last_len = 0;
+    -- as many reads may still succeed as a u64 can count
     pieces_left = 2 ^ 64 - 1;
     silence_count = 0;
   };

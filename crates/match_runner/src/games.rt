@@ -37,6 +37,7 @@ fn fault_text(side: Colour, fault: MatchFault) -> &'static str
 {
     match str::from_utf8(Reason::Faulted(side, fault).comment()) {
         Ok(text) => text,
+        // All its bytes are ASCII.
         Err(_) => unreachable!(),
     }
 }

@@ -24,7 +24,8 @@ use chess_match::{Ends, MatchEnd, Moments, Note, Setup, Witness, run_match_watch
 use chess_moves::Board;
 use itoa::Buffer;
 
-// The bytes of a line of the log that has not ended, and whether a write or flush of the log failed.
+// The bytes that wait of a line of the log that has not ended (a line of more than 256 is written in parts), and
+// whether a write or flush of the log failed.
 #[derive(Drop)]
 pub(crate) struct Pending {
     bytes: ArrayVec<u8, 256>,

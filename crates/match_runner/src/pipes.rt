@@ -11,18 +11,19 @@ use std::io::{Read, Write};
 use std::os::fd::AsRawFd;
 use std::rt::Clock;
 
-// How often a wait that a signal ended is begun again.
-const MOST_WAITS: u32 = 16;
+// How often a wait that a signal ends is begun at most.
+const MOST_RESTARTS: u32 = 16;
 
 // Waits until the descriptor is ready for what `events` asks (to be read, `POLLIN`, or written, `POLLOUT`), at most
-// `millis` milliseconds, and returns whether it is. One that the system can't wait for counts as ready.
+// `millis` milliseconds, and returns whether it is; after a signal the whole wait begins anew. One that the system
+// can't wait for counts as ready.
 fn is_ready<S: AsRawFd>(end: &S, events: i16, millis: u64) -> bool {
     let mut fds = [pollfd {
         fd: end.as_raw_fd(),
         events,
         revents: 0,
     }];
-    for _ in 0..MOST_WAITS {
+    for _ in 0..MOST_RESTARTS {
         let count = net::poll(&mut fds, i32::try_from(millis).unwrap_or(i32::MAX));
         if count >= 0 {
             return count > 0;
@@ -31,8 +32,9 @@ fn is_ready<S: AsRawFd>(end: &S, events: i16, millis: u64) -> bool {
     true
 }
 
-// How many pieces of an output are still given after the moment until which it is waited for: as many as hold what a
-// pipe can, so that what had come by then is given, but an output that never ends a line doesn't go on for ever.
+// How many pieces of an output are still given after the moment until which it is waited for: 64 reads of 1,024 bytes
+// (`Lines`) are the 65,536 bytes of a Linux pipe, so that what had come by then is given, but an output that never ends
+// a line doesn't go on for ever.
 const MOST_LATE: u32 = 64;
 
 /// An engine's output, with the clock by which it is waited for.
@@ -42,7 +44,7 @@ pub struct EngineOutput<'t, T, S> {
     pub(crate) command: String,
     pipe: Counted<S>,
     clock: SinceStart<'t, T>,
-    /// How many pieces were found after the moment until which the output was waited for.
+    /// How many looks in a row began after their moment, at most `MOST_LATE`.
     late: u32,
 }
 

@@ -183,6 +183,7 @@ where
                 writer: EngineInput::new(of_input, input, limit),
             },
         }),
+        // An engine without both pipes can't play. A pipe that it has is closed, so that it ends.
         (input, output) => {
             drop(input);
             drop(output);

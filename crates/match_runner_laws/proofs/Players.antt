@@ -1,9 +1,11 @@
--- Each engine keeps its time control, whichever side it has.
-use Rattle.std.proofs.Common.{◌≡◌, ℕ, ◌%◌, ◌==◌, if◌then◌else◌, ap}
+-- Each engine keeps its time control and its name, whichever side it has.
+use Rattle.std.proofs.Common.{◌≡◌, ◌∙◌, ℕ, ◌%◌, ◌==◌, if◌then◌else◌, List, refl, ap}
+use Rattle.std.specs.Fmt.{digits}
 use Rattle.chess_base.specs.{ByColour.of_colour, Men.same_colour, declared.by_colour.ByColour.ByColour, declared.man.Colour.Colour, declared.man.Colour.TheVariants.White, declared.man.Colour.TheVariants.Black}
 use Rattle.cecp_engine.specs.Levels.{LevelSeen}
-use Rattle.match_runner.specs.{Games.first_side, declared.plan.GamesPlan.GamesPlan}
-use Rattle.match_runner_laws.specs.Players.{EachKeepsItsLevel, Player}
+use Rattle.chess_game.specs.Results.{cut_tag}
+use Rattle.match_runner.specs.{Games.engine_command, Games.first_side, Games.player_name, declared.plan.GamesPlan.GamesPlan}
+use Rattle.match_runner_laws.specs.Players.{EachKeepsItsLevel, GamesAreTagged, Player}
 
 -- the time controls of both sides, and the engine of a side, if the first engine has the side `first`
 abbrev levels_if : GamesPlan → Colour → ByColour LevelSeen
@@ -26,4 +28,29 @@ pub each_keeps_its_level : EachKeepsItsLevel
 each_keeps_its_level plan number = record {
   odd = λ h. (ap (player_if plan White) (in_odd number h), ap (player_if plan Black) (in_odd number h));
   even = λ h. (ap (player_if plan White) (in_even number h), ap (player_if plan Black) (in_even number h));
+}
+
+-- ---- tags
+
+-- the command of the engine of a side as a tag has it, if the first engine has the side `first`
+abbrev tag_if : GamesPlan → Colour → Colour → List ℕ
+tag_if plan side first = cut_tag (if same_colour side first then plan.white.now else plan.black.now)
+
+-- the name of a side's engine in the tags, by the name that it gave itself
+abbrev tag_of : GamesPlan → ℕ → Colour → List ℕ → List ℕ
+tag_of plan number side name = player_name name (engine_command plan number side)
+
+pub games_are_tagged : GamesAreTagged
+unfolding digits
+games_are_tagged = record {
+  players = λ plan number end. record {
+    odd_white = λ unnamed h. ap (tag_of plan number White) unnamed ∙ ap (tag_if plan White) (in_odd number h);
+    odd_black = λ unnamed h. ap (tag_of plan number Black) unnamed ∙ ap (tag_if plan Black) (in_odd number h);
+    even_white = λ unnamed h. ap (tag_of plan number White) unnamed ∙ ap (tag_if plan White) (in_even number h);
+    even_black = λ unnamed h. ap (tag_of plan number Black) unnamed ∙ ap (tag_if plan Black) (in_even number h);
+    named_white = λ named. ap (tag_of plan number White) named;
+    named_black = λ named. ap (tag_of plan number Black) named;
+  };
+  event = λ plan end. refl;
+  round = λ plan end. refl;
 }

@@ -42,6 +42,7 @@ HasScore _ = ⊥
 pub record WentWell (plan : GamesPlan) (host : MemoryHost) (steps : List HostStep) (d d' : Outputs) : Type 0 where
   pub result : Result (Unit {0}) GamesFault
   pub played : PlaysGamesWith plan result steps d d'
+  -- these steps may come at the host
   pub at_host : MayCome host steps
   pub scored : HasScore result
   pub nothing_failed : AllByRecursion FinishesWell steps

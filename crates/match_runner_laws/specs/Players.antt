@@ -1,10 +1,12 @@
--- Which engine has which side in a game, and with which time control.
-use Rattle.std.specs.Prelude.{◌≡◌, ℕ, ◌%◌, List}
+-- Which engine has which side in a game, with which time control, and by which name; and which tags a game has.
+use Rattle.std.specs.Prelude.{◌≡◌, ℕ, ◌%◌, List, [], codes}
 use Rattle.chess_base.specs.ByColour.{of_colour}
 use Rattle.chess_base.specs.declared.man.Colour.{Colour}
 use Rattle.chess_base.specs.declared.man.Colour.TheVariants.{White, Black}
 use Rattle.cecp_engine.specs.Levels.{LevelSeen}
-use Rattle.match_runner.specs.Games.{engine_command, setup_of}
+use Rattle.chess_game.specs.Results.{cut_tag}
+use Rattle.chess_match.specs.declared.run.MatchEnd.{MatchEnd}
+use Rattle.match_runner.specs.Games.{engine_command, setup_of, tags_of}
 use Rattle.match_runner.specs.declared.plan.GamesPlan.{GamesPlan}
 
 -- an engine as a plan has it: its command and its time control
@@ -32,3 +34,23 @@ pub record LevelsStayWithEngines (plan : GamesPlan) (number : ℕ) : Type 0 wher
 -- so it is in the game of each number of each match
 abbrev pub EachKeepsItsLevel : Type 0
 EachKeepsItsLevel = (plan : GamesPlan) (number : ℕ) → LevelsStayWithEngines plan number
+
+-- ---- tags
+
+-- in a game with this end the tags name each engine by its command, if it gave itself no name: the engine of `--white`
+-- has White in odd games, and Black in even ones
+pub record EnginesAreNamed (plan : GamesPlan) (number : ℕ) (end : MatchEnd) : Type 0 where
+  pub odd_white : end.white_name ≡ [] → number % 2 ≡ 1 → (tags_of plan number end).white ≡ cut_tag plan.white.now
+  pub odd_black : end.black_name ≡ [] → number % 2 ≡ 1 → (tags_of plan number end).black ≡ cut_tag plan.black.now
+  pub even_white : end.white_name ≡ [] → number % 2 ≡ 0 → (tags_of plan number end).white ≡ cut_tag plan.black.now
+  pub even_black : end.black_name ≡ [] → number % 2 ≡ 0 → (tags_of plan number end).black ≡ cut_tag plan.white.now
+  -- one that named itself `Sjeng` is called so, whichever side it has
+  pub named_white : end.white_name ≡ codes "Sjeng" → (tags_of plan number end).white ≡ codes "Sjeng"
+  pub named_black : end.black_name ≡ codes "Sjeng" → (tags_of plan number end).black ≡ codes "Sjeng"
+
+-- the tags of each game of each match name its engines so (PGN standard of 1994, section 8.1.1); those of the twelfth
+-- game also have this event and this round
+pub record GamesAreTagged : Type 0 where
+  pub players : (plan : GamesPlan) (number : ℕ) (end : MatchEnd) → EnginesAreNamed plan number end
+  pub event : (plan : GamesPlan) (end : MatchEnd) → (tags_of plan 12 end).event ≡ codes "CECP match"
+  pub round : (plan : GamesPlan) (end : MatchEnd) → (tags_of plan 12 end).round ≡ codes "12"

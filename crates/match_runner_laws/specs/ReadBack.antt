@@ -78,6 +78,7 @@ LogsShow = (r : Rules) (first : Colour) (reason : Reason) (H : List Act) (final 
 pub record AreAlike (reason reason' : Reason) (H K : List Act) (final final' : Match) : Type 0 where
   pub reasons : reason ≡ reason'
   pub moves : final.played ≡ final'.played
+  -- each engine's features
   pub items : (S : Colour) → (final.seat S).items ≡ (final'.seat S).items
   -- each engine was sent the same, so also the same clocks in `time` and `otim` lines
   pub sent : (S : Colour) → bytes_of (lines_given S H) ≡ bytes_of (lines_given S K)

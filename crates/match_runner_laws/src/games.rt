@@ -1,7 +1,7 @@
 //! Laws of the games of a match.
 
 ghost use Rattle.match_runner_laws.specs.Faults.{OnlyLastGamesHaveFailedWrites};
-ghost use Rattle.match_runner_laws.specs.Players.{EachKeepsItsLevel};
+ghost use Rattle.match_runner_laws.specs.Players.{EachKeepsItsLevel, GamesAreTagged};
 
 /// States a law and does nothing: a game without a fault of an engine leaves the counts of failed writes and flushes of
 /// both engines' inputs as they were, also at its end lines. So only the last game of a match can raise them.
@@ -10,9 +10,11 @@ pub fn only_last_games_have_failed_writes()
 {}
 
 /// States a law and does nothing: in odd games the engine of `--white` has White, in even games Black, and each engine
-/// has its own level in all games.
+/// has its own level in all games. So it is with its name in the tags: the one that it gave itself, or if it gave none,
+/// its command. The tags Event and Round of the twelfth game are written out.
 ///
-/// It refuses a level that stays with its colour.
+/// It refuses a level or a name that stays with its colour, another event, and another round.
 pub fn levels_stay_with_engines()
-    ensures { EachKeepsItsLevel }
+    ensures levels { EachKeepsItsLevel }
+    ensures tags { GamesAreTagged }
 {}

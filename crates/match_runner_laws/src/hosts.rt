@@ -18,6 +18,8 @@ pub fn steps_might_come()
 pub fn hosts_fix_matches()
     ensures { OneMatchOfAHost }
 {
+    // The prover wants these laws: two matches of one run are the same, act by act; and without a limit to waiting each
+    // look for a line finds one, the end or a failure.
     match_is_the_only_one();
     silences_end_matches();
 }

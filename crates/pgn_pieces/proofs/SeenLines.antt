@@ -219,14 +219,14 @@ module _ (seen : Seen) (out : seen.inside ≡ false) (kind : Kind) (line : List 
   open_waits plain belongs =
       one_piece seen piece (has_seen seen piece so out) line plain (sym test_is ∙ belongs)
 
-  module _ (seen' : Seen) (moves : kind.is_moves ≡ is_moves_line line)
+  module _ (seen' : Seen) (moves : kind.moves ≡ (seen.moves || is_moves_line line))
       (belongs : (kind.is_tag && (seen.moves || (kind.is_event && seen.event))) ≡ false)
-      (new_moves : seen'.moves ≡ (seen.moves || kind.is_moves))
+      (new_moves : seen'.moves ≡ kind.moves)
       (new_event : seen'.event ≡ (seen.event || kind.is_event)) where
     came : AreSeen seen' so.before line
     came = record {
       belongs = sym test_is ∙ belongs;
-      moves = new_moves ∙ ap (λ b. b || kind.is_moves) so.moves ∙ ap (λ b. list_any is_moves_line so.before || b) moves;
+      moves = new_moves ∙ moves ∙ ap (λ b. b || is_moves_line line) so.moves;
       event = new_event ∙ ap (λ b. b || kind.is_event) so.event ∙ ap (λ b. list_any is_event_line so.before || b) event;
     }
 

@@ -11,8 +11,8 @@ use Rattle.pgn_pieces.specs.declared.pieces.PieceFault.TheVariants.{ReadFailed, 
 
 -- ---- the lines of a text
 
--- the lines of a text, each with the `\n` or `\r` that ends it, if one does. After `\r\n` there is a line of `\n`
--- alone, which counts as empty
+-- the lines of a text, each with the `\n` or `\r` that ends it, if one does. The `\n` of `\r\n` is a line of its own,
+-- which counts as empty
 abbrev pub lines_of : List ℕ → List (List ℕ)
 lines_of [] = []
 lines_of (c ∷ cs) = if breaks_line c then (c ∷ []) ∷ lines_of cs else onto_first c (lines_of cs)
@@ -95,21 +95,27 @@ known_pieces ended text = let all = cut text in if ended then all else take (len
 pub record HasRead (ended : Bool) (r r' : InputState) (text : List ℕ) : Type 0 where
   pub bytes : Consumes r.known_bytes r'.known_bytes text
   pub failures : r'.failure_count ≡ r.failure_count
+  -- a reported end is counted
   pub ends : r'.end_count ≡ (if ended then saturating_increment r.end_count else r.end_count)
   pub silences : r'.silence_count ≡ r.silence_count
+  -- after the end no known byte is left
   pub at_end : ended ≡ true → IsAtEnd r'.known_bytes
 
 -- between two states of the input, `r` and then `r'`, this text was read, and then one read failed; no silence was
 -- counted
 pub record GaveThenFailed (r r' : InputState) (text : List ℕ) : Type 0 where
   pub bytes : Consumes r.known_bytes r'.known_bytes text
+  -- one failure more is counted, and no end and no silence
   pub failures : r'.failure_count ≡ saturating_increment r.failure_count
   pub ends : r'.end_count ≡ r.end_count
   pub silences : r'.silence_count ≡ r.silence_count
 
--- why nothing was read after this text, between the input's states `r` and `r'`: a read failed, memory ran out, or the
--- text has at least 2^63 - 65,536 bytes
+-- this fault may be why nothing was read after this text, between the input's states `r` and `r'`; the end of the input
+-- was not reported
 abbrev pub IsCause : InputState → InputState → List ℕ → PieceFault → Type 0
+-- a read failed
 IsCause r r' text ReadFailed = GaveThenFailed r r' text
+-- memory ran out, which the input doesn't show: no read failed
 IsCause r r' text NoMemory = HasRead false r r' text
+-- the text has at least 2^63 - 65,536 bytes; no read failed
 IsCause r r' text InputTooLong = HasRead false r r' text × (2 ^ 63 ≤ length text + 2 ^ 16)

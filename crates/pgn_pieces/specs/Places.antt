@@ -19,7 +19,7 @@ line_ends text = count_by ends_line text
 abbrev pub line_of : List ℕ → ℕ → ℕ
 line_of text offset = count_by ends_line (take offset text) + 1
 
--- the column of the byte at this offset of a text: one more than the number of bytes between it and the `\n` or `\r`
--- before it, or the text's beginning
+-- the column of the byte at this offset of a text: one more than the number of bytes between it and the last `\n` or
+-- `\r` before it, or the text's beginning
 abbrev pub column_of : List ℕ → ℕ → ℕ
 column_of text offset = suffix_len (λ c. not (breaks_line c)) (take offset text) + 1

@@ -6,13 +6,16 @@ use Rattle.pgn_pieces.specs.declared.pieces.TheConstants.{PIECE_LEN}
 use Rattle.pgn_pieces.specs.Pieces.{known_pieces, HasRead, IsCause}
 use Rattle.pgn_pieces.specs.Places.{line_ends}
 
--- how far an input is cut: the offset at which the current piece begins, its bytes so far, the bytes that were read
--- after these, and whether the input has ended. If the piece is too long, `part` is only some bytes with the same
--- length, the same first 40 bytes and the same number of line ends
+-- how far an input is cut
 pub record State : Type 0 where
+  -- where the current piece begins in the input
   pub offset : ℕ
+  -- its bytes so far; if the piece is too long, only some bytes with the same length, the same first 40 bytes and the
+  -- same number of line ends
   pub part : List ℕ
+  -- the bytes that were read after these
   pub coming : List ℕ
+  -- whether the input has ended
   pub ended : Bool
 
 -- the state before the first read: no bytes are held, and the input has not ended
@@ -44,8 +47,10 @@ pieces ended offset text = with_offsets offset (known_pieces ended text)
 pub record PieceSeen : Type 0 where
   pub offset : ℕ
   pub end : ℕ
+  -- its first 40 bytes
   pub beginning : List ℕ
   pub line_ends : ℕ
+  -- `None` if it is too long
   pub bytes : Option (List ℕ)
 
 -- what a caller sees of the piece with these bytes, of which the first is at that offset of the input

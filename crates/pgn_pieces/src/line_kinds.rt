@@ -8,40 +8,41 @@
 //!   tag: `[Result "1-0"] 1. e4 1-0`
 //!
 //! The functions that `kind_of` calls are inlined, since `verify --keep-going` calls it for every line of a collection
-//! (the workload collections). What that gains was not measured apart.
+//! (the workloads collections and puzzles). What that gains was not measured apart.
 
-ghost use Rattle.std.specs.Prelude.{◌≡◌, ◌≤◌, true, false, ◌||◌, ◌==◌, if◌then◌else◌, [], ◌∷◌, length, take, drop, codes};
+ghost use Rattle.std.specs.Prelude.{◌≡◌, ◌≤◌, nat_lt, true, false, ◌&&◌, ◌||◌, ◌==◌, if◌then◌else◌, [], ◌∷◌, length, take, drop, codes};
 ghost use Rattle.std.specs.Str.{bytes_eq};
 ghost use Rattle.std.specs.List.{list_all, list_any};
-ghost use Rattle.pgn_pieces.specs.Pieces.{without_blanks, front_of, after_name, tag_name, after_tag, is_tag_line, is_event_line, is_moves_line};
+ghost use Rattle.pgn_pieces.specs.Pieces.{without_blanks, front_of, after_name, tag_name, is_tag_line, is_event_line, is_moves_line};
 ghost use Rattle.byte_devices.specs.Bytes.{byte, is_blank, is_name_byte};
 ghost use Rattle.pgn_pieces.specs.Places.{ends_line, line_ends};
-ghost use Rattle.pgn_pieces.specs.ties.Fronts.{begins_tag, is_empty_front};
+ghost use Rattle.pgn_pieces.specs.ties.Fronts.{after_value, is_empty_front};
 
-use byte_devices::{after_byte_order_mark, is_blank, is_name_byte, split_while};
+use byte_devices::{after_byte_order_mark, is_blank, is_name_byte, len_before, split_while};
 
 // How many of a line's first bytes decide its kind; the bytes after these are not looked at.
 pub(crate) const FRONT_LEN: usize = 256;
 
-// The kind of a line. For an Event line `is_tag` is true too. For an empty line all three are false.
+// The kind of a line, and whether the piece has a line of moves with it. For an Event line `is_tag` is true too.
 #[derive(Clone, Copy)]
 pub(crate) struct Kind {
     // Whether it is a tag line.
     pub(crate) is_tag: bool,
     // Whether it is an Event line.
     pub(crate) is_event: bool,
-    // Whether it is a line of moves; a tag line may be one too.
-    pub(crate) is_moves: bool,
+    // Whether it, or a line of its piece before it, is a line of moves; a tag line may be one too.
+    pub(crate) moves: bool,
 }
 
 // The kind of a line: `[Event "Oslo"]` is a tag line and an Event line, `[White "Carlsen"]` only a tag line, and
 // `1. e4 e5` a line of moves. A line with only white space, or that begins with `%` or `;`, is none of these. `line`
 // may have its line end or not, and may be only the beginning of a line that isn't all read (`Seen::see_open`).
+// `moves`: whether its piece has a line of moves before it; then nobody looks whether it is one too.
 #[inline(always)]
-pub(crate) fn kind_of(line: &[u8]) -> Kind
+pub(crate) fn kind_of(line: &[u8], moves: bool) -> Kind
     ensures tag { result.is_tag ≡ is_tag_line line.now }
     ensures event { result.is_event ≡ is_event_line line.now }
-    ensures moves { result.is_moves ≡ is_moves_line line.now }
+    ensures moves { result.moves ≡ (moves || is_moves_line line.now) }
 {
     let front = front_of(line);
     // Most lines of a long game are no tag lines, so this is tested first.
@@ -49,44 +50,47 @@ pub(crate) fn kind_of(line: &[u8]) -> Kind
         return Kind {
             is_tag: false,
             is_event: false,
-            is_moves: !is_empty_front(front),
+            moves: moves || !is_empty_front(front),
         };
     }
     let name = tag_name(front);
-    let is_tag = begins_tag(front, name);
+    let after_name = after_name(front, name);
+    let is_tag = begins_tag(name, after_name);
     Kind {
         is_tag,
         is_event: is_tag && name == b"Event".as_slice(),
-        is_moves: if is_tag {
-            has_moves(front, name)
-        } else {
-            !is_empty_front(front)
-        },
+        moves: moves
+            || if is_tag {
+                has_moves(after_name)
+            } else {
+                !is_empty_front(front)
+            },
     }
 }
 
-// Whether moves come after the first tag of a tag line with this front: a letter, a digit, `_` or `*`, after any spaces
-// and tabs. `name` is what `tag_name` returned for this front.
-fn has_moves(front: &[u8], name: &[u8]) -> bool
-    requires { name.now ≡ tag_name front.now }
-    ensures { result ≡ list_any (λ c. is_name_byte c || c == byte "*") (take 1 (after_tag front.now)) }
+// Whether moves come after the first tag of a tag line: a letter, a digit, `_` or `*`, after any spaces and tabs. The
+// argument is the part of its front after the tag's name.
+#[inline(always)]
+fn has_moves(after_name: &[u8]) -> bool
+    ensures { result ≡ list_any (λ c. is_name_byte c || c == byte "*") (take 1 (after_value after_name.now)) }
 {
-    match after_tag(front, name) {
+    match after_value(after_name) {
         [first, ..] => is_name_byte(*first) || *first == b'*',
         [] => false,
     }
 }
 
-// What comes after the first tag in the front of a tag line, and after any spaces and tabs there; empty if no `"]` ends
-// the tag. `name` is what `tag_name` returned for this front.
-fn after_tag<'t>(front: &'t [u8], name: &[u8]) -> &'t [u8]
-    requires { name.now ≡ tag_name front.now }
-    ensures { result.now ≡ after_tag front.now }
+// What comes after the value of the first tag of a tag line, its `"]`, and any spaces and tabs there; empty if no `"]`
+// ends the tag. The value goes to the next quote, even one after a backslash. The argument is the part of the line's
+// front after the tag's name.
+#[inline(always)]
+fn after_value(after_name: &[u8]) -> &[u8]
+    ensures { result.now ≡ after_value after_name.now }
 {
-    let value = without_first(after_name(front, name));
-    match split_while(value, |byte| byte != b'"').1 {
+    let value = without_first(after_name);
+    match &value[len_before(value, b'"')..] {
         [b'"', b']', rest @ ..] => without_blanks(rest),
-        _ => &front[..0],
+        _ => &after_name[..0], // nothing
     }
 }
 
@@ -155,15 +159,13 @@ fn after_name<'t>(front: &'t [u8], name: &[u8]) -> &'t [u8]
     without_blanks(&rest[name.len()..])
 }
 
-// Whether a line with this front, which is known to begin with `[`, is a tag line: after the `[` come a name of one
-// byte or more, perhaps spaces and tabs, and `"`. `name` is what `tag_name` returned for this front.
+// Whether a line whose front begins with `[`, this name and then, after any spaces and tabs, these bytes is a tag line:
+// the name has one byte or more, and `"` follows.
 #[inline(always)]
-fn begins_tag(front: &[u8], name: &[u8]) -> bool
-    requires bracket { bytes_eq (take 1 front.now) (codes "[") ≡ true }
-    requires name { name.now ≡ tag_name front.now }
-    ensures { result ≡ begins_tag front.now }
+fn begins_tag(name: &[u8], after_name: &[u8]) -> bool
+    ensures { result ≡ (nat_lt 0 (length name.now) && bytes_eq (take 1 after_name.now) (codes "\"")) }
 {
-    !name.is_empty() && after_name(front, name).starts_with(b"\"")
+    !name.is_empty() && after_name.starts_with(b"\"")
 }
 
 // Whether a byte is white space, as an empty line may contain: a space, a tab, `\r` or `\n`.

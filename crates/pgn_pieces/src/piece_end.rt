@@ -74,11 +74,11 @@ impl Seen {
     // Notes that a line of this kind belongs to the piece. `goes_on`: the line's end isn't read yet.
     #[inline(always)]
     fn add(&mut self, kind: Kind, goes_on: bool)
-        ensures moves { self.new.moves ≡ (self.old.moves || kind.is_moves) }
+        ensures moves { self.new.moves ≡ kind.moves }
         ensures event { self.new.event ≡ (self.old.event || kind.is_event) }
         ensures inside { self.new.inside ≡ goes_on }
     {
-        self.moves |= kind.is_moves;
+        self.moves = kind.moves;
         self.event |= kind.is_event;
         self.inside = goes_on;
     }
@@ -97,7 +97,7 @@ impl Seen {
             self.inside = false;
             return false;
         }
-        let kind = kind_of(line);
+        let kind = kind_of(line, self.moves);
         if self.ends_at(kind) {
             return true;
         }
@@ -119,7 +119,7 @@ impl Seen {
         if self.inside {
             return Step::Belongs(line.len());
         }
-        let kind = kind_of(line);
+        let kind = kind_of(line, self.moves);
         if self.ends_at(kind) {
             return Step::Begins;
         }

@@ -4,6 +4,7 @@ mod FaultLines
 mod FaultsInText
 mod Finished
 mod InputRead
+mod Judging
 mod LinesWritten
 mod NamesShown
 mod Placed

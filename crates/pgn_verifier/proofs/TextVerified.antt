@@ -15,15 +15,16 @@ use Rattle.pgn_verifier.proofs.LinesWritten.{placed_line, wrote_none, took_after
 -- what is left of a text has no more games than bytes
 left : (goes_on : Bool) (strict : Strictness) (start n : ℕ) (text : List ℕ) (at : ℕ)
     (answer : Result (Option PgnEnd) GameFault) (s : State) → judged_at strict text at ≡ answer
-    → s ≡ (read_at text at).state
+    → s ≡ (read_at strict.draws_of_2014 text at).state
     → placed_from goes_on strict start (suc n) text at
-    ≡ placed_then goes_on start text at (next_at goes_on text at) answer s
+    ≡ placed_then strict.draws_of_2014 goes_on start text at (next_at goes_on text at) answer s
     (λ next. placed_from goes_on strict start n text next)
 unfolding placed_from
 left goes_on strict start n text at answer s h k =
-    ap (λ r. placed_then goes_on start text at (next_at goes_on text at) r (read_at text at).state
+    ap (λ r. placed_then strict.draws_of_2014 goes_on start text at (next_at goes_on text at) r
+    (read_at strict.draws_of_2014 text at).state
     (λ next. placed_from goes_on strict start n text next)) h
-    ∙ ap (λ g. placed_then goes_on start text at (next_at goes_on text at) answer g
+    ∙ ap (λ g. placed_then strict.draws_of_2014 goes_on start text at (next_at goes_on text at) answer g
     (λ next. placed_from goes_on strict start n text next)) (sym k)
 
 -- ---- the games before an offset were reported
@@ -78,7 +79,8 @@ module _ (options : VerifyOptions) (place : TextStart) (text : List ℕ) (before
 
     -- the report that comes, with those after it
     due : (answer : Result (Option PgnEnd) GameFault) (g : State) → judged_at options.strict text at ≡ answer
-        → g ≡ (read_at text at).state → reports ≡ done ++ placed_then goes_on start text at next answer g (later s.n)
+        → g ≡ (read_at options.strict.draws_of_2014 text at).state
+        → reports ≡ done ++ placed_then options.strict.draws_of_2014 goes_on start text at next answer g (later s.n)
     due answer g h k = s.all ∙ ap (λ xs. done ++ xs) (left goes_on options.strict start s.n text at answer g h k)
 
     abbrev Stands : List ℕ → Type 0
@@ -87,7 +89,8 @@ module _ (options : VerifyOptions) (place : TextStart) (text : List ℕ) (before
     pub all_written : (E : Type 0) (input : List ℕ) → Stands input → judged_at options.strict text at ≡ Ok None
         → Writes {E = E} options input before w w' (Ok tally) reports
     all_written E input stands h =
-        let only : reports ≡ done = due (Ok None) (read_at text at).state h refl ∙ append-nil done in
+        let only : reports ≡ done = due (Ok None) (read_at options.strict.draws_of_2014 text at).state h refl
+        ∙ append-nil done in
         subst (Writes {E = E} options input before w w' (Ok tally)) (sym only) (s.took input stands, s.is)
 
     -- a report more, after which the text is read on from the offset `there`
@@ -117,7 +120,8 @@ module _ (options : VerifyOptions) (place : TextStart) (text : List ℕ) (before
         }
 
     pub game_written : (end : PgnEnd) (g : State) → judged_at options.strict text at ≡ Ok (Some end)
-        → g ≡ (read_at text at).state → length g.moves + at ≤ end.offset → at < end.offset → end.offset ≤ length text
+        → g ≡ (read_at options.strict.draws_of_2014 text at).state
+        → length g.moves + at ≤ end.offset → at < end.offset → end.offset ≤ length text
         → Took w' w'' (if options.quiet then [] else game_line (next_number tally) (length g.moves) end.outcome
         end.termination (span_at options start text at end.offset))
         → SoFar options place text before w w'' end.offset
@@ -132,7 +136,7 @@ module _ (options : VerifyOptions) (place : TextStart) (text : List ℕ) (before
         (λ input stands. took) (due (Ok (Some end)) g h k)
 
     pub game_broke : {E : Type 0} (e : E) (input : List ℕ) → Stands input → (end : PgnEnd) (g : State)
-        → judged_at options.strict text at ≡ Ok (Some end) → g ≡ (read_at text at).state
+        → judged_at options.strict text at ≡ Ok (Some end) → g ≡ (read_at options.strict.draws_of_2014 text at).state
         → CutShort w' w'' (if options.quiet then [] else game_line (next_number tally) (length g.moves) end.outcome
         end.termination (span_at options start text at end.offset))
         → Writes options input before w w'' (Err e) reports
@@ -149,10 +153,10 @@ module _ (options : VerifyOptions) (place : TextStart) (text : List ℕ) (before
     with_fault = record { games = tally.games; half_moves = tally.half_moves; faults = tally.faults + 1 }
 
     module _ (fault : GameFault) (g : State) (h : judged_at options.strict text at ≡ Err fault)
-        (k : g ≡ (read_at text at).state)
+        (k : g ≡ (read_at options.strict.draws_of_2014 text at).state)
       where
         abbrev faulty : Placed
-        faulty = fault_placed goes_on start text at next fault g
+        faulty = fault_placed options.strict.draws_of_2014 goes_on start text at next fault g
 
         -- a fault after which reading goes on
         pub fault_passed : (there : ℕ) → next ≡ Some there → at < there → there ≤ length text

@@ -35,7 +35,8 @@ CollectionEnds text expected (Err NoMemory) i o = (i.ended ≡ false) × (i.fail
 CollectionEnds text expected (Err InputTooLong) i o =
     (i.ended ≡ false) × (i.failed ≡ false) × (2 ^ 63 ≤ length i.text + 2 ^ 16) × (o ≡ all_unflushed text)
 
--- what is to be written for these reports: their lines, numbered from 1; then, at the input's end, the line of counts
+-- what is to be written for these reports: their lines, numbered from 1; then, if the end of the input (`i`) was
+-- reported, the line of counts
 abbrev pub collection_text : VerifyOptions → List Placed → FromInput → List ℕ
 collection_text options reports i =
     report_lines options i.text 1 reports ++ (if i.ended then counts_line (counts_of (without_spans reports)) else [])

@@ -20,7 +20,7 @@ use Rattle.pgn_verifier.specs.WrongParts.{from_field, field_at, field_number, fe
 abbrev pub shown_word : List ℕ → List ℕ
 shown_word word = if length word == 0 then codes "(end)" else map shown_byte word
 
--- what an explanation shows of a text: its bytes before the first white space, but at most 40
+-- what an explanation shows of a text: as a word (`shown_word`) its bytes before the first white space, at most 40
 abbrev pub shown : List ℕ → List ℕ
 shown text = shown_word (take_while (λ c. not (is_white_space c)) (take 40 text))
 
@@ -48,7 +48,7 @@ wrong_part _ text = (0, shown text)
 -- ---- the reason
 
 -- `reason` is the reason for a fault, or `None` if none is given. `text` is the text from the fault's byte on, and
--- `verdict` is the board's where reading stopped
+-- `verdict` is the one that ended the game where reading stopped, if any
 abbrev pub IsReason : FaultKind → List ℕ → Option Verdict → Option (List ℕ) → Type 0
 -- what a bad tag lacks, and what is wrong with a bad FEN or token
 IsReason (Pgn BadTag) text verdict reason = IsTagReason text reason
@@ -58,6 +58,7 @@ IsReason (Pgn BadToken) text verdict reason = reason ≡ Some (token_reason text
 IsReason (Pgn IllegalMove) text verdict reason = reason ≡ move_reason text
 -- a move after the end: the verdict that ended the game
 IsReason (Pgn AfterEnd) text verdict reason = reason ≡ option_map (λ v. result_text (verdict_result v)) verdict
+-- a bad token in a variation
 IsReason (InVariation BadToken) text verdict reason = reason ≡ Some (token_reason text)
 -- `unknown variant`
 IsReason UnknownVariant text verdict reason =
@@ -82,15 +83,16 @@ has_position (InVariation kind) = false
 has_position UnknownVariant = false
 has_position _ = true
 
--- the text that explains a fault: the wrong part, the FEN of the position in which reading stopped, and the reason,
--- with ` | ` between. `s` is the game as far as it was read, and `text` the text from the fault's byte on
+-- the text that explains a fault: the wrong part; then, as far as they are given, the FEN of the position in which
+-- reading stopped and the reason, each after ` | `. `s` is the game as far as it was read, and `text` the text from the
+-- fault's byte on
 abbrev pub explanation : State → List ℕ → FaultKind → Option (List ℕ) → List ℕ
 explanation s text kind reason = (wrong_part kind text).1
     ++ ((if has_position kind then codes " | " ++ fen (current s) else [])
     ++ option_map_or (λ why. codes " | " ++ why) reason [])
 
 -- the line that explains a fault by this text: `# line 2 column 4 ` and the text. The line and the column are those of
--- the offset `begin` of the input, where the wrong part begins
+-- the offset `begin` of the input
 unfoldable pub explanation_line : List ℕ → ℕ → List ℕ → List ℕ
 explanation_line input begin text =
     codes "# line " ++ (decimal (line_of input begin) ++ (codes " column " ++ (decimal (column_of input begin)

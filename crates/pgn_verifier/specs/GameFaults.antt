@@ -1,11 +1,11 @@
 -- The faults of a game, and when its result contradicts its text or the board.
 use Rattle.std.specs.Prelude.{◌≡◌, ℕ, ◌-◌, ◌++◌, Bool, if◌then◌else◌, List, length, take, codes, Option, Some, None, Result, Ok, Err}
 use Rattle.std.specs.Option.{option_eq, option_map, option_map_or, option_or}
-use Rattle.chess_game.specs.Game.{State, contradicts_verdict, verdict_now}
+use Rattle.chess_game.specs.Game.{State, contradicts_verdict}
 use Rattle.chess_game.specs.Results.{outcome_text, same_outcome}
 use Rattle.chess_game.specs.declared.verdicts.Verdict.{Verdict}
 use Rattle.chess_game.specs.declared.game.TheConstants.{MOST_MOVES}
-use Rattle.chess_pgn.specs.GameRead.{read_of_split}
+use Rattle.chess_pgn.specs.GameRead.{ending, read_of_split}
 use Rattle.chess_pgn.specs.LastTags.{result_tag_of}
 use Rattle.chess_pgn.specs.UnknownVariants.{unknown_variant_in}
 use Rattle.chess_pgn.specs.Variations.{variations_fault}
@@ -25,7 +25,7 @@ use Rattle.pgn_verifier.specs.declared.game_fault.GameFault.{GameFault}
 
 -- ---- at a game's end
 
--- the fault of a game whose last tag Result (`tag`) names another outcome than its termination marker (`end`), or none.
+-- the fault of a game whose last tag Result (`tag`) names no outcome, or another than its termination marker (`end`).
 -- Its offset is that of the tag's string
 abbrev pub result_differs : Option ResultTag → PgnEnd → Option GameFault
 result_differs None end = None
@@ -59,26 +59,29 @@ judged strict variation unknown tag verdict (Ok (Some end)) = option_map_or Err
     (looked_for strict.board (board_says_otherwise verdict end))))) (Ok (Some end))
 judged strict variation unknown tag verdict (Err fault) = Err (record { kind = Pgn fault.kind; offset = fault.offset })
 
--- the first fault in the variations of a game of the text that is read from the offset `at` on, begins in the position
--- `start` and ends with `end`. `split` gives the tokens of each text from an offset on
+-- the first fault in the variations of one game of `text`. The game is read from the offset `at` on, starts in the
+-- position `start` and ends before `end.offset`; nothing from there on is looked at. `split other from` are the tokens
+-- of a text `other` from its offset `from` on
 abbrev pub variation_in : (List ℕ → ℕ → List (ℕ × Token)) → List ℕ → ℕ → Setup → PgnEnd → Option PgnFault
 variation_in split text at start end =
     variations_fault split (take end.offset text) start (after_byte_order_mark text at)
 
 -- `answer` is what is reported (`judged`) of the first game from the offset `at` of the text on, and `s` is this game
 -- as far as it was read, at most 20,000 half-moves. It is read by the only split of the text into tokens, and its
--- variations by the only splits (`split_of`) of the text that ends where the game does
+-- variations by the only splits (`split_of`) of the text that ends where the game does. `strict.draws_of_2014` says
+-- whether the draws of 2014 end it
 pub record IsJudged (strict : Strictness) (text : List ℕ) (at : ℕ) (s : State)
     (answer : Result (Option PgnEnd) GameFault) : Type 0 where
   pub tokens : List (ℕ × Token)
   pub split : IsSplit text (after_byte_order_mark text at) tokens
+  -- the tokens of each text, from an offset on
   pub split_of : List ℕ → ℕ → List (ℕ × Token)
   pub splits : (other : List ℕ) (from : ℕ) → IsSplit other from (split_of other from)
   -- how reading the game ended
   pub ended : Result (Option PgnEnd) PgnFault
-  pub read : read_of_split MOST_MOVES (length text) tokens ≡ record { state = s; answer = ended }
+  pub read : read_of_split strict.draws_of_2014 MOST_MOVES (length text) tokens ≡ record { state = s; answer = ended }
   pub is : answer ≡ judged strict (variation_in split_of text at s.start) (unknown_variant_in (length text) tokens)
-      (result_tag_of (length text) tokens) (verdict_now s) ended
+      (result_tag_of (length text) tokens) (ending strict.draws_of_2014 s) ended
 
 -- ---- names
 

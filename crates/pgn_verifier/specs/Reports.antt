@@ -4,10 +4,11 @@ use Rattle.std.specs.List.{count_by, prefix_len, sum_by}
 use Rattle.std.specs.Bool.{MatchBool}
 use Rattle.std.specs.Option.{unwrap_or, option_map, option_map_or}
 use Rattle.byte_devices.specs.Bytes.{new_line, shown_byte, after_byte_order_mark}
-use Rattle.chess_game.specs.Game.{State, verdict_now}
+use Rattle.chess_game.specs.Game.{State}
 use Rattle.chess_game.specs.Results.{outcome_text}
 use Rattle.chess_game.specs.declared.results.Outcome.{Outcome}
 use Rattle.chess_pgn.specs.GameEnds.{game_end}
+use Rattle.chess_pgn.specs.GameRead.{ending}
 use Rattle.chess_pgn.specs.LastTags.{last_tag, tag_section}
 use Rattle.chess_pgn.specs.Tokens.{Token, is_white_space}
 use Rattle.chess_pgn.specs.declared.read.PgnEnd.{PgnEnd}
@@ -37,17 +38,19 @@ pub data Report : Type 0 where
   Faulty : (fault : GameFault) (wrong_at : ℕ) (explanation : List ℕ) → Report
 
 -- a report with its span, the part of the input that it is on: from the byte at the offset `begin` to the last one
--- before the offset `end`; with its game's first word; with the offset from which on the span isn't read, if that is to
--- be said; and with what names its game (`names_of`), or `None` of a piece that is too long
+-- before the offset `end`
 pub record Placed : Type 0 where
   pub begin : ℕ
   pub end : ℕ
+  -- its game's first word, as it is shown (`shown`); empty of a piece that is too long
   pub first : List ℕ
+  -- the offset from which on the span isn't read, if that is to be said
   pub unread : Option ℕ
+  -- what names its game (`names_of`); `None` of a piece that is too long
   pub names : Option (List ℕ)
   pub report : Report
 
--- the offset in a text at which the game from the offset `at` on begins: its first byte that is no white space
+-- the offset in a text at which the game from the offset `at` on begins: after any byte order mark and white space
 abbrev pub game_begin : List ℕ → ℕ → ℕ
 game_begin text at = let first = after_byte_order_mark text at in first + prefix_len is_white_space (drop first text)
 
@@ -76,7 +79,7 @@ abbrev pub next_begin : Bool → ℕ → List (ℕ × Token) → Option ℕ
 next_begin goes_on total tokens = if goes_on then game_end total tokens else None
 
 -- the offset from which on a text of `total` bytes isn't read: that of a fault (`offset`) after which no place to go on
--- is found (`next` is `None`); `None` if reading isn't to go on (`goes_on`), or nothing is left
+-- is found (`next` is `None`); `None` if one is, if `goes_on` is false, or if the fault is at the text's end
 abbrev pub unread_from : Bool → ℕ → ℕ → Option ℕ → Option ℕ
 unread_from goes_on total offset next =
     if goes_on && not (is_some next) && nat_lt offset total then Some offset else None
@@ -103,7 +106,7 @@ pub data AreReportsOf (goes_on : Bool) (strict : Strictness) (start : ℕ) (text
   -- games after that
   next_fault : {at : ℕ} {s : State} {fault : GameFault} {reports : List Placed} (reason : Option (List ℕ))
       (next : Option ℕ) (game : IsJudged strict text at s (Err fault))
-      → IsReason fault.kind (drop fault.offset text) (verdict_now s) reason
+      → IsReason fault.kind (drop fault.offset text) (ending strict.draws_of_2014 s) reason
       → next ≡ next_begin goes_on (length text) game.tokens
       → AreReportsOf goes_on strict start text (unwrap_or next (length text)) reports
       → AreReportsOf goes_on strict start text at (record {
@@ -142,7 +145,8 @@ AreReportsIn strict offset piece reports =
 unfoldable pub report_line : ℕ → List ℕ → List ℕ
 report_line number text = codes "game " ++ (decimal number ++ (codes ": " ++ (text ++ new_line ∷ [])))
 
--- the end of a report's line: with `options.spans` its span, such as `, bytes 61 to 120`
+-- what a report's line says of its span, with `options.spans`, such as `, bytes 61 to 120`: it begins at the offset 61
+-- and ends before 120; nothing without. At most `names_text` follows in the line
 abbrev pub span_text : VerifyOptions → ℕ → ℕ → List ℕ
 span_text options begin end =
     if options.spans then codes ", bytes " ++ (decimal begin ++ (codes " to " ++ decimal end)) else []
@@ -152,7 +156,8 @@ span_text options begin end =
 abbrev pub names_text : VerifyOptions → Option (List ℕ) → List ℕ
 names_text options names = option_map_or (λ text. codes " | " ++ text) (if options.names then names else None) []
 
--- the end of a fault's explanation: which bytes aren't read, such as ` | bytes 151 to 606 not read`, if any
+-- the end of a fault's explanation: which bytes aren't read, if any, such as ` | bytes 151 to 606 not read`: those from
+-- the offset 151 on, before 606
 abbrev pub unread_text : Option ℕ → ℕ → List ℕ
 unread_text from end = option_map_or (λ begin. codes " | bytes " ++ (decimal begin ++ (codes " to " ++ (decimal end
     ++ codes " not read")))) from []

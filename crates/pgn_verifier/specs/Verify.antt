@@ -23,7 +23,8 @@ Verifies options (Err WriteFailed) i o = IsWhole i × (length i.text ≤ PIECE_L
     × BreaksOffIn nothing (report_lines options i.text 1 reports) o)
 -- a read failed before the input's end, and nothing was written
 Verifies options (Err ReadFailed) i o = (i.ended ≡ false) × (i.failed ≡ true) × (o ≡ nothing)
--- memory ran out before or at the input's end; no read failed, and nothing was written
+-- memory ran out before the input's end, or at the end of at most `PIECE_LEN` bytes; no read failed, and nothing was
+-- written
 Verifies options (Err NoMemory) i o =
     (i.failed ≡ false) × (i.ended ≡ true → length i.text ≤ PIECE_LEN) × (o ≡ nothing)
 -- more than `PIECE_LEN` bytes were read, before the input's end; no read failed, and nothing was written

@@ -17,19 +17,20 @@ use Rattle.chess_pgn.specs.Tokens.{is_word_byte}
 abbrev pub drop_while : (ℕ → Bool) → List ℕ → List ℕ
 drop_while test text = drop (prefix_len test text) text
 
--- a FEN from its field with this number on, 0 for the first; one or more spaces separate fields. Empty if the FEN has
--- fewer fields
+-- a FEN from its field with this number on, 0 for the first; one or more spaces separate fields. Empty if it has no
+-- such field
 unfoldable pub from_field : ℕ → List ℕ → List ℕ
 from_field zero fen = drop_while (λ c. c == space) fen
 from_field (suc number) fen = from_field number (drop_while (λ c. not (c == space)) (drop_while (λ c. c == space) fen))
 
--- the field with this number: its bytes, up to the next space or the FEN's end. Of a FEN with fewer fields it is the
--- empty text at the end
+-- the field of a FEN with this number, 0 for the first: its bytes before the next space or the FEN's end. Empty if the
+-- FEN has no such field
 abbrev pub field_at : ℕ → List ℕ → List ℕ
 field_at number fen = take_while (λ c. not (c == space)) (from_field number fen)
 
--- the number of the field that is shown for this fault of a FEN, 0 for the first. Of the counters it is the fullmove
--- number (5) if the halfmove clock (4) is a number. For a fault of no single field, such as two kings, it is the first
+-- the number of the field that is shown for this fault of a FEN, 0 for the first. Of the counters it is the halfmove
+-- clock (4), unless that is a number of 1 to 6 digits: then it is the fullmove number (5). For a fault of the
+-- placement, or of no single field, such as two kings, it is the first
 abbrev pub field_number : FenFault → List ℕ → ℕ
 field_number Side fen = 1
 field_number Castling fen = 2
@@ -81,7 +82,7 @@ token_reason text =
     -- a null move, as other programs write it
     else if list_any (bytes_eq (take_while is_word_byte text)) (codes "--" ∷ codes "Z0" ∷ [])
     then codes "a null move, which chess does not have"
-    -- a variation with no move before it
+    -- a variation with no move before it, or, after a tag in a variation, one that isn't closed
     else if bytes_eq (take 1 text) (codes "(") then codes "no move that this variation replaces"
     -- any other word is not a move, and with any other byte no token begins
     else if list_any is_word_byte (take 1 text) then codes "not a move" else codes "begins no token"

@@ -2,7 +2,8 @@
 
 ghost use Rattle.std.specs.Prelude.{◌≡◌, ◌≤◌, length, Some};
 ghost use Rattle.std.specs.Option.{IfSome, option_eq};
-ghost use Rattle.chess_game.specs.Game.{contradicts_verdict, verdict_now};
+ghost use Rattle.chess_game.specs.Game.{contradicts_verdict};
+ghost use Rattle.chess_pgn.specs.GameRead.{ending};
 ghost use Rattle.chess_pgn.specs.LastTags.{result_tag_of};
 ghost use Rattle.chess_pgn.specs.Tokens.{tokens_from};
 ghost use Rattle.byte_devices.specs.Bytes.{after_byte_order_mark};
@@ -14,7 +15,7 @@ use crate::game_fault::{FaultKind, GameFault};
 use crate::options::Strictness;
 use chess_game::{Game, Outcome, Verdict};
 use chess_moves::Board;
-use chess_pgn::{PgnEnd, ResultTag, result_tag};
+use chess_pgn::{PgnEnd, ResultTag, ending, result_tag};
 
 // Whether a tag `Result` names this outcome; `denoted` is what its text denotes, `None` if it denotes no outcome.
 fn is_text_of(outcome: Outcome, denoted: Option<Outcome>) -> bool
@@ -82,15 +83,16 @@ fn result_fault(is_looked_for: bool, text: &[u8], at: usize, end: PgnEnd) -> Opt
     result_differs(result_tag(text, at), end)
 }
 
-// The fault of a game that ends with another outcome (`end`) than the board's verdict; `None` also if that isn't looked
-// for (`is_looked_for`).
-fn board_fault<B: Board>(is_looked_for: bool, game: &Game<B>, end: PgnEnd) -> Option<GameFault>
-    ensures { result ≡ looked_for is_looked_for (board_says_otherwise (verdict_now game.now.state) end) }
+// The fault of a game that ends with another outcome (`end`) than the verdict by which it ends; `None` also if that
+// isn't looked for (`strict.board`).
+fn board_fault<B: Board>(strict: Strictness, game: &Game<B>, end: PgnEnd) -> Option<GameFault>
+    ensures { result
+        ≡ looked_for strict.board (board_says_otherwise (ending strict.draws_of_2014 game.now.state) end) }
 {
-    if !is_looked_for {
+    if !strict.board {
         return None;
     }
-    board_says_otherwise(game.verdict(), end)
+    board_says_otherwise(ending(strict.draws_of_2014, game), end)
 }
 
 // What is wrong with the outcome (`end`) of the game that was read from `at` on: it differs from its tag `Result`, or
@@ -107,8 +109,8 @@ pub(crate) fn contradiction<B: Board>(
     ensures fault { result
         ≡ contradiction strict
         (result_tag_of (length text.now) (tokens_from text.now (after_byte_order_mark text.now at)))
-        (verdict_now game.now.state) end }
+        (ending strict.draws_of_2014 game.now.state) end }
     ensures within { IfSome result (λ fault. fault.offset ≤ length text.now) }
 {
-    result_fault(strict.result, text, at, end).or(board_fault(strict.board, game, end))
+    result_fault(strict.result, text, at, end).or(board_fault(strict, game, end))
 }

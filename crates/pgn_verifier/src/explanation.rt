@@ -5,7 +5,7 @@ ghost use Rattle.std.specs.Option.{option_map, option_map_or};
 ghost use Rattle.arrayvec.specs.ArrayVec.{array_vec_len};
 ghost use Rattle.chess_fen.specs.Writing.{fen};
 ghost use Rattle.chess_game.specs.Ends.{verdict_result, result_text};
-ghost use Rattle.chess_game.specs.Game.{current, verdict_now};
+ghost use Rattle.chess_game.specs.Game.{current};
 ghost use Rattle.chess_pgn.specs.declared.read.PgnFaultKind.TheVariants.{TooLong};
 ghost use Rattle.pgn_verifier.specs.Explanations.{is_at_begin, wrong_part, has_position, explanation_line, shown};
 ghost use Rattle.chess_game.specs.Results.{outcome_text};
@@ -20,6 +20,7 @@ ghost use Rattle.pgn_verifier.specs.declared.explanation.TheConstants.{FAULT_LIN
 use crate::fen_field::{fen_reason, fen_text, field_offset, wrong_field};
 use crate::game_fault::{FaultKind, GameFault, pgn_fault_name};
 use crate::label::{FaultLabel, Span, append_span};
+use crate::options::VerifyOptions;
 use crate::place::Place;
 use crate::shown::{Shown, shown, shown_field};
 use crate::start::TextStart;
@@ -29,7 +30,7 @@ use byte_devices::{append, append_number};
 use chess_fen::write_fen;
 use chess_game::{Game, Outcome, Verdict};
 use chess_moves::Board;
-use chess_pgn::PgnFaultKind;
+use chess_pgn::{PgnFaultKind, ending};
 
 // The most bytes of the lines on a fault: of its own 320, and of the one that explains it 466.
 const FAULT_LINES_LEN: usize = 786;
@@ -58,24 +59,23 @@ fn append_fault_name(lines: &mut FaultLines, kind: FaultKind)
     }
 }
 
-// The line of a fault, such as `game 2: illegal move at byte 39`.
+// Appends the line of a fault, such as `game 2: illegal move at byte 39`.
 #[tactic(auto, unfolding(crate::specs::Reports::report_line))]
-fn fault_line(label: &FaultLabel, fault: GameFault) -> FaultLines
-    ensures text { result.items
-        ≡ fault_line label.now.game.number fault (span_written label.now.game.span) label.now.names.items }
-    ensures len { array_vec_len result ≤ 320 }
+fn append_fault_line(lines: &mut FaultLines, label: &FaultLabel, fault: GameFault)
+    requires { array_vec_len lines.old + 320 ≤ FAULT_LINES_LEN }
+    ensures text { lines.new.items ≡ lines.old.items
+        ++ fault_line label.now.game.number fault (span_written label.now.game.span) label.now.names.items }
+    ensures len { array_vec_len lines.new ≤ array_vec_len lines.old + 320 }
 {
-    let mut lines = FaultLines::new();
-    append(&mut lines, b"game ");
-    append_number(&mut lines, label.game.number as u64);
-    append(&mut lines, b": ");
-    append_fault_name(&mut lines, fault.kind);
-    append(&mut lines, b" at byte ");
-    append_number(&mut lines, fault.offset as u64);
-    append_span(&mut lines, label.game.span);
-    append(&mut lines, label.names.as_slice());
+    append(lines, b"game ");
+    append_number(lines, label.game.number as u64);
+    append(lines, b": ");
+    append_fault_name(lines, fault.kind);
+    append(lines, b" at byte ");
+    append_number(lines, fault.offset as u64);
+    append_span(lines, label.game.span);
+    append(lines, label.names.as_slice());
     lines.push(b'\n');
-    lines
 }
 
 // How many bytes after a fault's byte the part begins that is wrong: of a FEN the field that is shown for its fault,
@@ -125,14 +125,15 @@ pub(crate) fn explained_at(fault: GameFault, begin: usize, text: &[u8]) -> usize
     fault.offset + part_offset(fault.kind, &text[fault.offset..])
 }
 
-// Appends the first word of a game, if the fault is explained where the game begins.
-fn append_first(lines: &mut FaultLines, kind: FaultKind, first: &[u8])
-    requires { array_vec_len lines.old + length first.now ≤ FAULT_LINES_LEN }
-    ensures text { lines.new.items ≡ lines.old.items ++ (if is_at_begin kind then first.now else []) }
-    ensures len { array_vec_len lines.new ≤ array_vec_len lines.old + length first.now }
+// Appends the first word of a game as it is shown, if the fault is explained where the game begins; `text` is the text
+// from there on.
+fn append_first(lines: &mut FaultLines, kind: FaultKind, text: &[u8])
+    requires { array_vec_len lines.old + 45 ≤ FAULT_LINES_LEN }
+    ensures text { lines.new.items ≡ lines.old.items ++ (if is_at_begin kind then shown text.now else []) }
+    ensures len { array_vec_len lines.new ≤ array_vec_len lines.old + 45 }
 {
     if is_at_begin(kind) {
-        append(lines, first);
+        append(lines, shown(text).as_slice());
     }
 }
 
@@ -300,51 +301,63 @@ fn append_unread(lines: &mut FaultLines, unread: Option<Span>)
     }
 }
 
-// Appends the text that explains a fault of the game; `text` is the text from the fault's byte on.
+// Appends the text that explains a fault of the game; `text` is the text from the fault's byte on. `draws_of_2014`:
+// whether these draws end a game.
 fn append_explanation<B: Board>(
     lines: &mut FaultLines,
+    draws_of_2014: bool,
     text: &[u8],
     kind: FaultKind,
     game: &Game<B>,
 )
     requires { array_vec_len lines.old + 258 ≤ FAULT_LINES_LEN }
-    ensures text { lines.new.items ≡ lines.old.items ++ explanation_of game.now.state text.now kind }
+    ensures text { lines.new.items ≡ lines.old.items ++ explanation_of draws_of_2014 game.now.state text.now kind }
     ensures len { array_vec_len lines.new ≤ array_vec_len lines.old + 258 }
 {
     append(lines, shown_part(kind, text).as_slice());
     append_position(lines, kind, game);
-    append_reason(lines, kind, text, game.verdict());
+    append_reason(lines, kind, text, ending(draws_of_2014, game));
 }
 
-/// The lines on a fault of the game: its own, and with `explain` the one that explains it. The fault is in this text,
-/// and is explained at this place.
+/// The lines on a fault of the game: its own, and with `options.explain` the one that explains it. The fault is in this
+/// text, and is explained at this place.
 pub(crate) fn fault_lines<B: Board>(
-    explain: bool,
+    options: VerifyOptions,
     label: &FaultLabel,
     place: Place,
     text: &[u8],
     fault: GameFault,
     game: &Game<B>,
 ) -> FaultLines
+    requires begin { label.now.begin ≤ length text.now }
     requires within { fault.offset ≤ length text.now }
     requires few { place.start.offset + length text.now ≤ 2 ^ 63 }
-    requires there { explain ≡ true → place.offset ≡ (if is_at_begin fault.kind then label.now.begin
+    requires there { options.explain ≡ true → place.offset ≡ (if is_at_begin fault.kind then label.now.begin
         else fault.offset + (wrong_part fault.kind (drop fault.offset text.now)).0) }
-    ensures { (input : List ℕ) → (explain ≡ true → IsHere place input)
+    ensures { (input : List ℕ) → (options.explain ≡ true → IsHere place input)
         → result.items
         ≡ fault_line label.now.game.number (moved place.start.offset fault) (span_written label.now.game.span)
-        label.now.names.items ++ (if explain
+        label.now.names.items ++ (if options.explain
         then explanation_line input (if is_at_begin fault.kind then place.start.offset + label.now.begin
         else place.start.offset + fault.offset + (wrong_part fault.kind (drop fault.offset text.now)).0)
-        ((if is_at_begin fault.kind then label.now.first.items else [])
-        ++ (explanation_of game.now.state (drop fault.offset text.now) fault.kind ++ unread_written label.now.unread))
+        ((if is_at_begin fault.kind then shown (drop label.now.begin text.now) else [])
+        ++ (explanation_of options.strict.draws_of_2014 game.now.state (drop fault.offset text.now) fault.kind
+        ++ unread_written label.now.unread))
         else []) }
 {
-    let mut lines = fault_line(label, fault.moved(place.start.offset));
-    if explain {
+    let mut lines = FaultLines::new();
+    append_fault_line(&mut lines, label, fault.moved(place.start.offset));
+    if options.explain {
+        let draws_of_2014 = options.strict.draws_of_2014;
         append_place(&mut lines, place.line, place.column);
-        append_first(&mut lines, fault.kind, label.first.as_slice());
-        append_explanation(&mut lines, &text[fault.offset..], fault.kind, game);
+        append_first(&mut lines, fault.kind, &text[label.begin..]);
+        append_explanation(
+            &mut lines,
+            draws_of_2014,
+            &text[fault.offset..],
+            fault.kind,
+            game,
+        );
         append_unread(&mut lines, label.unread);
         lines.push(b'\n');
     }
@@ -366,7 +379,9 @@ pub(crate) fn too_long_lines(
         ++ (if explain then explanation_line input start.offset
         (shown beginning.now ++ unread_written label.now.unread) else []) }
 {
-    let mut lines = fault_line(
+    let mut lines = FaultLines::new();
+    append_fault_line(
+        &mut lines,
         label,
         GameFault {
             kind: FaultKind::Pgn(PgnFaultKind::TooLong),

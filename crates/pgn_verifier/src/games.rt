@@ -1,17 +1,15 @@
 //! The games of a text, one after another: up to the first fault, or also after faults.
 
-ghost use Rattle.std.specs.Prelude.{◌≡◌, ◌≤◌, ◌<◌, ◌+◌, ◌^◌, List, ℕ, length, IfOk, IfErr};
-ghost use Rattle.std.specs.Option.{IfSome};
+ghost use Rattle.std.specs.Prelude.{◌≡◌, ◌≤◌, ◌<◌, ◌+◌, ◌^◌, List, ℕ, length, IfOk};
 ghost use Rattle.chess_game.specs.declared.game.TheConstants.{MOST_MOVES};
-ghost use Rattle.pgn_verifier.specs.laws.Reported.{read_at, judged_at, placed_of};
+ghost use Rattle.pgn_verifier.specs.laws.Reported.{placed_of};
 ghost use Rattle.pgn_verifier.specs.ties.OnTheWay.{StandsIf, Writes, GrowsBy};
 
 use crate::after_fault::AfterFault;
-use crate::end_faults::end_fault;
 use crate::explanation::{explained_at, fault_lines};
-use crate::game_fault::GameFault;
+use crate::judged::judge_game;
 use crate::label::{FaultLabel, Label};
-use crate::options::{Strictness, VerifyOptions};
+use crate::options::VerifyOptions;
 use crate::place::Place;
 use crate::report::write_game;
 use crate::start::TextStart;
@@ -19,7 +17,6 @@ use crate::tally::Tally;
 use byte_devices::{Output, WriteFault, put};
 use chess_bits::{AttackTables, Bits};
 use chess_game::{Game, MOST_MOVES};
-use chess_pgn::{PgnEnd, faults_have_offsets, half_moves_have_bytes, read_pgn};
 use std::alloc::{AllocError, Global};
 
 // A new game of at most `MOST_MOVES` half-moves, on a bitboard that uses these tables.
@@ -30,36 +27,6 @@ pub(crate) fn open_game<'t>(
     ensures { IfOk result (λ g. g.limit ≡ MOST_MOVES) }
 {
     Game::open(alloc, Bits::new(tables), MOST_MOVES)
-}
-
-// Reads the game of a text from the offset `at` on into `game`, and returns its end or its fault; `None` if no game is
-// left. What `strict` names is a fault, too.
-fn judge_game(
-    strict: Strictness,
-    text: &[u8],
-    at: usize,
-    game: &mut Game<Bits<'_>>,
-) -> Result<Option<PgnEnd>, GameFault>
-    requires at { at ≤ length text.now }
-    requires limit { game.old.limit ≡ MOST_MOVES }
-    ensures judged { result ≡ judged_at strict text.now at }
-    ensures game { game.new.state ≡ (read_at text.now at).state }
-    ensures further { IfOk result (λ end. IfSome end (λ e. at < e.offset)) }
-    ensures within { IfOk result (λ end. IfSome end (λ e. e.offset ≤ length text.now)) }
-    ensures few { IfOk result (λ end. IfSome end (λ e. length game.new.state.moves + at ≤ e.offset)) }
-    ensures fault { IfErr result (λ fault. fault.offset ≤ length text.now) }
-    ensures limit { game.new.limit ≡ MOST_MOVES }
-{
-    // The prover wants these laws: where faults are, and that a half-move has a byte.
-    faults_have_offsets();
-    half_moves_have_bytes();
-    let Some(end) = read_pgn(text, at, game)? else {
-        return Ok(None);
-    };
-    match end_fault(strict, text, at, game, end) {
-        Some(fault) => Err(fault),
-        None => Ok(Some(end)),
-    }
 }
 
 // Reads the games of a text up to its first fault, or if it is read on (`start.goes_on`) also those after faults,
@@ -92,11 +59,11 @@ pub(crate) fn verify_text<W: Output>(
         let number = tally.next_number();
         match judge_game(options.strict, text, at, game) {
             Ok(None) => return Ok(tally),
-            Ok(Some(end)) => {
-                let plies = game.ply();
+            Ok(Some(judged)) => {
+                let end = judged.end;
                 let label = Label::of_game(options, number, start.offset, text, at, end.offset);
-                write_game(options.quiet, output, label, plies, end)?;
-                tally = tally.with_game(plies);
+                write_game(options.quiet, output, label, judged.plies, end)?;
+                tally = tally.with_game(judged.plies);
                 at = end.offset;
             }
             Err(fault) => {
@@ -104,7 +71,7 @@ pub(crate) fn verify_text<W: Output>(
                 let faulty = FaultLabel::of_game(options, number, start.offset, text, at, after);
                 let explained = explained_at(fault, faulty.begin, text);
                 place = place.counted_to(options.explain, text, explained);
-                let lines = fault_lines(options.explain, &faulty, place, text, fault, game);
+                let lines = fault_lines(options, &faulty, place, text, fault, game);
                 put(output, lines.as_slice())?;
                 tally = tally.with_fault();
                 let Some(next) = after.next else {

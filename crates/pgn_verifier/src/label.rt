@@ -1,14 +1,13 @@
 //! What the line of each report says of its game: the number, with `--spans` where the game is, and of a game with a
 //! fault with `--names` its players, event and date.
 
-ghost use Rattle.std.specs.Prelude.{◌≡◌, ◌≤◌, ◌<◌, ◌+◌, ◌++◌, ◌^◌, None, Some, length, drop};
+ghost use Rattle.std.specs.Prelude.{◌≡◌, ◌≤◌, ◌<◌, ◌+◌, ◌++◌, ◌^◌, None, Some, length};
 ghost use Rattle.std.specs.Option.{IfSome, option_map, unwrap_or};
 ghost use Rattle.std.specs.List.{prefix_len};
 ghost use Rattle.arrayvec.specs.ArrayVec.{array_vec_len};
 ghost use Rattle.chess_pgn.specs.Tokens.{is_white_space};
 ghost use Rattle.byte_devices.specs.Bytes.{after_byte_order_mark};
 ghost use Rattle.pgn_pieces.specs.Stream.{current};
-ghost use Rattle.pgn_verifier.specs.Explanations.{shown};
 ghost use Rattle.pgn_verifier.specs.Reports.{game_begin, names_text, span_text, unread_text};
 ghost use Rattle.pgn_verifier.specs.laws.Reported.{names_at};
 ghost use Rattle.pgn_verifier.specs.ties.OnTheWay.{span_written, unread_written};
@@ -16,7 +15,6 @@ ghost use Rattle.pgn_verifier.specs.ties.OnTheWay.{span_written, unread_written}
 use crate::after_fault::AfterFault;
 use crate::names::{NamesText, game_names};
 use crate::options::VerifyOptions;
-use crate::shown::{Shown, shown};
 use arrayvec::ArrayVec;
 use byte_devices::{after_byte_order_mark, append, append_number};
 use chess_pgn::token_parts::is_white_space;
@@ -134,8 +132,6 @@ pub(crate) struct FaultLabel {
     pub game: Label,
     /// The offset in the game's text at which the game begins.
     pub begin: usize,
-    /// The first word of the game, as it is shown.
-    pub first: Shown,
     /// The end of the line, which names the game; empty if the line is not to name it.
     pub names: NamesText,
     /// The part of the input that isn't read after the fault, if that is to be said.
@@ -162,7 +158,6 @@ impl FaultLabel {
             ≡ span_text options (start + game_begin text.now at) (start + unwrap_or after.next (length text.now)) }
         ensures begin { result.begin ≡ game_begin text.now at }
         ensures begin_within { result.begin ≤ length text.now }
-        ensures first { result.first.items ≡ shown (drop (game_begin text.now at) text.now) }
         ensures unread { unread_written result.unread
             ≡ unread_text (option_map (λ offset. start + offset) after.unread)
             (start + unwrap_or after.next (length text.now)) }
@@ -182,12 +177,9 @@ impl FaultLabel {
         } else {
             NamesText::new()
         };
-        let begin = game_begin(text, at);
-        let first = shown(&text[begin..]);
         FaultLabel {
             game,
-            begin,
-            first,
+            begin: game_begin(text, at),
             names,
             unread,
         }
@@ -205,7 +197,6 @@ impl FaultLabel {
         FaultLabel {
             game: Label::of_piece(options, number, pieces),
             begin: 0,
-            first: Shown::new(),
             names: NamesText::new(),
             unread: Some(piece_span(pieces)),
         }

@@ -24,6 +24,7 @@ mod fault;
 mod fen_field;
 mod game_fault;
 mod games;
+mod judged;
 mod label;
 mod names;
 mod options;

@@ -1,8 +1,12 @@
 //! How games are verified.
 
-/// Which faults are looked for in a game that is read to its termination marker.
+/// Which faults are looked for in a game, besides those that keep it from being read. All but `draws_of_2014` are looked
+/// for only if it is read to its termination marker.
 #[derive(Clone, Copy, Debug, PartialEq, Eq)]
 pub struct Strictness {
+    /// A move after a draw by fivefold repetition or by 75 moves, which end a game since the Laws of Chess of 2014. If
+    /// this is false, neither ends a game.
+    pub draws_of_2014: bool,
     /// A fault in one of its variations: each move in them is to be legal, too.
     pub variations: bool,
     /// A tag `Variant` that names a variant that is not known.
@@ -13,16 +17,18 @@ pub struct Strictness {
     pub board: bool,
 }
 
-/// None of these faults.
+/// Only a move after the end of the game.
 pub const LENIENT: Strictness = Strictness {
+    draws_of_2014: true,
     variations: false,
     variant: false,
     result: false,
     board: false,
 };
 
-/// Those of an unknown variant and of a result.
+/// That, an unknown variant, and a result that differs.
 pub const STRICT_FAULTS: Strictness = Strictness {
+    draws_of_2014: true,
     variations: false,
     variant: true,
     result: true,
@@ -34,7 +40,7 @@ pub const STRICT_FAULTS: Strictness = Strictness {
 pub struct VerifyOptions {
     /// Leaves out the lines of games without a fault.
     pub quiet: bool,
-    /// Which faults are looked for in a game that is read to its termination marker.
+    /// Which faults are looked for in a game, besides those that keep it from being read.
     pub strict: Strictness,
     /// Ends each line with the span of its game: the offset of its first byte, and that of the byte after its last. A
     /// game with a fault goes to where the next one is read, or to the end of its text.

@@ -14,7 +14,7 @@ use chess_pgn::token_parts::is_white_space;
 // The most bytes of a word, or of a tag's text, that are shown.
 const WORD_LEN: usize = 40;
 
-// The most bytes of a FEN's field that are shown.
+// The most bytes of a FEN's field that are shown; the longest that denotes pieces has 71.
 const FIELD_LEN: usize = 80;
 
 /// A word or a field as it is shown.

@@ -25,10 +25,10 @@ blank_first : (text : List ℕ) (at c : ℕ) (rest : List ℕ) → drop at text 
 blank_first text at c rest is white =
     sym (kinds_read text (token Blank (c ∷ []) rest is (blank_is_longest (begins_line text at) c rest white) (read_kinds text (at + 1))))
 
-one_skipped : (limit total left : ℕ) (ts : List (ℕ × Token))
-    → tokens_read limit total ((left, Skip) ∷ ts) ≡ tokens_read limit total ts
-one_skipped limit total left ts =
-    ap (λ o. game_of limit total (nothing_read (option_map_or (λ tag. variant_named tag.0) o Normal)) ts)
+one_skipped : (draws : Bool) (limit total left : ℕ) (ts : List (ℕ × Token))
+    → tokens_read draws limit total ((left, Skip) ∷ ts) ≡ tokens_read draws limit total ts
+one_skipped draws limit total left ts =
+    ap (λ o. game_of draws limit total (nothing_read (option_map_or (λ tag. variant_named tag.0) o Normal)) ts)
     (last_step (codes "Variant") None (left, Skip) ts)
 
 end_skipped : (total left : ℕ) (ts : List (ℕ × Token)) → game_end total ((left, Skip) ∷ ts) ≡ game_end total ts
@@ -74,14 +74,15 @@ mark_passed text at = by_place (eqb (game_begin text at) 0) refl
         let some : 0 < first + prefix_len is_white_space (drop first text) = grind (arith, nat_tests, e) in
         no_mark text (game_begin text at) some
 
-pub begins_alike : TokenByToken → (limit : ℕ) (text : List ℕ) (at : ℕ)
-    → pgn_read limit text at ≡ pgn_read limit text (game_begin text at)
-begins_alike law limit text at =
+pub begins_alike : TokenByToken → (draws : Bool) (limit : ℕ) (text : List ℕ) (at : ℕ)
+    → pgn_read draws limit text at ≡ pgn_read draws limit text (game_begin text at)
+begins_alike law draws limit text at =
     let first : ℕ = after_byte_order_mark text at in
-    law limit text at
-    ∙ run_skipped (tokens_read limit (length text)) (one_skipped limit (length text)) text (drop first text) first refl
-    ∙ ap (λ n. tokens_read limit (length text) (tokens_from text n)) (sym (mark_passed text at))
-    ∙ sym (law limit text (game_begin text at))
+    law draws limit text at
+    ∙ run_skipped (tokens_read draws limit (length text)) (one_skipped draws limit (length text)) text
+    (drop first text) first refl
+    ∙ ap (λ n. tokens_read draws limit (length text) (tokens_from text n)) (sym (mark_passed text at))
+    ∙ sym (law draws limit text (game_begin text at))
 
 -- and reading goes on at the same place after a fault
 pub goes_on_alike : (goes_on : Bool) (text : List ℕ) (at : ℕ)

@@ -3,10 +3,10 @@ use Rattle.std.proofs.Common.{◌≡◌, ◌∙◌, ℕ, zero, suc, ◌+◌, ◌
 use Rattle.std.specs.{List.filter, List.list_all, Option.option_map_or, Option.unwrap_or}
 use Rattle.chess_base.specs.{Initial.initial_setup_of, MoveList.moves, Sound.IsSound, declared.man.Move.Move, declared.man.Variant.Variant, declared.setup.Setup.Setup}
 use Rattle.byte_devices.specs.Bytes.{is_digit}
-use Rattle.chess_game.specs.{Ends.verdict, Game.State, Game.verdict_now, Line.position_after, declared.game.TheConstants.MOST_MOVES, declared.results.Outcome.Outcome}
-use Rattle.chess_pgn.specs.{GameRead.GameRead, GameRead.IsRead, GameRead.tagged_variant, LastTags.result_tag_of, LastTags.tag_section, UnknownVariants.unknown_variant_in, Tokens.Token, Tokens.Word, Words.is_marks, declared.read.PgnEnd.PgnEnd, declared.word_kind.WordKind.WordKind, laws.WordKinds.word_kind, declared.read.PgnFaultKind.TheVariants.TooLong}
+use Rattle.chess_game.specs.{Game.State, Line.position_after, declared.game.TheConstants.MOST_MOVES, declared.results.Outcome.Outcome}
+use Rattle.chess_pgn.specs.{GameRead.GameRead, GameRead.IsRead, GameRead.ending, GameRead.tagged_variant, LastTags.result_tag_of, LastTags.tag_section, UnknownVariants.unknown_variant_in, Tokens.Token, Tokens.Word, Words.is_marks, declared.read.PgnEnd.PgnEnd, declared.word_kind.WordKind.WordKind, laws.WordKinds.word_kind, declared.read.PgnFaultKind.TheVariants.TooLong}
 use Rattle.chess_pgn.specs.declared.word_kind.WordKind.TheVariants.{End, Number, Marks, Move as MoveWord}
-use Rattle.chess_pgn_laws.specs.GameOfTokens.{AreReadAs, GamesAreOfTokens, IsOfTokens, StopsAt, move_words}
+use Rattle.chess_pgn_laws.specs.GameOfTokens.{AreReadAs, GamesAreOfTokens, IsOfTokens, StopsAt, game_by, move_words}
 use Rattle.chess_text.specs.Moves.{denotes, one_of, reading, shape}
 use Rattle.chess_text.specs.declared.reading.Reading.TheVariants as reads
 use Rattle.chess_text.specs.laws.Laws.{ReadMovesAreLegal}
@@ -35,28 +35,30 @@ alone p word m h = at (shape word) h
     at true e = one_alone (filter (λ n. denotes p word n) (moves p)) m e
     at false e = absurd (cc)
 
-told : ReadMovesAreLegal → (limit : ℕ) (start : Setup) (done : List Move) (words : List (List ℕ)) (ms : List Move)
-    → AreReadAs limit start done words ms → AreTold (position_after start done) words ms
-told legal limit start done [] [] h = tt
-told legal limit start done [] (m ∷ ms) h = absurd h
-told legal limit start done (w ∷ words) [] h = absurd h
-told legal limit start done (w ∷ words) (m ∷ ms) (unended, room, denoted, more) = (
+told : ReadMovesAreLegal
+    → (draws : Bool) (limit : ℕ) (start : Setup) (done : List Move) (words : List (List ℕ)) (ms : List Move)
+    → AreReadAs draws limit start done words ms → AreTold (position_after start done) words ms
+told legal draws limit start done [] [] h = tt
+told legal draws limit start done [] (m ∷ ms) h = absurd h
+told legal draws limit start done (w ∷ words) [] h = absurd h
+told legal draws limit start done (w ∷ words) (m ∷ ms) (unended, room, denoted, more) = (
   legal (position_after start done) w m denoted,
   alone (position_after start done) w m denoted,
   subst (λ (p : Setup). AreTold p words ms) (position_after-snoc start done m)
-      (told legal limit start (done ++ m ∷ []) words ms more),
+      (told legal draws limit start (done ++ m ∷ []) words ms more),
 )
 
-unended : (limit : ℕ) (start : Setup) (done : List Move) (words : List (List ℕ)) (ms : List Move)
-    → AreReadAs limit start done words ms → (k : ℕ) → k < length ms → verdict start (done ++ take k ms) ≡ None
-unended limit start done [] [] h k few = absurd (omega (arith, few))
-unended limit start done [] (m ∷ ms) h k few = absurd h
-unended limit start done (w ∷ words) [] h k few = absurd h
-unended limit start done (w ∷ words) (m ∷ ms) (none, room, denoted, more) zero few =
-    ap (verdict start) (append-nil done) ∙ none
-unended limit start done (w ∷ words) (m ∷ ms) (none, room, denoted, more) (suc k) few =
-    ap (verdict start) (sym (append_assoc done (m ∷ []) (take k ms)))
-    ∙ unended limit start (done ++ m ∷ []) words ms more k (omega (arith, few))
+unended : (draws : Bool) (limit : ℕ) (start : Setup) (done : List Move) (words : List (List ℕ)) (ms : List Move)
+    → AreReadAs draws limit start done words ms → (k : ℕ) → k < length ms
+    → ending draws (game_by start (done ++ take k ms)) ≡ None
+unended draws limit start done [] [] h k few = absurd (omega (arith, few))
+unended draws limit start done [] (m ∷ ms) h k few = absurd h
+unended draws limit start done (w ∷ words) [] h k few = absurd h
+unended draws limit start done (w ∷ words) (m ∷ ms) (none, room, denoted, more) zero few =
+    ap (λ ds. ending draws (game_by start ds)) (append-nil done) ∙ none
+unended draws limit start done (w ∷ words) (m ∷ ms) (none, room, denoted, more) (suc k) few =
+    ap (λ ds. ending draws (game_by start ds)) (sym (append_assoc done (m ∷ []) (take k ms)))
+    ∙ unended draws limit start (done ++ m ∷ []) words ms more k (omega (arith, few))
 
 -- ---- the marker
 
@@ -85,11 +87,12 @@ record Ended (text : List ℕ) (tokens : List (ℕ × Token)) (taken : List (ℕ
   pub marks : outcome_of marker ≡ Some end.outcome
   pub ends : end.offset ≡ length text - left + length marker
 
-ended_at : (text : List ℕ) (v : Variant) (tokens taken others : List (ℕ × Token)) (s : State) (end : PgnEnd)
-    → taken ++ others ≡ tokens → StopsAt MOST_MOVES (length text) v taken others s (Ok (Some end))
+ended_at : (draws : Bool) (text : List ℕ) (v : Variant) (tokens taken others : List (ℕ × Token)) (s : State)
+    (end : PgnEnd)
+    → taken ++ others ≡ tokens → StopsAt draws MOST_MOVES (length text) v taken others s (Ok (Some end))
     → Ended text tokens taken end
-ended_at text v tokens taken [] s end all stop = absurd stop
-ended_at text v tokens taken ((left, t) ∷ ts) s end all (word, is, kind, declared, termination, offset) = record {
+ended_at draws text v tokens taken [] s end all stop = absurd stop
+ended_at draws text v tokens taken ((left, t) ∷ ts) s end all (word, is, kind, declared, termination, offset) = record {
   left = left;
   marker = word;
   others = ts;
@@ -101,20 +104,22 @@ ended_at text v tokens taken ((left, t) ∷ ts) s end all (word, is, kind, decla
 module _ (legal : ReadMovesAreLegal) (law : GamesAreOfTokens)
     (initial : (v : Variant) → IsSound (initial_setup_of v)) where
   has_game : (strict : Strictness) (text : List ℕ) (at : ℕ) (s : State) (end : PgnEnd)
-      → IsJudged strict text at s (Ok (Some end)) → HasGame text at end.offset (length s.moves) end.outcome
+      → IsJudged strict text at s (Ok (Some end))
+      → HasGame strict.draws_of_2014 text at end.offset (length s.moves) end.outcome
   has_game strict text at s end j =
       let so = judged_so strict (variation_in j.split_of text at s.start)
       (unknown_variant_in (length text) j.tokens)
-      (result_tag_of (length text) j.tokens) (verdict_now s) end j.ended (sym j.is) in
+      (result_tag_of (length text) j.tokens) (ending strict.draws_of_2014 s) end j.ended (sym j.is) in
       let r : GameRead = record { state = s; answer = Ok (Some end) } in
-      let read : IsRead MOST_MOVES text at r = record {
+      let read : IsRead strict.draws_of_2014 MOST_MOVES text at r = record {
         tokens = j.tokens;
         split = j.split;
         is = ap (λ a. (let g : GameRead = record { state = s; answer = a } in g)) (sym so.0) ∙ sym j.read;
       } in
       let v : Variant = tagged_variant (tag_section j.tokens) in
-      let of : IsOfTokens MOST_MOVES (length text) v j.tokens r = law MOST_MOVES text at r read in
-      let over = ended_at text v j.tokens of.taken of.others s end of.all of.stop in
+      let of : IsOfTokens strict.draws_of_2014 MOST_MOVES (length text) v j.tokens r =
+      law strict.draws_of_2014 MOST_MOVES text at r read in
+      let over = ended_at strict.draws_of_2014 text v j.tokens of.taken of.others s end of.all of.stop in
       record {
         start = s.start;
         sound = subst IsSound (sym of.start) (start_sound v (initial_setup_of v) of.taken (initial v));
@@ -128,13 +133,14 @@ module _ (legal : ReadMovesAreLegal) (law : GamesAreOfTokens)
         marks = over.marks;
         ends = over.ends;
         moves = s.moves;
-        told = told legal MOST_MOVES s.start [] (move_words of.taken) s.moves of.moves;
+        told = told legal strict.draws_of_2014 MOST_MOVES s.start [] (move_words of.taken) s.moves of.moves;
         many = refl;
-        unended = unended MOST_MOVES s.start [] (move_words of.taken) s.moves of.moves;
+        unended = unended strict.draws_of_2014 MOST_MOVES s.start [] (move_words of.taken) s.moves of.moves;
       }
 
   has_games : {goes_on : Bool} {strict : Strictness} {start : ℕ} {text : List ℕ} {at : ℕ} {reports : List Placed}
-      → AreReportsOf goes_on strict start text at reports → HasGames text at (without_spans reports)
+      → AreReportsOf goes_on strict start text at reports
+      → HasGames strict.draws_of_2014 text at (without_spans reports)
   has_games (none_left j) = tt
   has_games {goes_on} {strict} {start} {text} (next_game {at} {s} {end} {reports} j h) =
       (end.offset, has_game strict text at s end j, has_games h)
@@ -158,6 +164,7 @@ counted_games_of_pieces legal law initial strict offset piece reports h = at (na
           names = None;
           report = Faulty (record { kind = Pgn TooLong; offset = offset }) offset (shown piece);
         } ∷ [])
-        → HasGames piece 0 (without_spans reports)
+        → HasGames strict.draws_of_2014 piece 0 (without_spans reports)
     at true are = has_games legal law initial are
-    at false is = subst (λ (all : List Placed). HasGames piece 0 (without_spans all)) (sym is) (0, tt)
+    at false is =
+        subst (λ (all : List Placed). HasGames strict.draws_of_2014 piece 0 (without_spans all)) (sym is) (0, tt)

@@ -9,4 +9,6 @@ faults_are_in_order = record {
   then_tag = refl;
   then_board = refl;
   unless_lenient = refl;
+  no_outcome = refl;
+  unfinished = refl;
 }

@@ -48,7 +48,8 @@ module _ (law : TokenByToken) (strict : Strictness) (plain : strict.variations �
         by_judged : (j : Result (Option PgnEnd) GameFault) → judged_at strict part at ≡ j
             → ((next : ℕ) → BeginsAlike before part after next → next ≤ length part → length part < k + next
             → list_all is_game (reports_from strict start k part next) ≡ true → Holds strict before part after next)
-            → list_all is_game (report_then start part None j (read_at part at).state
+            → list_all is_game (report_then strict.draws_of_2014 start part None j
+            (read_at strict.draws_of_2014 part at).state
             (λ next. reports_from strict start k part next)) ≡ true
             → Holds strict before part after at
         by_judged (Ok None) e again all = record {
@@ -63,7 +64,9 @@ module _ (law : TokenByToken) (strict : Strictness) (plain : strict.variations �
             (next_begins before part after at end.offset begins (omega (arith, found.some_bytes))) found.inside
             (omega (arith, many, found.some_bytes)) all in
             record {
-              games = Game (length (read_at (before ++ (part ++ after)) (length before + at)).state.moves) end.outcome
+              games =
+                  Game (length (read_at strict.draws_of_2014 (before ++ (part ++ after))
+                  (length before + at)).state.moves) end.outcome
                   end.termination ∷ rest.games;
               holds = game (record end { offset = length before + end.offset }) found.judged inside
                   (subst (λ n. HoldsWhole strict before part after n rest.games) (sym here) rest.holds);

@@ -77,23 +77,24 @@ grouped_in : (by start : ℕ) (o : Option ℕ)
 grouped_in by start None = refl
 grouped_in by start (Some n) = ap (λ k. Some k) (grouped by start n)
 
-game_moved : (by start : ℕ) (text : List ℕ) (at : ℕ) (end : PgnEnd)
-    → game_placed (by + start) text at end (read_at text at).state
-    ≡ moved_placed by (game_placed start text at end (read_at text at).state)
-game_moved by start text at end =
-    let there : Placed = moved_placed by (game_placed start text at end (read_at text at).state) in
+game_moved : (draws : Bool) (by start : ℕ) (text : List ℕ) (at : ℕ) (end : PgnEnd)
+    → game_placed (by + start) text at end (read_at draws text at).state
+    ≡ moved_placed by (game_placed start text at end (read_at draws text at).state)
+game_moved draws by start text at end =
+    let there : Placed = moved_placed by (game_placed start text at end (read_at draws text at).state) in
     ap₂ (λ (b e : ℕ). record there { begin = b; end = e }) (grouped by start (game_begin text at))
     (grouped by start end.offset)
 
-fault_moved : (goes_on : Bool) (by start : ℕ) (text : List ℕ) (at : ℕ) (next : Option ℕ) (fault : GameFault)
-    → fault_placed goes_on (by + start) text at next fault (read_at text at).state
-    ≡ moved_placed by (fault_placed goes_on start text at next fault (read_at text at).state)
-fault_moved goes_on by start text at next fault =
+fault_moved : (draws goes_on : Bool) (by start : ℕ) (text : List ℕ) (at : ℕ) (next : Option ℕ) (fault : GameFault)
+    → fault_placed draws goes_on (by + start) text at next fault (read_at draws text at).state
+    ≡ moved_placed by (fault_placed draws goes_on start text at next fault (read_at draws text at).state)
+fault_moved draws goes_on by start text at next fault =
     let wrong : ℕ = (wrong_part fault.kind (drop fault.offset text)).0 in
-    let why : List ℕ = explanation_of (read_at text at).state (drop fault.offset text) fault.kind in
+    let why : List ℕ = explanation_of draws (read_at draws text at).state (drop fault.offset text) fault.kind in
     let from : Option ℕ = unread_from goes_on (length text) fault.offset next in
-    let here : Placed = fault_placed goes_on (by + start) text at next fault (read_at text at).state in
-    let there : Placed = moved_placed by (fault_placed goes_on start text at next fault (read_at text at).state) in
+    let here : Placed = fault_placed draws goes_on (by + start) text at next fault (read_at draws text at).state in
+    let there : Placed = moved_placed by (fault_placed draws goes_on start text at next fault
+    (read_at draws text at).state) in
     ap₂ (λ (b e : ℕ). record here { begin = b; end = e }) (grouped by start (game_begin text at))
     (grouped by start (unwrap_or next (length text)))
     ∙ ap (λ (o : Option ℕ). record there { unread = o; report = here.report }) (grouped_in by start from)
@@ -121,15 +122,19 @@ moved_from goes_on strict by start (suc n) text at =
     on (Some m) later = later m
 
     by_answer : (r : Result (Option PgnEnd) GameFault) → ((m : ℕ) → far m ≡ map (moved_placed by) (near m))
-        → placed_then goes_on (by + start) text at (next_at goes_on text at) r (read_at text at).state far
+        → placed_then strict.draws_of_2014 goes_on (by + start) text at (next_at goes_on text at) r
+        (read_at strict.draws_of_2014 text at).state far
         ≡ map (moved_placed by)
-        (placed_then goes_on start text at (next_at goes_on text at) r (read_at text at).state near)
+        (placed_then strict.draws_of_2014 goes_on start text at (next_at goes_on text at) r
+        (read_at strict.draws_of_2014 text at).state near)
     by_answer (Ok None) later = refl
     by_answer (Ok (Some end)) later =
-        ap₂ (λ (p : Placed) (ps : List Placed). p ∷ ps) (game_moved by start text at end) (later end.offset)
+        ap₂ (λ (p : Placed) (ps : List Placed). p ∷ ps) (game_moved strict.draws_of_2014 by start text at end)
+        (later end.offset)
     by_answer (Err fault) later =
         ap₂ (λ (p : Placed) (ps : List Placed). p ∷ ps)
-        (fault_moved goes_on by start text at (next_at goes_on text at) fault) (on (next_at goes_on text at) later)
+        (fault_moved strict.draws_of_2014 goes_on by start text at (next_at goes_on text at) fault)
+        (on (next_at goes_on text at) later)
 
 moved_in : (strict : Strictness) (by offset : ℕ) (bytes : List ℕ)
     → placed_in strict (record { offset = by + offset; bytes = bytes })

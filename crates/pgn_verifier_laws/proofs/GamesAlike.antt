@@ -1,5 +1,5 @@
 -- A game without a fault that is read in one text is read in another, if its tokens are there too.
-use Rattle.std.proofs.Common.{◌≡◌, ℕ, ◌+◌, ◌-◌, ◌<◌, ◌≤◌, List, ◌∷◌, ◌++◌, length, drop, Some, Ok, refl, sym, ap, subst, ◌∙◌, length-append, arith, is_some, length-drop}
+use Rattle.std.proofs.Common.{◌≡◌, ℕ, ◌+◌, ◌-◌, ◌<◌, ◌≤◌, Bool, List, ◌∷◌, ◌++◌, length, drop, Some, Ok, refl, sym, ap, subst, ◌∙◌, length-append, arith, is_some, length-drop}
 use Rattle.chess_game.specs.Game.{State, verdict_now}
 use Rattle.chess_pgn.specs.{GameRead.GameRead, GameRead.declared_after, LastTags.may_precede_tags, laws.WordKinds.word_kind, declared.read.PgnEnd.PgnEnd, declared.read.PgnFaultKind.TheVariants.NoResult}
 use Rattle.chess_pgn.specs.shared.Kinds.{IsSplitByKinds, IsOf, IsLongest, Kind, token_of, Blank, Line, Comment, Nag, Variation, Tag_pair, Asterisk, Symbol, ended, token, stopped}
@@ -15,7 +15,7 @@ pub record Fits (text : List ℕ) (place : ℕ) (kind : Kind) (front : List ℕ)
   pub long : IsLongest (IsOf (begins_line text place) kind) front rest'
 
 -- the tokens of the text `old` that are after `a` and end within the `size` bytes from there on, are in `new` after `b`
-module _ (limit : ℕ) (old new : List ℕ) (a b size : ℕ)
+module _ (draws : Bool) (limit : ℕ) (old new : List ℕ) (a b size : ℕ)
     (fits : (at : ℕ) (kind : Kind) (front rest : List ℕ) → drop (a + at) old ≡ front ++ rest
     → IsLongest (IsOf (begins_line old (a + at)) kind) front rest → at + length front ≤ size
     → Fits new (b + at) kind front)
@@ -30,44 +30,45 @@ module _ (limit : ℕ) (old new : List ℕ) (a b size : ℕ)
         pub within : at ≤ size
         pub own : List (ℕ × Token)
         pub split : IsSplitByKinds new (b + at) own
-        pub is : game_of limit (length new) g own ≡ over s (record end { offset = end.offset - a + b })
+        pub is : game_of draws limit (length new) g own ≡ over s (record end { offset = end.offset - a + b })
         pub tags : HaveSameTags own ts
         pub bytes : a + at < end.offset
         pub inside : end.offset ≤ a + size
 
       abbrev Again : ℕ → List (ℕ × Token) → Type 0
-      Again next tokens = (g : SoFar) → game_of limit (length old) g tokens ≡ over s end
+      Again next tokens = (g : SoFar) → game_of draws limit (length old) g tokens ≡ over s end
           → Found next g tokens
 
       -- a token after which reading goes on
       further : (at x : ℕ) (kind : Kind) (front rest : List ℕ) (tokens : List (ℕ × Token)) (g : SoFar)
           → drop (a + at) old ≡ front ++ rest
           → IsLongest (IsOf (begins_line old (a + at)) kind) front rest
-          → ((m : ℕ) → OnOrFails (step limit (length old) g x (token_of kind front (length rest)))
-          (step limit (length new) g (length new - (b + at)) (token_of kind front m)))
+          → ((m : ℕ) → OnOrFails (step draws limit (length old) g x (token_of kind front (length rest)))
+          (step draws limit (length new) g (length new - (b + at)) (token_of kind front m)))
           → ((m : ℕ) (us : List (ℕ × Token)) → HaveSameTags us tokens
           → HaveSameTags ((length new - (b + at), token_of kind front m) ∷ us)
           ((x, token_of kind front (length rest)) ∷ tokens))
           → Again (at + length front) tokens
-          → game_of limit (length old) g ((x, token_of kind front (length rest)) ∷ tokens)
+          → game_of draws limit (length old) g ((x, token_of kind front (length rest)) ∷ tokens)
           ≡ over s end
           → Found at g ((x, token_of kind front (length rest)) ∷ tokens)
       further at x kind front rest tokens g e long steps tags again h =
-          let later : SoFar → GameRead = λ k. game_of limit (length old) k tokens in
-          let one = goes_on (step limit (length old) g x (token_of kind front (length rest)))
-          (step limit (length new) g (length new - (b + at)) (token_of kind front 0)) later s end (steps 0) h in
+          let later : SoFar → GameRead = λ k. game_of draws limit (length old) k tokens in
+          let one = goes_on (step draws limit (length old) g x (token_of kind front (length rest)))
+          (step draws limit (length new) g (length new - (b + at)) (token_of kind front 0)) later s end (steps 0) h in
           let near = (again one.g one.rest).within in
           let fit = fits at kind front rest e long near in
           let left : ℕ = length fit.rest' in
-          let here = goes_on (step limit (length old) g x (token_of kind front (length rest)))
-          (step limit (length new) g (length new - (b + at)) (token_of kind front left)) later s end (steps left) h in
+          let here = goes_on (step draws limit (length old) g x (token_of kind front (length rest)))
+          (step draws limit (length new) g (length new - (b + at)) (token_of kind front left)) later s end
+          (steps left) h in
           let found = again here.g here.rest in
           record {
             within = omega (arith, near);
             own = (length new - (b + at), token_of kind front left) ∷ found.own;
             split = token kind front fit.rest' {tokens = found.own} fit.is fit.long
                 (subst (λ p. IsSplitByKinds new p found.own) (next_place at (length front)) found.split);
-            is = ap (λ t. read_rest_with t (λ k. game_of limit (length new) k found.own)) here.second ∙ found.is;
+            is = ap (λ t. read_rest_with t (λ k. game_of draws limit (length new) k found.own)) here.second ∙ found.is;
             tags = tags left found.own found.tags;
             bytes = omega (arith, found.bytes);
             inside = found.inside;
@@ -85,9 +86,9 @@ module _ (limit : ℕ) (old new : List ℕ) (a b size : ℕ)
           → 0 < length front → drop (a + at) old ≡ front ++ rest
           → IsLongest (IsOf (begins_line old (a + at)) kind) front rest
           → Again (at + length front) tokens
-          → game_of limit (length old) g ((x, Word front) ∷ tokens) ≡ over s end
+          → game_of draws limit (length old) g ((x, Word front) ∷ tokens) ≡ over s end
           → Found at g ((x, Word front) ∷ tokens)
-      word at x kind front rest tokens g is_word place some e long again h = by_step (does limit front)
+      word at x kind front rest tokens g is_word place some e long again h = by_step (does draws limit front)
         where
           low : a + at + length front ≤ length old
           low = omega (
@@ -101,15 +102,16 @@ module _ (limit : ℕ) (old new : List ℕ) (a b size : ℕ)
           total : ℕ
           total = length old
 
-          passes : ((m n : ℕ) → OnOrFails (word_step limit g m front (word_kind front))
-              (word_step limit g n front (word_kind front))) → Found at g ((x, Word front) ∷ tokens)
+          passes : ((m n : ℕ) → OnOrFails (word_step draws limit g m front (word_kind front))
+              (word_step draws limit g n front (word_kind front))) → Found at g ((x, Word front) ∷ tokens)
           passes alike =
               subst (λ t. Found at g ((x, t) ∷ tokens)) (is_word (length rest))
               (further at x kind front rest tokens g e long
-              (λ m. subst (λ t. OnOrFails (step limit total g x t) (step limit (length new) g (length new - (b + at))
+              (λ m. subst (λ t. OnOrFails (step draws limit total g x t)
+              (step draws limit (length new) g (length new - (b + at))
               (token_of kind front m)))
               (sym (is_word (length rest)))
-              (subst (λ t. OnOrFails (step limit total g x (Word front)) (step limit (length new) g
+              (subst (λ t. OnOrFails (step draws limit total g x (Word front)) (step draws limit (length new) g
               (length new - (b + at)) t))
               (sym (is_word m)) (alike (total - x) (length new - (length new - (b + at))))))
               (λ m us same.
@@ -118,13 +120,14 @@ module _ (limit : ℕ) (old new : List ℕ) (a b size : ℕ)
               (subst (λ t. HaveSameTags ((length new - (b + at), t) ∷ us) ((x, Word front) ∷ tokens)) (sym (is_word m))
               (word_more x (length new - (b + at)) front us tokens same)))
               again
-              (subst (λ t. game_of limit total g ((x, t) ∷ tokens) ≡ over s end) (sym (is_word (length rest))) h))
+              (subst (λ t. game_of draws limit total g ((x, t) ∷ tokens) ≡ over s end) (sym (is_word (length rest))) h))
 
-          by_step : Does front (λ k m. word_step limit k m front (word_kind front)) (may_precede_tags (Word front))
+          by_step : Does front (λ k m. word_step draws limit k m front (word_kind front))
+              (may_precede_tags (Word front))
               → Found at g ((x, Word front) ∷ tokens)
           by_step (no_end alike) = passes (alike g)
           by_step (ends_game o step_is no_tag) =
-              let later : SoFar → GameRead = λ k. game_of limit total k tokens in
+              let later : SoFar → GameRead = λ k. game_of draws limit total k tokens in
               let whole = sym (ap (λ t. read_rest_with t later) (step_is g (total - x))) ∙ h in
               let same = same_end _ end _ s whole in
               let offset : total - x + length front ≡ end.offset = ap (λ (p : PgnEnd). p.offset) same.1 in
@@ -147,7 +150,7 @@ module _ (limit : ℕ) (old new : List ℕ) (a b size : ℕ)
                 own = (length new - (b + at), Word front) ∷ mine;
                 split = subst (λ t. IsSplitByKinds new (b + at) ((length new - (b + at), t) ∷ mine)) (is_word left)
                     (token kind front fit.rest' fit.is fit.long (read_kinds new (b + at + length front)));
-                is = ap (λ t. read_rest_with t (λ k. game_of limit (length new) k mine))
+                is = ap (λ t. read_rest_with t (λ k. game_of draws limit (length new) k mine))
                     (step_is g (length new - (length new - (b + at))))
                     ∙ ap (λ m. over (record g.state { declared = declared_after (is_some (verdict_now g.state)) o })
                     (record { outcome = o; termination = g.termination; offset = m })) moved
@@ -167,7 +170,7 @@ module _ (limit : ℕ) (old new : List ℕ) (a b size : ℕ)
           → drop (a + at) old ≡ front ++ rest
           → IsLongest (IsOf (begins_line old (a + at)) kind) front rest
           → Again (at + length front) tokens
-          → game_of limit (length old) g ((x, token_of kind front (length rest)) ∷ tokens)
+          → game_of draws limit (length old) g ((x, token_of kind front (length rest)) ∷ tokens)
           ≡ over s end
           → Found at g ((x, token_of kind front (length rest)) ∷ tokens)
       by_kind at x Blank front rest tokens g place e long again h =
@@ -187,7 +190,7 @@ module _ (limit : ℕ) (old new : List ℕ) (a b size : ℕ)
           (λ m us same. skip_more x (length new - (b + at)) us tokens same) again h
       by_kind at x (Tag_pair name string closing) front rest tokens g place e long again h =
           further at x (Tag_pair name string closing) front rest tokens g e long
-          (λ m. tags_alike limit (length old) (length new) x (length new - (b + at)) g name string
+          (λ m. tags_alike draws limit (length old) (length new) x (length new - (b + at)) g name string
           (length (string ++ closing) + length rest) (length (string ++ closing) + m))
           (λ m us same. tag_more x (length new - (b + at)) (length (string ++ closing) + length rest)
           (length (string ++ closing) + m) name string us tokens same) again h
@@ -197,7 +200,7 @@ module _ (limit : ℕ) (old new : List ℕ) (a b size : ℕ)
           word at x Symbol front rest tokens g (λ m. refl) place long.is.0 e long again h
 
       pub found : {place : ℕ} {ts : List (ℕ × Token)} → IsSplitByKinds old place ts → (at : ℕ)
-          → place ≡ a + at → (g : SoFar) → game_of limit (length old) g ts
+          → place ≡ a + at → (g : SoFar) → game_of draws limit (length old) g ts
           ≡ over s end
           → Found at g ts
       found (ended e) at is g h = absurd (none_left end g.is_met
@@ -209,6 +212,6 @@ module _ (limit : ℕ) (old new : List ℕ) (a b size : ℕ)
           (subst (λ p. IsLongest (IsOf (begins_line old p) kind) front rest) is long)
           (λ k same. found more (at + length front) (omega (arith, is)) k same) h
       found (stopped {at = place} {fault} none k) at is g h =
-          absurd (faults_stop limit (length old) (Some end)
+          absurd (faults_stop draws limit (length old) (Some end)
           (drop place old) (length old - place) g fault k
           (ap (λ (r : GameRead). r.answer) h))

@@ -19,15 +19,17 @@ module _ (strict : Strictness) (start : ℕ) (text : List ℕ) (a b : Bool) wher
   same_from (suc n) at h = by_answer (judged_at strict text at) (λ m k. same_from n m k) h
     where
       s : State
-      s = (read_at text at).state
+      s = (read_at strict.draws_of_2014 text at).state
 
       by_answer : (r : Result (Option PgnEnd) GameFault)
           → ((m : ℕ) → list_all is_game (games_from a strict start n text m) ≡ true
           → games_from b strict start n text m ≡ games_from a strict start n text m)
-          → list_all is_game (report_then start text (next_at a text at) r s
+          → list_all is_game (report_then strict.draws_of_2014 start text (next_at a text at) r s
           (λ m. games_from a strict start n text m)) ≡ true
-          → report_then start text (next_at b text at) r s (λ m. games_from b strict start n text m)
-          ≡ report_then start text (next_at a text at) r s (λ m. games_from a strict start n text m)
+          → report_then strict.draws_of_2014 start text (next_at b text at) r s
+          (λ m. games_from b strict start n text m)
+          ≡ report_then strict.draws_of_2014 start text (next_at a text at) r s
+          (λ m. games_from a strict start n text m)
       by_answer (Ok None) later k = refl
       by_answer (Ok (Some end)) later k =
           ap (λ rs. Game (length s.moves) end.outcome end.termination ∷ rs) (later end.offset k)

@@ -14,3 +14,4 @@ mod SoundStarts
 mod CountedGames
 mod FilesAlike
 mod FaultOrder
+mod WorkedReports

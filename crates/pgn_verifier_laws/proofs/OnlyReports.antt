@@ -2,8 +2,8 @@
 use Rattle.std.proofs.Common.{◌≡◌, ℕ, zero, suc, ◌+◌, Bool, List, [], ◌∷◌, ◌++◌, length, drop, Option, Some, None, true, false, Result, Ok, Err, refl, sym, ap, subst, ◌∙◌, flat_map, MatchBool, nat_le, if◌then◌else◌}
 use Rattle.std.proofs.{Math.Path.ap₂, Math.Path.fun_ext, lemmas.List.map-append}
 use Rattle.std.specs.Option.{option_map_or, unwrap_or}
-use Rattle.chess_game.specs.{Game.State, Game.verdict_now, declared.game.TheConstants.MOST_MOVES}
-use Rattle.chess_pgn.specs.{GameRead.GameRead, GameRead.pgn_read, GameRead.read_of_split, LastTags.result_tag_of, UnknownVariants.unknown_variant_in, Split.IsSplit, Tokens.Token, Tokens.tokens_from, declared.read.PgnEnd.PgnEnd}
+use Rattle.chess_game.specs.{Game.State, declared.game.TheConstants.MOST_MOVES}
+use Rattle.chess_pgn.specs.{GameRead.GameRead, GameRead.ending, GameRead.pgn_read, GameRead.read_of_split, LastTags.result_tag_of, UnknownVariants.unknown_variant_in, Split.IsSplit, Tokens.Token, Tokens.tokens_from, declared.read.PgnEnd.PgnEnd}
 use Rattle.byte_devices.specs.Bytes.{after_byte_order_mark}
 use Rattle.chess_pgn.proofs.shared.Tokens.{split_read}
 use Rattle.pgn_pieces.specs.{Pieces.known_pieces, Stream.Piece, Stream.with_offsets, Stream.pieces, declared.pieces.TheConstants.PIECE_LEN}
@@ -21,21 +21,25 @@ same_split : (split : List ℕ → ℕ → List (ℕ × Token))
 same_split split splits = fun_ext (λ other. fun_ext (λ from. split_read other (splits other from)))
 
 pub only_judged : (strict : Strictness) (text : List ℕ) (at : ℕ) (s : State) (answer : Result (Option PgnEnd) GameFault)
-    → IsJudged strict text at s answer → (s ≡ (read_at text at).state) × (answer ≡ judged_at strict text at)
+    → IsJudged strict text at s answer
+    → (s ≡ (read_at strict.draws_of_2014 text at).state) × (answer ≡ judged_at strict text at)
 unfolding pgn_read
 only_judged strict text at s answer j =
     let all : List (ℕ × Token) = tokens_from text (after_byte_order_mark text at) in
     let same : j.tokens ≡ all = split_read text j.split in
-    let read = sym j.read ∙ ap (read_of_split MOST_MOVES (length text)) same in (
+    let read = sym j.read ∙ ap (read_of_split strict.draws_of_2014 MOST_MOVES (length text)) same in (
       ap (λ (r : GameRead). r.state) read,
       j.is
           ∙ ap (λ (split : List ℕ → ℕ → List (ℕ × Token)). judged strict (variation_in split text at s.start)
-          (unknown_variant_in (length text) j.tokens) (result_tag_of (length text) j.tokens) (verdict_now s) j.ended)
+          (unknown_variant_in (length text) j.tokens) (result_tag_of (length text) j.tokens)
+          (ending strict.draws_of_2014 s) j.ended)
           (same_split j.split_of j.splits)
           ∙ ap (λ (ts : List (ℕ × Token)). judged strict (variation_in tokens_from text at s.start)
-          (unknown_variant_in (length text) ts) (result_tag_of (length text) ts) (verdict_now s) j.ended) same
+          (unknown_variant_in (length text) ts) (result_tag_of (length text) ts)
+          (ending strict.draws_of_2014 s) j.ended) same
           ∙ ap (λ (r : GameRead). judged strict (variation_in tokens_from text at r.state.start)
-          (unknown_variant_in (length text) all) (result_tag_of (length text) all) (verdict_now r.state) r.answer) read,
+          (unknown_variant_in (length text) all) (result_tag_of (length text) all)
+          (ending strict.draws_of_2014 r.state) r.answer) read,
     )
 
 -- ---- a text
@@ -45,9 +49,9 @@ abbrev game_report : ℕ → List ℕ → ℕ → PgnEnd → List ℕ → State 
 game_report start text at end names s = record (game_placed start text at end s) { names = Some names }
 
 -- the report on a fault, whose names and explanation are given
-abbrev fault_report : Bool → ℕ → List ℕ → ℕ → Option ℕ → GameFault → List ℕ → List ℕ → Placed
-fault_report goes_on start text at next fault names why =
-    record (fault_placed goes_on start text at next fault (read_at text at).state) {
+abbrev fault_report : Bool → Bool → ℕ → List ℕ → ℕ → Option ℕ → GameFault → List ℕ → List ℕ → Placed
+fault_report draws goes_on start text at next fault names why =
+    record (fault_placed draws goes_on start text at next fault (read_at draws text at).state) {
       names = Some names;
       report = fault_in start text fault why;
     }
@@ -61,81 +65,94 @@ ReportsBy goes_on strict start text at s (Ok (Some end)) reports =
 ReportsBy goes_on strict start text at s (Err fault) reports =
     (more : List Placed)
     × AreReportsOf goes_on strict start text (unwrap_or (next_at goes_on text at) (length text)) more
-    × (reports ≡ fault_placed goes_on start text at (next_at goes_on text at) fault s ∷ more)
+    × (reports ≡ fault_placed strict.draws_of_2014 goes_on start text at (next_at goes_on text at) fault s ∷ more)
 
 -- the report on a fault whose names and reason are given
-fault_explained : (goes_on : Bool) (start : ℕ) (text : List ℕ) (at : ℕ) (next : Option ℕ) (fault : GameFault)
+fault_explained : (draws goes_on : Bool) (start : ℕ) (text : List ℕ) (at : ℕ) (next : Option ℕ) (fault : GameFault)
     (names : List ℕ) (s : State) (reason : Option (List ℕ)) → next ≡ next_at goes_on text at
-    → names ≡ names_at text at → IsReason fault.kind (drop fault.offset text) (verdict_now s) reason
-    → fault_report goes_on start text at next fault names (explanation s (drop fault.offset text) fault.kind reason)
-    ≡ fault_placed goes_on start text at (next_at goes_on text at) fault s
-fault_explained goes_on start text at next fault names s reason there are h =
-    ap (λ o. fault_report goes_on start text at o fault names
+    → names ≡ names_at text at → IsReason fault.kind (drop fault.offset text) (ending draws s) reason
+    → fault_report draws goes_on start text at next fault names
+    (explanation s (drop fault.offset text) fault.kind reason)
+    ≡ fault_placed draws goes_on start text at (next_at goes_on text at) fault s
+fault_explained draws goes_on start text at next fault names s reason there are h =
+    ap (λ o. fault_report draws goes_on start text at o fault names
     (explanation s (drop fault.offset text) fault.kind reason)) there
-    ∙ ap (λ ns. fault_report goes_on start text at (next_at goes_on text at) fault ns
+    ∙ ap (λ ns. fault_report draws goes_on start text at (next_at goes_on text at) fault ns
     (explanation s (drop fault.offset text) fault.kind reason)) are
-    ∙ ap (λ r. fault_report goes_on start text at (next_at goes_on text at) fault (names_at text at)
+    ∙ ap (λ r. fault_report draws goes_on start text at (next_at goes_on text at) fault (names_at text at)
     (explanation s (drop fault.offset text) fault.kind r))
-    (only_reason fault.kind (drop fault.offset text) (verdict_now s) reason h)
+    (only_reason fault.kind (drop fault.offset text) (ending draws s) reason h)
 
 module _ (goes_on : Bool) (strict : Strictness) (start : ℕ) (text : List ℕ) where
   abbrev ReportsAt : ℕ → List Placed → Type 0
   ReportsAt at reports =
-      ReportsBy goes_on strict start text at (read_at text at).state (judged_at strict text at) reports
+      ReportsBy goes_on strict start text at (read_at strict.draws_of_2014 text at).state
+      (judged_at strict text at) reports
 
   reports_at : {at : ℕ} {reports : List Placed} → AreReportsOf goes_on strict start text at reports
       → ReportsAt at reports
   reports_at (none_left {at} {s} j) =
       let is = only_judged strict text at s (Ok None) j in
-      subst (λ r. ReportsBy goes_on strict start text at (read_at text at).state r []) is.1 refl
+      subst (λ r. ReportsBy goes_on strict start text at (read_at strict.draws_of_2014 text at).state r []) is.1 refl
   reports_at (next_game {at} {s} {end} {reports} j h) =
       let is = only_judged strict text at s (Ok (Some end)) j in
       let own : List ℕ = names_of j.tokens in
-      subst (λ r. ReportsBy goes_on strict start text at (read_at text at).state r
+      subst (λ r. ReportsBy goes_on strict start text at (read_at strict.draws_of_2014 text at).state r
       (game_report start text at end own s ∷ reports)) is.1 (
         reports,
         h,
         ap (λ (g : State). game_report start text at end own g ∷ reports) is.0
-            ∙ ap (λ ns. game_report start text at end ns (read_at text at).state ∷ reports) (named j),
+            ∙ ap (λ ns. game_report start text at end ns (read_at strict.draws_of_2014 text at).state ∷ reports)
+            (named j),
       )
   reports_at (next_fault {at} {s} {fault} {reports} reason next j h there later) =
       let is = only_judged strict text at s (Err fault) j in
       let on : next ≡ next_at goes_on text at = there ∙ goes_on_there goes_on j in
-      subst (λ r. ReportsBy goes_on strict start text at (read_at text at).state r
-      (fault_report goes_on start text at next fault (names_of j.tokens)
+      subst (λ r. ReportsBy goes_on strict start text at (read_at strict.draws_of_2014 text at).state r
+      (fault_report strict.draws_of_2014 goes_on start text at next fault (names_of j.tokens)
       (explanation s (drop fault.offset text) fault.kind reason) ∷ reports)) is.1 (
         reports,
         subst (λ o. AreReportsOf goes_on strict start text (unwrap_or o (length text)) reports) on later,
         ap (λ (p : Placed). p ∷ reports)
-            (fault_explained goes_on start text at next fault (names_of j.tokens) s reason on (named j) h)
-            ∙ ap (λ (g : State). fault_placed goes_on start text at (next_at goes_on text at) fault g ∷ reports) is.0,
+            (fault_explained strict.draws_of_2014 goes_on start text at next fault (names_of j.tokens) s reason on
+            (named j) h)
+            ∙ ap (λ (g : State). fault_placed strict.draws_of_2014 goes_on start text at
+            (next_at goes_on text at) fault g ∷ reports) is.0,
       )
 
   one_list : {at : ℕ} {reports : List Placed} → AreReportsOf goes_on strict start text at reports
       → (others : List Placed) → AreReportsOf goes_on strict start text at others → others ≡ reports
   one_list (none_left {at} {s} j) others k =
       let is = only_judged strict text at s (Ok None) j in
-      subst (λ r. ReportsBy goes_on strict start text at (read_at text at).state r others) (sym is.1) (reports_at k)
+      subst (λ r. ReportsBy goes_on strict start text at (read_at strict.draws_of_2014 text at).state r others)
+      (sym is.1) (reports_at k)
   one_list (next_game {at} {s} {end} {reports} j h) others k =
       let is = only_judged strict text at s (Ok (Some end)) j in
-      let more = subst (λ r. ReportsBy goes_on strict start text at (read_at text at).state r others) (sym is.1)
+      let more = subst (λ r. ReportsBy goes_on strict start text at
+      (read_at strict.draws_of_2014 text at).state r others) (sym is.1)
       (reports_at k) in
       more.2
-      ∙ ap (λ rs. game_placed start text at end (read_at text at).state ∷ rs) (one_list h more.0 more.1)
-      ∙ ap (λ ns. game_report start text at end ns (read_at text at).state ∷ reports) (sym (named j))
+      ∙ ap (λ rs. game_placed start text at end (read_at strict.draws_of_2014 text at).state ∷ rs)
+      (one_list h more.0 more.1)
+      ∙ ap (λ ns. game_report start text at end ns (read_at strict.draws_of_2014 text at).state ∷ reports)
+      (sym (named j))
       ∙ ap (λ (g : State). game_report start text at end (names_of j.tokens) g ∷ reports) (sym is.0)
   one_list (next_fault {at} {s} {fault} {reports} reason next j h there later) others k =
       let is = only_judged strict text at s (Err fault) j in
       let on : next ≡ next_at goes_on text at = there ∙ goes_on_there goes_on j in
-      let more = subst (λ r. ReportsBy goes_on strict start text at (read_at text at).state r others) (sym is.1)
+      let more = subst (λ r. ReportsBy goes_on strict start text at
+      (read_at strict.draws_of_2014 text at).state r others) (sym is.1)
       (reports_at k) in
       let same : more.0 ≡ reports = one_list later more.0
       (subst (λ o. AreReportsOf goes_on strict start text (unwrap_or o (length text)) more.0) (sym on) more.1) in
       more.2
-      ∙ ap (λ rs. fault_placed goes_on start text at (next_at goes_on text at) fault (read_at text at).state ∷ rs) same
-      ∙ ap (λ (g : State). fault_placed goes_on start text at (next_at goes_on text at) fault g ∷ reports) (sym is.0)
+      ∙ ap (λ rs. fault_placed strict.draws_of_2014 goes_on start text at (next_at goes_on text at) fault
+      (read_at strict.draws_of_2014 text at).state ∷ rs) same
+      ∙ ap (λ (g : State). fault_placed strict.draws_of_2014 goes_on start text at
+      (next_at goes_on text at) fault g ∷ reports) (sym is.0)
       ∙ ap (λ (p : Placed). p ∷ reports)
-      (sym (fault_explained goes_on start text at next fault (names_of j.tokens) s reason on (named j) h))
+      (sym (fault_explained strict.draws_of_2014 goes_on start text at next fault (names_of j.tokens) s reason on
+      (named j) h))
 
   pub only_reports_of : (reports : List Placed) → AreReportsOf goes_on strict start text 0 reports
       → reports ≡ placed_of goes_on strict start text
@@ -180,7 +197,7 @@ same_from goes_on strict start (suc n) text at =
     by_answer (judged_at strict text at) (λ next. same_from goes_on strict start n text next)
   where
     s : State
-    s = (read_at text at).state
+    s = (read_at strict.draws_of_2014 text at).state
 
     placed : ℕ → List Placed
     placed next = placed_from goes_on strict start n text next
@@ -194,13 +211,14 @@ same_from goes_on strict start (suc n) text at =
     on (Some m) later = later m
 
     by_answer : (r : Result (Option PgnEnd) GameFault) → ((m : ℕ) → without_spans (placed m) ≡ plain m)
-        → without_spans (placed_then goes_on start text at (next_at goes_on text at) r s placed)
-        ≡ report_then start text (next_at goes_on text at) r s plain
+        → without_spans (placed_then strict.draws_of_2014 goes_on start text at (next_at goes_on text at) r s placed)
+        ≡ report_then strict.draws_of_2014 start text (next_at goes_on text at) r s plain
     by_answer (Ok None) later = refl
     by_answer (Ok (Some end)) later =
         ap (λ rs. Game (length s.moves) end.outcome end.termination ∷ rs) (later end.offset)
     by_answer (Err fault) later =
-        ap (λ rs. (fault_placed goes_on start text at (next_at goes_on text at) fault s).report ∷ rs)
+        ap (λ rs. (fault_placed strict.draws_of_2014 goes_on start text at
+        (next_at goes_on text at) fault s).report ∷ rs)
         (on (next_at goes_on text at) later)
 
 pub same_of : (goes_on : Bool) (strict : Strictness) (start : ℕ) (text : List ℕ)

@@ -3,8 +3,8 @@ use Rattle.std.proofs.Common.{◌≡◌, ℕ, zero, suc, ◌+◌, ◌-◌, ◌<�
 use Rattle.std.specs.{List.concat, List.flat_map, List.list_all, Option.option_map_or}
 use Rattle.std.proofs.Math.Seq.{drop-length, take-length}
 use Rattle.std.proofs.lemmas.List.{take-append-drop, take-append-le, length-drop, append_cancel_left}
-use Rattle.chess_game.specs.{Game.State, Game.verdict_now, declared.game.TheConstants.MOST_MOVES, declared.verdicts.Verdict.Verdict}
-use Rattle.chess_pgn.specs.GameRead.{GameRead, pgn_read, read_of_split, tagged_variant}
+use Rattle.chess_game.specs.{Game.State, declared.game.TheConstants.MOST_MOVES, declared.verdicts.Verdict.Verdict}
+use Rattle.chess_pgn.specs.GameRead.{GameRead, ending, pgn_read, read_of_split, tagged_variant}
 use Rattle.chess_pgn.specs.{LastTags.tag_section, LastTags.result_tag_of, UnknownVariants.unknown_variant_in, Tokens.Token, Tokens.begins_line, Tokens.tokens_from, declared.read.PgnEnd.PgnEnd, laws.TokenByToken.game_of, laws.TokenByToken.nothing_read, laws.TokenByToken.tokens_read}
 use Rattle.chess_pgn.specs.shared.Kinds.{IsOf, IsLongest, Kind, ended}
 use Rattle.byte_devices.specs.Bytes.{after_byte_order_mark}
@@ -61,23 +61,27 @@ in_parts law strict plain before part after at end begins is inside =
     let here : ℕ = after_byte_order_mark part at in
     let ts : List (ℕ × Token) = tokens_from text (after_byte_order_mark text (length before + at)) in
     let us : List (ℕ × Token) = tokens_from part here in
-    let r : GameRead = pgn_read MOST_MOVES text (length before + at) in
-    let v : Option Verdict = verdict_now r.state in
+    let r : GameRead = pgn_read strict.draws_of_2014 MOST_MOVES text (length before + at) in
+    let v : Option Verdict = ending strict.draws_of_2014 r.state in
     let said = judged_so strict (variation_in tokens_from text (length before + at) r.state.start)
     (unknown_variant_in (length text) ts)
     (result_tag_of (length text) ts) v end r.answer is in
-    let whole : tokens_read MOST_MOVES (length text) ts ≡ over r.state end =
-    sym (law MOST_MOVES text (length before + at)) ∙ ap (λ a. record { state = r.state; answer = a }) said.0 in
-    let f = found MOST_MOVES text part (length before) 0 (length part) (fits_part before part after begins.line) r.state
-    end (λ m low ending. omega (arith, ending, inside))
+    let whole : tokens_read strict.draws_of_2014 MOST_MOVES (length text) ts ≡ over r.state end =
+    sym (law strict.draws_of_2014 MOST_MOVES text (length before + at))
+    ∙ ap (λ a. record { state = r.state; answer = a }) said.0 in
+    let f = found strict.draws_of_2014 MOST_MOVES text part (length before) 0 (length part)
+    (fits_part before part after begins.line) r.state
+    end (λ m low is_end. omega (arith, is_end, inside))
     (read_kinds text (after_byte_order_mark text (length before + at))) here begins.first
     (nothing_read (tagged_variant (tag_section ts))) whole in
     let own : f.own ≡ us = kinds_read part f.split ∙ ap (tokens_from part) (omega arith) in
     let shift : end.offset - length before + 0 ≡ end.offset - length before = omega arith in
     let back : PgnEnd = record end { offset = end.offset - length before } in
-    let alone : pgn_read MOST_MOVES part at ≡ over r.state back =
-    law MOST_MOVES part at ∙ ap (tokens_read MOST_MOVES (length part)) (sym own)
-    ∙ ap (λ w. game_of MOST_MOVES (length part) (nothing_read w) f.own) (same_variant f.own ts f.tags) ∙ f.is
+    let alone : pgn_read strict.draws_of_2014 MOST_MOVES part at ≡ over r.state back =
+    law strict.draws_of_2014 MOST_MOVES part at
+    ∙ ap (tokens_read strict.draws_of_2014 MOST_MOVES (length part)) (sym own)
+    ∙ ap (λ w. game_of strict.draws_of_2014 MOST_MOVES (length part) (nothing_read w) f.own)
+    (same_variant f.own ts f.tags) ∙ f.is
     ∙ ap (λ m. over r.state (record end { offset = m })) shift in
     let outcomes : outcome_in (result_tag_of (length part) us) ≡ outcome_in (result_tag_of (length text) ts) =
     ap (λ l. outcome_in (result_tag_of (length part) l)) (sym own)
@@ -87,7 +91,8 @@ in_parts law strict plain before part after at end begins is inside =
     ∙ same_known (length text) (length part) f.own ts f.tags in
     record {
       judged = ap (λ (g : GameRead). judged strict (variation_in tokens_from part at g.state.start)
-          (unknown_variant_in (length part) us) (result_tag_of (length part) us) (verdict_now g.state) g.answer)
+          (unknown_variant_in (length part) us) (result_tag_of (length part) us)
+          (ending strict.draws_of_2014 g.state) g.answer)
           alone
           ∙ ap (λ fault. option_map_or Err fault (Ok (Some back)))
           (agrees strict plain (variation_in tokens_from text (length before + at) r.state.start)
@@ -116,16 +121,18 @@ module _ (law : TokenByToken)
   unfolding games_from
   alone holds begins within zero many = absurd (omega (arith, within, many))
   alone (no_more {at} none closed) begins within (suc k) many =
-      ap (λ j. report_then start part None j (read_at part at).state
+      ap (λ j. report_then strict.draws_of_2014 start part None j (read_at strict.draws_of_2014 part at).state
       (λ next. reports_from strict start k part next)) none
   alone (game {at} {games} end is inside more) begins within (suc k) many =
       let found = in_parts law strict plain before part after at end begins is inside in
       let next : ℕ = end.offset - length before in
-      ap (λ j. report_then start part None j (read_at part at).state (λ n. reports_from strict start k part n))
+      ap (λ j. report_then strict.draws_of_2014 start part None j (read_at strict.draws_of_2014 part at).state
+      (λ n. reports_from strict start k part n))
       found.judged
       ∙ ap (λ (s : State). Game (length s.moves) end.outcome end.termination ∷ reports_from strict start k part next)
       found.state
-      ∙ ap (λ l. Game (length (read_at (before ++ (part ++ after)) (length before + at)).state.moves) end.outcome
+      ∙ ap (λ l. Game (length (read_at strict.draws_of_2014 (before ++ (part ++ after))
+      (length before + at)).state.moves) end.outcome
       end.termination ∷ l)
       (alone {at = end.offset - length before} {games = games} more (next_begins before part after at next begins
       (omega (arith, found.some_bytes)))
@@ -146,9 +153,11 @@ module _ (law : TokenByToken)
       let next : ℕ = end.offset - length before in
       let here : length before + next ≡ end.offset = omega (arith, found.some_bytes) in
       let count : suc (length games) + most ≡ suc (length games + most) = omega arith in
-      let report : Report = Game (length (read_at text (length before + at)).state.moves) end.outcome end.termination in
+      let report : Report = Game (length (read_at strict.draws_of_2014 text
+      (length before + at)).state.moves) end.outcome end.termination in
       ap (λ k. reports_from strict start k text (length before + at)) count
-      ∙ ap (λ j. report_then start text None j (read_at text (length before + at)).state
+      ∙ ap (λ j. report_then strict.draws_of_2014 start text None j
+      (read_at strict.draws_of_2014 text (length before + at)).state
       (λ n. reports_from strict start (length games + most) text n)) is
       ∙ ap (λ n. report ∷ reports_from strict start (length games + most) text n) (sym here)
       ∙ ap (λ l. report ∷ l)
@@ -180,11 +189,14 @@ nothing_left strict start (suc k) text = by_first text (mark text)
     by_first text e =
         let none : [] ≡ tokens_from text (after_byte_order_mark text (length text)) =
         kinds_read text (ended (ap (λ n. drop n text) e ∙ drop-length text)) in
-        ap (λ ts. report_then start text None
+        ap (λ ts. report_then strict.draws_of_2014 start text None
         (judged strict (variation_in tokens_from text (length text)
-        (read_of_split MOST_MOVES (length text) ts).state.start) (unknown_variant_in (length text) ts)
-        (result_tag_of (length text) ts) (verdict_now (read_of_split MOST_MOVES (length text) ts).state)
-        (read_of_split MOST_MOVES (length text) ts).answer) (read_of_split MOST_MOVES (length text) ts).state
+        (read_of_split strict.draws_of_2014 MOST_MOVES (length text) ts).state.start) (unknown_variant_in
+        (length text) ts)
+        (result_tag_of (length text) ts) (ending strict.draws_of_2014
+        (read_of_split strict.draws_of_2014 MOST_MOVES (length text) ts).state)
+        (read_of_split strict.draws_of_2014 MOST_MOVES
+        (length text) ts).answer) (read_of_split strict.draws_of_2014 MOST_MOVES (length text) ts).state
         (λ next. reports_from strict start k text next)) (sym none)
 
 module _ (law : TokenByToken) (strict : Strictness) (plain : strict.variations ≡ false) where

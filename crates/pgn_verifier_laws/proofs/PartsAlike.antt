@@ -5,11 +5,11 @@ use Rattle.std.specs.Option.{option_map, option_map_or, option_or, option_eq}
 use Rattle.std.proofs.{Math.Seq.drop-append-add, lemmas.Bool.Decides.nat_tests, lemmas.List.drop-append-le, lemmas.List.get_or_append_left, lemmas.List.get_or-append-add}
 use Rattle.chess_base.specs.{declared.fen_fault.FenFault.FenFault, declared.man.Variant.TheVariants.Normal, declared.setup.Setup.Setup}
 use Rattle.chess_fen.specs.Reading.{fen_reading_as}
-use Rattle.chess_game.specs.Game.{State, current, verdict_now, contradicts_verdict}
+use Rattle.chess_game.specs.Game.{State, current, contradicts_verdict}
 use Rattle.chess_game.specs.{Results.same_outcome, declared.results.Outcome.Outcome, declared.verdicts.Verdict.Verdict}
 use Rattle.chess_text.specs.{declared.reading.Reading.Reading, Moves.reading}
 use Rattle.chess_text.specs.declared.reading.Reading.TheVariants as reads
-use Rattle.chess_pgn.specs.GameRead.{GameRead, pgn_read, tagged_variant, variant_named}
+use Rattle.chess_pgn.specs.GameRead.{GameRead, ending, pgn_read, tagged_variant, variant_named}
 use Rattle.chess_pgn.specs.LastTags.{may_precede_tags, tag_section, tags_named, last_tag, result_tag_of}
 use Rattle.chess_pgn.specs.{shared.Kinds.IsFault, laws.WordKinds.word_kind, declared.read.PgnEnd.PgnEnd, declared.read.PgnFault.PgnFault, declared.tagged_result.ResultTag.ResultTag, UnknownVariants.is_known_variant, UnknownVariants.unknown_variant_in}
 use Rattle.chess_pgn.specs.Tokens.{Token, Skip, Tag, Word, Bad_tag, Unclosed_comment, Unclosed_variation, Bad, begins_line, tokens_from}
@@ -23,8 +23,8 @@ use Rattle.pgn_verifier.specs.shared.Contradictions.{contradiction, end_fault, v
 
 -- what is read of a text is read token by token
 abbrev pub TokenByToken : Type 0
-TokenByToken = (limit : ℕ) → (text : List ℕ) → (at : ℕ) → pgn_read limit text at
-    ≡ tokens_read limit (length text) (tokens_from text (after_byte_order_mark text at))
+TokenByToken = (draws : Bool) (limit : ℕ) → (text : List ℕ) → (at : ℕ) → pgn_read draws limit text at
+    ≡ tokens_read draws limit (length text) (tokens_from text (after_byte_order_mark text at))
 
 -- ---- places
 
@@ -71,17 +71,17 @@ goes_on s t later state end (on g) h = record { g = g; first = refl; second = re
 goes_on s t later state end (stops u f other) h =
     let wrong : Err f ≡ Ok (Some end) = ap (λ (r : GameRead). r.answer) h in absurd (cc)
 
-moves_alike : (limit : ℕ) (g : SoFar) (m n : ℕ) (r : Reading)
-    → OnOrFails (move_step limit g m r) (move_step limit g n r)
-moves_alike limit g m n reads.NotAMove = stops _ _ _
-moves_alike limit g m n (reads.Move x) =
-    either (is_some (verdict_now g.state)) _ _ _ _ (stops _ _ _)
+moves_alike : (draws : Bool) (limit : ℕ) (g : SoFar) (m n : ℕ) (r : Reading)
+    → OnOrFails (move_step draws limit g m r) (move_step draws limit g n r)
+moves_alike draws limit g m n reads.NotAMove = stops _ _ _
+moves_alike draws limit g m n (reads.Move x) =
+    either (is_some (ending draws g.state)) _ _ _ _ (stops _ _ _)
     (either (nat_lt (length g.state.moves) limit) _ _ _ _ (on _) (stops _ _ _))
-moves_alike limit g m n reads.Ambiguous =
-    either (is_some (verdict_now g.state)) _ _ _ _ (stops _ _ _)
+moves_alike draws limit g m n reads.Ambiguous =
+    either (is_some (ending draws g.state)) _ _ _ _ (stops _ _ _)
     (either (nat_lt (length g.state.moves) limit) _ _ _ _ (stops _ _ _) (stops _ _ _))
-moves_alike limit g m n reads.NoSuch =
-    either (is_some (verdict_now g.state)) _ _ _ _ (stops _ _ _)
+moves_alike draws limit g m n reads.NoSuch =
+    either (is_some (ending draws g.state)) _ _ _ _ (stops _ _ _)
     (either (nat_lt (length g.state.moves) limit) _ _ _ _ (stops _ _ _) (stops _ _ _))
 
 -- what a word does: an outcome ends the game, any other word doesn't
@@ -90,19 +90,19 @@ pub data Does (word : List ℕ) (steps : SoFar → ℕ → Step) (precedes_tags 
       → Does word steps precedes_tags
   no_end : ((g : SoFar) (m n : ℕ) → OnOrFails (steps g m) (steps g n)) → Does word steps precedes_tags
 
-pub does : (limit : ℕ) (word : List ℕ)
-    → Does word (λ g m. word_step limit g m word (word_kind word)) (may_precede_tags (Word word))
-does limit word =
-    word_cases (Does word) limit word (λ o. ends_game o (λ g m. refl) refl) (no_end (λ g m n. on _))
-    (no_end (λ g m n. on _)) (no_end (λ g m n. moves_alike limit g m n (reading (current g.state) word)))
+pub does : (draws : Bool) (limit : ℕ) (word : List ℕ)
+    → Does word (λ g m. word_step draws limit g m word (word_kind word)) (may_precede_tags (Word word))
+does draws limit word =
+    word_cases (Does word) draws limit word (λ o. ends_game o (λ g m. refl) refl) (no_end (λ g m n. on _))
+    (no_end (λ g m n. on _)) (no_end (λ g m n. moves_alike draws limit g m n (reading (current g.state) word)))
 
 fens_alike : (g : SoFar) (m n : ℕ) (r : Result Setup FenFault) → OnOrFails (fen_step g m r) (fen_step g n r)
 fens_alike g m n (Ok start) = on _
 fens_alike g m n (Err fault) = stops _ _ _
 
-pub tags_alike : (limit total small x y : ℕ) (g : SoFar) (name text : List ℕ) (m n : ℕ)
-    → OnOrFails (step limit total g x (Tag name text m)) (step limit small g y (Tag name text n))
-tags_alike limit total small x y g name text m n =
+pub tags_alike : (draws : Bool) (limit total small x y : ℕ) (g : SoFar) (name text : List ℕ) (m n : ℕ)
+    → OnOrFails (step draws limit total g x (Tag name text m)) (step draws limit small g y (Tag name text n))
+tags_alike draws limit total small x y g name text m n =
     either g.is_begun _ _ _ _ (stops _ _ _)
     (either (bytes_eq name (codes "FEN")) _ _ _ _
     (fens_alike g (total - m) (small - n) (fen_reading_as g.state.start.variant text)) (on _))
@@ -241,15 +241,15 @@ none_left end true f h = cc
 none_left end false f h = cc
 
 -- the fault of what can't be read is the game's
-pub faults_stop : (limit total : ℕ) (o : Option PgnEnd) (xs : List ℕ) (x : ℕ) (g : SoFar) (fault : Token)
-    → IsFault xs fault → (game_of limit total g ((x, fault) ∷ [])).answer ≡ Ok o → ⊥
-faults_stop limit total o xs x g Skip k h = k
-faults_stop limit total o xs x g (Tag name string left) k h = k
-faults_stop limit total o xs x g (Word w) k h = k
-faults_stop limit total o xs x g Bad_tag k h = cc
-faults_stop limit total o xs x g (Unclosed_comment left) k h = cc
-faults_stop limit total o xs x g Unclosed_variation k h = cc
-faults_stop limit total o xs x g Bad k h = cc
+pub faults_stop : (draws : Bool) (limit total : ℕ) (o : Option PgnEnd) (xs : List ℕ) (x : ℕ) (g : SoFar) (fault : Token)
+    → IsFault xs fault → (game_of draws limit total g ((x, fault) ∷ [])).answer ≡ Ok o → ⊥
+faults_stop draws limit total o xs x g Skip k h = k
+faults_stop draws limit total o xs x g (Tag name string left) k h = k
+faults_stop draws limit total o xs x g (Word w) k h = k
+faults_stop draws limit total o xs x g Bad_tag k h = cc
+faults_stop draws limit total o xs x g (Unclosed_comment left) k h = cc
+faults_stop draws limit total o xs x g Unclosed_variation k h = cc
+faults_stop draws limit total o xs x g Bad k h = cc
 
 -- ---- contradictions
 

@@ -4,10 +4,10 @@ use Rattle.std.specs.{List.last_or, Option.option_map, Option.option_map_or}
 use Rattle.std.proofs.{lemmas.Bool.and_parts, lemmas.Bool.Decides.nat_tests, lemmas.List.drop-append-le, lemmas.List.length-drop, lemmas.List.take-append-drop, lemmas.Slice.Eq.bytes_eq-Decides}
 use Rattle.chess_base.specs.{declared.fen_fault.FenFault.FenFault, declared.man.Variant.Variant, declared.man.Variant.TheVariants.Normal, declared.setup.Setup.Setup}
 use Rattle.chess_fen.specs.Reading.{fen_reading_as}
-use Rattle.chess_game.specs.{Game.State, Game.current, Game.verdict_now, declared.game.TheConstants.MOST_MOVES, declared.verdicts.Verdict.Verdict}
+use Rattle.chess_game.specs.{Game.State, Game.current, declared.game.TheConstants.MOST_MOVES, declared.verdicts.Verdict.Verdict}
 use Rattle.chess_text.specs.{declared.reading.Reading.Reading, Moves.reading}
 use Rattle.chess_text.specs.declared.reading.Reading.TheVariants as reads
-use Rattle.chess_pgn.specs.GameRead.{GameRead, pgn_read, tagged_variant, variant_named}
+use Rattle.chess_pgn.specs.GameRead.{GameRead, ending, pgn_read, tagged_variant, variant_named}
 use Rattle.chess_pgn.specs.LastTags.{may_precede_tags, tag_section, tags_named, result_tag_of}
 use Rattle.chess_pgn.specs.shared.Kinds.{IsSplitByKinds, IsOf, IsLongest, Kind, token_of, Blank, Line, Comment, Nag, Variation, Tag_pair, Asterisk, Symbol, ended, token, stopped}
 use Rattle.chess_pgn.specs.Tokens.{Token, Skip, Tag, Word, Bad_tag, Unclosed_comment, Unclosed_variation, Bad, begins_line, tokens_from}
@@ -65,39 +65,41 @@ one_of : (p : Bool) (g : SoFar) (b : Bool) (u v : Step) → Pass p g u → Pass 
 one_of p g true u v h k = h
 one_of p g false u v h k = k
 
-move_pass : (limit : ℕ) (g : SoFar) (m : ℕ) (r : Reading) → Pass false g (move_step limit g m r)
-move_pass limit g m reads.NotAMove = fails _ _ refl
-move_pass limit g m (reads.Move x) =
-    one_of false g (is_some (verdict_now g.state)) _ _ (fails _ _ refl)
+move_pass : (draws : Bool) (limit : ℕ) (g : SoFar) (m : ℕ) (r : Reading) → Pass false g (move_step draws limit g m r)
+move_pass draws limit g m reads.NotAMove = fails _ _ refl
+move_pass draws limit g m (reads.Move x) =
+    one_of false g (is_some (ending draws g.state)) _ _ (fails _ _ refl)
     (one_of false g (nat_lt (length g.state.moves) limit) _ _ (meets _ refl refl) (fails _ _ refl))
-move_pass limit g m reads.Ambiguous =
-    one_of false g (is_some (verdict_now g.state)) _ _ (fails _ _ refl)
+move_pass draws limit g m reads.Ambiguous =
+    one_of false g (is_some (ending draws g.state)) _ _ (fails _ _ refl)
     (one_of false g (nat_lt (length g.state.moves) limit) _ _ (fails _ _ refl) (fails _ _ refl))
-move_pass limit g m reads.NoSuch =
-    one_of false g (is_some (verdict_now g.state)) _ _ (fails _ _ refl)
+move_pass draws limit g m reads.NoSuch =
+    one_of false g (is_some (ending draws g.state)) _ _ (fails _ _ refl)
     (one_of false g (nat_lt (length g.state.moves) limit) _ _ (fails _ _ refl) (fails _ _ refl))
 
-word_pass : (limit : ℕ) (word : List ℕ) (g : SoFar) (m : ℕ)
-    → Pass (may_precede_tags (Word word)) g (word_step limit g m word (word_kind word))
-word_pass limit word =
-    word_cases (λ steps precedes. (g : SoFar) (m : ℕ) → Pass precedes g (steps g m)) limit word (λ o g m. wins _ _ refl)
-    (λ g m. meets _ refl refl) (λ g m. passes refl) (λ g m. move_pass limit g m (reading (current g.state) word))
+word_pass : (draws : Bool) (limit : ℕ) (word : List ℕ) (g : SoFar) (m : ℕ)
+    → Pass (may_precede_tags (Word word)) g (word_step draws limit g m word (word_kind word))
+word_pass draws limit word =
+    word_cases (λ steps precedes. (g : SoFar) (m : ℕ) → Pass precedes g (steps g m)) draws limit word
+    (λ o g m. wins _ _ refl)
+    (λ g m. meets _ refl refl) (λ g m. passes refl) (λ g m. move_pass draws limit g m (reading (current g.state) word))
 
 fen_pass : (g : SoFar) (m : ℕ) (r : Result Setup FenFault) → Pass false g (fen_step g m r)
 fen_pass g m (Ok start) = meets _ refl refl
 fen_pass g m (Err fault) = fails _ _ refl
 
-pass : (limit total : ℕ) (g : SoFar) (x : ℕ) (t : Token) → Pass (is_passed t) g (step limit total g x t)
-pass limit total g x Skip = passes refl
-pass limit total g x (Tag name text left) =
+pass : (draws : Bool) (limit total : ℕ) (g : SoFar) (x : ℕ) (t : Token)
+    → Pass (is_passed t) g (step draws limit total g x t)
+pass draws limit total g x Skip = passes refl
+pass draws limit total g x (Tag name text left) =
     one_of false g g.is_begun _ _ (fails _ _ refl)
     (one_of false g (bytes_eq name (codes "FEN")) _ _
     (fen_pass g (total - left) (fen_reading_as g.state.start.variant text)) (meets _ refl refl))
-pass limit total g x (Word word) = word_pass limit word g (total - x)
-pass limit total g x Bad_tag = fails _ _ refl
-pass limit total g x (Unclosed_comment left) = fails _ _ refl
-pass limit total g x Unclosed_variation = fails _ _ refl
-pass limit total g x Bad = fails _ _ refl
+pass draws limit total g x (Word word) = word_pass draws limit word g (total - x)
+pass draws limit total g x Bad_tag = fails _ _ refl
+pass draws limit total g x (Unclosed_comment left) = fails _ _ refl
+pass draws limit total g x Unclosed_variation = fails _ _ refl
+pass draws limit total g x Bad = fails _ _ refl
 
 is_on : (b : Bool) (g : SoFar) (s : Step) → Pass b g s → b ≡ true → s ≡ On g
 is_on b g s (passes e) h = refl
@@ -105,8 +107,10 @@ is_on b g s (meets k e met) h = absurd (cc)
 is_on b g s (fails u f e) h = absurd (cc)
 is_on b g s (wins u end e) h = absurd (cc)
 
-passed_step : (limit total : ℕ) (g : SoFar) (x : ℕ) (t : Token) → is_passed t ≡ true → step limit total g x t ≡ On g
-passed_step limit total g x t p = is_on (is_passed t) g (step limit total g x t) (pass limit total g x t) p
+passed_step : (draws : Bool) (limit total : ℕ) (g : SoFar) (x : ℕ) (t : Token) → is_passed t ≡ true
+    → step draws limit total g x t ≡ On g
+passed_step draws limit total g x t p =
+    is_on (is_passed t) g (step draws limit total g x t) (pass draws limit total g x t) p
 
 passed_tags : (name : List ℕ) (x : ℕ) (t : Token) (ts : List (ℕ × Token)) → is_passed t ≡ true
     → tags_named name (tag_section ((x, t) ∷ ts)) ≡ tags_named name (tag_section ts)
@@ -131,19 +135,20 @@ passed_alike Asterisk front m n p = p
 passed_alike Symbol front m n p = p
 
 -- once a tag, number or move is met, there is a game or a fault
-met_stays : (limit total : ℕ) (g : SoFar) (ts : List (ℕ × Token)) → g.is_met ≡ true
-    → (game_of limit total g ts).answer ≡ Ok None → ⊥
-met_stays limit total g [] met h = by_met g.is_met (record { kind = NoResult; offset = total }) met h
+met_stays : (draws : Bool) (limit total : ℕ) (g : SoFar) (ts : List (ℕ × Token)) → g.is_met ≡ true
+    → (game_of draws limit total g ts).answer ≡ Ok None → ⊥
+met_stays draws limit total g [] met h = by_met g.is_met (record { kind = NoResult; offset = total }) met h
   where
     by_met : (b : Bool) (f : PgnFault) → b ≡ true → cond b (Err f) no_game ≡ no_game → ⊥
     by_met true f e k = cc
     by_met false f e k = absurd (cc)
-met_stays limit total g (t ∷ ts) met h =
-    by_step (step limit total g t.0 t.1) (pass limit total g t.0 t.1) (λ k e none. met_stays limit total k ts e none) h
+met_stays draws limit total g (t ∷ ts) met h =
+    by_step (step draws limit total g t.0 t.1) (pass draws limit total g t.0 t.1)
+    (λ k e none. met_stays draws limit total k ts e none) h
   where
     by_step : (s : Step) → Pass (is_passed t.1) g s
-        → ((k : SoFar) → k.is_met ≡ true → (game_of limit total k ts).answer ≡ Ok None → ⊥)
-        → (read_rest_with s (λ k. game_of limit total k ts)).answer ≡ Ok None → ⊥
+        → ((k : SoFar) → k.is_met ≡ true → (game_of draws limit total k ts).answer ≡ Ok None → ⊥)
+        → (read_rest_with s (λ k. game_of draws limit total k ts)).answer ≡ Ok None → ⊥
     by_step s (passes p) again none = again g met none
     by_step s (meets k e met) again none = again k met none
     by_step s (fails u f e) again none = cc
@@ -151,7 +156,7 @@ met_stays limit total g (t ∷ ts) met h =
 
 -- ---- the part
 
-module _ (limit : ℕ) (before part after : List ℕ)
+module _ (draws : Bool) (limit : ℕ) (before part after : List ℕ)
     (starts : begins_line (before ++ (part ++ after)) (length before) ≡ true) (closed : IsClosed part after)
   where
     longer : (b : Bool) (at : ℕ) (kind : Kind) (front rest : List ℕ) → drop at part ≡ front ++ rest
@@ -211,8 +216,8 @@ module _ (limit : ℕ) (before part after : List ℕ)
     record Passes (at : ℕ) : Type 0 where
       own : List (ℕ × Token)
       split : IsSplitByKinds (before ++ (part ++ after)) (length before + at) own
-      reads_on : (g : SoFar) → game_of limit (length (before ++ (part ++ after))) g own
-          ≡ game_of limit (length (before ++ (part ++ after))) g
+      reads_on : (g : SoFar) → game_of draws limit (length (before ++ (part ++ after))) g own
+          ≡ game_of draws limit (length (before ++ (part ++ after))) g
           (tokens_from (before ++ (part ++ after)) (length before + length part))
       tags : (name : List ℕ) → tags_named name (tag_section own)
           ≡ tags_named name (tag_section (tokens_from (before ++ (part ++ after)) (length before + length part)))
@@ -233,13 +238,13 @@ module _ (limit : ℕ) (before part after : List ℕ)
           split = token kind front (rest ++ after) {tokens = more.own} fit.is fit.long
               (subst (λ m. IsSplitByKinds (before ++ (part ++ after)) m more.own) (next_place at (length front))
               more.split);
-          reads_on = λ g. ap (λ w. read_rest_with w (λ k. game_of limit total k more.own))
-              (passed_step limit total g y u q) ∙ more.reads_on g;
+          reads_on = λ g. ap (λ w. read_rest_with w (λ k. game_of draws limit total k more.own))
+              (passed_step draws limit total g y u q) ∙ more.reads_on g;
           tags = λ name. passed_tags name y u more.own q ∙ more.tags name;
         }
 
     passed : {at : ℕ} {us : List (ℕ × Token)} → IsSplitByKinds part at us → at ≤ length part → (g : SoFar)
-        → (game_of limit (length part) g us).answer ≡ Ok None → Passes at
+        → (game_of draws limit (length part) g us).answer ≡ Ok None → Passes at
     passed (ended {at = here} e) within g h =
         let all : length part ≡ here = omega (arith, within, ap length e, length-drop here part) in
         subst (λ m. Passes m) all (record {
@@ -249,23 +254,23 @@ module _ (limit : ℕ) (before part after : List ℕ)
           tags = λ name. refl;
         })
     passed (token {at = here} kind front rest {tokens} e long more) within g h =
-        by_step (step limit (length part) g (length part - here) (token_of kind front (length rest)))
-        (pass limit (length part) g (length part - here) (token_of kind front (length rest)))
+        by_step (step draws limit (length part) g (length part - here) (token_of kind front (length rest)))
+        (pass draws limit (length part) g (length part - here) (token_of kind front (length rest)))
         (λ near none. passed more near g none) h
       where
         fit : Same here kind front rest
         fit = same here kind front rest e long
 
         by_step : (s : Step) → Pass (is_passed (token_of kind front (length rest))) g s
-            → (here + length front ≤ length part → (game_of limit (length part) g tokens).answer ≡ Ok None
+            → (here + length front ≤ length part → (game_of draws limit (length part) g tokens).answer ≡ Ok None
             → Passes (here + length front))
-            → (read_rest_with s (λ k. game_of limit (length part) k tokens)).answer ≡ Ok None → Passes here
+            → (read_rest_with s (λ k. game_of draws limit (length part) k tokens)).answer ≡ Ok None → Passes here
         by_step s (passes p) again none = one_more here kind front rest p fit (again fit.few none)
-        by_step s (meets k other met) again none = absurd (met_stays limit (length part) k tokens met none)
+        by_step s (meets k other met) again none = absurd (met_stays draws limit (length part) k tokens met none)
         by_step s (fails u f other) again none = absurd (cc)
         by_step s (wins u end other) again none = absurd (cc)
     passed (stopped {at = here} {fault} none k) within g h =
-        absurd (faults_stop limit (length part) None (drop here part) (length part - here) g fault k h)
+        absurd (faults_stop draws limit (length part) None (drop here part) (length part - here) g fault k h)
 
 -- ---- a game of the part is one of the text
 
@@ -285,23 +290,26 @@ in_text law strict plain before part after at end begins closed is =
     let here : ℕ = after_byte_order_mark part at in
     let us : List (ℕ × Token) = tokens_from part here in
     let ts : List (ℕ × Token) = tokens_from text (after_byte_order_mark text (length before + at)) in
-    let r : GameRead = pgn_read MOST_MOVES part at in
-    let v : Option Verdict = verdict_now r.state in
+    let r : GameRead = pgn_read strict.draws_of_2014 MOST_MOVES part at in
+    let v : Option Verdict = ending strict.draws_of_2014 r.state in
     let said = judged_so strict (variation_in tokens_from part at r.state.start)
     (unknown_variant_in (length part) us)
     (result_tag_of (length part) us) v end r.answer is in
-    let alone : tokens_read MOST_MOVES (length part) us ≡ over r.state end =
-    sym (law MOST_MOVES part at) ∙ ap (λ a. record { state = r.state; answer = a }) said.0 in
-    let k = found MOST_MOVES part text 0 (length before) (length part)
-    (fits_text MOST_MOVES before part after begins.line closed) r.state end (λ m low ending. omega (arith, low))
+    let alone : tokens_read strict.draws_of_2014 MOST_MOVES (length part) us ≡ over r.state end =
+    sym (law strict.draws_of_2014 MOST_MOVES part at) ∙ ap (λ a. record { state = r.state; answer = a }) said.0 in
+    let k = found strict.draws_of_2014 MOST_MOVES part text 0 (length before) (length part)
+    (fits_text strict.draws_of_2014 MOST_MOVES before part after begins.line closed) r.state end
+    (λ m low is_end. omega (arith, low))
     (read_kinds part here) here (omega arith)
     (nothing_read (tagged_variant (tag_section us))) alone in
     let own : k.own ≡ ts = kinds_read text k.split ∙ ap (tokens_from text) (sym begins.first) in
     let shift : end.offset - 0 + length before ≡ length before + end.offset = omega arith in
     let moved : PgnEnd = record end { offset = length before + end.offset } in
-    let whole : pgn_read MOST_MOVES text (length before + at) ≡ over r.state moved =
-    law MOST_MOVES text (length before + at) ∙ ap (tokens_read MOST_MOVES (length text)) (sym own)
-    ∙ ap (λ w. game_of MOST_MOVES (length text) (nothing_read w) k.own) (same_variant k.own us k.tags) ∙ k.is
+    let whole : pgn_read strict.draws_of_2014 MOST_MOVES text (length before + at) ≡ over r.state moved =
+    law strict.draws_of_2014 MOST_MOVES text (length before + at)
+    ∙ ap (tokens_read strict.draws_of_2014 MOST_MOVES (length text)) (sym own)
+    ∙ ap (λ w. game_of strict.draws_of_2014 MOST_MOVES (length text) (nothing_read w) k.own)
+    (same_variant k.own us k.tags) ∙ k.is
     ∙ ap (λ m. over r.state (record end { offset = m })) shift in
     let outcomes : outcome_in (result_tag_of (length text) ts) ≡ outcome_in (result_tag_of (length part) us) =
     ap (λ l. outcome_in (result_tag_of (length text) l)) (sym own)
@@ -311,7 +319,8 @@ in_text law strict plain before part after at end begins closed is =
     ∙ same_known (length part) (length text) k.own us k.tags in
     record {
       judged = ap (λ (g : GameRead). judged strict (variation_in tokens_from text (length before + at) g.state.start)
-          (unknown_variant_in (length text) ts) (result_tag_of (length text) ts) (verdict_now g.state) g.answer)
+          (unknown_variant_in (length text) ts) (result_tag_of (length text) ts)
+          (ending strict.draws_of_2014 g.state) g.answer)
           whole
           ∙ ap (λ fault. option_map_or Err fault (Ok (Some moved)))
           (agrees strict plain (variation_in tokens_from part at r.state.start)
@@ -382,54 +391,66 @@ skips_to_end law strict plain before part after at begins closed within none sta
         ap (reports_from strict start (suc most) (before ++ (part ++ after))) same
     by_place false e =
         let some : 0 < length before + length part = grind (arith, nat_tests, e) in
-        let p = passed MOST_MOVES before part after begins.line closed
+        let p = passed strict.draws_of_2014 MOST_MOVES before part after begins.line closed
         (read_kinds part (after_byte_order_mark part at)) (mark_within part at within)
         (nothing_read (tagged_variant (tag_section (tokens_from part (after_byte_order_mark part at)))))
-        (ap (λ (r : GameRead). r.answer) (sym (law MOST_MOVES part at))
-        ∙ judged_none strict (variation_in tokens_from part at (read_at part at).state.start)
+        (ap (λ (r : GameRead). r.answer) (sym (law strict.draws_of_2014 MOST_MOVES part at))
+        ∙ judged_none strict (variation_in tokens_from part at (read_at strict.draws_of_2014 part at).state.start)
         (unknown_variant_in (length part) (tokens_from part (after_byte_order_mark part at)))
         (result_tag_of (length part) (tokens_from part (after_byte_order_mark part at)))
-        (verdict_now (read_at part at).state) (read_at part at).answer none) in
+        (ending strict.draws_of_2014 (read_at strict.draws_of_2014 part at).state)
+        (read_at strict.draws_of_2014 part at).answer none) in
         let ts : List (ℕ × Token) = tokens_from text (after_byte_order_mark text (length before + at)) in
         let us : List (ℕ × Token) =
         tokens_from text (after_byte_order_mark text (length before + length part)) in
-        let ending : tokens_from text (length before + length part) ≡ us =
+        let at_end : tokens_from text (length before + length part) ≡ us =
         ap (tokens_from text) (sym (no_mark text (length before + length part) some)) in
         let own : p.own ≡ ts = kinds_read text p.split ∙ ap (tokens_from text) (sym begins.first) in
         let tags : (name : List ℕ) → tags_named name (tag_section ts) ≡ tags_named name (tag_section us) =
         λ name. ap (λ l. tags_named name (tag_section l)) (sym own) ∙ p.tags name
-        ∙ ap (λ l. tags_named name (tag_section l)) ending in
+        ∙ ap (λ l. tags_named name (tag_section l)) at_end in
         let variants : tagged_variant (tag_section ts) ≡ tagged_variant (tag_section us) =
         ap variant_in (tags (codes "Variant")) in
         let unknowns : unknown_variant_in (length text) ts ≡ unknown_variant_in (length text) us =
         ap (unknown_in (length text)) (tags (codes "Variant")) in
         let results : result_tag_of (length text) ts ≡ result_tag_of (length text) us =
         ap (result_in (length text)) (tags (codes "Result")) in
-        let games : tokens_read MOST_MOVES (length text) ts ≡ tokens_read MOST_MOVES (length text) us =
-        ap (game_of MOST_MOVES (length text) (nothing_read (tagged_variant (tag_section ts)))) (sym own)
+        let games : tokens_read strict.draws_of_2014 MOST_MOVES (length text) ts
+        ≡ tokens_read strict.draws_of_2014 MOST_MOVES (length text) us =
+        ap (game_of strict.draws_of_2014 MOST_MOVES (length text) (nothing_read (tagged_variant (tag_section ts))))
+        (sym own)
         ∙ p.reads_on (nothing_read (tagged_variant (tag_section ts)))
-        ∙ ap (game_of MOST_MOVES (length text) (nothing_read (tagged_variant (tag_section ts)))) ending
-        ∙ ap (λ v. game_of MOST_MOVES (length text) (nothing_read v) us) variants in
-        let same_read : pgn_read MOST_MOVES text (length before + at)
-        ≡ pgn_read MOST_MOVES text (length before + length part) =
-        law MOST_MOVES text (length before + at) ∙ games
-        ∙ sym (law MOST_MOVES text (length before + length part)) in
+        ∙ ap (game_of strict.draws_of_2014 MOST_MOVES (length text)
+        (nothing_read (tagged_variant (tag_section ts)))) at_end
+        ∙ ap (λ v. game_of strict.draws_of_2014 MOST_MOVES (length text) (nothing_read v) us) variants in
+        let same_read : pgn_read strict.draws_of_2014 MOST_MOVES text (length before + at)
+        ≡ pgn_read strict.draws_of_2014 MOST_MOVES text (length before + length part) =
+        law strict.draws_of_2014 MOST_MOVES text (length before + at) ∙ games
+        ∙ sym (law strict.draws_of_2014 MOST_MOVES text (length before + length part)) in
         let here : ℕ = length before + at in
         let there : ℕ = length before + length part in
-        ap (λ (r : GameRead). report_then start text None
+        ap (λ (r : GameRead). report_then strict.draws_of_2014 start text None
         (judged strict (variation_in tokens_from text here r.state.start)
-        (unknown_variant_in (length text) ts) (result_tag_of (length text) ts) (verdict_now r.state) r.answer) r.state
+        (unknown_variant_in (length text) ts) (result_tag_of (length text) ts)
+        (ending strict.draws_of_2014 r.state) r.answer) r.state
         (λ next. reports_from strict start most text next)) same_read
-        ∙ ap (λ unknown. report_then start text None (judged strict
-        (variation_in tokens_from text here (read_at text there).state.start) unknown (result_tag_of (length text) ts)
-        (verdict_now (read_at text there).state) (read_at text there).answer) (read_at text there).state
+        ∙ ap (λ unknown. report_then strict.draws_of_2014 start text None (judged strict
+        (variation_in tokens_from text here (read_at strict.draws_of_2014 text there).state.start) unknown
+        (result_tag_of (length text) ts)
+        (ending strict.draws_of_2014 (read_at strict.draws_of_2014 text there).state)
+        (read_at strict.draws_of_2014 text there).answer) (read_at strict.draws_of_2014 text there).state
         (λ next. reports_from strict start most text next)) unknowns
-        ∙ ap (λ tag. report_then start text None (judged strict
-        (variation_in tokens_from text here (read_at text there).state.start) (unknown_variant_in (length text) us) tag
-        (verdict_now (read_at text there).state) (read_at text there).answer) (read_at text there).state
+        ∙ ap (λ tag. report_then strict.draws_of_2014 start text None (judged strict
+        (variation_in tokens_from text here (read_at strict.draws_of_2014 text there).state.start)
+        (unknown_variant_in (length text) us) tag
+        (ending strict.draws_of_2014 (read_at strict.draws_of_2014 text there).state)
+        (read_at strict.draws_of_2014 text there).answer) (read_at strict.draws_of_2014 text there).state
         (λ next. reports_from strict start most text next)) results
-        ∙ ap (λ r. report_then start text None r (read_at text there).state
+        ∙ ap (λ r. report_then strict.draws_of_2014 start text None r (read_at strict.draws_of_2014 text there).state
         (λ next. reports_from strict start most text next))
-        (plain_alike strict plain (variation_in tokens_from text here (read_at text there).state.start)
-        (variation_in tokens_from text there (read_at text there).state.start) (unknown_variant_in (length text) us)
-        (result_tag_of (length text) us) (verdict_now (read_at text there).state) (read_at text there).answer)
+        (plain_alike strict plain (variation_in tokens_from text here
+        (read_at strict.draws_of_2014 text there).state.start)
+        (variation_in tokens_from text there (read_at strict.draws_of_2014 text there).state.start)
+        (unknown_variant_in (length text) us)
+        (result_tag_of (length text) us) (ending strict.draws_of_2014 (read_at strict.draws_of_2014 text there).state)
+        (read_at strict.draws_of_2014 text there).answer)

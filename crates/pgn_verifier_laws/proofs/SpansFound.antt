@@ -2,8 +2,8 @@
 use Rattle.std.proofs.Common.{◌≡◌, ℕ, zero, suc, ◌+◌, ◌-◌, ◌<◌, ◌≤◌, eqb, Bool, true, false, List, [], ◌∷◌, ◌++◌, length, take, drop, Option, Some, None, IfSome, Result, Ok, Err, IfOk, refl, sym, ap, subst, ◌∙◌, append_assoc, append-nil, length-append, arith, nat_le, if◌then◌else◌, drop-drop, length-drop, length-take-le, take-append-drop}
 use Rattle.std.specs.{List.concat, List.flat_map, Option.option_map_or}
 use Rattle.std.proofs.{Math.Seq.drop-length, lemmas.Bool.Decides.nat_tests, lemmas.List.Folds.concat-append, lemmas.List.Sums.prefix_len-le-length}
-use Rattle.chess_game.specs.{Game.verdict_now, declared.game.TheConstants.MOST_MOVES}
-use Rattle.chess_pgn.specs.{GameRead.GameRead, GameRead.pgn_read, LastTags.result_tag_of, UnknownVariants.unknown_variant_in, Tokens.is_white_space, Tokens.tokens_from, declared.read.PgnEnd.PgnEnd, declared.read.PgnFault.PgnFault, laws.TokenByToken.tokens_read}
+use Rattle.chess_game.specs.declared.game.TheConstants.{MOST_MOVES}
+use Rattle.chess_pgn.specs.{GameRead.GameRead, GameRead.ending, GameRead.pgn_read, LastTags.result_tag_of, UnknownVariants.unknown_variant_in, Tokens.is_white_space, Tokens.tokens_from, declared.read.PgnEnd.PgnEnd, declared.read.PgnFault.PgnFault, laws.TokenByToken.tokens_read}
 use Rattle.byte_devices.specs.Bytes.{after_byte_order_mark}
 use Rattle.chess_pgn.specs.shared.Kinds as kinds
 use Rattle.chess_pgn.proofs.{shared.Ends.ends_in_text, shared.Tokens.kinds_read}
@@ -29,27 +29,30 @@ abbrev EndsAfter : ℕ → ℕ → Result (Option PgnEnd) PgnFault → Type 0
 EndsAfter begin total r = IfOk r (λ o. IfSome o (λ e. (begin < e.offset) × (e.offset ≤ total)))
 
 module _ (law : TokenByToken) (strict : Strictness) (text : List ℕ) (at : ℕ) (within : at ≤ length text) where
-  alike : pgn_read MOST_MOVES text (game_begin text at) ≡ pgn_read MOST_MOVES text at
-  alike = sym (begins_alike law MOST_MOVES text at)
+  alike : pgn_read strict.draws_of_2014 MOST_MOVES text (game_begin text at)
+      ≡ pgn_read strict.draws_of_2014 MOST_MOVES text at
+  alike = sym (begins_alike law strict.draws_of_2014 MOST_MOVES text at)
 
   game_there : (end : PgnEnd) → judged_at strict text at ≡ Ok (Some end)
       → (game_begin text at < end.offset) × (end.offset ≤ length text)
   game_there end is =
-      let read = (judged_so strict (variation_in tokens_from text at (read_at text at).state.start)
+      let read = (judged_so strict (variation_in tokens_from text at (read_at strict.draws_of_2014 text at).state.start)
       (unknown_variant_in (length text) (tokens_from text (after_byte_order_mark text at)))
       (result_tag_of (length text) (tokens_from text (after_byte_order_mark text at)))
-      (verdict_now (read_at text at).state) end (read_at text at).answer is).0 in
+      (ending strict.draws_of_2014 (read_at strict.draws_of_2014 text at).state) end
+      (read_at strict.draws_of_2014 text at).answer is).0 in
       subst (EndsAfter (game_begin text at) (length text)) (ap (λ (r : GameRead). r.answer) alike ∙ read)
-      (ends_in_text MOST_MOVES text (game_begin text at) (begins_within text at within))
+      (ends_in_text strict.draws_of_2014 MOST_MOVES text (game_begin text at) (begins_within text at within))
 
   -- at the text's end no game is left
-  none_there : game_begin text at ≡ length text → (read_at text at).answer ≡ Ok None
+  none_there : game_begin text at ≡ length text → (read_at strict.draws_of_2014 text at).answer ≡ Ok None
   none_there e =
       let none : [] ≡ tokens_from text (length text) = kinds_read text (kinds.ended (drop-length text)) in
       let passed : after_byte_order_mark text (length text) ≡ length text = mark_at_end text in
-      ap (λ (r : GameRead). r.answer) (sym alike ∙ ap (pgn_read MOST_MOVES text) e ∙ law MOST_MOVES text (length text)
-      ∙ ap (λ n. tokens_read MOST_MOVES (length text) (tokens_from text n)) passed
-      ∙ ap (tokens_read MOST_MOVES (length text)) (sym none))
+      ap (λ (r : GameRead). r.answer) (sym alike
+      ∙ ap (pgn_read strict.draws_of_2014 MOST_MOVES text) e ∙ law strict.draws_of_2014 MOST_MOVES text (length text)
+      ∙ ap (λ n. tokens_read strict.draws_of_2014 MOST_MOVES (length text) (tokens_from text n)) passed
+      ∙ ap (tokens_read strict.draws_of_2014 MOST_MOVES (length text)) (sym none))
     where
       mark_at_end : (text : List ℕ) → after_byte_order_mark text (length text) ≡ length text
       mark_at_end [] = refl
@@ -62,10 +65,10 @@ module _ (law : TokenByToken) (strict : Strictness) (text : List ℕ) (at : ℕ)
       by_place true e =
           let last : game_begin text at ≡ length text = grind (arith, nat_tests, e) in
           let none : judged_at strict text at ≡ Ok None =
-          ap (judged strict (variation_in tokens_from text at (read_at text at).state.start)
+          ap (judged strict (variation_in tokens_from text at (read_at strict.draws_of_2014 text at).state.start)
           (unknown_variant_in (length text) (tokens_from text (after_byte_order_mark text at)))
           (result_tag_of (length text) (tokens_from text (after_byte_order_mark text at)))
-          (verdict_now (read_at text at).state)) (none_there last) in
+          (ending strict.draws_of_2014 (read_at strict.draws_of_2014 text at).state)) (none_there last) in
           let both : Ok None ≡ Err fault = sym none ∙ is in
           absurd (cc)
       by_place false e =
@@ -111,7 +114,8 @@ text_made law goes_on strict start (suc n) text at within =
 
     after_fault : (fault : GameFault) → game_begin text at < length text → (next : Option ℕ)
         → IfSome next (λ m. (game_begin text at < m) × (m ≤ length text)) → Later
-        → MakeUp (start + at) (drop at text) (fault_placed goes_on start text at next fault (read_at text at).state
+        → MakeUp (start + at) (drop at text) (fault_placed strict.draws_of_2014 goes_on start text at next fault
+        (read_at strict.draws_of_2014 text at).state
         ∷ option_map_or (λ m. placed_from goes_on strict start n text m) next [])
     after_fault fault some None k later =
         placed_next start text at (game_begin text at) (length text) _ _ (begins_later text at) some (omega arith) refl
@@ -120,8 +124,9 @@ text_made law goes_on strict start (suc n) text at within =
         placed_next start text at (game_begin text at) m _ _ (begins_later text at) k.0 k.1 refl refl (later m k.1)
 
     by_answer : (r : Result (Option PgnEnd) GameFault) → judged_at strict text at ≡ r → Later
-        → MakeUp (start + at) (drop at text) (placed_then goes_on start text at (next_at goes_on text at) r
-        (read_at text at).state (λ m. placed_from goes_on strict start n text m))
+        → MakeUp (start + at) (drop at text) (placed_then strict.draws_of_2014 goes_on start text at
+        (next_at goes_on text at) r
+        (read_at strict.draws_of_2014 text at).state (λ m. placed_from goes_on strict start n text m))
     by_answer (Ok None) e later = no_more
     by_answer (Ok (Some end)) e later =
         let there = game_there law strict text at within end e in

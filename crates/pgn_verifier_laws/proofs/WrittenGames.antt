@@ -1,10 +1,11 @@
 -- A game as it is written is read back, its variant is known, and neither its tag Result nor the board contradicts its
 -- outcome.
-use Rattle.std.proofs.Common.{◌≡◌, ℕ, Bool, true, false, List, [], ◌++◌, length, Option, Some, None, Ok, Err, refl, sym, ap, subst, ◌∙◌, option_and_then}
+use Rattle.std.proofs.Common.{◌≡◌, ℕ, Bool, true, false, List, [], ◌++◌, length, Option, Some, None, Ok, Err, refl, sym, ap, subst, ◌∙◌, option_and_then, if◌then◌else◌}
 use Rattle.std.specs.Option.{option_map, option_map_or, option_or}
 use Rattle.chess_game.specs.{Ends.verdict_result, Game.outcome_now, Game.verdict_now, Results.same_outcome, declared.game.TheConstants.MOST_MOVES, declared.results.Declared.Declared, declared.results.Outcome.Outcome, declared.verdicts.Verdict.Verdict}
 use Rattle.chess_game.specs.declared.results.Outcome.TheVariants.{WhiteWins, BlackWins, Draw, Unfinished}
-use Rattle.chess_pgn.specs.{GameRead.GameRead, GameRead.pgn_read, LastTags.result_tag_of, UnknownVariants.unknown_variant_in, Tokens.tokens_from, declared.read.PgnEnd.PgnEnd, declared.read.PgnFault.PgnFault, declared.tagged_result.ResultTag.ResultTag}
+use Rattle.chess_game.specs.declared.verdicts.Verdict.TheVariants.{WhiteMates, BlackMates, Stalemate, InsufficientMaterial, FivefoldRepetition, SeventyFiveMoves}
+use Rattle.chess_pgn.specs.{GameRead.GameRead, GameRead.ending, GameRead.not_of_2014, GameRead.pgn_read, LastTags.result_tag_of, UnknownVariants.unknown_variant_in, Tokens.tokens_from, declared.read.PgnEnd.PgnEnd, declared.read.PgnFault.PgnFault, declared.tagged_result.ResultTag.ResultTag}
 use Rattle.pgn_writer.specs.{GameText.pgn, Terminations.termination_of}
 use Rattle.byte_devices.specs.Bytes.{after_byte_order_mark}
 use Rattle.pgn_verifier.specs.{declared.game_fault.GameFault.GameFault, declared.options.Strictness.Strictness, shared.Contradictions.end_fault, shared.Contradictions.variant_fault}
@@ -31,6 +32,18 @@ board_agrees : (v : Option Verdict) (d : Option Declared) (end : PgnEnd)
 board_agrees None d end is = refl
 board_agrees (Some v) d end is = rw (is, same_self (verdict_result v).outcome) refl
 
+-- nor does the verdict contradict it that ends the game for its reader
+ending_agrees : (draws : Bool) (v : Option Verdict) (end : PgnEnd) → board_says_otherwise v end ≡ None
+    → board_says_otherwise (if draws then v else option_and_then not_of_2014 v) end ≡ None
+ending_agrees true v end h = h
+ending_agrees false None end h = refl
+ending_agrees false (Some WhiteMates) end h = h
+ending_agrees false (Some BlackMates) end h = h
+ending_agrees false (Some Stalemate) end h = h
+ending_agrees false (Some InsufficientMaterial) end h = h
+ending_agrees false (Some FivefoldRepetition) end h = refl
+ending_agrees false (Some SeventyFiveMoves) end h = refl
+
 looked_none : (looked : Bool) (fault : Option GameFault) → fault ≡ None → looked_for looked fault ≡ None
 looked_none true fault none = none
 looked_none false fault none = refl
@@ -54,8 +67,8 @@ pub written_games : PgnIsReadBack → TagsAreWritten → WrittenGamesHaveNoFault
 written_games read (result, variant) strict plain tags s before after texts h =
     let text : List ℕ = before ++ pgn [] tags s ++ after in
     let begin : ℕ = after_byte_order_mark text (length before) in
-    let r : GameRead = pgn_read MOST_MOVES text (length before) in
-    let back = read MOST_MOVES tags s before after texts h in
+    let r : GameRead = pgn_read strict.draws_of_2014 MOST_MOVES text (length before) in
+    let back = read strict.draws_of_2014 MOST_MOVES tags s before after texts h in
     let unknown : Option ℕ = unknown_variant_in (length text) (tokens_from text begin) in
     let tag : Option ResultTag = result_tag_of (length text) (tokens_from text begin) in
     let named = result MOST_MOVES tags s before after texts h (tokens_from text begin) (read_split text begin) in
@@ -70,12 +83,13 @@ written_games read (result, variant) strict plain tags s before after texts h =
       end = end;
       judged = subst (IsJudged strict text (length before) r.state)
           (ap (judged strict (variation_in tokens_from text (length before) r.state.start) unknown tag
-          (verdict_now r.state)) back.answer
+          (ending strict.draws_of_2014 r.state)) back.answer
           ∙ ap (λ fault. option_map_or Err fault (Ok (Some end)))
           (nothing_contradicts strict plain (variation_in tokens_from text (length before) r.state.start) unknown tag
-          (verdict_now r.state) end known
+          (ending strict.draws_of_2014 r.state) end known
           (tag_agrees (outcome_now s) end tag refl named)
-          (board_agrees (verdict_now r.state) r.state.declared end (sym back.outcome))))
+          (ending_agrees strict.draws_of_2014 (verdict_now r.state) end
+          (board_agrees (verdict_now r.state) r.state.declared end (sym back.outcome)))))
           (judged_is strict text (length before));
       start = back.start;
       moves = back.moves;

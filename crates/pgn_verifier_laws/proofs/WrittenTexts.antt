@@ -2,9 +2,9 @@
 use Rattle.std.proofs.Common.{◌≡◌, ℕ, zero, suc, ◌+◌, ◌-◌, ◌<◌, Bool, false, List, [], ◌∷◌, ◌++◌, length, drop, Some, None, Ok, refl, sym, ap, subst, ◌∙◌, inl, inr, ◌⊎◌, append_assoc, append-nil, length-append, arith, map}
 use Rattle.std.specs.List.{concat, flat_map, list_all}
 use Rattle.std.proofs.{Math.Seq.drop-append-add, lemmas.Grind.flat_map-append}
-use Rattle.chess_game.specs.Game.{State, outcome_now, verdict_now, IsPlayable}
+use Rattle.chess_game.specs.Game.{State, outcome_now, IsPlayable}
 use Rattle.chess_game.specs.{declared.game.TheConstants.MOST_MOVES, declared.results.Outcome.Outcome}
-use Rattle.chess_pgn.specs.{GameRead.GameRead, GameRead.pgn_read, LastTags.result_tag_of, UnknownVariants.unknown_variant_in, declared.read.PgnEnd.PgnEnd, laws.TokenByToken.tokens_read}
+use Rattle.chess_pgn.specs.{GameRead.GameRead, GameRead.ending, GameRead.pgn_read, LastTags.result_tag_of, UnknownVariants.unknown_variant_in, declared.read.PgnEnd.PgnEnd, laws.TokenByToken.tokens_read}
 use Rattle.pgn_writer.specs.{GameText.pgn, GameText.tag_lines, GameText.game_tokens, Terminations.termination_of, declared.tags.Tags.Tags, declared.termination.Termination.Termination}
 use Rattle.chess_pgn.specs.shared.Kinds.{IsSplitByKinds, IsOf, IsLongest, Blank, ended, token}
 use Rattle.chess_pgn.specs.Tokens.{Token, Skip, begins_line, tokens_from}
@@ -82,17 +82,21 @@ none_after law strict body some =
     (length text - length body, Skip) ∷ (length text - (length body + 1), Skip) ∷ [] in
     let same : ts ≡ own =
     ap (tokens_from text) (no_mark text (length body) some) ∙ sym (kinds_read text (last_tokens body)) in
-    let is : pgn_read MOST_MOVES text (length body) ≡ tokens_read MOST_MOVES (length text) own =
-    law MOST_MOVES text (length body) ∙ ap (tokens_read MOST_MOVES (length text)) same in
+    let is : pgn_read strict.draws_of_2014 MOST_MOVES text (length body)
+    ≡ tokens_read strict.draws_of_2014 MOST_MOVES (length text) own =
+    law strict.draws_of_2014 MOST_MOVES text (length body)
+    ∙ ap (tokens_read strict.draws_of_2014 MOST_MOVES (length text)) same in
     ap (λ (r : GameRead). judged strict (variation_in tokens_from text (length body) r.state.start)
-    (unknown_variant_in (length text) ts) (result_tag_of (length text) ts) (verdict_now r.state) r.answer) is
+    (unknown_variant_in (length text) ts) (result_tag_of (length text) ts)
+    (ending strict.draws_of_2014 r.state) r.answer) is
 
 nothing_more : (strict : Strictness) (start k : ℕ) (text : List ℕ) (at : ℕ) → judged_at strict text at ≡ Ok None
     → reports_from strict start k text at ≡ []
 unfolding games_from
 nothing_more strict start zero text at none = refl
 nothing_more strict start (suc k) text at none =
-    ap (λ j. report_then start text None j (read_at text at).state (λ next. reports_from strict start k text next)) none
+    ap (λ j. report_then strict.draws_of_2014 start text None j (read_at strict.draws_of_2014 text at).state
+    (λ next. reports_from strict start k text next)) none
 
 -- ---- one game
 
@@ -119,15 +123,16 @@ module _ (law : TokenByToken) (read : PgnIsReadBack) (result : TagsAreWritten) (
         (written_games read result strict plain g.tags g.state [] [] texts playable) in
         let only = only_judged strict text 0 found.read (Ok (Some found.end)) found.judged in
         let is : judged_at strict text 0 ≡ Ok (Some found.end) = sym only.1 in
-        let moves : (read_at text 0).state.moves ≡ g.state.moves =
+        let moves : (read_at strict.draws_of_2014 text 0).state.moves ≡ g.state.moves =
         sym (ap (λ (x : State). x.moves) only.0) ∙ found.moves in
-        let back : IsReadBack g.state T (length text) (pgn_read MOST_MOVES text 0) =
-        subst (λ t. IsReadBack g.state T (length text) (pgn_read MOST_MOVES t 0)) all
-        (read MOST_MOVES g.tags g.state [] [] texts playable) in
-        let said = judged_so strict (variation_in tokens_from text 0 (read_at text 0).state.start)
+        let back : IsReadBack g.state T (length text) (pgn_read strict.draws_of_2014 MOST_MOVES text 0) =
+        subst (λ t. IsReadBack g.state T (length text) (pgn_read strict.draws_of_2014 MOST_MOVES t 0)) all
+        (read strict.draws_of_2014 MOST_MOVES g.tags g.state [] [] texts playable) in
+        let said = judged_so strict (variation_in tokens_from text 0 (read_at strict.draws_of_2014 text 0).state.start)
         (unknown_variant_in (length text) (tokens_from text (after_byte_order_mark text 0)))
         (result_tag_of (length text) (tokens_from text (after_byte_order_mark text 0)))
-        (verdict_now (read_at text 0).state) found.end (read_at text 0).answer is in
+        (ending strict.draws_of_2014 (read_at strict.draws_of_2014 text 0).state) found.end
+        (read_at strict.draws_of_2014 text 0).answer is in
         let termination : found.end.termination ≡ Some T =
         same_termination found.end (outcome_now g.state) T back.offset (sym said.0 ∙ back.answer) in
         let tail = text_ends g.tags g.state in
@@ -145,9 +150,10 @@ module _ (law : TokenByToken) (read : PgnIsReadBack) (result : TagsAreWritten) (
         ∙ none_after law strict tail.0 (omega (arith, some, place)) in
         let count : length text + 1 ≡ suc (length text) = omega arith in
         ap (λ k. reports_from strict start k text 0) count
-        ∙ ap (λ j. report_then start text None j (read_at text 0).state
+        ∙ ap (λ j. report_then strict.draws_of_2014 start text None j (read_at strict.draws_of_2014 text 0).state
         (λ next. reports_from strict start (length text) text next)) is
-        ∙ ap (λ l. Game (length (read_at text 0).state.moves) found.end.outcome found.end.termination ∷ l)
+        ∙ ap (λ l. Game (length (read_at strict.draws_of_2014 text 0).state.moves) found.end.outcome
+        found.end.termination ∷ l)
         (nothing_more strict start (length text) text found.end.offset none)
         ∙ ap (λ ms. Game (length ms) found.end.outcome found.end.termination ∷ []) moves
         ∙ ap (λ o. Game (length g.state.moves) o found.end.termination ∷ []) found.outcome

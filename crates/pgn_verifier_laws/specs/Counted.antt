@@ -1,17 +1,17 @@
 -- What `verify` says of a game that it counts.
-use Rattle.std.specs.Prelude.{◌≡◌, ⊤, ℕ, ◌+◌, ◌-◌, ◌<◌, List, [], ◌∷◌, ◌++◌, length, take, Some, None, IsTrue}
+use Rattle.std.specs.Prelude.{◌≡◌, ⊤, ℕ, ◌+◌, ◌-◌, ◌<◌, Bool, List, [], ◌∷◌, ◌++◌, length, take, Some, None, IsTrue}
 use Rattle.std.specs.List.{filter}
 use Rattle.chess_base.specs.MoveList.{moves}
 use Rattle.chess_base.specs.Moves.{after, is_legal}
 use Rattle.chess_base.specs.Sound.{IsSound}
 use Rattle.chess_base.specs.declared.man.Move.{Move}
 use Rattle.chess_base.specs.declared.setup.Setup.{Setup}
-use Rattle.chess_game.specs.Ends.{verdict}
 use Rattle.chess_game.specs.declared.results.Outcome.{Outcome}
+use Rattle.chess_pgn.specs.GameRead.{ending}
 use Rattle.chess_pgn.specs.Split.{IsSplit}
 use Rattle.chess_pgn.specs.Tokens.{Token, Word}
 use Rattle.byte_devices.specs.Bytes.{after_byte_order_mark}
-use Rattle.chess_pgn_laws.specs.GameOfTokens.{move_words}
+use Rattle.chess_pgn_laws.specs.GameOfTokens.{game_by, move_words}
 use Rattle.chess_text.specs.Moves.{denotes}
 use Rattle.pgn_verifier.specs.declared.options.Strictness.{Strictness}
 use Rattle.pgn_verifier.specs.Reports.{AreReports, AreReportsIn, Report, Placed, Game, Faulty, without_spans}
@@ -25,43 +25,46 @@ AreTold p (word ∷ words) (m ∷ ms) =
     IsTrue (is_legal p m) × (filter (λ n. denotes p word n) (moves p) ≡ m ∷ []) × AreTold (after p m) words ms
 AreTold p _ _ = ⊥
 
--- from its offset `from` up to its offset `to` the text has a game of so many half-moves, which ends with this outcome
-pub record HasGame (text : List ℕ) (from to plies : ℕ) (outcome : Outcome) : Type 0 where
+-- from its offset `from` up to its offset `to` the text has a game of so many half-moves, which ends with this outcome.
+-- `draws`: whether the draws of 2014 end a game
+pub record HasGame (draws : Bool) (text : List ℕ) (from to plies : ℕ) (outcome : Outcome) : Type 0 where
   pub start : Setup
   pub sound : IsSound start
   -- the text from `from` on, token by token: those of the game, its termination marker such as `1-0`, and others
   pub tokens : List (ℕ × Token)
   pub split : IsSplit text (after_byte_order_mark text from) tokens
   pub own : List (ℕ × Token)
+  -- how many bytes are left at the marker
   pub left : ℕ
   pub marker : List ℕ
   pub others : List (ℕ × Token)
   pub all : own ++ (left, Word marker) ∷ others ≡ tokens
   pub marks : outcome_of marker ≡ Some outcome
+  -- the game ends where its marker does
   pub ends : to ≡ length text - left + length marker
   -- a move for each word of the game that is no number and no marks such as `!?`, and so many in all
   pub moves : List Move
   pub told : AreTold start (move_words own) moves
   pub many : length moves ≡ plies
-  -- before its last move the game had no verdict, such as mate
-  pub unended : (k : ℕ) → k < plies → verdict start (take k moves) ≡ None
+  -- before its last move no verdict, such as mate, had ended the game
+  pub unended : (k : ℕ) → k < plies → ending draws (game_by start (take k moves)) ≡ None
 
 -- from this offset of the text on it has the games of which these are the reports, one after another; after a fault the
 -- others come from some offset on
-abbrev pub HasGames : List ℕ → ℕ → List Report → Type 0
-HasGames text from [] = ⊤
-HasGames text from (Game plies outcome termination ∷ reports) =
-    (to : ℕ) × HasGame text from to plies outcome × HasGames text to reports
-HasGames text from (Faulty fault wrong_at explanation ∷ reports) = (to : ℕ) × HasGames text to reports
+abbrev pub HasGames : Bool → List ℕ → ℕ → List Report → Type 0
+HasGames draws text from [] = ⊤
+HasGames draws text from (Game plies outcome termination ∷ reports) =
+    (to : ℕ) × HasGame draws text from to plies outcome × HasGames draws text to reports
+HasGames draws text from (Faulty fault wrong_at explanation ∷ reports) = (to : ℕ) × HasGames draws text to reports
 
 -- the games that `verify` counts in a text are games; `start` is the offset of the input at which the text begins,
 -- `strict`: what is looked for at a game's end
 abbrev pub CountedGamesAreGames : Type 0
 CountedGamesAreGames = (strict : Strictness) (start : ℕ) (text : List ℕ) (reports : List Placed)
-    → AreReports strict start text 0 reports → HasGames text 0 (without_spans reports)
+    → AreReports strict start text 0 reports → HasGames strict.draws_of_2014 text 0 (without_spans reports)
 
 -- the games that `verify --keep-going` counts in a piece of a collection are games; the piece begins at this offset of
 -- the input
 abbrev pub CountedGamesOfPiecesAreGames : Type 0
 CountedGamesOfPiecesAreGames = (strict : Strictness) (offset : ℕ) (piece : List ℕ) (reports : List Placed)
-    → AreReportsIn strict offset piece reports → HasGames piece 0 (without_spans reports)
+    → AreReportsIn strict offset piece reports → HasGames strict.draws_of_2014 piece 0 (without_spans reports)

@@ -1,6 +1,6 @@
 -- Which fault is reported of a game that has several at its end, worked out.
 use Rattle.std.specs.Prelude.{◌≡◌, ℕ, Bool, true, false, Option, Some, None, Result, Ok, Err}
-use Rattle.chess_game.specs.declared.results.Outcome.TheVariants.{WhiteWins, Draw}
+use Rattle.chess_game.specs.declared.results.Outcome.TheVariants.{WhiteWins, Draw, Unfinished}
 use Rattle.chess_game.specs.declared.verdicts.Verdict.TheVariants.{BlackMates}
 use Rattle.chess_pgn.specs.declared.read.PgnEnd.{PgnEnd}
 use Rattle.chess_pgn.specs.declared.read.PgnFaultKind.TheVariants.{IllegalMove}
@@ -8,6 +8,7 @@ use Rattle.pgn_verifier.specs.GameFaults.{judged}
 use Rattle.pgn_verifier.specs.declared.game_fault.FaultKind.{FaultKind}
 use Rattle.pgn_verifier.specs.declared.game_fault.FaultKind.TheVariants.{InVariation, UnknownVariant, ResultDiffers, BoardSaysOtherwise}
 use Rattle.pgn_verifier.specs.declared.game_fault.GameFault.{GameFault}
+use Rattle.pgn_verifier.specs.declared.options.Strictness.{Strictness}
 
 -- a game's end whose marker is `1-0`, from the byte 90 on
 abbrev pub won_by_white : PgnEnd
@@ -18,9 +19,23 @@ won_by_white = record { outcome = WhiteWins; termination = None; offset = 93 }
 -- the board Black has mated
 abbrev pub found : (variations variant result board : Bool) → Result (Option PgnEnd) GameFault
 found variations variant result board =
-    judged (record { variations = variations; variant = variant; result = result; board = board })
+    judged (record {
+      draws_of_2014 = true;
+      variations = variations;
+      variant = variant;
+      result = result;
+      board = board;
+    })
     (λ end. Some (record { kind = IllegalMove; offset = 60 })) (Some 10)
     (Some (record { outcome = Some Draw; offset = 30; len = 7 })) (Some BlackMates) (Ok (Some won_by_white))
+
+-- the board is looked at, and nothing more
+abbrev pub only_board : Strictness
+only_board = record { draws_of_2014 = true; variations = false; variant = false; result = false; board = true }
+
+-- a game's end whose marker is `*`, at the byte 90
+abbrev pub unfinished_at_90 : PgnEnd
+unfinished_at_90 = record { outcome = Unfinished; termination = None; offset = 91 }
 
 -- this fault at this byte
 abbrev pub fault_at : FaultKind → ℕ → Result (Option PgnEnd) GameFault
@@ -35,3 +50,10 @@ pub record FaultsAreInOrder : Type 0 where
   pub then_board : found false false false true ≡ fault_at BoardSaysOtherwise 90
   -- with neither option
   pub unless_lenient : found false false false false ≡ Ok (Some won_by_white)
+  -- a tag Result that names no result, such as `1/2`, differs from every marker
+  pub no_outcome : judged (record only_board { result = true }) (λ end. None) None
+      (Some (record { outcome = None; offset = 30; len = 3 })) None (Ok (Some won_by_white))
+      ≡ fault_at (ResultDiffers 3 WhiteWins) 30
+  -- the marker `*` at the byte 90 contradicts a mate too
+  pub unfinished : judged only_board (λ end. None) None None (Some BlackMates) (Ok (Some unfinished_at_90))
+      ≡ fault_at BoardSaysOtherwise 90

@@ -13,7 +13,9 @@ use Rattle.pgn_verifier.specs.Reports.{Placed, Report, Game, Faulty, without_spa
 -- a file ends in a line of moves, and perhaps empty lines after it; its last line, too, has its `\n`
 pub record EndsInMoves (file : List ℕ) : Type 0 where
   pub before : List ℕ
+  -- the file ends with `\n`
   pub whole_lines : file ≡ before ++ new_line ∷ []
+  -- its last line that is not empty is one of moves
   pub moves : ends_in_moves (lines_of file) ≡ true
 
 -- these files, in order, are a collection that is cut where pieces begin: each file but the last ends in a line of

@@ -5,3 +5,4 @@ pub mod WrittenGames
 pub mod Counted
 pub mod Files
 pub mod FaultOrder
+pub mod WorkedReports

@@ -20,11 +20,16 @@ pub record BeginsAlike (before part after : List ℕ) (at : ℕ) : Type 0 where
   pub first : after_byte_order_mark (before ++ (part ++ after)) (length before + at)
       ≡ length before + after_byte_order_mark part at
 
--- from the part's offset `at` on, the part alone has a game without a fault: the one that the whole text has there,
--- which ends at `end`
+-- the part, read alone from its offset `at` on, has the same game, without a fault, as the text
+-- `before ++ part ++ after` has from the same byte on. `end` is how that game ends in the text, where each offset is
+-- greater by `length before`; `strict`: what is looked for at a game's end
 pub record HasGame (strict : Strictness) (before part after : List ℕ) (at : ℕ) (end : PgnEnd) : Type 0 where
+  -- alone it is judged alike: the same outcome and termination, and it ends at the same byte
   pub judged : judged_at strict part at ≡ Ok (Some (record end { offset = end.offset - length before }))
-  pub state : (read_at part at).state ≡ (read_at (before ++ (part ++ after)) (length before + at)).state
+  -- the same start, moves and declared result
+  pub state : (read_at strict.draws_of_2014 part at).state
+      ≡ (read_at strict.draws_of_2014 (before ++ (part ++ after)) (length before + at)).state
+  -- the game has at least one byte
   pub some_bytes : at < end.offset - length before
 
 -- a game without a fault, which is read in a text from a place in one of its parts on, and which ends in that part, is
@@ -48,12 +53,14 @@ EndsAlike part after = ((front : List ℕ) × (part ≡ front ++ new_line ∷ []
 pub data HoldsWhole (strict : Strictness) (before part after : List ℕ) : ℕ → List Report → Type 0 where
   no_more : {at : ℕ} → judged_at strict part at ≡ Ok None → EndsAlike part after
       → HoldsWhole strict before part after at []
+  -- a game without a fault, which ends in the part, and those after it
   game : {at : ℕ} {games : List Report} (end : PgnEnd)
       → judged_at strict (before ++ (part ++ after)) (length before + at) ≡ Ok (Some end)
       → end.offset ≤ length before + length part
       → HoldsWhole strict before part after (end.offset - length before) games
       → HoldsWhole strict before part after at
-      (Game (length (read_at (before ++ (part ++ after)) (length before + at)).state.moves) end.outcome end.termination
+      (Game (length (read_at strict.draws_of_2014 (before ++ (part ++ after))
+      (length before + at)).state.moves) end.outcome end.termination
       ∷ games)
 
 -- of a part that holds whole games, the reports are theirs. From the part's beginning on, those on the text are theirs
@@ -62,6 +69,7 @@ pub data HoldsWhole (strict : Strictness) (before part after : List ℕ) : ℕ �
 pub record AreReportedAlike (strict : Strictness) (start : ℕ) (before part after : List ℕ) (games : List Report)
     : Type 0 where
   pub alone : reports_on strict start part ≡ games
+  -- `most`: how many reports at most come after those of the part
   pub in_text : (most : ℕ)
       → reports_from strict start (length games + most) (before ++ (part ++ after)) (length before + 0)
       ≡ games ++ reports_from strict start most (before ++ (part ++ after)) (length before + length part)

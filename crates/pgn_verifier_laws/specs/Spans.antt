@@ -10,6 +10,7 @@ use Rattle.pgn_verifier.specs.Reports.{AreReports, Placed}
 pub data MakeUp : ℕ → List ℕ → List Placed → Type 0 where
   -- no more reports: any text may follow
   no_more : {offset : ℕ} {text : List ℕ} → MakeUp offset text []
+  -- what is between, a game, and the rest
   next : {offset : ℕ} (between game : List ℕ) {rest : List ℕ} {placed : Placed} {reports : List Placed}
       → placed.begin ≡ offset + length between → placed.end ≡ placed.begin + length game → 0 < length game
       → MakeUp placed.end rest reports → MakeUp offset (between ++ (game ++ rest)) (placed ∷ reports)

@@ -17,11 +17,13 @@ use Rattle.pgn_verifier.specs.laws.Reported.{reports_on}
 -- `text_end`; `strict`: what is looked for
 pub record HasNoFault (strict : Strictness) (text : List ℕ) (at : ℕ) (s : State) (text_end : ℕ) : Type 0 where
   pub read : State
+  -- how its text ended
   pub end : PgnEnd
   pub judged : IsJudged strict text at read (Ok (Some end))
   pub start : read.start ≡ s.start
   pub moves : read.moves ≡ s.moves
   pub outcome : end.outcome ≡ outcome_now s
+  -- after its termination marker come two bytes: the line's end and the empty line
   pub two_before_end : end.offset + 2 ≡ text_end
 
 -- the text that is written of a playable game, with no line prefix, has no fault, whatever text comes before and after

@@ -17,6 +17,7 @@ ghost use Rattle.pgn_verifier_laws.specs.Files.{FilesAreVerifiedAlike};
 ghost use Rattle.pgn_verifier_laws.specs.NoFaults.{FaultlessTextsAreReportedAlike};
 ghost use Rattle.pgn_verifier_laws.specs.Parts.{GamesAreInParts, WholeGamesAreReportedAlike, PiecesAreReportedAlike, TextsAreReportedInParts};
 ghost use Rattle.pgn_verifier_laws.specs.Spans.{SpansMakeUpTheText, SpansMakeUpTheCollection};
+ghost use Rattle.pgn_verifier_laws.specs.WorkedReports.{GamesAreFound, PiecesBegin, ReportsAreWritten};
 ghost use Rattle.pgn_verifier_laws.specs.WrittenGames.{WrittenGamesHaveNoFault, WrittenTextsHaveNoFault};
 
 use chess_base::{Position, Variant};
@@ -29,10 +30,10 @@ use pgn_pieces::shards_are_cut;
 /// other laws speak.
 pub fn reports_are_the_only_ones()
     ensures game { (strict : Strictness) (text : List ℕ) (at : ℕ)
-        → IsJudged strict text at (read_at text at).state (judged_at strict text at) }
+        → IsJudged strict text at (read_at strict.draws_of_2014 text at).state (judged_at strict text at) }
     ensures no_other_game { (strict : Strictness) (text : List ℕ) (at : ℕ) (s : State)
         (answer : Result (Option PgnEnd) GameFault) → IsJudged strict text at s answer
-        → (s ≡ (read_at text at).state) × (answer ≡ judged_at strict text at) }
+        → (s ≡ (read_at strict.draws_of_2014 text at).state) × (answer ≡ judged_at strict text at) }
     ensures text { (strict : Strictness) (start : ℕ) (text : List ℕ)
         → AreReports strict start text 0 (placed_on strict start text) }
     ensures no_other_of_text { (strict : Strictness) (start : ℕ) (text : List ℕ) (reports : List Placed)
@@ -49,8 +50,8 @@ pub fn reports_are_the_only_ones()
 {}
 
 /// States a law and does nothing: the text that `write_pgn` of chess_pgn writes of a game has no fault when it is
-/// verified from its first byte on, with `strict` neither, whatever text comes before and after it. Variations aren't
-/// looked at.
+/// verified from its first byte on, with `strict` neither, and is read as that game, whatever text comes before and
+/// after it. Variations aren't looked at.
 pub fn written_games_have_no_fault()
     ensures { WrittenGamesHaveNoFault }
 {
@@ -106,7 +107,8 @@ pub fn spans_make_up_the_text()
 
 /// States a law: a game that `verify` counts is a game. It has a sound start, and as many moves as the report says, one
 /// for each word between the tags and the termination marker that is no number and no marks. Each move is legal where it
-/// is made, and the one legal move that its word denotes. Before the last one there was no verdict. The next game begins
+/// is made, and the one legal move that its word denotes. Before the last one no verdict had ended the game: neither mate,
+/// stalemate nor a dead position, nor, unless they are ignored, fivefold repetition or 75 moves. The next game begins
 /// where this one ends.
 ///
 /// It refuses a move after mate, a word that is passed over, and a report of another number of half-moves.
@@ -144,4 +146,15 @@ pub fn files_are_verified_alike()
 /// It refuses the board before the tag.
 pub fn faults_are_in_order()
     ensures { FaultsAreInOrder }
+{}
+
+/// States a law and does nothing: the lines of two reports and of their counts, byte by byte, with some options of
+/// `verify`; where two games of a text begin and end; and into which pieces some texts are cut.
+///
+/// It refuses a game that is numbered only if it is shown, white space that belongs to the game after it, and an Event
+/// line that begins no piece, or begins one after any other tag line.
+pub fn reports_are_worked_out()
+    ensures lines { ReportsAreWritten }
+    ensures spans { GamesAreFound }
+    ensures pieces { PiecesBegin }
 {}

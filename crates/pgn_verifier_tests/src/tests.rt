@@ -26,10 +26,25 @@ const STRICT: VerifyOptions = VerifyOptions {
 const VARIATIONS: VerifyOptions = VerifyOptions {
     quiet: false,
     strict: Strictness {
+        draws_of_2014: true,
         variations: true,
         variant: false,
         result: false,
         board: false,
+    },
+    spans: false,
+    names: false,
+    explain: true,
+};
+
+const PAST_DRAWS: VerifyOptions = VerifyOptions {
+    quiet: false,
+    strict: Strictness {
+        draws_of_2014: false,
+        variations: true,
+        variant: true,
+        result: true,
+        board: true,
     },
     spans: false,
     names: false,
@@ -302,6 +317,81 @@ fn variations_are_read(rt: HostRuntime) {
     for (text, wanted, lines) in &VARIATION_TEXTS {
         check_cuts(&rt, &rt, false, VARIATIONS, *text, *wanted, *lines);
     }
+}
+
+// Games that go on after a draw by fivefold repetition or by 75 moves, which are ignored, and what is written of them.
+const PAST_DRAW_TEXTS: [(&[u8], Verified, &[u8]); 10] = [
+    // They are read to their ends, and these are not compared with such a draw.
+    (
+        b"Nf3 Nf6 Ng1 Ng8 Nf3 Nf6 Ng1 Ng8 Nf3 Nf6 Ng1 Ng8 Nf3 Nf6 Ng1 Ng8 e4 *",
+        Verified::EachGame,
+        b"game 1: 17 half-moves, *\n",
+    ),
+    (
+        b"Nf3 Nf6 Ng1 Ng8 Nf3 Nf6 Ng1 Ng8 Nf3 Nf6 Ng1 Ng8 Nf3 Nf6 Ng1 Ng8 1-0",
+        Verified::EachGame,
+        b"game 1: 16 half-moves, 1-0\n",
+    ),
+    (
+        b"[FEN \"4k3/8/8/8/8/8/8/R3K3 w - - 149 100\"] Ra2 Kd7 0-1",
+        Verified::EachGame,
+        b"game 1: 2 half-moves, 0-1\n",
+    ),
+    // But they are with mate, and with the tag.
+    (
+        b"Nf3 Nf6 Ng1 Ng8 Nf3 Nf6 Ng1 Ng8 Nf3 Nf6 Ng1 Ng8 Nf3 Nf6 Ng1 Ng8 f3 e5 g4 Qh4 1-0",
+        Verified::FaultReported,
+        b"game 1: board says otherwise at byte 77\n# line 1 column 78 1-0 | rnb1kbnr/pppp1ppp/8/4p3/6Pq/5P2/PPPPP2P/RNBQKBNR w KQkq - 1 11 | 0-1 {Black mates}\n",
+    ),
+    (
+        b"[Result \"0-1\"] Nf3 Nf6 Ng1 Ng8 Nf3 Nf6 Ng1 Ng8 Nf3 Nf6 Ng1 Ng8 Nf3 Nf6 Ng1 Ng8 e4 1-0",
+        Verified::FaultReported,
+        b"game 1: result differs at byte 9\n# line 1 column 10 0-1\"] | rnbqkbnr/pppppppp/8/8/4P3/8/PPPP1PPP/RNBQKBNR b KQkq e3 0 9 | Result 0-1, ended 1-0\n",
+    ),
+    // Mate ends a game.
+    (
+        b"1. f3 e5 2. g4 Qh4 3. a3 *",
+        Verified::FaultReported,
+        b"game 1: move after the end at byte 22\n# line 1 column 23 a3 | rnb1kbnr/pppp1ppp/8/4p3/6Pq/5P2/PPPPP2P/RNBQKBNR w KQkq - 1 3 | 0-1 {Black mates}\n",
+    ),
+    (
+        b"Nf3 Nf6 Ng1 Ng8 Nf3 Nf6 Ng1 Ng8 Nf3 Nf6 Ng1 Ng8 Nf3 Nf6 Ng1 Ng8 f3 e5 g4 Qh4 a3 *",
+        Verified::FaultReported,
+        b"game 1: move after the end at byte 77\n# line 1 column 78 a3 | rnb1kbnr/pppp1ppp/8/4p3/6Pq/5P2/PPPPP2P/RNBQKBNR w KQkq - 1 11 | 0-1 {Black mates}\n",
+    ),
+    // Other faults after such a draw.
+    (
+        b"Nf3 Nf6 Ng1 Ng8 Nf3 Nf6 Ng1 Ng8 Nf3 Nf6 Ng1 Ng8 Nf3 Nf6 Ng1 Ng8 Ke3 *",
+        Verified::FaultReported,
+        b"game 1: illegal move at byte 64\n# line 1 column 65 Ke3 | rnbqkbnr/pppppppp/8/8/8/8/PPPPPPPP/RNBQKBNR w KQkq - 16 9\n",
+    ),
+    (
+        b"Nf3 Nf6 Ng1 Ng8 Nf3 Nf6 Ng1 Ng8 Nf3 Nf6 Ng1 Ng8 Nf3 Nf6 Ng1 Ng8 e4 (d4 d4) *",
+        Verified::FaultReported,
+        b"game 1: illegal move in a variation at byte 71\n# line 1 column 72 d4)\n",
+    ),
+    // The game after it.
+    (
+        b"Nf3 Nf6 Ng1 Ng8 Nf3 Nf6 Ng1 Ng8 Nf3 Nf6 Ng1 Ng8 Nf3 Nf6 Ng1 Ng8 e4 * 1. e4 e4 *",
+        Verified::FaultReported,
+        b"game 1: 17 half-moves, *\ngame 2: illegal move at byte 75\n# line 1 column 76 e4 | rnbqkbnr/pppppppp/8/8/4P3/8/PPPP1PPP/RNBQKBNR b KQkq e3 0 1\n",
+    ),
+];
+
+#[test]
+fn games_go_on_after_ignored_draws(rt: HostRuntime) {
+    for (text, wanted, lines) in &PAST_DRAW_TEXTS {
+        check_cuts(&rt, &rt, false, PAST_DRAWS, *text, *wanted, *lines);
+    }
+    check_cuts(
+        &rt,
+        &rt,
+        true,
+        PAST_DRAWS,
+        b"Nf3 Nf6 Ng1 Ng8 Nf3 Nf6 Ng1 Ng8 Nf3 Nf6 Ng1 Ng8 Nf3 Nf6 Ng1 Ng8 e4 *",
+        Verified::EachGame,
+        b"game 1: 17 half-moves, *\ngames 1 half-moves 17 faults 0\n",
+    );
 }
 
 #[test]

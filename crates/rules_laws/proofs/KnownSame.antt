@@ -1,12 +1,36 @@
 -- Positions that are the same for repetition, and some that look alike and are not, by computation.
-use Rattle.std.proofs.Common.{refl}
+use Rattle.std.proofs.Common.{◌≡◌, [], ◌∷◌, ◌++◌, Some, true, false, refl}
 use Rattle.chess_base.specs.Attacks.{is_clear, could_capture, attacks, is_attacked, is_in_check}
-use Rattle.chess_base.specs.Castling.{is_castling_to, castling, castle_of, castling_needs_empty, castling_way_is_empty, castling_way_is_safe, castles}
-use Rattle.chess_base.specs.{Initial.initial_setup, Initial.initial_setup_of, Men.is_of, Men.is_man, MoveList.all_moves, MoveList.moves}
+use Rattle.chess_base.specs.Castling.{king_square, right_is_sound, is_castling_to, castling, castle_of, castling_needs_empty, castling_way_is_empty, castling_way_is_safe, castles}
+use Rattle.chess_base.specs.{Faults.rights_are_sound, Initial.initial_setup, Initial.initial_setup_of, Men.is_of, Men.is_man, MoveList.all_moves, MoveList.moves}
 use Rattle.chess_base.specs.Moves.{is_double_advance, is_en_passant, pawn_advances, pawn_captures, pawn_moves, man_moves, is_pseudo_legal, captured_square, men_after, rights_after, target_after, resets_clock, halfmove_after, after, is_legal}
+use Rattle.chess_base.specs.Sound.{has_one_king, no_pawn_on_end_ranks, has_at_most_16, target_is_sound}
 use Rattle.chess_base.specs.Squares.{squares, some_square, each_square, is_between}
+use Rattle.chess_fen.specs.Texts.{may_name_right}
 use Rattle.chess_game.specs.Same.{same_men, same_rights, legal_en_passant_square, is_same_position}
-use Rattle.rules_laws.specs.KnownPositions.{PositionsAreTheSame}
+use Rattle.rules_laws.specs.KnownGames.{move_by}
+use Rattle.rules_laws.specs.KnownPositions.{PositionsAreTheSame, are_same_after, are_same_fens, open_game}
+
+-- White's pawn on e5 is pinned, or is not; and one right to castle differs
+fens : (are_same_fens "4k3/4r3/8/4Pp2/8/8/8/4K3 w - f6 0 1" "4k3/4r3/8/4Pp2/8/8/8/4K3 w - - 0 1" ≡ Some true)
+    × (are_same_fens "4k3/8/8/4Pp2/8/8/8/4K3 w - f6 0 1" "4k3/8/8/4Pp2/8/8/8/4K3 w - - 0 1" ≡ Some false)
+    × (are_same_fens "4k3/8/8/8/8/8/8/R3K2R w KQ - 0 1" "4k3/8/8/8/8/8/8/R3K2R w K - 0 1" ≡ Some false)
+unfolding squares some_square each_square is_between is_of is_man is_clear could_capture attacks is_attacked is_in_check
+    is_castling_to castling castle_of castling_needs_empty castling_way_is_empty castling_way_is_safe castles
+    is_double_advance is_en_passant pawn_advances pawn_captures pawn_moves man_moves is_pseudo_legal captured_square
+    men_after rights_after target_after resets_clock halfmove_after after is_legal all_moves moves king_square
+    right_is_sound rights_are_sound has_one_king no_pawn_on_end_ranks has_at_most_16 target_is_sound may_name_right
+    same_men same_rights legal_en_passant_square is_same_position
+fens = (refl, refl, refl)
+
+rights : are_same_after open_game (open_game ++ move_by "e1" "e2" ∷ move_by "e8" "e7" ∷ move_by "e2" "e1"
+    ∷ move_by "e7" "e8" ∷ []) ≡ false
+unfolding squares some_square each_square is_between is_of is_man is_clear could_capture attacks is_attacked is_in_check
+    is_castling_to castling castle_of castling_needs_empty castling_way_is_empty castling_way_is_safe castles
+    is_double_advance is_en_passant pawn_advances pawn_captures pawn_moves man_moves is_pseudo_legal captured_square
+    men_after rights_after target_after resets_clock halfmove_after after is_legal initial_setup initial_setup_of
+    all_moves moves same_men same_rights legal_en_passant_square is_same_position
+rights = refl
 
 pub positions_are_the_same : PositionsAreTheSame
 unfolding squares some_square each_square is_between is_of is_man is_clear could_capture attacks is_attacked is_in_check
@@ -14,4 +38,13 @@ unfolding squares some_square each_square is_between is_of is_man is_clear could
     is_double_advance is_en_passant pawn_advances pawn_captures pawn_moves man_moves is_pseudo_legal captured_square
     men_after rights_after target_after resets_clock halfmove_after after is_legal initial_setup initial_setup_of
     all_moves moves same_men same_rights legal_en_passant_square is_same_position
-positions_are_the_same = record { knights = refl; target = refl; en_passant = refl; side = refl; rights = refl }
+positions_are_the_same = record {
+  knights = refl;
+  target = refl;
+  en_passant = refl;
+  pinned = fens.0;
+  not_pinned = fens.1;
+  side = refl;
+  rights = rights;
+  queen_side = fens.2;
+}

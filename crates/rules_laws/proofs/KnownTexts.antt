@@ -1,5 +1,5 @@
 -- Moves and games that players know, as they are written, by computation.
-use Rattle.std.proofs.Common.{refl}
+use Rattle.std.proofs.Common.{◌≡◌, Some, [], ◌∷◌, codes, refl}
 use Rattle.std.specs.Fmt.{digits}
 use Rattle.chess_base.specs.Attacks.{is_clear, could_capture, attacks, is_attacked, is_in_check}
 use Rattle.chess_base.specs.Castling.{king_square, right_is_sound, is_castling_to, castling, castle_of, castling_needs_empty, castling_way_is_empty, castling_way_is_safe, castles}
@@ -11,7 +11,26 @@ use Rattle.chess_fen.specs.{Texts.may_name_right, Writing.placement_text}
 use Rattle.chess_game.specs.Ends.{has_bishop_on, has_insufficient_material, result_text, verdict}
 use Rattle.chess_game.specs.Same.{is_same_position, legal_en_passant_square, repetition_count, same_men, same_rights}
 use Rattle.chess_text.specs.{Parts.unmarked, Moves.denotes, Moves.denotes_described, Moves.described, San.rival_starts, San.check_mark, San.san}
-use Rattle.rules_laws.specs.KnownTexts.{MovesAreNumbered, MovesAreWritten, ResultsAreWorded, TagsAreInOrder, TextsDenoteMoves}
+use Rattle.rules_laws.specs.KnownGames.{move_by}
+use Rattle.rules_laws.specs.KnownTexts.{IsWritten, MovesAreNumbered, MovesAreWritten, ResultsAreWorded, TagsAreInOrder, TextsDenoteMoves, tokens_from}
+
+castling_check : IsWritten "5k2/8/8/8/8/8/8/4K2R w K - 0 1" (move_by "e1" "g1") "O-O+"
+unfolding squares some_square each_square is_between is_of is_man is_clear could_capture attacks is_attacked is_in_check
+    is_castling_to castling castle_of castling_needs_empty castling_way_is_empty castling_way_is_safe castles
+    king_square right_is_sound rights_are_sound has_one_king no_pawn_on_end_ranks has_at_most_16 target_is_sound
+    may_name_right all_moves moves is_double_advance is_en_passant pawn_advances pawn_captures pawn_moves man_moves
+    is_pseudo_legal captured_square men_after rights_after target_after resets_clock halfmove_after after is_legal
+    described rival_starts check_mark san
+castling_check = refl
+
+stalemate : IsWritten "7k/8/6K1/8/8/8/8/5Q2 w - - 0 1" (move_by "f1" "f7") "Qf7"
+unfolding squares some_square each_square is_between is_of is_man is_clear could_capture attacks is_attacked is_in_check
+    is_castling_to castling castle_of castling_needs_empty castling_way_is_empty castling_way_is_safe castles
+    king_square right_is_sound rights_are_sound has_one_king no_pawn_on_end_ranks has_at_most_16 target_is_sound
+    may_name_right all_moves moves is_double_advance is_en_passant pawn_advances pawn_captures pawn_moves man_moves
+    is_pseudo_legal captured_square men_after rights_after target_after resets_clock halfmove_after after is_legal
+    described rival_starts check_mark san
+stalemate = refl
 
 pub moves_are_written : MovesAreWritten
 unfolding squares some_square each_square is_between is_of is_man is_clear could_capture attacks is_attacked is_in_check
@@ -28,7 +47,9 @@ moves_are_written = record {
   capture = refl;
   promotion = refl;
   castling = refl;
+  castling_check = castling_check;
   mate = refl;
+  stalemate = stalemate;
 }
 
 pub texts_denote_moves : TextsDenoteMoves
@@ -53,6 +74,16 @@ results_are_worded = record {
   both = refl;
 }
 
+no_move : tokens_from "4k3/4P3/8/8/8/8/8/4K3 b - - 0 12" [] ≡ Some (codes "*" ∷ [])
+unfolding squares some_square each_square is_between is_of is_man is_clear could_capture attacks is_attacked is_in_check
+    is_castling_to castling castle_of castling_needs_empty castling_way_is_empty castling_way_is_safe castles
+    initial_setup initial_setup_of king_square right_is_sound rights_are_sound has_one_king no_pawn_on_end_ranks
+    has_at_most_16 target_is_sound may_name_right all_moves moves is_double_advance is_en_passant pawn_advances
+    pawn_captures pawn_moves man_moves is_pseudo_legal captured_square men_after rights_after target_after resets_clock
+    halfmove_after after is_legal digits verdict has_bishop_on has_insufficient_material same_men same_rights
+    legal_en_passant_square is_same_position repetition_count
+no_move = refl
+
 pub moves_are_numbered : MovesAreNumbered
 unfolding squares some_square each_square is_between is_of is_man is_clear could_capture attacks is_attacked is_in_check
     is_castling_to castling castle_of castling_needs_empty castling_way_is_empty castling_way_is_safe castles
@@ -61,7 +92,7 @@ unfolding squares some_square each_square is_between is_of is_man is_clear could
     pawn_captures pawn_moves man_moves is_pseudo_legal captured_square men_after rights_after target_after resets_clock
     halfmove_after after is_legal described rival_starts check_mark san digits verdict has_bishop_on
     has_insufficient_material
-moves_are_numbered = record { white_first = refl; black_first = refl }
+moves_are_numbered = record { white_first = refl; black_first = refl; no_move = no_move }
 
 pub tags_are_in_order : TagsAreInOrder
 unfolding squares some_square each_square is_between is_of is_man is_clear could_capture attacks is_attacked is_in_check

@@ -52,6 +52,7 @@ position_at start ms k = position_after start (take k ms)
 -- the present position of a game is there for at least the n-th time: there are at least n numbers of moves, each above
 -- the one before it, after which the position was this one
 pub record IsThere (n : ℕ) (start : Setup) (ms : List Move) : Type 0 where
+  -- the numbers of moves after which it was there
   pub times : List ℕ
   pub many : n ≤ length times
   pub rising : AllPairs (λ j k. j < k) times
@@ -68,7 +69,9 @@ pub record IsQuiet (p : Setup) (m : Move) : Type 0 where
 -- for n half-moves nobody has captured or moved a pawn: the last n moves of the game are quiet; or, if it has fewer,
 -- all are, and the start's halfmove clock makes up the rest
 pub record IsQuietFor (n : ℕ) (start : Setup) (ms : List Move) : Type 0 where
+  -- with those that the start counts there are that many
   pub many : n ≤ start.halfmove + length ms
+  -- the move at the index k, if it is among the last n
   pub quiet : (k : ℕ) (m : Move) → slice_get ms k ≡ Some m → length ms ≤ k + n → IsQuiet (position_at start ms k) m
 
 -- in each game: nobody has captured or moved a pawn for n half-moves exactly if the halfmove clock is at least n. The
@@ -83,11 +86,15 @@ ClocksCountQuietMoves = (n : ℕ) (start : Setup) (ms : List Move) → n ≤ COU
 -- move, and has no such verdict before; if both hold at once, the verdict is not the latter. A draw can be claimed at
 -- the third time, or after 100 half-moves
 pub record EndsByCounting (start : Setup) (ms : List Move) : Type 0 where
+  -- fivefold repetition
   pub fivefold : verdict start ms ≡ Some FivefoldRepetition → IsThere 5 start ms
   pub at_fifth : IsThere 5 start ms → verdict start ms ≢ None
+  -- 75 moves of each side
   pub seventy_five_moves : verdict start ms ≡ Some SeventyFiveMoves → IsQuietFor 150 start ms
   pub after_150 : IsQuietFor 150 start ms → verdict start ms ≢ None
+  -- if both hold at once
   pub fivefold_first : IsThere 5 start ms → verdict start ms ≢ Some SeventyFiveMoves
+  -- claims
   pub threefold : IsTrue (claims start ms).threefold ↔ IsThere 3 start ms
   pub fifty_moves : IsTrue (claims start ms).fifty_moves ↔ IsQuietFor 100 start ms
 

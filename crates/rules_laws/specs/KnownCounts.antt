@@ -33,15 +33,22 @@ with_promotions = "n1n5/PPPk4/8/8/8/8/4Kppp/5N1N b - - 0 1"
 abbrev pub rooks_beside : Text
 rooks_beside = "2rkr3/8/8/8/8/8/8/2RKR3 w ECec - 0 1"
 
+-- a position of Chess960 in which White may castle: the king on b1 goes to c1, past no attacked square, and the rook
+-- from a1 to d1, which the enemy rook attacks
+abbrev pub may_castle : Text
+may_castle = "3rk3/8/8/8/8/8/8/RK6 w Q - 0 1"
+
 -- a position in which a knight blocks a pawn
 abbrev pub pawn_blocked : Text
 pawn_blocked = "4k3/8/8/8/8/4n3/4P3/4K3 w - - 0 1"
 
--- how many legal moves these four positions have: of the first two these are the published counts (perft, depth 1)
+-- how many legal moves these five positions have: of the first two these are the published counts (perft, depth 1)
 pub record MovesAreAsMany : Type 0 where
   pub third : HasMoves Normal third_position 14
   pub promotions : HasMoves Normal with_promotions 24
   pub beside : HasMoves Fischerandom rooks_beside 20
+  -- seven moves of the rook, four of the king (a2, b2, c1, c2), and castling
+  pub castles : HasMoves Fischerandom may_castle 12
   pub blocked : HasMoves Normal pawn_blocked 2
 
 -- ---- ends

@@ -1,6 +1,6 @@
 -- What chess players and programmers know: which FEN a line leads to, which positions are the same, and which FENs are
 -- refused.
-use Rattle.std.specs.Prelude.{◌≡◌, Bool, true, false, List, [], ◌∷◌, ◌++◌, codes, Some, is_some, option_map, Err}
+use Rattle.std.specs.Prelude.{◌≡◌, Bool, true, false, List, [], ◌∷◌, ◌++◌, codes, Option, Some, is_some, option_map, option_and_then, Err}
 use Prim.Native.String.{String as Text}
 use Rattle.std.specs.Result.{result_ok}
 use Rattle.byte_devices.specs.Bytes.{tab}
@@ -71,6 +71,12 @@ open_game = move_by "e2" "e4" ∷ move_by "e7" "e5" ∷ []
 abbrev pub passed_pawn : List Move
 passed_pawn = move_by "e2" "e4" ∷ move_by "a7" "a6" ∷ move_by "e4" "e5" ∷ move_by "d7" "d5" ∷ []
 
+-- whether the positions that two FENs of normal chess denote are the same; `None` if one of them is refused
+abbrev pub are_same_fens : Text → Text → Option Bool
+are_same_fens text other = option_and_then
+    (λ p. option_map (λ q. is_same_position p q) (result_ok (fen_reading_as Normal (codes other))))
+    (result_ok (fen_reading_as Normal (codes text)))
+
 -- positions that are the same, and positions that only look alike (9.2.3)
 pub record PositionsAreTheSame : Type 0 where
   pub knights : are_same_after [] knights_dance ≡ true
@@ -78,11 +84,17 @@ pub record PositionsAreTheSame : Type 0 where
   pub target : are_same_after open_game (open_game ++ knights_dance) ≡ true
   -- the pawn on d5 could
   pub en_passant : are_same_after passed_pawn (passed_pawn ++ knights_dance) ≡ false
+  -- the pawn on f5 could not, since that on e5 is pinned: the capture would uncover the rook's attack on the king
+  pub pinned : are_same_fens "4k3/4r3/8/4Pp2/8/8/8/4K3 w - f6 0 1" "4k3/4r3/8/4Pp2/8/8/8/4K3 w - - 0 1" ≡ Some true
+  -- without the rook it could
+  pub not_pinned : are_same_fens "4k3/8/8/4Pp2/8/8/8/4K3 w - f6 0 1" "4k3/8/8/4Pp2/8/8/8/4K3 w - - 0 1" ≡ Some false
   -- 1 e3 e5 2 e4: Black is on move
   pub side : are_same_after open_game (move_by "e2" "e3" ∷ move_by "e7" "e5" ∷ move_by "e3" "e4" ∷ []) ≡ false
   -- the kings went out and back, and may no longer castle
   pub rights : are_same_after open_game (open_game ++ move_by "e1" "e2" ∷ move_by "e8" "e7" ∷ move_by "e2" "e1"
       ∷ move_by "e7" "e8" ∷ []) ≡ false
+  -- only one right to castle differs
+  pub queen_side : are_same_fens "4k3/8/8/8/8/8/8/R3K2R w KQ - 0 1" "4k3/8/8/8/8/8/8/R3K2R w K - 0 1" ≡ Some false
 
 -- ---- FENs
 
@@ -98,7 +110,7 @@ IsTaken text = is_some (result_ok (fen_reading_as Normal (codes text))) ≡ true
 abbrev pub IsWrittenAs : Text → Text → Type 0
 IsWrittenAs text written = option_map fen (result_ok (fen_reading_as Fischerandom (codes text))) ≡ Some (codes written)
 
--- FENs that are refused, each for one fault, and neighbours that are accepted
+-- FENs that are refused, each for the first of its faults, and neighbours that are accepted
 pub record FensAreRefused : Type 0 where
   pub no_king : IsRefused "8/8/8/8/8/8/8/4K3 w - - 0 1" Kings
   pub two_kings : IsRefused "k6k/8/8/8/8/8/8/4K3 w - - 0 1" Kings
@@ -130,6 +142,14 @@ pub record FensAreRefused : Type 0 where
   -- fields are apart by one space or more, and by no tab
   pub two_spaces : IsTaken "4k3/8/8/8/8/8/8/4K3  w - - 0  1"
   pub by_a_tab : fen_reading_as Normal (codes "4k3/8/8/8/8/8/8/4K3" ++ tab ∷ codes "w - - 0 1") ≡ Err Fields
+  -- of several faults the first is reported: fields from the left, and then what is wrong with the position, in the
+  -- order kings, pawns, pieces, castling, en passant, check
+  pub counters_before_kings : IsRefused "8/8/8/8/8/8/8/8 w - - x 1" Counters
+  pub kings_before_pawns : IsRefused "P7/8/8/8/8/8/8/4K3 w - - 0 1" Kings
+  pub pawns_before_pieces : IsRefused "k6P/8/8/8/8/8/PPPPPPPP/NNNNNNNK w - - 0 1" Pawns
+  pub pieces_before_castling : IsRefused "k7/8/8/8/8/P7/PPPPPPPP/NNNNNNNK w K - 0 1" Men
+  pub castling_before_target : IsRefused "4k3/8/8/8/8/8/8/4K3 w K e6 0 1" Castling
+  pub target_before_check : IsRefused "4k3/8/8/8/8/8/8/4RK2 w - e6 0 1" EnPassant
   -- a fullmove number of 0 is taken, and counters have at most six digits
   pub number_0 : IsTaken "4k3/8/8/8/8/8/8/4K3 w - - 0 0"
   pub six_digits : IsTaken "4k3/8/8/8/8/8/8/4K3 w - - 100000 1"

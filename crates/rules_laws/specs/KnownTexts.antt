@@ -47,7 +47,10 @@ pub record MovesAreWritten : Type 0 where
   pub capture : IsWritten "4k3/8/8/3p4/4P3/8/8/4K3 w - - 0 1" (move_by "e4" "d5") "exd5"
   pub promotion : IsWritten "4k3/P7/8/8/8/8/8/4K3 w - - 0 1" (promotes "a7" "a8") "a8=Q+"
   pub castling : IsWritten "4k3/8/8/8/8/8/8/R3K3 w Q - 0 1" (move_by "e1" "c1") "O-O-O"
+  pub castling_check : IsWritten "5k2/8/8/8/8/8/8/4K2R w K - 0 1" (move_by "e1" "g1") "O-O+"
   pub mate : IsWritten "6k1/5ppp/8/8/8/8/8/R3K3 w - - 0 1" (move_by "a1" "a8") "Ra8#"
+  -- no legal move is left, but there is no check
+  pub stalemate : IsWritten "7k/8/6K1/8/8/8/8/5Q2 w - - 0 1" (move_by "f1" "f7") "Qf7"
 
 -- in the position of a FEN each of the first texts denotes the move, and none of the others
 abbrev pub AreItsTexts : Text → Move → List (List ℕ) → List (List ℕ) → Type 0
@@ -109,6 +112,8 @@ pub record MovesAreNumbered : Type 0 where
   -- a game that Black begins with move 12: that move has a number too
   pub black_first : tokens_from "4k3/4P3/8/8/8/8/8/4K3 b - - 0 12" (move_by "e8" "e7" ∷ [])
       ≡ Some (codes "12..." ∷ codes "Kxe7" ∷ codes "1/2-1/2" ∷ [])
+  -- before its first move it has no number
+  pub no_move : tokens_from "4k3/4P3/8/8/8/8/8/4K3 b - - 0 12" [] ≡ Some (codes "*" ∷ [])
 
 -- the tags of a game between A and B
 abbrev pub known_tags : Tags

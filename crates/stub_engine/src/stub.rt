@@ -39,7 +39,8 @@ fn prefix_of(argument: &str) -> &'static [u8]
     if argument == "resign" { b"" } else { b"move " }
 }
 
-// Sends a line made of a prefix and an argument, by one write unless it is long.
+// Sends a line made of a prefix and an argument, by one write unless it is long: up to 30 bytes of the argument surely
+// fit into the buffer.
 fn say_line<W: Output>(writer: &mut W, prefix: &[u8], argument: &str) -> Result<(), WriteFault>
     requires { length prefix.now ≤ 5 }
     ensures { Puts (W.seen writer.old) (W.seen writer.new) result (prefix.now ++ (argument.now ++ new_line ∷ [])) }

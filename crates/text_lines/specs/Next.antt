@@ -26,21 +26,29 @@ work r held = r.pieces_left * 1025 + length held.coming
 -- follow it, however the stream continues. `given` was read, which took the input from `r` to `r'`; `held` and `held'`
 -- are the bytes read and not returned, before and after. A line of more than `n` bytes is too long
 pub record GotLine (n : ℕ) (r r' : InputState) (held held' : Held) (given : List ℕ) (line : LineSeen) : Type 0 where
+  -- whatever comes next (`rest`), and whether the stream ends then (`at_end`) or not
   pub lines : (at_end : Bool) (rest : List ℕ)
       → lines_held n at_end held (given ++ rest) ≡ line ∷ lines_held n at_end held' rest
+  -- no failure, end or silence is counted
   pub failures : r'.failure_count ≡ r.failure_count
   pub ends : r'.end_count ≡ r.end_count
   pub silences : r'.silence_count ≡ r.silence_count
+  -- what can still come gets less
   pub falls : work r' held' < work r held
 
--- `line`, the last one, was returned, which the end of the stream ended: `given` was read, which took the input from
--- `r` to `r'`, and then the end was reported. `held` are the bytes read and not returned before; after it (`held'`)
--- there are none. A line of more than `n` bytes is too long
+-- `line` was returned, the last one; the end of the stream ended it, not `\n`. `given` was read, which took the input
+-- from `r` to `r'`, and then the end was reported. `held` and `held'` are the bytes read and not returned, before and
+-- after. A line of more than `n` bytes is too long
 pub record GotLast (n : ℕ) (r r' : InputState) (held held' : Held) (given : List ℕ) (line : LineSeen) : Type 0 where
+  -- what was held and read has no `\n`, so without the end it is no line
   pub whole : lines_held n false held given ≡ []
+  -- with the end it is this one line
   pub lines : lines_held n true held given ≡ line ∷ []
+  -- no byte is held any more
   pub rest : held' ≡ nothing_held
+  -- no known byte is left to read
   pub at_end : IsAtEnd r'.known_bytes
+  -- one end more is counted, and no failure and no silence
   pub failures : r'.failure_count ≡ r.failure_count
   pub ends : r'.end_count ≡ saturating_increment r.end_count
   pub silences : r'.silence_count ≡ r.silence_count
@@ -48,9 +56,12 @@ pub record GotLast (n : ℕ) (r r' : InputState) (held held' : Held) (given : Li
 -- the end of the stream was reported, and no line is left: `given`, which was read and took the input from `r` to `r'`,
 -- and what was `held` before give no line, and nothing is held after (`held'`). `n`: the limit of a line's length
 pub record GotNone (n : ℕ) (r r' : InputState) (held held' : Held) (given : List ℕ) : Type 0 where
+  -- with the end or without
   pub lines : (at_end : Bool) → lines_held n at_end held given ≡ []
   pub rest : held' ≡ nothing_held
+  -- no known byte is left to read
   pub at_end : IsAtEnd r'.known_bytes
+  -- one end more is counted, and no failure and no silence
   pub failures : r'.failure_count ≡ r.failure_count
   pub ends : r'.end_count ≡ saturating_increment r.end_count
   pub silences : r'.silence_count ≡ r.silence_count
@@ -58,9 +69,12 @@ pub record GotNone (n : ℕ) (r r' : InputState) (held held' : Held) (given : Li
 -- a read failed: what was `held` before and read (`given`, which took the input from `r` to `r'`) has no whole line,
 -- and all of it is kept in `held'`. A line of more than `n` bytes is too long
 pub record GotFault (n : ℕ) (r r' : InputState) (held held' : Held) (given : List ℕ) : Type 0 where
+  -- there is no whole line
   pub whole : lines_held n false held given ≡ []
+  -- nothing is lost: whatever comes next (`rest`), the lines are the same
   pub lines : (at_end : Bool) (rest : List ℕ)
       → lines_held n at_end held (given ++ rest) ≡ lines_held n at_end held' rest
+  -- one failure more is counted, and no end and no silence
   pub failures : r'.failure_count ≡ saturating_increment r.failure_count
   pub ends : r'.end_count ≡ r.end_count
   pub silences : r'.silence_count ≡ r.silence_count
@@ -68,12 +82,16 @@ pub record GotFault (n : ℕ) (r r' : InputState) (held held' : Held) (given : L
 -- no whole line had come when the call's time was up: what was `held` before and read (`given`, which took the input
 -- from `r` to `r'`) has none, and all of it is kept in `held'`. A line of more than `n` bytes is too long
 pub record GotSilence (n : ℕ) (r r' : InputState) (held held' : Held) (given : List ℕ) : Type 0 where
+  -- there is no whole line
   pub whole : lines_held n false held given ≡ []
+  -- nothing is lost: whatever comes next (`rest`), the lines are the same
   pub lines : (at_end : Bool) (rest : List ℕ)
       → lines_held n at_end held (given ++ rest) ≡ lines_held n at_end held' rest
+  -- one silence more is counted, and no failure and no end
   pub failures : r'.failure_count ≡ r.failure_count
   pub ends : r'.end_count ≡ r.end_count
   pub silences : r'.silence_count ≡ saturating_increment r.silence_count
+  -- what can still come gets less
   pub falls : work r' held' < work r held
 
 -- what the call for the next line returned after it read the bytes `given`: a line (too long if of more than `n`

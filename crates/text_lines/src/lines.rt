@@ -169,6 +169,7 @@ fn put_text<const N: usize>(bytes: &[u8], is_too_long: bool, text: &mut ArrayVec
         trim(bytes)
     };
     text.clear();
+    // No more is kept than the bytes given, which are at most N.
     if text.try_extend_from_slice(kept).is_err() {
         unreachable!();
     }

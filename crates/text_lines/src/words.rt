@@ -39,7 +39,7 @@ pub fn argument(text: &[u8]) -> &[u8]
     split_word(text).1
 }
 
-/// The number that a text of 1 to 9 digits denotes; `None` for any other text.
+/// The number that a text of 1 to 9 digits denotes, which fits into a `u32`; `None` for any other text.
 #[tactic(auto, unfolding(crate::specs::Words::command_number))]
 pub fn read_number(text: &[u8]) -> Option<u32>
     ensures { result ≡ command_number text.now }

@@ -21,6 +21,7 @@ const SHORT: [&[u8]; 4] = [
     b"*\n[b\n",
 ];
 
+// What is opened and never closed.
 const UNCLOSED: [&[u8]; 4] = [b"1. e4 (", b"1. d4 {", b"(((((((((", b"1. e4 e5 [x \"y"];
 
 // So many of the shortest pieces, as a text.
@@ -121,7 +122,8 @@ fn many_queens(
     Ok(())
 }
 
-/// Asks for what is awkward, so many times of each kind.
+/// Asks for what is awkward, so many times of each kind; of short pieces, of unclosed ones and of lines of a long one
+/// 20,000 for each time.
 ///
 /// # Errors
 /// If memory runs out.

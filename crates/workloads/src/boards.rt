@@ -28,6 +28,7 @@ fn number_of(m: &Move) -> u64 {
 fn add_reading(reading: Reading, digest: &mut Digest) {
     match reading {
         Reading::Move(m) => digest.add(number_of(&m)),
+        // Numbers that no move has.
         Reading::Ambiguous => digest.add(1_000_001),
         Reading::NoSuch => digest.add(1_000_002),
         Reading::NotAMove => digest.add(1_000_003),
@@ -154,7 +155,8 @@ pub fn ask_walk(
     }
 }
 
-// The start of the walk with this number: the initial position, one of Chess960, or one with many queens.
+// The start of the walk with this number: of eight walks four are from the initial position, three from one of
+// Chess960, and one from one with many queens.
 fn start_for(number: usize, random: &mut Random) -> Position {
     match number % 8 {
         0 | 1 | 2 | 3 => Position::initial(),
@@ -163,8 +165,8 @@ fn start_for(number: usize, random: &mut Random) -> Position {
     }
 }
 
-/// Makes so many walks, and asks each sixth position of each all that a board answers, and at the last one counts the
-/// lines of four moves.
+/// Makes so many walks, each of 24 to 96 moves if there are as many, and asks each sixth position of each all that a
+/// board answers, and at the last one counts the lines of four moves.
 ///
 /// # Errors
 /// If memory runs out.

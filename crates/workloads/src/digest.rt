@@ -1,7 +1,7 @@
 //! A digest of results.
 
 /// A digest of numbers and bytes in their order: each number, or up to eight bytes as one, is mixed in by an exclusive
-/// or and a multiplication, as in FNV-1a.
+/// or and a multiplication, as in FNV-1a, whose constants these are; then the high bits are mixed into the low ones.
 #[derive(Clone, Copy)]
 pub struct Digest {
     value: u64,

@@ -180,6 +180,7 @@ fn add_end(end: &MatchEnd, digest: &mut Digest) {
     match end.fault {
         None => digest.add(0),
         Some((Colour::White, fault)) => digest.add(1 + fault as u64),
+        // Far from White's, of which there are fewer than 100.
         Some((Colour::Black, fault)) => digest.add(101 + fault as u64),
     }
 }
@@ -217,8 +218,8 @@ fn play(
 
 const TALKS: [Talk; 3] = [Talk::Squares, Talk::San, Talk::Thinking];
 
-/// Walks through so many games, and plays each as three matches: between engines that write squares, that write SAN,
-/// and that write lines of their thinking too.
+/// Walks through so many games, every fifth one a long one, and plays each as three matches: between engines that write
+/// squares, that write SAN, and that write lines of their thinking too.
 ///
 /// # Errors
 /// If memory runs out, or a level of time is none.

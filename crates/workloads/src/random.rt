@@ -2,7 +2,7 @@
 
 ghost use Rattle.std.specs.Prelude.{◌≤◌};
 
-/// A pseudorandom sequence of numbers (SplitMix64): the same for the same seed.
+/// A pseudorandom sequence of numbers (SplitMix64, whose constants these are): the same for the same seed.
 #[derive(Drop)]
 pub struct Random {
     state: u64,

@@ -110,7 +110,7 @@ fn add_move_number(text: &mut Vec<u8>, ply: usize) -> Result<(), AllocError> {
 }
 
 // Begins a new line where the line that began at `start` would get too long, and adds a space elsewhere; returns where
-// the line now begins.
+// the line now begins. In a plain game a token has at most 7 bytes, so that a line has at most 80.
 fn next_token(text: &mut Vec<u8>, start: usize) -> Result<usize, AllocError> {
     if text.len().saturating_sub(start) > 72 {
         add(text, b"\n")?;
@@ -160,7 +160,7 @@ pub fn add_plain(
     add(text, b"\n\n")
 }
 
-// Adds a comment with an evaluation and a clock's time.
+// Adds a comment with an evaluation and a clock's time, whose four numbers are made of parts of one random number.
 fn add_clock(text: &mut Vec<u8>, random: &mut Random) -> Result<(), AllocError> {
     let bits = random.next() as usize;
     add(text, b"{ [%eval ")?;
@@ -238,7 +238,7 @@ fn add_variation(
     add(text, b")")
 }
 
-// Adds what an annotator says after a half-move.
+// Adds what an annotator says after a half-move: a glyph once in 6, a remark once in 9, a variation once in 16.
 fn add_annotation(
     text: &mut Vec<u8>,
     record: &Record<'_>,

@@ -42,19 +42,24 @@ fn lively_weight(setup: &Setup, m: &Move) -> usize {
     liveliness(man.kind)
 }
 
-// How likely a move is to be taken in a long game, of 8 times: it captures nothing, and it is a pawn's if and only if
-// the clock is high.
+// From this halfmove clock on only pawns move in a long game, before it only other pieces. At 150 the game would be
+// over (75 moves), so there are 29 half-moves at which a pawn's move can be drawn.
+const PAWNS_FROM: u32 = 121;
+
+// How likely a move is to be taken in a long game, of 8 times: 8 if it captures nothing, and is a pawn's exactly if the
+// halfmove clock is at least `PAWNS_FROM`; otherwise 0.
 fn long_weight(setup: &Setup, m: &Move) -> usize {
     let is_pawn = setup.men[m.from.index()].is_some_and(|man| man.kind == Kind::Pawn);
     let is_capture = setup.men[m.to.index()].is_some();
-    if !is_capture && is_pawn == (setup.halfmove > 120) {
+    if !is_capture && is_pawn == (setup.halfmove >= PAWNS_FROM) {
         8
     } else {
         0
     }
 }
 
-/// One of these moves of a position, chosen by the style; `None` if there are none.
+/// One of these moves of a position, chosen by the style: of 24 draws the first that is taken; if none is, the last,
+/// whatever its weight. `None` if there are no moves.
 pub fn choose(setup: &Setup, moves: &[Move], style: Style, random: &mut Random) -> Option<Move> {
     let mut chosen = None;
     for _ in 0..24 {

@@ -1,5 +1,5 @@
 -- What the arguments ask for as they are written, on the way to a plan.
-use Rattle.std.specs.Prelude.{◌≡◌, ◌≤◌, ◌*◌, ◌==◌, ℕ, Bool, List, [], codes, map, option_map, Option, Some, None, Result, Ok, Err, true, false, ◌≢◌, unwrap_or}
+use Rattle.std.specs.Prelude.{◌≡◌, ◌≤◌, ◌*◌, ◌==◌, ℕ, Bool, List, [], codes, map, option_map, Option, Some, Result, Ok, Err, true, false, ◌≢◌, unwrap_or}
 use Rattle.std.specs.List.{list_all, slice_split}
 use Rattle.std.specs.Option.{option_map_or}
 use Rattle.clap.specs.Words.{Row, Text, first_of, kind_of}

@@ -83,6 +83,7 @@ normal_is_legal p m = normal_has_pattern p m && not (is_in_check (normal_after p
 -- on position p of normal chess, the rules for both variants agree with those of this file: on which castling rights
 -- are sound, which moves are legal, and the position after a move
 pub record NormalIsKept (p : Setup) : Type 0 where
+  -- which castling rights are sound
   pub stands : (c : Colour) (w : CastlingSide)
       → right_is_sound p c w ≡ normal_right_is_sound_at p.men c w (right_of p.rights c w)
   pub legal : (m : Move) → is_legal p m ≡ normal_is_legal p m

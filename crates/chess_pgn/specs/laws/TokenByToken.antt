@@ -21,7 +21,7 @@ use Rattle.pgn_writer.specs.Terminations.{termination_named}
 use Rattle.chess_pgn.specs.LastTags.{tag_section}
 use Rattle.chess_pgn.specs.Tokens.{Token, Skip, Tag, Word, Bad_tag, Unclosed_comment, Unclosed_variation, Bad}
 use Rattle.chess_pgn.specs.laws.WordKinds.{word_kind}
-use Rattle.chess_pgn.specs.GameRead.{GameRead, declared_after, tagged_variant}
+use Rattle.chess_pgn.specs.GameRead.{GameRead, declared_after, ending, tagged_variant}
 
 -- what reading has found so far in a game's text: the game; whether there was a tag, number or move (`is_met`);
 -- whether there was a number or move (`is_begun`), after which a tag belongs to the next game; and what its tag
@@ -53,28 +53,29 @@ ends g o offset = Stop (record {
 })
 
 -- `next`, if one more move may be played in the game so far (`g`); otherwise a fault at `offset`, that of the move's
--- word: AfterEnd if the board has a verdict, TooLong if the game has `limit` moves
-abbrev pub unless_full : ℕ → SoFar → ℕ → Step → Step
-unless_full limit g offset next =
-    if is_some (verdict_now g.state) then fails g AfterEnd offset
+-- word: AfterEnd if a verdict has ended the game (`draws`: whether the draws of 2014 do), TooLong if it has `limit`
+-- moves
+abbrev pub unless_full : Bool → ℕ → SoFar → ℕ → Step → Step
+unless_full draws limit g offset next =
+    if is_some (ending draws g.state) then fails g AfterEnd offset
     else (if nat_lt (length g.state.moves) limit then next else fails g TooLong offset)
 
 -- what follows from a word that may be a move, by what it denotes in the current position: the move is played, or
 -- there is a fault at the word's offset. `limit` is the most half-moves of a game
-abbrev pub move_step : ℕ → SoFar → ℕ → Reading → Step
-move_step limit g offset reads.NotAMove = fails g BadToken offset
-move_step limit g offset (reads.Move m) = unless_full limit g offset
+abbrev pub move_step : Bool → ℕ → SoFar → ℕ → Reading → Step
+move_step draws limit g offset reads.NotAMove = fails g BadToken offset
+move_step draws limit g offset (reads.Move m) = unless_full draws limit g offset
     (On (record g { state = played g.state m; is_met = true; is_begun = true }))
-move_step limit g offset reads.Ambiguous = unless_full limit g offset (fails g AmbiguousMove offset)
-move_step limit g offset reads.NoSuch = unless_full limit g offset (fails g IllegalMove offset)
+move_step draws limit g offset reads.Ambiguous = unless_full draws limit g offset (fails g AmbiguousMove offset)
+move_step draws limit g offset reads.NoSuch = unless_full draws limit g offset (fails g IllegalMove offset)
 
 -- what follows from a word of the given kind at the given offset: an outcome ends the game `g`, a number begins its
 -- moves, marks such as `!?` are skipped, a move is played. `limit` is the most half-moves of a game
-abbrev pub word_step : ℕ → SoFar → ℕ → List ℕ → WordKind → Step
-word_step limit g offset word (End o) = ends g o (offset + length word)
-word_step limit g offset word Number = On (record g { is_met = true; is_begun = true })
-word_step limit g offset word Marks = On g
-word_step limit g offset word Move = move_step limit g offset (reading (current g.state) word)
+abbrev pub word_step : Bool → ℕ → SoFar → ℕ → List ℕ → WordKind → Step
+word_step draws limit g offset word (End o) = ends g o (offset + length word)
+word_step draws limit g offset word Number = On (record g { is_met = true; is_begun = true })
+word_step draws limit g offset word Marks = On g
+word_step draws limit g offset word Move = move_step draws limit g offset (reading (current g.state) word)
 
 -- ---- tags
 
@@ -100,15 +101,15 @@ tag_step g name text offset =
 
 -- what follows from one token for the game so far (`g`). `limit` is the most half-moves of a game, `total` the text's
 -- length, and `to_end` how many bytes are left from the token on, so that its offset is `total - to_end`
-abbrev pub step : ℕ → ℕ → SoFar → ℕ → Token → Step
-step limit total g to_end Skip = On g
-step limit total g to_end (Tag name text string) =
+abbrev pub step : Bool → ℕ → ℕ → SoFar → ℕ → Token → Step
+step draws limit total g to_end Skip = On g
+step draws limit total g to_end (Tag name text string) =
     if g.is_begun then fails g NoResult (total - to_end) else tag_step g name text (total - string)
-step limit total g to_end (Word word) = word_step limit g (total - to_end) word (word_kind word)
-step limit total g to_end Bad_tag = fails g (if g.is_begun then NoResult else BadTag) (total - to_end)
-step limit total g to_end (Unclosed_comment brace) = fails g UnclosedComment (total - brace)
-step limit total g to_end Unclosed_variation = fails g UnclosedVariation (total - to_end)
-step limit total g to_end Bad = fails g BadToken (total - to_end)
+step draws limit total g to_end (Word word) = word_step draws limit g (total - to_end) word (word_kind word)
+step draws limit total g to_end Bad_tag = fails g (if g.is_begun then NoResult else BadTag) (total - to_end)
+step draws limit total g to_end (Unclosed_comment brace) = fails g UnclosedComment (total - brace)
+step draws limit total g to_end Unclosed_variation = fails g UnclosedVariation (total - to_end)
+step draws limit total g to_end Bad = fails g BadToken (total - to_end)
 
 -- what was read if the text ends here, before a termination marker: no game (`None`), or the fault NoResult at the end
 -- if a tag, number or move was met. `g` is the game so far, `total` the text's length
@@ -124,9 +125,10 @@ read_rest_with (Stop read) later = read
 
 -- what was read in the end, from the game so far (`g`) and the tokens that are left, each after how many bytes are left
 -- where it begins. `limit` is the most half-moves of a game, `total` the text's length
-abbrev pub game_of : ℕ → ℕ → SoFar → List (ℕ × Token) → GameRead
-game_of limit total g [] = at_text_end total g
-game_of limit total g (t ∷ ts) = read_rest_with (step limit total g t.0 t.1) (λ h. game_of limit total h ts)
+abbrev pub game_of : Bool → ℕ → ℕ → SoFar → List (ℕ × Token) → GameRead
+game_of draws limit total g [] = at_text_end total g
+game_of draws limit total g (t ∷ ts) =
+    read_rest_with (step draws limit total g t.0 t.1) (λ h. game_of draws limit total h ts)
 
 -- what is known before the first token: the game is at the initial position of this variant, and nothing else was met
 abbrev pub nothing_read : Variant → SoFar
@@ -137,5 +139,6 @@ nothing_read v =
 
 -- what was read from these tokens, each after how many bytes are left where it begins, in the variant that their tags
 -- name. `limit` is the most half-moves of a game, `total` the text's length
-abbrev pub tokens_read : ℕ → ℕ → List (ℕ × Token) → GameRead
-tokens_read limit total tokens = game_of limit total (nothing_read (tagged_variant (tag_section tokens))) tokens
+abbrev pub tokens_read : Bool → ℕ → ℕ → List (ℕ × Token) → GameRead
+tokens_read draws limit total tokens =
+    game_of draws limit total (nothing_read (tagged_variant (tag_section tokens))) tokens

@@ -23,6 +23,7 @@ pub data Kind : Type 0 where
   Blank : Kind
   Line : Kind
   Comment : Kind
+  -- a numeric annotation glyph
   Nag : Kind
   Variation : Kind
   Tag_pair : (name string closing : List ℕ) → Kind
@@ -52,6 +53,7 @@ IsOf b Symbol text = (0 < length text) × (list_all is_word_byte text ≡ true)
 -- of `front ++ rest`, `front` is the longest beginning of which P holds
 pub record IsLongest (P : List ℕ → Type 0) (front rest : List ℕ) : Type 0 where
   pub is : P front
+  -- if P holds of a beginning that goes on after `front` by `more`, then `more` is empty
   pub longest : (more others : List ℕ) → rest ≡ more ++ others → P (front ++ more) → more ≡ []
 
 -- the token that reading a game makes of a text of this kind, after which `to_end` bytes come. A tag is
@@ -83,11 +85,16 @@ HasUnclosedComment text to_end =
 -- first byte. If that is `(`, the fault is an unclosed comment in the variation if there is one, otherwise the unclosed
 -- variation
 abbrev pub IsFault : List ℕ → Token → Type 0
+-- a comment, perhaps in a variation, without its `}`
 IsFault text (Unclosed_comment to_end) = HasUnclosedComment text to_end
+-- a variation without its `)`, in which each comment is closed
 IsFault text Unclosed_variation =
     ((rest : List ℕ) × (text ≡ byte "(" ∷ rest)) × ((to_end : ℕ) → HasUnclosedComment text to_end → ⊥)
+-- a `[`
 IsFault text Bad_tag = (rest : List ℕ) × (text ≡ byte "[" ∷ rest)
+-- a byte that is none of `{`, `(` and `[`
 IsFault text Bad = (c : ℕ) × (rest : List ℕ) × (text ≡ c ∷ rest) × (list_any (λ k. c == k) (codes "{([") ≡ false)
+-- the other tokens are no faults
 IsFault text Skip = ⊥
 IsFault text (Tag name string to_end) = ⊥
 IsFault text (Word word) = ⊥

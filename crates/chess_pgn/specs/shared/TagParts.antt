@@ -16,11 +16,12 @@ abbrev pub with_text : List ℕ → ℕ → Option (List ℕ × List ℕ) → To
 with_text name to_end None = (Bad_tag, [])
 with_text name to_end (Some found) = closed name to_end found.0 (after_next (byte "]") found.1)
 
--- the tag with this name, and the text after it, from the text after its opening quote; `Bad_tag` if there is no quote
--- (`None`), or the rest is not a tag's
+-- the tag with this name, and the text after it. `after_quote` is all that comes after its opening quote, up to the
+-- text's end (so its length is the tag's `to_end`), or `None` without a quote. `Bad_tag` and an empty text without a
+-- quote, or if no string, closing quote and `]` follow
 abbrev pub with_string : List ℕ → Option (List ℕ) → Token × List ℕ
 with_string name None = (Bad_tag, [])
-with_string name (Some string) = with_text name (length string) (string_at string)
+with_string name (Some after_quote) = with_text name (length after_quote) (string_at after_quote)
 
 -- the tag with this name, and the text after it, from the text after the name; `Bad_tag` if the name is empty, or the
 -- rest is not a tag's

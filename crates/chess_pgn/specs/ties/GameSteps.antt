@@ -87,7 +87,7 @@ IsWithin to_end Bad = Unit {0}
 -- reading on from the offset `a` gives the same as from `b`, whatever was read before
 abbrev pub ReadsAlike : List ℕ → ℕ → ℕ → Type 0
 ReadsAlike text a b = (limit : ℕ) (g : SoFar)
-    → game_of limit (length text) g (tokens_from text a) ≡ game_of limit (length text) g (tokens_from text b)
+    → game_of true limit (length text) g (tokens_from text a) ≡ game_of true limit (length text) g (tokens_from text b)
 
 -- a game was begun at the offset `from` of the text and is read up to `here`; `game` and `progress` are what was read.
 -- Reading on from `here` gives what reading from `from` on gives. `limit` is the most half-moves
@@ -96,8 +96,8 @@ pub record IsReadOn (limit : ℕ) (text : List ℕ) (from : ℕ) (game : Seen) (
   pub forward : from ≤ here
   pub offset : here ≤ length text
   pub undeclared : game.state.declared ≡ None
-  pub whole : game_of limit (length text) (so_far game.state progress) (tokens_from text here)
-      ≡ tokens_read limit (length text) (tokens_from text from)
+  pub whole : game_of true limit (length text) (so_far game.state progress) (tokens_from text here)
+      ≡ tokens_read true limit (length text) (tokens_from text from)
 
 -- reading went on from the offset `from`, with `old` and `before` read up to there, to `here`, with `new` and `after`:
 -- reading on gives the same from both
@@ -107,5 +107,5 @@ pub record GoesOn (text : List ℕ) (from : ℕ) (old : Seen) (before : Progress
   pub offset : here ≤ length text
   pub undeclared : new.state.declared ≡ None
   pub same_limit : new.limit ≡ old.limit
-  pub whole : game_of old.limit (length text) (so_far new.state after) (tokens_from text here)
-      ≡ game_of old.limit (length text) (so_far old.state before) (tokens_from text from)
+  pub whole : game_of true old.limit (length text) (so_far new.state after) (tokens_from text here)
+      ≡ game_of true old.limit (length text) (so_far old.state before) (tokens_from text from)

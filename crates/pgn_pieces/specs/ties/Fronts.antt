@@ -1,15 +1,21 @@
--- The kind of a line, by its front: what `is_tag_line` and `is_empty_line` say of a line with this front.
-use Rattle.std.specs.Prelude.{ℕ, Bool, ◌&&◌, ◌||◌, ◌==◌, nat_lt, List, length, take, codes}
-use Rattle.std.specs.List.{list_all}
+-- The kind of a line, by its front: what `is_tag_line`, `after_tag` and `is_empty_line` say of a line with this front.
+use Rattle.std.specs.Prelude.{ℕ, Bool, not, ◌&&◌, ◌||◌, ◌==◌, nat_lt, if◌then◌else◌, List, [], length, take, drop, codes}
+use Rattle.std.specs.List.{list_all, prefix_len}
 use Rattle.std.specs.Str.{bytes_eq}
-use Rattle.pgn_pieces.specs.Pieces.{tag_name, after_name}
-use Rattle.byte_devices.specs.Bytes.{is_blank}
+use Rattle.pgn_pieces.specs.Pieces.{without_blanks, tag_name, after_name}
+use Rattle.byte_devices.specs.Bytes.{byte, is_blank}
 use Rattle.pgn_pieces.specs.Places.{ends_line}
 
 -- whether a line with this front is a tag line
 abbrev pub begins_tag : List ℕ → Bool
 begins_tag front = bytes_eq (take 1 front) (codes "[") && nat_lt 0 (length (tag_name front))
     && bytes_eq (take 1 (after_name front)) (codes "\"")
+
+-- what comes after the first tag in the front of a tag line (`after_tag`), by what comes after the tag's name
+abbrev pub after_value : List ℕ → List ℕ
+after_value after_name = let value = drop 1 after_name in
+    let close = drop (prefix_len (λ c. not (c == byte "\"")) value) value in
+    if bytes_eq (take 2 close) (codes "\"]") then without_blanks (drop 2 close) else []
 
 -- whether a line with this front counts as empty
 abbrev pub is_empty_front : List ℕ → Bool

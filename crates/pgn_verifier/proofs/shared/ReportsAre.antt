@@ -1,8 +1,8 @@
 -- The reports that are made one after another are those of the definitions.
 use Rattle.std.proofs.Common.{◌≡◌, ℕ, zero, suc, ◌+◌, ◌<◌, ◌≤◌, Bool, List, [], ◌∷◌, length, drop, Option, Some, None, IfSome, true, false, Result, Ok, Err, IfOk, refl, sym, ap, subst, arith, flat_map, MatchBool, nat_le, if◌then◌else◌}
 use Rattle.std.specs.Option.{option_map_or, unwrap_or}
-use Rattle.chess_game.specs.{Game.State, Game.verdict_now, declared.game.TheConstants.MOST_MOVES, declared.verdicts.Verdict.Verdict}
-use Rattle.chess_pgn.specs.{GameRead.pgn_read, GameRead.read_of_split, LastTags.result_tag_of, UnknownVariants.unknown_variant_in, Tokens.tokens_from, declared.read.PgnEnd.PgnEnd, declared.read.PgnFault.PgnFault, declared.tagged_result.ResultTag.ResultTag}
+use Rattle.chess_game.specs.{Game.State, declared.game.TheConstants.MOST_MOVES, declared.verdicts.Verdict.Verdict}
+use Rattle.chess_pgn.specs.{GameRead.ending, GameRead.pgn_read, GameRead.read_of_split, LastTags.result_tag_of, UnknownVariants.unknown_variant_in, Tokens.tokens_from, declared.read.PgnEnd.PgnEnd, declared.read.PgnFault.PgnFault, declared.tagged_result.ResultTag.ResultTag}
 use Rattle.byte_devices.specs.Bytes.{after_byte_order_mark}
 use Rattle.chess_pgn.proofs.{shared.Ends.ends_in_text, shared.Ends.end_in_text, shared.Ends.none_from_end, shared.Tokens.read_split, shared.Tokens.split_read}
 use Rattle.pgn_pieces.specs.{Pieces.known_pieces, Stream.Piece, Stream.with_offsets, Stream.pieces, declared.pieces.TheConstants.PIECE_LEN}
@@ -15,14 +15,14 @@ use Rattle.pgn_verifier.specs.laws.Reported.{names_at, next_at, read_at, judged_
 
 -- what is judged of a text is what `IsJudged` asks for
 pub judged_is : (strict : Strictness) (text : List ℕ) (at : ℕ)
-    → IsJudged strict text at (read_at text at).state (judged_at strict text at)
+    → IsJudged strict text at (read_at strict.draws_of_2014 text at).state (judged_at strict text at)
 unfolding pgn_read
 judged_is strict text at = record {
   tokens = tokens_from text (after_byte_order_mark text at);
   split = read_split text (after_byte_order_mark text at);
   split_of = tokens_from;
   splits = read_split;
-  ended = (read_at text at).answer;
+  ended = (read_at strict.draws_of_2014 text at).answer;
   read = refl;
   is = refl;
 }
@@ -56,10 +56,11 @@ judged_end strict variation unknown tag verdict total at (Ok (Some end)) h =
 ends : (strict : Strictness) (text : List ℕ) (at : ℕ) → at ≤ length text
     → EndsIn (length text) at (judged_at strict text at)
 ends strict text at h =
-    judged_end strict (variation_in tokens_from text at (read_at text at).state.start)
+    judged_end strict (variation_in tokens_from text at (read_at strict.draws_of_2014 text at).state.start)
     (unknown_variant_in (length text) (tokens_from text (after_byte_order_mark text at)))
     (result_tag_of (length text) (tokens_from text (after_byte_order_mark text at)))
-    (verdict_now (read_at text at).state) (length text) at (read_at text at).answer (ends_in_text MOST_MOVES text at h)
+    (ending strict.draws_of_2014 (read_at strict.draws_of_2014 text at).state) (length text) at
+    (read_at strict.draws_of_2014 text at).answer (ends_in_text strict.draws_of_2014 MOST_MOVES text at h)
 
 -- where reading goes on after a fault, by the tokens by which the game was judged
 pub goes_on_there : {strict : Strictness} {text : List ℕ} {at : ℕ} {s : State} {r : Result (Option PgnEnd) GameFault}
@@ -78,14 +79,16 @@ pub none_at_end : (strict : Strictness) (text : List ℕ) → judged_at strict t
 unfolding pgn_read
 none_at_end strict text =
     ap (λ ts. judged strict
-    (variation_in tokens_from text (length text) (read_of_split MOST_MOVES (length text) ts).state.start)
+    (variation_in tokens_from text (length text)
+    (read_of_split strict.draws_of_2014 MOST_MOVES (length text) ts).state.start)
     (unknown_variant_in (length text) ts) (result_tag_of (length text) ts)
-    (verdict_now (read_of_split MOST_MOVES (length text) ts).state)
-    (read_of_split MOST_MOVES (length text) ts).answer) (none_from_end text)
+    (ending strict.draws_of_2014 (read_of_split strict.draws_of_2014 MOST_MOVES (length text) ts).state)
+    (read_of_split strict.draws_of_2014 MOST_MOVES (length text) ts).answer) (none_from_end text)
 
 module _ (goes_on : Bool) (strict : Strictness) (start : ℕ) (text : List ℕ) where
   nothing_there : AreReportsOf goes_on strict start text (length text) []
-  nothing_there = none_left (subst (IsJudged strict text (length text) (read_at text (length text)).state)
+  nothing_there =
+      none_left (subst (IsJudged strict text (length text) (read_at strict.draws_of_2014 text (length text)).state)
       (none_at_end strict text) (judged_is strict text (length text)))
 
   from_here : (n at : ℕ) → at ≤ length text → length text < n + at
@@ -97,7 +100,7 @@ module _ (goes_on : Bool) (strict : Strictness) (start : ℕ) (text : List ℕ) 
       (λ m i j. from_here n m i j)
     where
       s : State
-      s = (read_at text at).state
+      s = (read_at strict.draws_of_2014 text at).state
 
       Later : Type 0
       Later = (m : ℕ) → m ≤ length text → length text < n + m
@@ -111,7 +114,7 @@ module _ (goes_on : Bool) (strict : Strictness) (start : ℕ) (text : List ℕ) 
 
       by_answer : (r : Result (Option PgnEnd) GameFault) → IsJudged strict text at s r → EndsIn (length text) at r
           → Later → AreReportsOf goes_on strict start text at
-          (placed_then goes_on start text at (next_at goes_on text at) r s
+          (placed_then strict.draws_of_2014 goes_on start text at (next_at goes_on text at) r s
           (λ m. placed_from goes_on strict start n text m))
       by_answer (Ok None) j i later = none_left j
       by_answer (Ok (Some end)) j i later =
@@ -122,11 +125,12 @@ module _ (goes_on : Bool) (strict : Strictness) (start : ℕ) (text : List ℕ) 
           } ∷ more)) (named j) (next_game j (later end.offset i.1 (omega (arith, k, low))))
       by_answer (Err fault) j i later =
           let rest : List ℕ = drop fault.offset text in
-          let verdict : Option Verdict = verdict_now s in
+          let verdict : Option Verdict = ending strict.draws_of_2014 s in
           let next : Option ℕ = next_at goes_on text at in
           let more : List Placed = option_map_or (λ m. placed_from goes_on strict start n text m) next [] in
           subst (λ ns. AreReportsOf goes_on strict start text at
-          (record (fault_placed goes_on start text at next fault s) { names = Some ns } ∷ more)) (named j)
+          (record (fault_placed strict.draws_of_2014 goes_on start text at next fault s) { names = Some ns } ∷ more))
+          (named j)
           (next_fault (reason fault.kind rest verdict) next j (reason_is fault.kind rest verdict)
           (sym (goes_on_there goes_on j)) (after_fault next (later_there goes_on text at h) later))
 

@@ -1,12 +1,13 @@
 -- The reason for a fault as a function, which asks for the parts of a bad tag one after another. The law
 -- `reports_are_the_only_ones` says that each fault that is reported has just this reason.
-use Rattle.std.specs.Prelude.{ℕ, ◌++◌, if◌then◌else◌, List, take, codes, is_some, Option, Some, None}
+use Rattle.std.specs.Prelude.{ℕ, ◌++◌, Bool, if◌then◌else◌, List, take, codes, is_some, Option, Some, None}
 use Rattle.std.specs.Option.{option_map, option_map_or}
 use Rattle.byte_devices.specs.Bytes.{byte}
 use Rattle.chess_game.specs.Ends.{verdict_result, result_text}
-use Rattle.chess_game.specs.Game.{State, verdict_now}
+use Rattle.chess_game.specs.Game.{State}
 use Rattle.chess_game.specs.Results.{outcome_text}
 use Rattle.chess_game.specs.declared.verdicts.Verdict.{Verdict}
+use Rattle.chess_pgn.specs.GameRead.{ending}
 use Rattle.chess_pgn.specs.Tokens.{after_byte, after_gap, after_next, name_at, string_at}
 use Rattle.chess_pgn.specs.declared.read.PgnFaultKind.TheVariants.{BadTag, BadFen, BadToken, IllegalMove, AfterEnd}
 use Rattle.pgn_verifier.specs.Explanations.{explanation, shown}
@@ -39,7 +40,7 @@ tag_reason text = option_map_or name_reason (after_byte (byte "[") text) (codes 
 -- ---- faults
 
 -- the reason for a fault (see `IsReason`), or `None` if none is given. `text` is the text from the fault's byte on, and
--- `verdict` is the board's where reading stopped
+-- `verdict` is the one that ended the game where reading stopped, if any
 abbrev pub reason : FaultKind → List ℕ → Option Verdict → Option (List ℕ)
 reason (Pgn BadTag) text verdict = Some (tag_reason text)
 reason (Pgn (BadFen fault)) text verdict = Some (fen_reason fault)
@@ -55,6 +56,6 @@ reason BoardSaysOtherwise text verdict = option_map (λ v. result_text (verdict_
 reason _ text verdict = None
 
 -- the text that explains a fault of this kind, with its reason; `s` is the game as far as it was read, and `text` is
--- the text from the fault's byte on
-abbrev pub explanation_of : State → List ℕ → FaultKind → List ℕ
-explanation_of s text kind = explanation s text kind (reason kind text (verdict_now s))
+-- the text from the fault's byte on; `draws`: whether the draws of 2014 end a game
+abbrev pub explanation_of : Bool → State → List ℕ → FaultKind → List ℕ
+explanation_of draws s text kind = explanation s text kind (reason kind text (ending draws s))

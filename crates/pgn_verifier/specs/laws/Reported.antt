@@ -4,9 +4,9 @@
 use Rattle.std.specs.Prelude.{ℕ, zero, suc, ◌+◌, Bool, true, false, nat_le, if◌then◌else◌, List, [], ◌∷◌, length, drop, Option, Some, None, Result, Ok, Err}
 use Rattle.std.specs.List.{flat_map}
 use Rattle.std.specs.Option.{option_map, option_map_or, unwrap_or}
-use Rattle.chess_game.specs.Game.{State, verdict_now}
+use Rattle.chess_game.specs.Game.{State}
 use Rattle.chess_game.specs.declared.game.TheConstants.{MOST_MOVES}
-use Rattle.chess_pgn.specs.GameRead.{GameRead, pgn_read}
+use Rattle.chess_pgn.specs.GameRead.{GameRead, ending, pgn_read}
 use Rattle.chess_pgn.specs.LastTags.{result_tag_of}
 use Rattle.chess_pgn.specs.UnknownVariants.{unknown_variant_in}
 use Rattle.chess_pgn.specs.Tokens.{tokens_from}
@@ -23,18 +23,22 @@ use Rattle.pgn_verifier.specs.Reports.{Report, Game, Faulty, Placed, fault_in, g
 use Rattle.pgn_verifier.specs.declared.game_fault.GameFault.{GameFault}
 use Rattle.pgn_verifier.specs.laws.Reasons.{explanation_of}
 
--- what is read of a text from an offset on: a game of at most 20,000 half-moves, none, or a fault
-abbrev pub read_at : List ℕ → ℕ → GameRead
-read_at = pgn_read MOST_MOVES
+-- what is read of a text from an offset on: a game of at most 20,000 half-moves, none, or a fault. `draws`: whether the
+-- draws of 2014 end a game
+abbrev pub read_at : Bool → List ℕ → ℕ → GameRead
+read_at draws = pgn_read draws MOST_MOVES
 
--- what is reported of the game from the offset `at` on: its end, its fault, or `None` if the text has no more games.
--- `strict`: what is looked for at a game's end
-abbrev pub judged_at : Strictness → List ℕ → ℕ → Result (Option PgnEnd) GameFault
-judged_at strict text at =
-    let read = read_at text at in
+-- what is reported of the game from the offset `at` on of which this was read (`read`): its end, its fault, or `None`
+-- if the text has no more games. `strict`: what is looked for
+abbrev pub judged_of : Strictness → List ℕ → ℕ → GameRead → Result (Option PgnEnd) GameFault
+judged_of strict text at read =
     let tokens = tokens_from text (after_byte_order_mark text at) in
     judged strict (variation_in tokens_from text at read.state.start) (unknown_variant_in (length text) tokens)
-    (result_tag_of (length text) tokens) (verdict_now read.state) read.answer
+    (result_tag_of (length text) tokens) (ending strict.draws_of_2014 read.state) read.answer
+
+-- what is reported of the game from the offset `at` on
+abbrev pub judged_at : Strictness → List ℕ → ℕ → Result (Option PgnEnd) GameFault
+judged_at strict text at = judged_of strict text at (read_at strict.draws_of_2014 text at)
 
 -- where reading goes on after the game from the offset `at` on, if that has a fault (`next_begin`)
 abbrev pub next_at : Bool → List ℕ → ℕ → Option ℕ
@@ -42,14 +46,14 @@ next_at goes_on text at = next_begin goes_on (length text) (tokens_from text (af
 
 -- the report on a game of a text, from how it was judged and the game that was read (`s`), and then what `later` gives
 -- for the offset of its end; after a fault what it gives for `next`, if that is some offset. `start` is the input's
--- offset at which the text begins
-abbrev pub report_then : ℕ → List ℕ → Option ℕ → Result (Option PgnEnd) GameFault → State → (ℕ → List Report)
+-- offset at which the text begins; `draws`: whether the draws of 2014 end a game
+abbrev pub report_then : Bool → ℕ → List ℕ → Option ℕ → Result (Option PgnEnd) GameFault → State → (ℕ → List Report)
     → List Report
-report_then start text next (Ok None) s later = []
-report_then start text next (Ok (Some end)) s later =
+report_then draws start text next (Ok None) s later = []
+report_then draws start text next (Ok (Some end)) s later =
     Game (length s.moves) end.outcome end.termination ∷ later end.offset
-report_then start text next (Err fault) s later =
-    fault_in start text fault (explanation_of s (drop fault.offset text) fault.kind) ∷ option_map_or later next []
+report_then draws start text next (Err fault) s later =
+    fault_in start text fault (explanation_of draws s (drop fault.offset text) fault.kind) ∷ option_map_or later next []
 
 -- the reports on at most n games (the fourth argument) of a text from its offset `at` on, up to its first fault, or if
 -- `goes_on` also after faults. The text begins at the offset `start` of the input; `strict`: what is looked for at a
@@ -57,7 +61,8 @@ report_then start text next (Err fault) s later =
 unfoldable pub games_from : Bool → Strictness → ℕ → ℕ → List ℕ → ℕ → List Report
 games_from goes_on strict start zero text at = []
 games_from goes_on strict start (suc n) text at =
-    report_then start text (next_at goes_on text at) (judged_at strict text at) (read_at text at).state
+    report_then strict.draws_of_2014 start text (next_at goes_on text at) (judged_at strict text at)
+    (read_at strict.draws_of_2014 text at).state
     (λ next. games_from goes_on strict start n text next)
 
 -- the reports of `games_from` up to the first fault
@@ -109,30 +114,33 @@ game_placed start text at end s = record {
 }
 
 -- the report on the game of a text from its offset `at` on, with its span and names, if it has this fault. Reading
--- continues at `next`; if that is `None`, it doesn't, and the span goes to the text's end
-abbrev pub fault_placed : Bool → ℕ → List ℕ → ℕ → Option ℕ → GameFault → State → Placed
-fault_placed goes_on start text at next fault s = record {
+-- continues at `next`; if that is `None`, it doesn't, and the span goes to the text's end. `draws`: whether the draws of
+-- 2014 end a game
+abbrev pub fault_placed : Bool → Bool → ℕ → List ℕ → ℕ → Option ℕ → GameFault → State → Placed
+fault_placed draws goes_on start text at next fault s = record {
   begin = start + game_begin text at;
   end = start + unwrap_or next (length text);
   first = shown (drop (game_begin text at) text);
   unread = option_map (λ offset. start + offset) (unread_from goes_on (length text) fault.offset next);
   names = Some (names_at text at);
-  report = fault_in start text fault (explanation_of s (drop fault.offset text) fault.kind);
+  report = fault_in start text fault (explanation_of draws s (drop fault.offset text) fault.kind);
 }
 
 -- the report on the game of a text from its offset `at` on, with its span and names, as `report_then` gives it without
-abbrev pub placed_then : Bool → ℕ → List ℕ → ℕ → Option ℕ → Result (Option PgnEnd) GameFault → State
+abbrev pub placed_then : Bool → Bool → ℕ → List ℕ → ℕ → Option ℕ → Result (Option PgnEnd) GameFault → State
     → (ℕ → List Placed) → List Placed
-placed_then goes_on start text at next (Ok None) s later = []
-placed_then goes_on start text at next (Ok (Some end)) s later = game_placed start text at end s ∷ later end.offset
-placed_then goes_on start text at next (Err fault) s later =
-    fault_placed goes_on start text at next fault s ∷ option_map_or later next []
+placed_then draws goes_on start text at next (Ok None) s later = []
+placed_then draws goes_on start text at next (Ok (Some end)) s later =
+    game_placed start text at end s ∷ later end.offset
+placed_then draws goes_on start text at next (Err fault) s later =
+    fault_placed draws goes_on start text at next fault s ∷ option_map_or later next []
 
 -- the reports of `games_from`, with their spans
 unfoldable pub placed_from : Bool → Strictness → ℕ → ℕ → List ℕ → ℕ → List Placed
 placed_from goes_on strict start zero text at = []
 placed_from goes_on strict start (suc n) text at =
-    placed_then goes_on start text at (next_at goes_on text at) (judged_at strict text at) (read_at text at).state
+    placed_then strict.draws_of_2014 goes_on start text at (next_at goes_on text at) (judged_at strict text at)
+    (read_at strict.draws_of_2014 text at).state
     (λ next. placed_from goes_on strict start n text next)
 
 -- the reports of `games_of`, with their spans

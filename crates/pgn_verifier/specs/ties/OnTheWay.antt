@@ -3,6 +3,7 @@
 use Rattle.std.specs.Prelude.{◌≡◌, ◌<◌, ℕ, true, false, List, [], ◌∷◌, length, take, drop, codes, decimal, Option, Some, None, Result, Ok, Err, ◌≤◌, ◌+◌, ◌++◌, if◌then◌else◌, Bool}
 use Rattle.std.specs.List.{flat_map, fold}
 use Rattle.std.specs.Option.{option_map_or}
+use Rattle.chess_pgn.specs.declared.read.PgnEnd.{PgnEnd}
 use Rattle.chess_pgn.specs.declared.read.PgnFaultKind.TheVariants.{TooLong}
 use Rattle.pgn_verifier.specs.declared.options.Strictness.{Strictness}
 use Rattle.pgn_verifier.specs.Explanations.{shown}
@@ -26,9 +27,16 @@ use Rattle.pgn_verifier.specs.declared.tally.Tally.{Tally}
 use Rattle.pgn_verifier.specs.declared.tally.Verified.{Verified}
 use Rattle.pgn_verifier.specs.Reports.{Report, Game, Faulty, Placed, counts_of, verified, report_line, report_lines, without_spans, counts_line}
 use Rattle.pgn_verifier.specs.Collection.{VerifiesCollection}
+use Rattle.pgn_verifier.specs.declared.judged.Judged.{Judged}
 use Rattle.pgn_verifier.specs.laws.Reported.{placed_of, placed_on, collection_placed}
 use Rattle.pgn_verifier.specs.declared.label.Span.{Span}
 use Rattle.pgn_verifier.specs.declared.start.TextStart.{TextStart}
+
+-- what is reported of a game, from what code returned of it: its end without how many half-moves it has
+abbrev pub end_seen : Result (Option Judged) GameFault → Result (Option PgnEnd) GameFault
+end_seen (Ok None) = Ok None
+end_seen (Ok (Some judged)) = Ok (Some judged.end)
+end_seen (Err fault) = Err fault
 
 -- between the input's states `r` and `r'` all that was left of the input was read: this text, which has at most
 -- 16,777,216 bytes

@@ -9,6 +9,7 @@ AreShort tokens = AllByRecursion (λ t. (0 < length t) × (length t ≤ 79)) tok
 
 -- `texts` are the texts of lines that are as full as they can be (`AreFullLines`) and hold these tokens, in order
 pub record AreFilled (tokens texts : List (List ℕ)) : Type 0 where
+  -- the lines, each as its tokens
   pub lines : List (List (List ℕ))
   pub full : AreFullLines lines
   pub all : flat_map (λ line. line) lines ≡ tokens

@@ -1,7 +1,7 @@
 -- A value that was given is a number in its range, so it parses (accepts-Accepts); it is the first in the row of the
 -- option (first_value-rows).
-use Rattle.std.proofs.Common.{rules, ◌≡◌, ◌∙◌, ◌≤◌, ◌<◌, ◌^◌, ℕ, ap, Option, Some, None, option_map, sym, arith, false}
-use Rattle.clap.specs.Words.{Text, first_of, first_value, found_of, rows_of}
+use Rattle.std.proofs.Common.{rules, ◌≡◌, ◌∙◌, ◌≤◌, ◌<◌, ◌^◌, ℕ, ap, Some, None, option_map, sym, arith, false}
+use Rattle.clap.specs.Words.{first_of, first_value, found_of, rows_of}
 use Rattle.clap.specs.declared.builder.value_parser.ValueParser.TheVariants as vp
 use Rattle.clap.proofs.{WalkLemmas.first_value-rows, ValueTestLemmas.accepts-Accepts}
 use Rattle.arbiter_cli.specs.Plans.{number_of}

@@ -28,12 +28,11 @@ returns-clause-app c =
     let e7 = c.in_ok-arg-7.ensures.shape c.games_option.ensures.local ∙ ap₂ with_rule e6 c.games_option.ensures.rule in
     let e8 = c.in_ok-arg-8.ensures.shape c.option-5.ensures.local ∙ ap₂ with_rule e7 date in
     let e9 = c.in_ok-arg-9.ensures.shape c.variant_option.ensures.local ∙ ap₂ with_rule e8 variant.2 in
-    let log : rule_of c.flag.result ≡ flag_rule (codes "log") = search rules in
-    let falls : rule_of c.flag-2.result ≡ flag_rule (codes "flag") = search rules in
+    let falls : rule_of c.flag.result ≡ flag_rule (codes "flag") = search rules in
     let reply = c.reply_timeout_option.ensures in
     let e10 = c.in_ok-arg-10.ensures.shape c.draws_option.ensures.local ∙ ap₂ with_rule e9 draws.2 in
-    let e11 = c.in_ok-arg-11.ensures.shape c.flag.ensures.local ∙ ap₂ with_rule e10 log in
-    let e12 = c.in_ok-arg-12.ensures.shape c.flag-2.ensures.local ∙ ap₂ with_rule e11 falls in
+    let e11 = c.in_ok-arg-11.ensures.shape c.log_option.ensures.local ∙ ap₂ with_rule e10 c.log_option.ensures.rule in
+    let e12 = c.in_ok-arg-12.ensures.shape c.flag.ensures.local ∙ ap₂ with_rule e11 falls in
     let names : OptionNames = record { variants = variant.0; draws = draws.0 } in
     IfOk-weaker c.arg-13.result _ _
     (λ r h. (names, (variant.1, draws.1), h.shape reply.local ∙ ap₂ with_rule e12 reply.rule))
@@ -52,6 +51,6 @@ returns-clause-local c =
     let e8 = c.in_ok-arg-8.ensures.globals ∙ ap₂ or e7 c.option-5.ensures.local in
     let e9 = c.in_ok-arg-9.ensures.globals ∙ ap₂ or e8 c.variant_option.ensures.local in
     let e10 = c.in_ok-arg-10.ensures.globals ∙ ap₂ or e9 c.draws_option.ensures.local in
-    let e11 = c.in_ok-arg-11.ensures.globals ∙ ap₂ or e10 c.flag.ensures.local in
-    let e12 = c.in_ok-arg-12.ensures.globals ∙ ap₂ or e11 c.flag-2.ensures.local in
+    let e11 = c.in_ok-arg-11.ensures.globals ∙ ap₂ or e10 c.log_option.ensures.local in
+    let e12 = c.in_ok-arg-12.ensures.globals ∙ ap₂ or e11 c.flag.ensures.local in
     IfOk-weaker c.arg-13.result _ _ (λ r h. h.globals ∙ ap₂ or e12 c.reply_timeout_option.ensures.local) c.arg-13.ensures

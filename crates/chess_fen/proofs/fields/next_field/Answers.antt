@@ -1,4 +1,4 @@
--- Spaces before a field don't count; after them the field goes up to the next space, if anything is left (Splits).
+-- Spaces before a field don't count; after them the field goes up to the next space, if anything is left (CutFields).
 use Rattle.std.proofs.Common.{arith, ◌<◌, ◌≡◌, length}
 use Rattle.std.proofs.lemmas.Bool.Decides.{nat_tests}
 use Rattle.chess_fen.proofs.CutFields.{next_fields, no_fields}

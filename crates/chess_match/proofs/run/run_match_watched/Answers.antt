@@ -2,7 +2,7 @@
 use Rattle.std.proofs.Common.{◌≡◌, ℕ, [], ◌∷◌, ap}
 use Rattle.chess_base.specs.ByColour.{by_colour}
 use Rattle.text_lines.specs.Lines.{nothing_held}
-use Rattle.chess_match.proofs.{Delivers.both_sides, DesksPlayed.desk_ran, DesksPlayed.names_kept}
+use Rattle.chess_match.proofs.{LineNeeds.both_sides, DesksPlayed.desk_ran, DesksPlayed.names_kept}
 use Rattle.chess_match.proofs.run.run_match_watched.Goals as goal
 
 -- six names that are the same, one by one

@@ -1,7 +1,7 @@
 -- White's last lines are noted and sent, and then Black's; what passes for both is what passes for one after the other.
 use Rattle.std.proofs.Common.{◌≡◌, ◌<◌, length, true}
 use Rattle.chess_base.specs.ByColour.{by_colour}
-use Rattle.chess_match.proofs.{Delivers.both_sides, Passings.passed_more}
+use Rattle.chess_match.proofs.{LineNeeds.both_sides, Passings.passed_more}
 use Rattle.chess_match.proofs.run.send_last.Goals as goal
 
 pub returns-clause-sent : goal.returns-clause-sent

@@ -1,5 +1,6 @@
--- What some lines of engines say, by computation (WorkedLines).
+-- What some lines of engines say, and how many are ignored, by computation (WorkedLines, WorkedTurns).
 use Rattle.chess_match_laws.proofs.WorkedLines.{features_are_on, items_are_read, lines_say}
+use Rattle.chess_match_laws.proofs.WorkedTurns.{ignored_are_counted}
 use Rattle.chess_match_laws.proofs.worked.engine_lines_are_worked_out.Goals as goal
 
 pub returns-clause-lines : goal.returns-clause-lines
@@ -10,3 +11,6 @@ returns-clause-items c = items_are_read
 
 pub returns-clause-features : goal.returns-clause-features
 returns-clause-features c = features_are_on
+
+pub returns-clause-counts : goal.returns-clause-counts
+returns-clause-counts c = ignored_are_counted

@@ -4,7 +4,7 @@
 use Rattle.chess_pgn.specs.{ties.Seen.token_seen, ties.Seen.fault_seen, declared.read.PgnFaultKind.TheVariants.NoResult, ties.GameSteps.so_far, ties.GameSteps.StopsAt}
 use Rattle.chess_pgn.proofs.{TokenPlaces.token_within, GamesByTags.as_said}
 use Rattle.chess_pgn.proofs.GameReads.{read_from, more, alike, further, bare_at_fault}
-use Rattle.std.proofs.Common.{length, subst, Some, None, Ok, Err, rules}
+use Rattle.std.proofs.Common.{true, length, subst, Some, None, Ok, Err, rules}
 use Rattle.chess_pgn.proofs.read.read_pgn.Goals as goal
 
 pub apply_token-requires-clause-within : goal.apply_token-requires-clause-within
@@ -59,25 +59,26 @@ returns-in_err-further-in-Ok-Some-clause-undeclared g c =
 
 pub returns-in_err-further-in-Ok-Some-clause-said : goal.returns-in_err-further-in-Ok-Some-clause-said
 returns-in_err-further-in-Ok-Some-clause-said g c =
-    as_said c.args.game.now.limit c.args.text.now c.args.at c.args.game.now c.apply_token.new.game
+    as_said true c.args.game.now.limit c.args.text.now c.args.at c.args.game.now c.apply_token.new.game
     c.from_residual.result (search rules) (search rules)
 
 pub returns-in-Ended-clause-said : goal.returns-in-Ended-clause-said
 returns-in-Ended-clause-said g c =
-    as_said c.args.game.now.limit c.args.text.now c.args.at c.args.game.now c.apply_token.new.game
+    as_said true c.args.game.now.limit c.args.text.now c.args.at c.args.game.now c.apply_token.new.game
     (Ok (Some c.in-Ended.end)) (search rules) (search rules)
 
 pub returns-in-Ok-None-clause-said : goal.returns-in-Ok-None-clause-said
 returns-in-Ok-None-clause-said g c =
-    as_said c.args.game.now.limit c.args.text.now c.args.at c.args.game.now c.loop-token.game
+    as_said true c.args.game.now.limit c.args.text.now c.args.at c.args.game.now c.loop-token.game
     (Err (record { kind = NoResult; offset = length c.args.text.now })) (search rules) (search rules)
 
 pub returns-in-Ok-None-2-clause-said : goal.returns-in-Ok-None-2-clause-said
 returns-in-Ok-None-2-clause-said g c =
-    as_said c.args.game.now.limit c.args.text.now c.args.at c.args.game.now c.loop-token.game (Ok None) (search rules)
+    as_said true c.args.game.now.limit c.args.text.now c.args.at c.args.game.now c.loop-token.game (Ok None)
+    (search rules)
     (search rules)
 
 pub returns-in-Err-clause-said : goal.returns-in-Err-clause-said
 returns-in-Err-clause-said g c =
-    as_said c.args.game.now.limit c.args.text.now c.args.at c.args.game.now c.loop-token.game
+    as_said true c.args.game.now.limit c.args.text.now c.args.at c.args.game.now c.loop-token.game
     (Err c.reported_fault.result) (search rules) (search rules)

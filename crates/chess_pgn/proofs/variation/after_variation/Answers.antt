@@ -1,5 +1,6 @@
 -- The rest, with so many variations open, ends where the whole variation ends: each part that is skipped at once is a
--- step of the definition (Variations.part_is), and a byte opens at most one more.
+-- step of the definition (part_is of VariationParts), a byte opens at most one more (depth_few), and a comment without
+-- an end ends all (part_unclosed).
 use Rattle.std.proofs.Common.{sym, ◌∙◌, get_or, Some, arith}
 use Rattle.chess_pgn.proofs.VariationParts.{part_unclosed, part_is, depth_few}
 use Rattle.chess_pgn.proofs.variation.after_variation.Goals as goal

@@ -1,14 +1,15 @@
 -- The three definitions agree, since a text has only one split into tokens (Games and Tokens of chess_pgn).
-use Rattle.std.proofs.Common.{ℕ, List, refl}
+use Rattle.std.proofs.Common.{ℕ, Bool, List, refl}
 use Rattle.chess_pgn.specs.{GameRead.IsRead, GameRead.pgn_read, Tokens.tokens_from}
 use Rattle.byte_devices.specs.Bytes.{after_byte_order_mark}
 use Rattle.chess_pgn.proofs.{shared.Games.only_read, shared.Games.reads_alike, shared.Tokens.read_split}
 use Rattle.chess_pgn_laws.proofs.laws.a_game_is_tags_and_moves.Goals as goal
 
 -- what is read is what the only split of the text says
-is_read : (limit : ℕ) (text : List ℕ) (at : ℕ) → IsRead limit text at (pgn_read limit text at)
+is_read : (draws : Bool) (limit : ℕ) (text : List ℕ) (at : ℕ)
+    → IsRead draws limit text at (pgn_read draws limit text at)
 unfolding pgn_read
-is_read limit text at = record {
+is_read draws limit text at = record {
   tokens = tokens_from text (after_byte_order_mark text at);
   split = read_split text (after_byte_order_mark text at);
   is = refl;

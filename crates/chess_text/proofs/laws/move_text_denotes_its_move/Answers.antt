@@ -1,5 +1,5 @@
--- The text is that of the coordinates, which denotes its move alone (CoordinateLaw), or in Chess960 that of castling to
--- a side, which is one move (castling_law of SanLaw).
+-- The text is that of the coordinates, which denotes its move alone, or in Chess960 that of castling to a side, which
+-- is one move (ShownLaw, from CoordinateLaw and castling_law of SanLaw).
 use Rattle.chess_text.proofs.ShownLaw.{shown_alone, shown_shape, shown_read}
 use Rattle.chess_text.proofs.laws.move_text_denotes_its_move.Goals as goal
 

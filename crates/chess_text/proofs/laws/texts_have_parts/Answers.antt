@@ -1,5 +1,5 @@
 -- Each part shows by its first byte, but for a file, which is the start's just where a square follows: so parts and
--- their texts fit one to one (Grammar). Else a text denotes castling or nothing (Alone).
+-- their texts fit one to one (Grammar). Else a text denotes castling or nothing (OneMoveFits).
 use Rattle.chess_text.proofs.{OneMoveFits.shaped_by_text, Denotations.denoted_by_text, Grammar.denoted-parts, Grammar.parts-denoted}
 use Rattle.chess_text.proofs.laws.texts_have_parts.Goals as goal
 

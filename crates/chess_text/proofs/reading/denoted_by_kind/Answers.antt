@@ -1,5 +1,5 @@
 -- The moves that the parts denote are those from the squares with such a piece that has the legal move (by_starts of
--- Starts).
+-- MovesFromStarts).
 use Rattle.std.proofs.Common.{ap, ◌∙◌, flat_map}
 use Rattle.chess_moves.specs.Sets.{members}
 use Rattle.chess_text.specs.{Moves.one_of, ties.Forms.denoted_start}

@@ -1,6 +1,6 @@
 -- What passed at the table passed at the host, to which the table still holds the reference (HostSteps.by_table,
 -- name_kept).
-use Rattle.std.proofs.Common.{◌≡◌, ap, subst, sym}
+use Rattle.std.proofs.Common.{ap, subst, sym}
 use Rattle.match_runner.specs.GamesTable.{HostFuture, Outputs, PlaysBy, StepsPass, at_host}
 use Rattle.match_runner.specs.Log.{log_seen}
 use Rattle.match_runner.proofs.HostSteps.{by_table, name_kept}

@@ -1,6 +1,6 @@
 -- The clock was opened, and then came the host's steps at the table (HostSteps.plays_with); or memory ran out before
 -- (HostSteps.no_memory).
-use Rattle.std.proofs.Common.{◌≡◌, ◌∙◌, Err, ap}
+use Rattle.std.proofs.Common.{◌∙◌, Err, ap}
 use Rattle.std.proofs.lemmas.Result.{err_from_is_err_and}
 use Rattle.match_runner.proofs.HostSteps.{no_memory, plays_with}
 use Rattle.match_runner.proofs.games.play_games_with.Goals as goal

@@ -1,6 +1,6 @@
 -- Both faults are in the text (FaultsInText), so the first of them is.
 use Rattle.std.proofs.Common.{length, sym, subst}
-use Rattle.chess_game.specs.Game.{verdict_now}
+use Rattle.chess_pgn.specs.GameRead.{ending}
 use Rattle.pgn_verifier.specs.GameFaults.{board_says_otherwise}
 use Rattle.pgn_verifier.proofs.FaultsInText.{InText, first_within, board_within, looked_within}
 use Rattle.pgn_verifier.proofs.contradiction.contradiction.Goals as goal
@@ -8,7 +8,7 @@ use Rattle.pgn_verifier.proofs.contradiction.contradiction.Goals as goal
 pub returns-clause-within : goal.returns-clause-within
 returns-clause-within g c =
     let len = length c.args.text.now in
-    let verdict = verdict_now c.args.game.now.state in
+    let verdict = ending c.args.strict.draws_of_2014 c.args.game.now.state in
     subst (InText len) (sym c.or.ensures)
     (first_within len c.result_fault.result c.board_fault.result c.result_fault.ensures.within
     (subst (InText len) (sym c.board_fault.ensures)

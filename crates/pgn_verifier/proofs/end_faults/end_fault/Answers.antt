@@ -1,4 +1,4 @@
--- All faults are in the text, so the first of them is.
+-- Both faults are in the text, so the first of them is.
 use Rattle.std.proofs.Common.{length, sym, subst}
 use Rattle.pgn_verifier.proofs.FaultsInText.{InText, first_within}
 use Rattle.pgn_verifier.proofs.end_faults.end_fault.Goals as goal
@@ -6,8 +6,5 @@ use Rattle.pgn_verifier.proofs.end_faults.end_fault.Goals as goal
 pub returns-clause-within : goal.returns-clause-within
 returns-clause-within c =
     subst (InText (length c.args.text.now)) (sym c.or.ensures)
-    (first_within (length c.args.text.now) c.variation_fault.result c.or-found.result
-    c.variation_fault.ensures.within
-    (subst (InText (length c.args.text.now)) (sym c.or-found.ensures)
-    (first_within (length c.args.text.now) c.variant_fault.result c.contradiction.result
-    c.variant_fault.ensures.within c.contradiction.ensures.within)))
+    (first_within (length c.args.text.now) c.variation_fault.result c.fault_but_variations-found.result
+    c.variation_fault.ensures.within c.fault_but_variations-found.ensures.within)

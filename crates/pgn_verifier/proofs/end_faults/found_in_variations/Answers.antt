@@ -12,4 +12,4 @@ returns-clause-within c =
 pub returns-then-end-first-clause-fault : goal.returns-then-end-first-clause-fault
 returns-then-end-first-clause-fault c =
     let first = c.after_byte_order_mark-first.ensures.offset in
-    sym (none_without_bytes c.args.text.now c.args.at c.args.game.now.state.start c.args.end (omega (arith, first)))
+    sym (none_without_bytes c.args.text.now c.args.at c.args.start.now c.args.end (omega (arith, first)))

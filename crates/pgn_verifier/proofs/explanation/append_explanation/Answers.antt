@@ -6,7 +6,7 @@ pub returns-clause-text : goal.returns-clause-text
 returns-clause-text g c =
     rw (
       c.append_reason.ensures.text,
-      c.verdict.ensures,
+      c.ending.ensures,
       c.append_position.ensures.text,
       c.append.ensures.text,
       c.as_slice.ensures.value,

@@ -17,5 +17,6 @@ returns-then-explain c input stands =
       c.as_slice.ensures.value,
       c.shown.ensures.text,
       c.append_place.ensures.text,
-      c.fault_line-lines.ensures.text,
+      c.append_fault_line.ensures.text,
+      c.new-lines.ensures,
     ) (simp append_assoc)

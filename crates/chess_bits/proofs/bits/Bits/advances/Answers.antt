@@ -1,4 +1,6 @@
--- A pawn is on neither end rank, so the square ahead of it is on the board (off_lowest, on_board of OriginsOf).
+-- If the square ahead holds a piece, the pawn doesn't advance (blocked of TargetsOf); off its home rank it goes just
+-- there (one_only), from home also to the second square, if that is empty (two_too). A pawn is on neither end rank, so
+-- the square ahead of it is on the board (off_lowest, on_board of OriginsOf).
 use mathlib.Core.Bool.{not-not}
 use Rattle.std.proofs.Common.{◌≡◌, ◌<◌, ◌≤◌, ◌==◌, ◌&&◌, ℕ, not, true, is_none, sym, arith, ◌∙◌}
 use Rattle.chess_base.specs.Men.{forward, is_man, man_at, pawn_rank}
@@ -10,19 +12,22 @@ use Rattle.chess_bits.proofs.TargetsOf.{next_is, second_is, met_is, blocked, one
 use Rattle.chess_moves.specs.Sets.{contains}
 use Rattle.chess_bits.proofs.bits.Bits.advances.Goals as goal
 
+-- a pawn is not on rank 1
 high : (p : Setup) (a : ℕ) → IsSound p → is_man p.side Pawn (man_at p.men a) ≡ true → a < 64 → 8 ≤ a
 unfolding no_pawn_on_end_ranks
 high p a sound pawn low = off_lowest p.men p.side a pawn (each_square-at _ sound.pawns a low)
 
-bare : (p : Setup) (a s w full met : ℕ) → IsSound p → is_man p.side Pawn (man_at p.men a) ≡ true → a < 64
+-- nothing is met ahead exactly if the square ahead is empty
+free_if_none_met : (p : Setup) (a s w full met : ℕ) → IsSound p → is_man p.side Pawn (man_at p.men a) ≡ true → a < 64
     → ((j : ℕ) → contains s j ≡ (j == a)) → IsAhead p.side s w → IsOccupied full p.men
     → ((k : ℕ) → contains met k ≡ (contains w k && contains full k))
     → not (some_square (λ k. contains met k)) ≡ is_none (man_at p.men (forward p.side a))
 unfolding no_pawn_on_end_ranks
-bare p a s w full met sound pawn low one h stood both =
+free_if_none_met p a s w full met sound pawn low one h stood both =
     met_is p.men (forward p.side a) w full met (on_board p.men p.side a pawn (each_square-at _ sound.pawns a low) low)
     (λ k l. next_is p.side a s w k (high p a sound pawn low) one h l) stood.of_men both
 
+-- something is met ahead
 pub returns-then-not-is_empty : goal.returns-then-not-is_empty
 returns-then-not-is_empty c = λ k low.
     let p = c.self.inside.setup in
@@ -30,18 +35,19 @@ returns-then-not-is_empty c = λ k low.
     rw (← c.self.view_is)
     (c.empty.ensures k
     ∙ blocked p c.args.from k pawn
-    (sym (bare p c.args.from c.single.result c.ahead-next.result c.occupied-occupied.result c.intersection-met.result
-    c.self.invariant.0 pawn c.single.ensures.in_range c.single.ensures.value c.ahead-next.ensures
-    (c.occupied-occupied.ensures p.men c.self.invariant.1) c.intersection-met.ensures)
+    (sym (free_if_none_met p c.args.from c.single.result c.ahead-next.result c.occupied-occupied.result
+    c.intersection-met.result c.self.invariant.0 pawn c.single.ensures.in_range c.single.ensures.value
+    c.ahead-next.ensures (c.occupied-occupied.ensures p.men c.self.invariant.1) c.intersection-met.ensures)
     ∙ sym c.is_empty.ensures.none ∙ c.if-not-is_empty.true))
 
+-- nothing is met, and the pawn is off its home rank
 pub returns-then-rank-pawn_rank : goal.returns-then-rank-pawn_rank
 returns-then-rank-pawn_rank c = λ k low.
     let p = c.self.inside.setup in
     let a = c.args.from in
     let pawn : is_man p.side Pawn (man_at p.men a) ≡ true = rw c.self.view_is c.requires in
     let free : is_none (man_at p.men (forward p.side a)) ≡ true =
-    sym (bare p a c.single.result c.ahead-next.result c.occupied-occupied.result c.intersection-met.result
+    sym (free_if_none_met p a c.single.result c.ahead-next.result c.occupied-occupied.result c.intersection-met.result
     c.self.invariant.0 pawn c.single.ensures.in_range c.single.ensures.value c.ahead-next.ensures
     (c.occupied-occupied.ensures p.men c.self.invariant.1) c.intersection-met.ensures)
     ∙ sym c.is_empty.ensures.none ∙ c.if-not-is_empty.false in
@@ -50,6 +56,7 @@ returns-then-rank-pawn_rank c = λ k low.
     (next_is p.side a c.single.result c.ahead-next.result k (high p a c.self.invariant.0 pawn c.single.ensures.in_range)
     c.single.ensures.value c.ahead-next.ensures low ∙ one_only p a k pawn free away)
 
+-- nothing is met, and the pawn is at home
 pub returns : goal.returns
 returns c = λ k low.
     let p = c.self.inside.setup in
@@ -58,7 +65,7 @@ returns c = λ k low.
     let start = high p a c.self.invariant.0 pawn c.single.ensures.in_range in
     let full = c.occupied-occupied.ensures p.men c.self.invariant.1 in
     let free : is_none (man_at p.men (forward p.side a)) ≡ true =
-    sym (bare p a c.single.result c.ahead-next.result c.occupied-occupied.result c.intersection-met.result
+    sym (free_if_none_met p a c.single.result c.ahead-next.result c.occupied-occupied.result c.intersection-met.result
     c.self.invariant.0 pawn c.single.ensures.in_range c.single.ensures.value c.ahead-next.ensures full
     c.intersection-met.ensures)
     ∙ sym c.is_empty.ensures.none ∙ c.if-not-is_empty.false in

@@ -1,4 +1,4 @@
--- The position before a move that was made is that sound position (Steps of chess_moves); the sets change as the pieces
+-- The position before a move that was made is that sound position (Made of chess_moves); the sets change as the pieces
 -- do.
 use Rattle.chess_moves.proofs.shared.Made.{IsMade-sound, WasMade-back}
 use Rattle.chess_bits.proofs.bits.BitsBoard.take_back.Goals as goal

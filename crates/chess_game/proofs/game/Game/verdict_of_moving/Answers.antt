@@ -1,4 +1,5 @@
--- The legal move is in the list of the board's position (some_legal of SomeLegal), so that list isn't empty.
+-- The legal move is in the list of the board's position (some_legal of chess_moves' LegalMoves), so that list isn't
+-- empty.
 use Rattle.chess_moves.proofs.shared.LegalMoves.{some_legal}
 use Rattle.chess_game.proofs.game.Game.verdict_of_moving.Goals as goal
 

@@ -4,4 +4,4 @@ use Rattle.pgn_verifier.proofs.NamesShown.{unnamed}
 use Rattle.pgn_verifier.proofs.label.FaultLabel.of_piece.Goals as goal
 
 pub returns-clause-names : goal.returns-clause-names
-returns-clause-names c = c.new-2.ensures ∙ sym (unnamed c.args.options)
+returns-clause-names c = c.new.ensures ∙ sym (unnamed c.args.options)

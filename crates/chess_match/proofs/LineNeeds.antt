@@ -1,4 +1,5 @@
--- What the core, the match and the game say of one another.
+-- What `MatchState::line` requires of the core (its clauses `counted`, `few` and `undecided`) follows from `Represents`
+-- and `IsSane`; and what holds of White and of Black holds of each side.
 use Rattle.std.proofs.Common.{◌≡◌, ◌<◌, ◌≤◌, true, List, length, ap, ◌∙◌, arith, None}
 use Rattle.chess_base.specs.{declared.man.Colour.Colour, declared.man.Colour.TheVariants.White, declared.man.Colour.TheVariants.Black, declared.man.Move.Move}
 use Rattle.cecp_engine.specs.Clocks.{side_clock}
@@ -10,7 +11,7 @@ pub both_sides : (P : Colour → Type 0) → P White → P Black → (S : Colour
 both_sides P w b White = w
 both_sides P w b Black = b
 
--- ---- what a line asks of the core
+-- ---- what MatchState::line requires
 
 pub counted : (r : Rules) (core : MatchState) (played : List Move) (m : Match) → Represents r core played m → IsSane r m
     → core.count < 10000

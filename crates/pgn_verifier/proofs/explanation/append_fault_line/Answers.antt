@@ -1,7 +1,7 @@
 -- The code appends the parts one by one, which groups them to the left; the definition groups them to the right.
 use Rattle.std.proofs.Common.{append_assoc}
 use Rattle.pgn_verifier.specs.Reports.{report_line}
-use Rattle.pgn_verifier.proofs.explanation.fault_line.Goals as goal
+use Rattle.pgn_verifier.proofs.explanation.append_fault_line.Goals as goal
 
 pub returns-clause-text : goal.returns-clause-text
 unfolding report_line
@@ -17,5 +17,4 @@ returns-clause-text c =
       c.append-2.ensures.text,
       c.append_number.ensures.text,
       c.append.ensures.text,
-      c.new-lines.ensures,
     ) (simp append_assoc)

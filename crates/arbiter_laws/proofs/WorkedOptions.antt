@@ -1,0 +1,36 @@
+-- What options mean, by computation.
+use Rattle.std.proofs.Common.{refl}
+use Rattle.cecp_engine.specs.Levels.{base_of, level_reading, milliseconds_of, thousandths_of}
+use Rattle.text_lines.specs.Words.{argument_of}
+use Rattle.arbiter_laws.specs.WorkedOptions.{LevelsAreRead, OptionsMean}
+
+pub levels_are_read : LevelsAreRead
+unfolding argument_of base_of level_reading milliseconds_of thousandths_of
+levels_are_read = record {
+  common = refl;
+  own_of_white = refl;
+  own_of_black = refl;
+  common_first = refl;
+  white_first = refl;
+}
+
+pub options_mean : OptionsMean
+options_mean = record {
+  reply = refl;
+  any_reply = refl;
+  falls = refl;
+  stays = refl;
+  automatic = refl;
+  claimed = refl;
+  keep_going = refl;
+  quiet = refl;
+  explain = refl;
+  spans = refl;
+  names = refl;
+  variations = refl;
+  strict = refl;
+  no_board = refl;
+  only_board = refl;
+  not_strict = refl;
+  after_end = refl;
+}

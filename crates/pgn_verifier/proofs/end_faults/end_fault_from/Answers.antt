@@ -1,0 +1,10 @@
+-- Both faults are in the text, so the first of them is.
+use Rattle.std.proofs.Common.{length, sym, subst}
+use Rattle.pgn_verifier.proofs.FaultsInText.{InText, first_within}
+use Rattle.pgn_verifier.proofs.end_faults.end_fault_from.Goals as goal
+
+pub returns-clause-within : goal.returns-clause-within
+returns-clause-within c =
+    subst (InText (length c.args.text.now)) (sym c.or.ensures)
+    (first_within (length c.args.text.now) c.variation_fault_from.result c.fault_but_variations-found.result
+    c.variation_fault_from.ensures.within c.fault_but_variations-found.ensures.within)

@@ -1,0 +1,12 @@
+-- Lines, spans and pieces by computation (WorkedReports).
+use Rattle.pgn_verifier_laws.proofs.WorkedReports.{games_are_found, pieces_begin, reports_are_written}
+use Rattle.pgn_verifier_laws.proofs.laws.reports_are_worked_out.Goals as goal
+
+pub returns-clause-lines : goal.returns-clause-lines
+returns-clause-lines c = reports_are_written
+
+pub returns-clause-spans : goal.returns-clause-spans
+returns-clause-spans c = games_are_found
+
+pub returns-clause-pieces : goal.returns-clause-pieces
+returns-clause-pieces c = pieces_begin

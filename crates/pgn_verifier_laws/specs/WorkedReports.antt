@@ -1,0 +1,102 @@
+-- What is written of reports, where games begin and end, and into which pieces a collection is cut, worked out.
+use Rattle.std.specs.Prelude.{◌≡◌, ℕ, true, false, List, [], ◌∷◌, map, codes, Some, None}
+use Prim.Native.String.{String as Text}
+use Rattle.chess_game.specs.declared.results.Outcome.TheVariants.{BlackWins, Draw}
+use Rattle.chess_pgn.specs.declared.read.PgnFaultKind.TheVariants.{IllegalMove}
+use Rattle.pgn_pieces.specs.Pieces.{cut}
+use Rattle.pgn_verifier.specs.Reports.{Report, Placed, Game, Faulty, counts_line, counts_of, report_lines}
+use Rattle.pgn_verifier.specs.declared.game_fault.FaultKind.TheVariants.{Pgn}
+use Rattle.pgn_verifier.specs.declared.options.Strictness.{Strictness}
+use Rattle.pgn_verifier.specs.declared.options.VerifyOptions.{VerifyOptions}
+use Rattle.pgn_verifier.specs.laws.Reported.{placed_on}
+use Rattle.pgn_writer.specs.declared.termination.Termination.TheVariants.{TimeForfeit}
+
+-- no contradiction and no variation is looked at
+abbrev pub lenient : Strictness
+lenient = record { draws_of_2014 = true; variations = false; variant = false; result = false; board = false }
+
+-- ---- lines
+
+-- `verify` without options, and with one of these
+abbrev pub plain : VerifyOptions
+plain = record { quiet = false; strict = lenient; spans = false; names = false; explain = false }
+
+abbrev pub with_quiet : VerifyOptions
+with_quiet = record plain { quiet = true }
+
+abbrev pub with_spans : VerifyOptions
+with_spans = record plain { spans = true }
+
+abbrev pub with_names : VerifyOptions
+with_names = record plain { names = true }
+
+-- the report on a game of two half-moves that White lost on time, and that on an illegal move in a game between A and B
+abbrev pub lost : Report
+lost = Game 2 BlackWins (Some TimeForfeit)
+
+abbrev pub illegal : Report
+illegal = Faulty (record { kind = Pgn IllegalMove; offset = 39 }) 39 []
+
+-- the first goes up to the byte 9, the second from the byte 10 on up to the byte 45
+abbrev pub both : List Placed
+both = record {
+  begin = 0;
+  end = 9;
+  first = codes "1.";
+  unread = None;
+  names = Some (codes "C - D, E F");
+  report = lost;
+} ∷ record {
+  begin = 10;
+  end = 45;
+  first = codes "1.";
+  unread = None;
+  names = Some (codes "A - B, E F");
+  report = illegal;
+} ∷ []
+
+-- the lines of these two reports, with these options, are this text
+abbrev pub AreWritten : VerifyOptions → Text → Type 0
+AreWritten options text = report_lines options [] 1 both ≡ codes text
+
+-- the lines of reports, and that of their counts
+pub record ReportsAreWritten : Type 0 where
+  pub plainly : AreWritten plain "game 1: 2 half-moves, 0-1, time forfeit\ngame 2: illegal move at byte 39\n"
+  -- a game without a fault is left out, but it has a number
+  pub quietly : AreWritten with_quiet "game 2: illegal move at byte 39\n"
+  pub spans : AreWritten with_spans
+      "game 1: 2 half-moves, 0-1, time forfeit, bytes 0 to 9\ngame 2: illegal move at byte 39, bytes 10 to 45\n"
+  -- only the line of a fault names the players
+  pub names : AreWritten with_names
+      "game 1: 2 half-moves, 0-1, time forfeit\ngame 2: illegal move at byte 39 | A - B, E F\n"
+  -- two games, of two half-moves and of four, and a fault
+  pub counts : counts_line (counts_of (lost ∷ illegal ∷ Game 4 Draw None ∷ []))
+      ≡ codes "games 2 half-moves 6 faults 1\n"
+
+-- ---- spans
+
+-- the first byte of a report's game, and the byte after its last
+abbrev pub span : Placed → ℕ × ℕ
+span p = (p.begin, p.end)
+
+-- two games of a text, the only ones, begin after the white space before them, and end with their markers
+abbrev pub GamesAreFound : Type 0
+GamesAreFound = map span (placed_on lenient 0 (codes " *\n *")) ≡ (1, 2) ∷ (4, 5) ∷ []
+
+-- ---- pieces
+
+-- a text is cut into these pieces
+abbrev pub AreItsPieces : Text → List (List ℕ) → Type 0
+AreItsPieces text pieces = cut (codes text) ≡ pieces
+
+-- where a piece begins
+pub record PiecesBegin : Type 0 where
+  -- at an Event line after an Event line
+  pub events : AreItsPieces "[Event \"a\"]\n[Event \"b\"]\n" (codes "[Event \"a\"]\n" ∷ codes "[Event \"b\"]\n" ∷ [])
+  -- not at one after other tag lines, nor at another tag line after an Event line
+  pub event_later : AreItsPieces "[White \"a\"]\n[Event \"b\"]\n" (codes "[White \"a\"]\n[Event \"b\"]\n" ∷ [])
+  pub white_later : AreItsPieces "[Event \"a\"]\n[White \"b\"]\n" (codes "[Event \"a\"]\n[White \"b\"]\n" ∷ [])
+  -- not at a tag line after comment lines and blank lines alone
+  pub no_moves : AreItsPieces "%a\n;b\n \n[Event \"c\"]\n" (codes "%a\n;b\n \n[Event \"c\"]\n" ∷ [])
+  -- at any tag line after a line of moves
+  pub moves : AreItsPieces "1. e4 *\n[White \"b\"]\n" (codes "1. e4 *\n" ∷ codes "[White \"b\"]\n" ∷ [])
