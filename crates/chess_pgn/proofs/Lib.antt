@@ -19,8 +19,10 @@ mod TagScans
 mod TagsLeft
 mod TokenPlaces
 mod VariationParts
+mod LineKinds
 mod LinesRead
 mod PassedWords
+mod VariantNames
 mod Walk
 mod ByteRuns
 mod VariationInsides
@@ -29,5 +31,6 @@ mod TagFronts
 mod TokenKinds
 mod TokenSplits
 mod Splits
+mod RowsRead
 mod GamesByTags
 mod PastDraws
