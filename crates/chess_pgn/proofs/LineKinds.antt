@@ -1,7 +1,7 @@
 -- A line of moves by the kinds of its tokens is one by what each token does.
-use Rattle.std.proofs.Common.{◌≡◌, ℕ, ◌-◌, Bool, true, false, cond, List, ◌∷◌, length, drop, take, Option, Some, None, is_some, Ok, refl, codes, ◌||◌, slice_index, ◌==◌}
-use Rattle.std.specs.{List.list_all, Option.option_map_or, Option.option_or, Str.bytes_eq}
-use Rattle.byte_devices.specs.Bytes.{byte, is_digit}
+use Rattle.std.proofs.Common.{◌≡◌, ℕ, ◌-◌, Bool, true, false, cond, List, ◌∷◌, length, Option, Some, None, is_some, Ok, refl, ◌||◌}
+use Rattle.std.specs.{List.list_all, Option.option_map_or, Option.option_or}
+use Rattle.byte_devices.specs.Bytes.{is_digit}
 use Rattle.chess_base.specs.{declared.man.Move.Move, declared.setup.Setup.Setup, Moves.after}
 use Rattle.chess_text.specs.{declared.reading.Reading.Reading, Moves.reading}
 use Rattle.chess_text.specs.declared.reading.Reading.TheVariants as reads

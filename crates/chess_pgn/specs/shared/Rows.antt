@@ -16,7 +16,7 @@ use Rattle.chess_pgn.specs.declared.read.PgnFaultKind.{PgnFaultKind}
 use Rattle.chess_pgn.specs.declared.read.PgnFaultKind.TheVariants.{BadToken, IllegalMove, AmbiguousMove, AfterEnd, TooLong, UnclosedComment, UnclosedVariation, NoResult}
 use Rattle.pgn_writer.specs.declared.termination.Termination.{Termination}
 use Rattle.chess_pgn.specs.GameRead.{GameRead, declared_after, ending}
-use Rattle.chess_pgn.specs.Tokens.{Token, Skip, Word, Bad_tag, Unclosed_comment, Unclosed_variation, Bad}
+use Rattle.chess_pgn.specs.Tokens.{Token, Skip, Word, Unclosed_comment, Unclosed_variation, Bad}
 use Rattle.pgn_writer.specs.Outcomes.{outcome_of}
 use Rattle.chess_pgn.specs.Words.{is_marks}
 
