@@ -22,7 +22,6 @@ mod VariationParts
 mod LineKinds
 mod LinesRead
 mod PassedWords
-mod VariantNames
 mod Walk
 mod ByteRuns
 mod VariationInsides
