@@ -9,9 +9,10 @@ use Rattle.chess_text.specs.{declared.reading.Reading.Reading, Moves.reading}
 use Rattle.chess_text.specs.declared.reading.Reading.TheVariants as reads
 use Rattle.chess_pgn.specs.{declared.read.PgnEnd.PgnEnd, declared.read.PgnFault.PgnFault, declared.read.PgnFaultKind.TheVariants.AfterEnd, declared.read.PgnFaultKind.TheVariants.TooLong, LastTags.says_nothing, LastTags.tag_section, Words.is_marks}
 use Rattle.pgn_writer.specs.{declared.termination.Termination.Termination, Outcomes.outcome_of}
-use Rattle.chess_pgn.specs.GameRead.{GameRead, Row, Goes_on, Ends, Fails, failed, move_row, row, after_row, moves_read, last_start, tagged_variant, read_after_tags, pgn_read}
+use Rattle.chess_pgn.specs.GameRead.{GameRead, moves_read, tagged_variant, read_after_tags, pgn_read}
+use Rattle.chess_pgn.specs.shared.Rows.{Row, Goes_on, Ends, Fails, with_fault, move_row, row, after_row, last_start}
 use Rattle.chess_pgn.specs.Tokens.{Token, Skip, Tag, Word, Bad_tag, Unclosed_comment, Unclosed_variation, Bad, tokens_from}
-use Rattle.chess_pgn.proofs.shared.Games.{fens, termination_in}
+use Rattle.chess_pgn.proofs.shared.Games.{fens, moves_by_row, termination_in}
 
 -- from the game `s` on each word denotes the move at its index, where the game has no verdict and fewer than `limit`
 -- moves
@@ -100,7 +101,9 @@ moves_words : (limit total : ℕ) (termination : Option Termination) (s : State)
     → Words limit s (moves_read true limit total termination s ts).state
 moves_words limit total termination s [] h = absurd h
 moves_words limit total termination s (t ∷ ts) h =
-    by_row (row true limit total s t) refl (λ n k. moves_words limit total termination n ts k) h
+    subst (λ (r : GameRead). IsEnd r.answer → Words limit s r.state)
+    (sym (moves_by_row true limit total termination s t ts))
+    (by_row (row true limit total s t) refl (λ n k. moves_words limit total termination n ts k)) h
   where
     by_row : (x : Row) → row true limit total s t ≡ x
         → ((n : State) → IsEnd (moves_read true limit total termination n ts).answer
@@ -144,8 +147,8 @@ tags_words limit total s tags ((left, Bad) ∷ ts) h = absurd h
 -- ---- the game
 
 by_fault : (limit : ℕ) (s : State) (fault : Option PgnFault) (read : GameRead)
-    → (IsEnd read.answer → Words limit s read.state) → IsEnd (option_map_or (failed s) fault read).answer
-    → Words limit s (option_map_or (failed s) fault read).state
+    → (IsEnd read.answer → Words limit s read.state) → IsEnd (option_map_or (with_fault s) fault read).answer
+    → Words limit s (option_map_or (with_fault s) fault read).state
 by_fault limit s (Some f) read later h = absurd h
 by_fault limit s None read later h = later h
 
@@ -175,7 +178,7 @@ game_words limit text at end is =
     let rest : List (ℕ × Token) = drop (length tags) tokens in
     let w : Words limit (from_start p) (pgn_read true limit text at).state =
     by_game limit (from_start p) (from_start p) (list_all (λ (t : ℕ × Token). says_nothing t.1) tokens)
-    (option_map_or (failed (from_start p)) (slice_get (filter_map result_err (fens total v tags)) 0)
+    (option_map_or (with_fault (from_start p)) (slice_get (filter_map result_err (fens total v tags)) 0)
     (read_after_tags true limit total (from_start p) tags rest))
     (by_fault limit (from_start p) (slice_get (filter_map result_err (fens total v tags)) 0)
     (read_after_tags true limit total (from_start p) tags rest)

@@ -1,9 +1,9 @@
 -- Where a game ends, token by token: what is left gives the whole.
-use Rattle.std.proofs.Common.{◌≡◌, ◌≤◌, ◌<◌, ℕ, zero, suc, ◌+◌, ◌-◌, Bool, true, false, cond, List, [], ◌∷◌, length, drop, Option, Some, None, IfSome, refl, sym, ap, subst, ◌∙◌, one-add, arith, rules, option_map, length-drop, slice_get, ◌==◌}
+use Rattle.std.proofs.Common.{◌≡◌, ◌≤◌, ◌<◌, ℕ, zero, suc, ◌+◌, ◌-◌, Bool, true, false, cond, List, [], ◌∷◌, length, take, drop, Option, Some, None, IfSome, refl, sym, ap, subst, ◌∙◌, one-add, arith, rules, option_map, length-drop, slice_get, ◌==◌}
 use Rattle.std.specs.List.{cons_option, filter_map, prefix_len}
 use Rattle.byte_devices.specs.Bytes.{after_byte_order_mark}
 use Rattle.chess_game.specs.declared.results.Outcome.{Outcome}
-use Rattle.chess_pgn.specs.{GameEnds.ends_at, GameEnds.after_tags, GameEnds.game_end, LastTags.may_precede_tags, declared.token.TokenFault.TokenFault, ties.GameSteps.IsWithin, ties.Seen.fault_seen, ties.TagsPassed.IsAfterTags}
+use Rattle.chess_pgn.specs.{GameEnds.ends_at, GameEnds.game_end, LastTags.may_precede_tags, declared.token.TokenFault.TokenFault, ties.GameSteps.IsWithin, ties.Seen.fault_seen, ties.TagsPassed.IsAfterTags, ties.TagsPassed.after_tags}
 use Rattle.chess_pgn.specs.Tokens.{Token, Skip, Tag, Word, Bad_tag, Unclosed_comment, Unclosed_variation, Bad, token_at, tokens_of, begins_line, tokens_from}
 use Rattle.chess_pgn.specs.declared.token.TokenFault.TheVariants as fault
 use Rattle.chess_pgn.proofs.{FaultPlaces.not_before, TokenPlaces.within, Walk.no_token, Walk.shorter}
@@ -20,13 +20,14 @@ tags_on : (t : ℕ × Token) (rest : List (ℕ × Token)) → true ≡ may_prece
     → after_tags (t ∷ rest) ≡ after_tags rest
 tags_on t rest may =
     let n = prefix_len (λ u. may_precede_tags u.1) rest in
-    ap (λ b. drop (cond b (1 + n) 0) (t ∷ rest)) (sym may) ∙ ap (λ k. drop k (t ∷ rest)) (one-add n)
+    ap (λ b. drop (length (take (cond b (1 + n) 0) (t ∷ rest))) (t ∷ rest)) (sym may)
+    ∙ ap (λ k. drop (length (take k (t ∷ rest))) (t ∷ rest)) (one-add n)
 
 -- no more
 tags_end : (t : ℕ × Token) (rest : List (ℕ × Token)) → may_precede_tags t.1 ≡ false
     → after_tags (t ∷ rest) ≡ t ∷ rest
 tags_end t rest h =
-    ap (λ b. drop (cond b (1 + prefix_len (λ u. may_precede_tags u.1) rest) 0) (t ∷ rest)) h
+    ap (λ b. drop (length (take (cond b (1 + prefix_len (λ u. may_precede_tags u.1) rest) 0) (t ∷ rest))) (t ∷ rest)) h
 
 -- as code passes over them
 pub record PassesTags (text : List ℕ) (from here : ℕ) : Type 0 where

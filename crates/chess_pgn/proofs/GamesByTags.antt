@@ -2,7 +2,7 @@
 use Rattle.std.proofs.Common.{◌≡◌, ℕ, suc, ◌+◌, ◌-◌, Bool, true, false, cond, List, [], ◌∷◌, ◌++◌, length, take, drop, Option, Some, None, Result, Ok, Err, refl, sym, ap, ◌∙◌, arith, bytes_eq, take-append-drop, append-nil, ◌&&◌, ◌||◌, nat_lt, is_some, codes, map, slice_get, option_and_then}
 use Rattle.std.specs.List.{list_all, list_any, prefix_len, take_while, filter_map, cons_option, last_or}
 use Rattle.std.specs.Option.{option_map_or, unwrap_or}
-use Rattle.std.specs.Result.{is_ok, result_ok, result_err, result_map_both}
+use Rattle.std.specs.Result.{ok_prefix, result_err, result_map_both}
 use Rattle.std.proofs.{lemmas.Bool.and_parts, lemmas.List.Folds.length-prefix_len, lemmas.Slice.Eq.bytes_eq-Decides}
 use Rattle.chess_base.specs.{declared.fen_fault.FenFault.FenFault, declared.man.Variant.Variant, declared.setup.Setup.Setup, Initial.initial_setup_of}
 use Rattle.byte_devices.specs.Bytes.{is_digit, after_byte_order_mark}
@@ -13,12 +13,14 @@ use Rattle.chess_game.specs.declared.results.Outcome.{Outcome}
 use Rattle.chess_text.specs.{declared.reading.Reading.Reading, Moves.reading}
 use Rattle.chess_text.specs.declared.reading.Reading.TheVariants as reads
 use Rattle.pgn_writer.specs.{declared.termination.Termination.Termination, Terminations.termination_named, Outcomes.outcome_of}
-use Rattle.chess_pgn.specs.GameRead.{GameRead, ending, tagged_variant, pgn_read, Goes_on, Ends, failed, move_row, row, after_row, moves_read, fen_read, last_start, read_after_tags, read_of_split, IsRead}
+use Rattle.chess_pgn.specs.GameRead.{GameRead, ending, tagged_variant, pgn_read, failed, moves_read, fen_read, read_after_tags, read_of_split, IsRead}
+use Rattle.chess_pgn.specs.shared.Rows.{Goes_on, Ends, move_row, row, after_row, with_fault, last_start}
+use Rattle.chess_pgn.specs.shared.TagsNamed.{tags_named}
 use Rattle.chess_pgn.specs.laws.TokenByToken.{SoFar, Step, On, word_step, move_step, fen_step, step, read_rest_with, game_of, termination_after, tokens_read}
-use Rattle.chess_pgn.specs.LastTags.{says_nothing, may_precede_tags, tag_section, tags_named, last_tag}
+use Rattle.chess_pgn.specs.LastTags.{says_nothing, may_precede_tags, tag_section, last_tag}
 use Rattle.chess_pgn.specs.declared.word_kind.WordKind.TheVariants.{End, Number, Marks, Move}
 use Rattle.chess_pgn.specs.Tokens.{Token, Skip, Tag, Word, Bad_tag, Unclosed_comment, Unclosed_variation, Bad, tokens_from}
-use Rattle.chess_pgn.proofs.{PgnWords.are_marks, PgnWords.marks_by_kind, ByteRuns.run_passes, FenVariants.initial_variant, FenVariants.read_variant, Splits.split_read}
+use Rattle.chess_pgn.proofs.{PgnWords.are_marks, PgnWords.marks_by_kind, ByteRuns.run_passes, FenVariants.initial_variant, FenVariants.read_variant, RowsRead.moves_by_row, Splits.split_read}
 
 -- ---- words, where `met` and `begun` say what came before them
 
@@ -82,6 +84,7 @@ moves_are : (draws : Bool) (limit total : ℕ) (termination : Option Termination
 moves_are draws limit total termination s [] = refl
 moves_are draws limit total termination s (t ∷ ts) =
     by_token t.0 t.1 (λ r. moves_are draws limit total termination r ts)
+    ∙ sym (moves_by_row draws limit total termination s t ts)
   where
     by_token : (left : ℕ) (t : Token)
         → ((r : State)
@@ -109,7 +112,7 @@ termination_in tags = option_and_then (λ tag. termination_named tag.0) (last_ta
 -- Termination names
 abbrev after_tags_by : Bool → ℕ → ℕ → Option Termination → State → Bool → List (ℕ × Token) → GameRead
 after_tags_by draws limit total termination s met ((to_end, Bad_tag) ∷ rest) =
-    failed s (record { kind = BadTag; offset = total - to_end })
+    failed s BadTag (total - to_end)
 after_tags_by draws limit total termination s false [] = record { state = s; answer = Ok None }
 after_tags_by draws limit total termination s met rest = moves_read draws limit total termination s rest
 
@@ -172,6 +175,7 @@ first_token draws limit total met termination s ts left (Word word) h =
     by_word draws limit total termination met false s (λ g. game_of draws limit total g ts)
     (λ r. moves_read draws limit total termination r ts) (λ r. moves_are draws limit total termination r ts) left word
     (λ e. let no : true ≡ false = sym (ap are_marks e) ∙ sym (marks_by_kind word) ∙ h in absurd (cc))
+    ∙ sym (moves_by_row draws limit total termination s (left, Word word) ts)
 first_token draws limit total met termination s ts left Bad_tag h = refl
 first_token draws limit total met termination s ts left (Unclosed_comment brace) h = refl
 first_token draws limit total met termination s ts left Unclosed_variation h = refl
@@ -218,7 +222,7 @@ fens total v tags = map (fen_read total v) (tags_named (codes "FEN") tags)
 abbrev said : Bool → ℕ → ℕ → Option Termination → Setup → List (Result Setup PgnFault) → Bool → List (ℕ × Token)
     → GameRead
 said draws limit total termination p fs met rest =
-    option_map_or (failed (from_start (last_start p fs))) (slice_get (filter_map result_err fs) 0)
+    option_map_or (with_fault (from_start (last_start p fs))) (slice_get (filter_map result_err fs) 0)
     (after_tags_by draws limit total termination (from_start (last_start p fs)) met rest)
 
 abbrev Whole : Bool → ℕ → ℕ → Variant → Bool → Option Termination → Setup → List (ℕ × Token) → List (ℕ × Token) → Type 0
@@ -229,11 +233,7 @@ Whole draws limit total v met before p tags rest =
 -- a FEN that denotes a position gives the start, unless one after it does
 next_start : (p q : Setup) (fs : List (Result Setup PgnFault)) → last_start p (Ok q ∷ fs) ≡ last_start q fs
 next_start p q fs =
-    let n : ℕ = prefix_len (λ (f : Result Setup PgnFault). is_ok f) fs in
-    let next : 1 + n ≡ suc n = omega arith in
-    rw next (last_unwrapped (Some q)
-    (filter_map (λ (f : Result Setup PgnFault). result_ok f) (take_while (λ (f : Result Setup PgnFault). is_ok f) fs))
-    p)
+    last_unwrapped (Some q) (ok_prefix fs) p
 
 module _ (draws : Bool) (limit total : ℕ) (v : Variant) (rest : List (ℕ × Token)) (stops : Stops rest) where
   no_tags : (met : Bool) (before : Option Termination) (p : Setup) → Whole draws limit total v met before p [] rest
@@ -250,7 +250,7 @@ module _ (draws : Bool) (limit total : ℕ) (v : Variant) (rest : List (ℕ × T
       (with_place total at_string r ∷ fens total v tags) true rest
   by_fen met before p left at_string string tags (Ok q) e later =
       later q (read_variant v string q e)
-      ∙ ap (λ t. option_map_or (failed (from_start t)) (slice_get (filter_map result_err (fens total v tags)) 0)
+      ∙ ap (λ t. option_map_or (with_fault (from_start t)) (slice_get (filter_map result_err (fens total v tags)) 0)
       (after_tags_by draws limit total (termination_from before tags) (from_start t) true rest))
       (sym (next_start p q (fens total v tags)))
   by_fen met before p left at_string string tags (Err f) e later = refl
@@ -420,7 +420,7 @@ tokens_are draws limit total ts = by_nothing (list_all (λ (t : ℕ × Token). s
 
     by_nothing : (b : Bool) → list_all (λ (t : ℕ × Token). says_nothing t.1) ts ≡ b
         → cond b (record { state = s; answer = Ok None })
-        (option_map_or (failed s) (slice_get (filter_map result_err (fens total v tags)) 0)
+        (option_map_or (with_fault s) (slice_get (filter_map result_err (fens total v tags)) 0)
         (read_after_tags draws limit total s tags rest))
         ≡ tokens_read draws limit total ts
     by_nothing true h =
@@ -430,7 +430,7 @@ tokens_are draws limit total ts = by_nothing (list_all (λ (t : ℕ × Token). s
         }) (no_start v (codes "FEN") ts h)
         ∙ sym (nothing_read_of draws limit total v (initial_setup_of v) None ts h)
     by_nothing false h =
-        ap (λ (r : GameRead). option_map_or (failed s) (slice_get (filter_map result_err (fens total v tags)) 0) r)
+        ap (λ (r : GameRead). option_map_or (with_fault s) (slice_get (filter_map result_err (fens total v tags)) 0) r)
         (after_tags_is draws limit total s tags rest (met h))
         ∙ ap (λ e. said draws limit total e (initial_setup_of v) (fens total v tags) (list_any is_tag tags) rest)
         (sym (none_before (last_or None (tags_named (codes "Termination") tags))))

@@ -19,6 +19,7 @@ mod TagScans
 mod TagsLeft
 mod TokenPlaces
 mod VariationParts
+mod LineKinds
 mod LinesRead
 mod PassedWords
 mod Walk
@@ -29,5 +30,6 @@ mod TagFronts
 mod TokenKinds
 mod TokenSplits
 mod Splits
+mod RowsRead
 mod GamesByTags
 mod PastDraws

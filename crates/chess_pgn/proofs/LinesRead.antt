@@ -1,13 +1,15 @@
 -- Lines of moves (a game's own, or those of a variation), token by token: what is left gives the whole.
-use Rattle.std.proofs.Common.{◌≡◌, ℕ, zero, suc, ◌+◌, ◌-◌, ◌≤◌, Bool, true, false, cond, List, [], ◌∷◌, length, Option, Some, None, IfSome, IfErr, Result, Ok, Err, refl, sym, ap, ◌∙◌, inl, inr, arith}
+use Rattle.std.proofs.Common.{◌≡◌, ℕ, zero, suc, ◌+◌, ◌-◌, ◌≤◌, Bool, true, false, cond, List, [], ◌∷◌, length, Option, Some, None, IfSome, IfErr, Result, Ok, Err, refl, sym, ap, subst, ◌∙◌, inl, inr, arith}
 use Rattle.std.specs.{Option.option_map_or, Option.option_or, Result.result_err}
 use Rattle.chess_base.specs.{declared.man.Move.Move, declared.setup.Setup.Setup, Moves.after}
 use Rattle.chess_pgn.specs.{declared.read.PgnFault.PgnFault, declared.read.PgnFaultKind.PgnFaultKind, declared.read.PgnFaultKind.TheVariants.BadToken, declared.read.PgnFaultKind.TheVariants.TooLong, ties.Seen.token_seen}
 use Rattle.chess_pgn.specs.Tokens.{Token, Skip, Tag, Word, Bad_tag, Unclosed_comment, Unclosed_variation, Bad, tokens_from}
-use Rattle.chess_pgn.specs.Variations.{is_end, is_variation, after_token, token_move, line_fault, variation_fault}
+use Rattle.chess_pgn.specs.Variations.{is_variation, line_fault, variation_fault}
+use Rattle.chess_pgn.specs.{laws.LineEnds.is_end, shared.LineTokens.after_token, shared.LineTokens.token_move}
 use Rattle.chess_pgn.specs.declared.token.Token as code
 use Rattle.chess_pgn.specs.declared.token.Token.TheVariants as seen
 use Rattle.chess_pgn.specs.ties.LineSteps.{EndsLine, IsUnread, inside, opening, played}
+use Rattle.chess_pgn.proofs.LineKinds.{line_by_kind}
 
 -- a line was read up to `here`, where its position is `p`, and `before` the one before its last move: what is read from
 -- there on is what is read of the whole line
@@ -54,7 +56,8 @@ of_token : (text : List ℕ) (inner : Setup → ℕ → Option PgnFault) (before
     ≡ by_kind text inner before p token more at opens closes
 of_token text inner before p token more at opens closes h is ends =
     let back : length text - (length text - at) ≡ at = omega (arith, h) in
-    ap (λ k. by_kind text inner before p token more k (is_variation text k token) (is_end text k token)) back
+    line_by_kind text inner before p (length text - at) more token
+    ∙ ap (λ k. by_kind text inner before p token more k (is_variation text k token) (is_end text k token)) back
     ∙ ap (λ b. by_kind text inner before p token more at b (is_end text at token)) is
     ∙ ap (by_kind text inner before p token more at opens) ends
 
@@ -228,8 +231,9 @@ line_within : (text : List ℕ) (inner : Setup → ℕ → Option PgnFault)
     → InText (length text) (line_fault text inner before p tokens)
 line_within text inner h [] before p = tt
 line_within text inner h ((n, token) ∷ more) before p =
-    by_kinds (λ c q. line_within text inner h more c q) (is_variation text (length text - n) token)
-    (is_end text (length text - n) token)
+    subst (InText (length text)) (sym (line_by_kind text inner before p n more token))
+    (by_kinds (λ c q. line_within text inner h more c q) (is_variation text (length text - n) token)
+    (is_end text (length text - n) token))
   where
     by_before : (o : Option Setup) → InText (length text) (option_map_or
         (λ first. inner first (length text - n)) o (Some (record { kind = BadToken; offset = length text - n })))

@@ -3,7 +3,7 @@ use Rattle.std.proofs.Common.{◌≡◌, ◌<◌, ◌≤◌, ℕ, suc, ◌+◌, 
 use Rattle.std.specs.List.{cons_option, filter_map, list_all}
 use Rattle.std.specs.Option.{option_map_or, unwrap_or}
 use Rattle.std.specs.Result.{result_err, result_map_both}
-use Rattle.std.proofs.{lemmas.Bool.false≢true, lemmas.List.Folds.length-prefix_len}
+use Rattle.std.proofs.lemmas.Bool.{false≢true}
 use Rattle.byte_devices.specs.Bytes.{is_digit, after_byte_order_mark}
 use Rattle.chess_base.specs.{declared.fen_fault.FenFault.FenFault, declared.man.Move.Move as Played, declared.man.Variant.Variant, declared.setup.Setup.Setup, Attacks.is_in_check, ByColour.by_colour, Initial.initial_setup_of, Men.other, MoveList.moves, Moves.after}
 use Rattle.chess_fen.specs.Reading.{fen_reading_as}
@@ -14,17 +14,19 @@ use Rattle.chess_game.proofs.shared.Lines.{position_after-snoc}
 use Rattle.chess_text.specs.{declared.reading.Reading.Reading, Moves.reading}
 use Rattle.chess_text.specs.declared.reading.Reading.TheVariants as reads
 use Rattle.pgn_writer.specs.{declared.termination.Termination.Termination, Outcomes.outcome_of, Terminations.termination_named}
-use Rattle.chess_pgn.specs.{declared.past_draws.ReadGame.ReadGame, declared.read.PgnEnd.PgnEnd, declared.read.PgnFault.PgnFault, declared.read.PgnFaultKind.PgnFaultKind, declared.token.TokenFault.TokenFault, declared.word_kind.WordKind.WordKind, GameEnds.after_tags, LastTags.last_tag, LastTags.may_precede_tags, LastTags.says_nothing, LastTags.tag_section, LastTags.tags_named, Words.is_marks, laws.WordKinds.word_kind, ties.Seen.fault_seen, ties.TagsPassed.IsAfterTags}
+use Rattle.chess_pgn.specs.{declared.past_draws.ReadGame.ReadGame, declared.read.PgnEnd.PgnEnd, declared.read.PgnFault.PgnFault, declared.read.PgnFaultKind.PgnFaultKind, declared.token.TokenFault.TokenFault, declared.word_kind.WordKind.WordKind, LastTags.last_tag, LastTags.says_nothing, LastTags.tag_section, Words.is_marks, laws.WordKinds.word_kind, ties.Seen.fault_seen, ties.TagsPassed.IsAfterTags, ties.TagsPassed.after_tags}
 use Rattle.chess_pgn.specs.declared.past_draws.Effect as code
 use Rattle.chess_pgn.specs.declared.past_draws.Effect.TheVariants as does
 use Rattle.chess_pgn.specs.declared.read.PgnFaultKind.TheVariants.{BadTag, BadFen, AmbiguousMove, AfterEnd, BadToken, IllegalMove, NoResult, TooLong}
 use Rattle.chess_pgn.specs.declared.token.TokenFault.TheVariants as unreadable
 use Rattle.chess_pgn.specs.declared.word_kind.WordKind.TheVariants.{End, Number, Marks, Move}
-use Rattle.chess_pgn.specs.GameRead.{GameRead, Row, Goes_on, Ends, Fails, after_row, ending, failed, fen_read, last_start, move_row, moves_read, not_of_2014, pgn_read, read_after_tags, read_of_split, row, tagged_variant}
+use Rattle.chess_pgn.specs.GameRead.{GameRead, ending, fen_read, moves_read, not_of_2014, pgn_read, read_after_tags, read_of_split, tagged_variant}
+use Rattle.chess_pgn.specs.shared.Rows.{Row, Goes_on, Ends, Fails, after_row, last_start, move_row, row, with_fault}
+use Rattle.chess_pgn.specs.shared.TagsNamed.{tags_named}
 use Rattle.chess_pgn.specs.Tokens.{Token, Skip, Tag, Word, Bad_tag, Unclosed_comment, Unclosed_variation, Bad, tokens_from}
 use Rattle.chess_pgn.specs.PastDraws.{IsAnswer, Stands}
 use Rattle.chess_pgn.specs.ties.PastDraws.{IsReadAgain, closing_fault, is_at_past_draw, is_past_draw, move_effect, next_position, stops_past_draw, token_effect, unread_fault, word_effect}
-use Rattle.chess_pgn.proofs.GamesByTags.{fens, termination_in}
+use Rattle.chess_pgn.proofs.{GamesByTags.fens, GamesByTags.termination_in, RowsRead.moves_by_row}
 
 -- ---- the verdict without the two draws
 
@@ -77,7 +79,7 @@ module _ (limit total : ℕ) (termination : Option Termination) (s : State) (lat
       by_kept : (o : Option Verdict) → not_of_2014 v ≡ o
           → after_row termination s
           (cond (is_some o) (Fails AfterEnd at) (cond room allowed (Fails TooLong at))) (later false)
-          ≡ failed s (record { kind = AfterEnd; offset = at })
+          ≡ with_fault s (record { kind = AfterEnd; offset = at })
       by_kept (Some w) k = refl
       by_kept None k =
           let none : is_none (option_and_then not_of_2014 (verdict_now s)) ≡ true =
@@ -120,8 +122,11 @@ moves_alike : (limit total : ℕ) (termination : Option Termination) (s : State)
     → moves_read false limit total termination s ts ≡ moves_read true limit total termination s ts
 moves_alike limit total termination s [] h = refl
 moves_alike limit total termination s (t ∷ ts) h =
-    token_alike limit total termination s (λ draws next. moves_read draws limit total termination next ts) t.0 t.1
-    (λ next. moves_alike limit total termination next ts) h
+    moves_by_row false limit total termination s t ts
+    ∙ token_alike limit total termination s (λ draws next. moves_read draws limit total termination next ts) t.0 t.1
+    (λ next. moves_alike limit total termination next ts)
+    (sym (ap stops_past_draw (moves_by_row true limit total termination s t ts)) ∙ h)
+    ∙ sym (moves_by_row true limit total termination s t ts)
 
 after_tags_alike : (limit total : ℕ) (s : State) (tags rest : List (ℕ × Token))
     → stops_past_draw (read_after_tags true limit total s tags rest) ≡ false
@@ -144,7 +149,7 @@ after_tags_alike limit total s tags ((left, Bad) ∷ rest) h =
 -- what is read of a game, by whether it says anything, by the first bad FEN, and by what is read after its tags
 abbrev by_parts : State → Bool → Option PgnFault → GameRead → GameRead
 by_parts s is_empty bad after =
-    cond is_empty (record { state = s; answer = Ok None }) (option_map_or (failed s) bad after)
+    cond is_empty (record { state = s; answer = Ok None }) (option_map_or (with_fault s) bad after)
 
 split_alike : (limit total : ℕ) (tokens : List (ℕ × Token))
     → stops_past_draw (read_of_split true limit total tokens) ≡ false
@@ -183,7 +188,8 @@ start_kept : (draws : Bool) (limit total : ℕ) (termination : Option Terminatio
     → (moves_read draws limit total termination s ts).state.start ≡ s.start
 start_kept draws limit total termination s [] = refl
 start_kept draws limit total termination s (t ∷ ts) =
-    by_token t.0 t.1 (λ next. start_kept draws limit total termination next ts)
+    ap (λ (r : GameRead). r.state.start) (moves_by_row draws limit total termination s t ts)
+    ∙ by_token t.0 t.1 (λ next. start_kept draws limit total termination next ts)
   where
     later : State → GameRead
     later next = moves_read draws limit total termination next ts
@@ -272,8 +278,6 @@ split_again limit total tokens h =
     let both = by_cases (list_all (λ (t : ℕ × Token). says_nothing t.1) tokens)
     (slice_get (filter_map result_err (fens total v tags)) 0) refl h in
     both.0
-    ∙ ap (λ n. moves_read false limit total (termination_in tags) s (drop n tokens))
-    (length-prefix_len (λ (t : ℕ × Token). may_precede_tags t.1) tokens)
     ∙ ap (λ p. moves_read false limit total (termination_in tags) (from_start p) (after_tags tokens)) (sym both.1)
   where
     tags : List (ℕ × Token)
@@ -467,6 +471,7 @@ module _ (text : List ℕ) (termination : Option Termination) (all : GameRead) (
       gives_row x e =
           ap (λ y. after_row termination r.s y (λ next. moves_read false MOST_MOVES (length text) termination next ts))
           (sym e)
+          ∙ sym (moves_by_row false MOST_MOVES (length text) termination r.s (length text - here, t) ts)
           ∙ ap (moves_read false MOST_MOVES (length text) termination r.s) (sym is) ∙ r.gives
 
       -- the termination marker

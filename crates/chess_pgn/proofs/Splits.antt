@@ -1,5 +1,5 @@
 -- The split of a text into tokens is the one by their kinds; so a text has one.
-use Rattle.std.proofs.Common.{◌≡◌, ℕ, ◌+◌, ◌-◌, ◌≤◌, Bool, true, false, List, [], ◌∷◌, ◌++◌, length, drop, Option, Some, None, refl, sym, ap, subst, ◌∙◌, inl, inr, append_assoc, length-append, arith}
+use Rattle.std.proofs.Common.{◌≡◌, ℕ, ◌+◌, ◌-◌, ◌≤◌, Bool, true, List, [], ◌∷◌, ◌++◌, length, drop, Option, Some, None, refl, sym, ap, subst, ◌∙◌, inl, inr, append_assoc, length-append, arith}
 use Rattle.std.proofs.lemmas.List.{nil_from_length}
 use Rattle.chess_pgn.specs.Tokens.{Token, Skip, Tag, Word, Bad_tag, Unclosed_comment, Unclosed_variation, Bad, after_brace, begins_line, tokens_from}
 use Rattle.chess_pgn.specs.Split.{lacks, HasOpenComment, IsToken, blank, line, comment, glyph, variation, tag, asterisk, word, IsFaultOf, inner_comment, other, IsSplit, ended, token, stopped}
@@ -66,19 +66,19 @@ no_brace b text none (Some r) found =
     (ap (λ xs. 123 ∷ xs) (found.is ∙ sym (append_assoc found.inside (125 ∷ []) r)))
     (found.inside, refl, found.lacks_brace))
 
-none_inside : (inner : List ℕ) → ((n : ℕ) → HasOpenComment false inner n → ⊥) → (n : ℕ)
+none_inside : (inner : List ℕ) → ((n : ℕ) → HasOpenComment inner n → ⊥) → (n : ℕ)
     → HasUnclosedComment (40 ∷ inner) n → ⊥
 none_inside inner none n (inl (body, is, lack, here)) =
     let clash : ◌≡◌ {A = ℕ} 40 123 = cc in absurd (omega (arith, clash))
 none_inside inner none n (inr (others, is, h)) =
-    let same : others ≡ inner = cc in none n (subst (λ xs. HasOpenComment false xs n) same h)
+    let same : others ≡ inner = cc in none n (subst (λ xs. HasOpenComment xs n) same h)
 
 fault_of_kinds : {text : List ℕ} {fault : Token} → IsFaultOf text fault → (b : Bool) → HasNoToken b text
     → IsFault text fault
 fault_of_kinds (comment {text}) b none =
     inl (text, refl, no_brace b text none (after_brace text) (brace_says text), refl)
-fault_of_kinds (inner_comment {inner} h) b none = inr (inner, refl, h)
-fault_of_kinds (variation {inner} h) b none = ((inner, refl), none_inside inner h)
+fault_of_kinds (inner_comment {text} h) b none = inr (text, refl, h)
+fault_of_kinds (variation {text} h) b none = ((text, refl), none_inside text h)
 fault_of_kinds (tag {text}) b none = (text, refl)
 fault_of_kinds (other {c} {text} h) b none = (c, text, refl, h)
 

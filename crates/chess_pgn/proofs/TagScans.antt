@@ -3,7 +3,7 @@ use Rattle.std.proofs.Common.{◌≡◌, ℕ, suc, ◌+◌, Bool, true, false, c
 use Rattle.std.specs.List.{cons_option, filter_map, last_or, prefix_len, take_while}
 use Rattle.std.specs.Option.{option_map_or, option_or}
 use Rattle.chess_base.specs.{declared.man.Variant.Variant, declared.man.Variant.TheVariants.Normal}
-use Rattle.chess_pgn.specs.{GameRead.variant_named, GameRead.tagged_variant, LastTags.may_precede_tags, LastTags.named_tag, LastTags.tag_section, Tokens.Token}
+use Rattle.chess_pgn.specs.{GameRead.tagged_variant, LastTags.may_precede_tags, LastTags.named_tag, LastTags.tag_section, Tokens.Token, shared.VariantNames.variant_named}
 
 -- the last tag of a name among tokens, or the one before them
 abbrev pub last_from : List ℕ → Option (List ℕ × ℕ) → List (ℕ × Token) → Option (List ℕ × ℕ)

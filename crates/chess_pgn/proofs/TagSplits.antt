@@ -7,7 +7,7 @@ use Rattle.byte_devices.specs.Bytes.{is_name_byte}
 use Rattle.chess_pgn.specs.{shared.Gaps.gap_left, shared.Kinds.IsTag}
 use Rattle.chess_pgn.specs.shared.TagParts.{closed, with_text, with_string, with_tag_name, tag_by_parts}
 use Rattle.chess_pgn.proofs.{Skipped.gap_line, Strings.string_after, Strings.string_quote, Strings.string_other, Gaps.gap_same, VariationInsides.line_end_is}
-use Rattle.chess_pgn.specs.Split.{IsGap, nothing, blank, line, OpensTag, opens, IsString, kept, other}
+use Rattle.chess_pgn.specs.Split.{IsGap, nothing, blank, line, OpensTag, opens, IsString, kept, char}
 use Rattle.chess_pgn.proofs.ByteRuns.{differs, pick, run_drop, run_take, run_passes, LineSays, unended, line_then, line_says}
 
 -- ---- gaps
@@ -92,7 +92,7 @@ string_read (kept {c} {more} line_ends r) rest =
     string_other 92 (c ∷ (more ++ 34 ∷ rest)) refl refl
     ∙ ap (λ t. onto (92 ∷ []) (cond t None (onto (c ∷ []) (string_at (more ++ 34 ∷ rest))))) line_ends
     ∙ ap (λ o. onto (92 ∷ []) (onto (c ∷ []) o)) (string_read r rest)
-string_read (other {c} {more} none r) rest =
+string_read (char {c} {more} none r) rest =
     let first = or_parts (eqb c 92) _ none in
     let second = or_parts (eqb c 34) _ first.1 in
     let third = or_parts (eqb c 10) _ second.1 in
@@ -129,7 +129,7 @@ string_leaves (c ∷ d ∷ rest) =
     one quote ends slash None h = tt
     one quote ends slash (Some f) h =
         let none : list_any (λ k. eqb c k) (92 ∷ 34 ∷ 10 ∷ []) ≡ false = rw (slash, quote, ends) refl in
-        (other none h.0, ap (λ xs. c ∷ xs) h.1)
+        (char none h.0, ap (λ xs. c ∷ xs) h.1)
 
 -- ---- tags, from the relation to the reader
 

@@ -444,7 +444,7 @@ token_says b c rest = by_line (skips_line b c) refl
         (inr (
           rest,
           ap (λ k. k ∷ rest) is,
-          subst (λ xs. HasOpenComment false xs (suc (length r))) (sym same) (open_comment h r lack),
+          subst (λ xs. HasOpenComment xs (suc (length r))) (sym same) (open_comment h r lack),
         ))
     by_result is t e unclosed = faulty Unclosed_variation refl (
       (rest, ap (λ k. k ∷ rest) is),

@@ -9,7 +9,7 @@ use Rattle.chess_pgn.proofs.Walk.{no_token, token_more}
 abbrev Within : ℕ → Token × List ℕ → Type 0
 Within n t = IsWithin n t.0
 
-open_within : {b : Bool} {text : List ℕ} {to_end : ℕ} → HasOpenComment b text to_end → to_end ≤ length text
+open_within : {text : List ℕ} {to_end : ℕ} → HasOpenComment text to_end → to_end ≤ length text
 open_within (here {parts} text h lack) = omega (arith, length-append parts (123 ∷ text))
 open_within (deeper {parts} {inner} h k) = omega (arith, open_within k, length-append parts (40 ∷ inner))
 

@@ -67,12 +67,12 @@ inside_read (variation {b} {inner} {more} i r) d c rest e =
 inside_read (other {b} {c = k} {more} h none r) d c rest e =
     passed b d k (more ++ c ∷ rest) h none ∙ inside_read r d c rest e
 
-pub open_read : {b : Bool} {text : List ℕ} {n : ℕ} → HasOpenComment b text n → (d : ℕ)
-    → variation_at None b (suc d) text ≡ (Unclosed_comment n, [])
-open_read (here {b} {parts} text h lack) d =
+pub open_read : {text : List ℕ} {n : ℕ} → HasOpenComment text n → (d : ℕ)
+    → variation_at None false (suc d) text ≡ (Unclosed_comment n, [])
+open_read (here {parts} text h lack) d =
     inside_read h d 123 text refl ∙ by_part false d 123 text
     ∙ ap (λ o. part_then (suc (length text)) false o (Some d)) (brace_missing text lack)
-open_read (deeper {b} {parts} {inner} {to_end} h k) d = inside_read h d 40 inner refl ∙ open_read k (suc d)
+open_read (deeper {parts} {inner} {to_end} h k) d = inside_read h d 40 inner refl ∙ open_read k (suc d)
 
 -- ---- from the reader to the relation
 
@@ -82,11 +82,11 @@ pub data IsBegun : Bool → List ℕ → Type 0 where
   opened : {b : Bool} {text more : List ℕ} → IsInside b text → IsBegun false more → IsBegun b (text ++ 40 ∷ more)
 
 -- if a comment without an end begins there, it is not closed
-pub open_comment : {b : Bool} {text : List ℕ} → IsBegun b text → (rest : List ℕ) → lacks 125 rest ≡ true
-    → HasOpenComment b (text ++ 123 ∷ rest) (suc (length rest))
+pub open_comment : {text : List ℕ} → IsBegun false text → (rest : List ℕ) → lacks 125 rest ≡ true
+    → HasOpenComment (text ++ 123 ∷ rest) (suc (length rest))
 open_comment (inside h) rest lack = here rest h lack
-open_comment (opened {b} {text} {more} h k) rest lack =
-    subst (λ xs. HasOpenComment b xs (suc (length rest))) (sym (append_assoc text (40 ∷ more) (123 ∷ rest)))
+open_comment (opened {text} {more} h k) rest lack =
+    subst (λ xs. HasOpenComment xs (suc (length rest))) (sym (append_assoc text (40 ∷ more) (123 ∷ rest)))
     (deeper h (open_comment k rest lack))
 
 -- the text, from inside so many variations and one more, closes them all, and `rest` follows

@@ -1,8 +1,8 @@
 -- Where a game ends, also if it has a fault: with its termination marker, or before the next game's tags.
 use Rattle.std.specs.Prelude.{ℕ, ◌+◌, ◌-◌, List, length, drop, slice_get, Option, Some, None}
-use Rattle.std.specs.List.{filter_map, prefix_len}
+use Rattle.std.specs.List.{filter_map}
 use Rattle.std.specs.Option.{option_map}
-use Rattle.chess_pgn.specs.LastTags.{may_precede_tags}
+use Rattle.chess_pgn.specs.LastTags.{tag_section}
 use Rattle.chess_pgn.specs.Tokens.{Token, Tag, Word}
 use Rattle.pgn_writer.specs.Outcomes.{outcome_of}
 
@@ -13,11 +13,7 @@ ends_at total (left, Word word) = option_map (λ outcome. total - left + length 
 ends_at total (left, Tag name text to_end) = Some (total - left)
 ends_at total _ = None
 
--- a game's tokens after its tag section
-abbrev pub after_tags : List (ℕ × Token) → List (ℕ × Token)
-after_tags tokens = drop (prefix_len (λ t. may_precede_tags t.1) tokens) tokens
-
--- where the game with these tokens ends in a text of `total` bytes, by the first token that ends it; `None` if the text
--- ends, or can't be read, before one
+-- where the game with these tokens ends in a text of `total` bytes, by the first token after its tag section that ends
+-- it; `None` if the text ends, or can't be read, before one
 abbrev pub game_end : ℕ → List (ℕ × Token) → Option ℕ
-game_end total tokens = slice_get (filter_map (ends_at total) (after_tags tokens)) 0
+game_end total tokens = slice_get (filter_map (ends_at total) (drop (length (tag_section tokens)) tokens)) 0

@@ -28,17 +28,12 @@ named_tag name _ = None
 abbrev pub tag_section : List (ℕ × Token) → List (ℕ × Token)
 tag_section tokens = take_while (λ t. may_precede_tags t.1) tokens
 
--- the tags of this name, each as its text and how many bytes are left where that begins
-abbrev pub tags_named : List ℕ → List (ℕ × Token) → List (List ℕ × ℕ)
-tags_named name tags = filter_map (λ t. named_tag name t.1) tags
-
--- the last tag of this name, given as in `tags_named`; none if there is no such tag
+-- the last of these tags that has this name, given as in `named_tag`; none if there is no such tag
 abbrev pub last_tag : List ℕ → List (ℕ × Token) → Option (List ℕ × ℕ)
-last_tag name tags = last_or None (tags_named name tags)
+last_tag name tags = last_or None (filter_map (λ t. named_tag name t.1) tags)
 
 -- the last tag Result of a game with these tokens, in a text of `total` bytes: the outcome that it names, if any, and
 -- the offset and the length of its string
 abbrev pub result_tag_of : ℕ → List (ℕ × Token) → Option ResultTag
-result_tag_of total tokens =
-    option_map (λ tag. record { outcome = outcome_of tag.0; offset = total - tag.1; len = length tag.0 })
-    (last_tag (codes "Result") (tag_section tokens))
+result_tag_of total ts = option_map (λ t. record { outcome = outcome_of t.0; offset = total - t.1; len = length t.0 })
+    (last_tag (codes "Result") (tag_section ts))

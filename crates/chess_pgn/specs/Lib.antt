@@ -2,9 +2,9 @@ pub mod Tokens
 pub mod Split
 pub mod Words
 pub mod LastTags
-pub mod UnknownVariants
 pub mod GameTags
 pub mod GameRead
+pub mod UnknownVariants
 pub mod PastDraws
 pub mod GameEnds
 pub mod Variations

@@ -60,9 +60,8 @@ pub data IsString : List ℕ → Type 0 where
   nothing : IsString []
   -- a backslash and the byte that it keeps
   kept : {c : ℕ} {more : List ℕ} → (c == new_line) ≡ false → IsString more → IsString (byte "\\" ∷ c ∷ more)
-  -- any other byte: no backslash, quote or `\n`
-  other : {c : ℕ} {more : List ℕ} → list_any (λ k. c == k) (byte "\\" ∷ byte "\"" ∷ new_line ∷ []) ≡ false
-      → IsString more → IsString (c ∷ more)
+  -- any other character: no backslash, quote or `\n`
+  char : {c : ℕ} {more : List ℕ} → list_any (λ k. c == k) (codes "\\\"\n") ≡ false → IsString more → IsString (c ∷ more)
 
 -- ---- tokens
 
@@ -94,27 +93,25 @@ IsTokenAt text at front t =
 
 -- ---- what can't be read
 
--- the text, which begins inside a variation, has a comment that isn't closed: after whole parts comes its `{`, where so
--- many bytes are left, or the `(` of a variation in which it is. `b`: whether the text's first byte begins a line
-pub data HasOpenComment : Bool → List ℕ → ℕ → Type 0 where
+-- the text, which begins right after the `(` of a variation, has a comment that isn't closed: after whole parts comes
+-- its `{`, where so many bytes are left, or the `(` of a variation in which it is
+pub data HasOpenComment : List ℕ → ℕ → Type 0 where
   -- the comment, after whole parts
-  here : {b : Bool} {parts : List ℕ} (text : List ℕ) → IsInside b parts → lacks (byte "}") text ≡ true
-      → HasOpenComment b (parts ++ byte "{" ∷ text) (length (byte "{" ∷ text))
+  here : {parts : List ℕ} (text : List ℕ) → IsInside false parts → lacks (byte "}") text ≡ true
+      → HasOpenComment (parts ++ byte "{" ∷ text) (length (byte "{" ∷ text))
   -- a variation, after whole parts, in which the comment is
-  deeper : {b : Bool} {parts inner : List ℕ} {to_end : ℕ} → IsInside b parts → HasOpenComment false inner to_end
-      → HasOpenComment b (parts ++ byte "(" ∷ inner) to_end
+  deeper : {parts inner : List ℕ} {to_end : ℕ} → IsInside false parts → HasOpenComment inner to_end
+      → HasOpenComment (parts ++ byte "(" ∷ inner) to_end
 
 -- this token is the fault of a text that begins with no token (`IsSplit` says that), by its first byte and, after `(`,
 -- by whether a comment inside isn't closed
 pub data IsFaultOf : List ℕ → Token → Type 0 where
   -- a comment isn't closed; the number is how many bytes are left at its `{`
   comment : {text : List ℕ} → IsFaultOf (byte "{" ∷ text) (Unclosed_comment (length (byte "{" ∷ text)))
-  -- a comment in a variation isn't closed
-  inner_comment : {inner : List ℕ} {to_end : ℕ} → HasOpenComment false inner to_end
-      → IsFaultOf (byte "(" ∷ inner) (Unclosed_comment to_end)
+  -- a comment in a variation isn't closed; `n` bytes are left at its `{`
+  inner_comment : {text : List ℕ} {n : ℕ} → HasOpenComment text n → IsFaultOf (byte "(" ∷ text) (Unclosed_comment n)
   -- a variation isn't closed, and all comments in it are
-  variation : {inner : List ℕ} → ((to_end : ℕ) → HasOpenComment false inner to_end → ⊥)
-      → IsFaultOf (byte "(" ∷ inner) Unclosed_variation
+  variation : {text : List ℕ} → ((n : ℕ) → HasOpenComment text n → ⊥) → IsFaultOf (byte "(" ∷ text) Unclosed_variation
   -- a `[` that begins no tag
   tag : {text : List ℕ} → IsFaultOf (byte "[" ∷ text) Bad_tag
   -- a byte that begins no token

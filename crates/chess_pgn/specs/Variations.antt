@@ -2,78 +2,46 @@
 -- before it, so its moves begin in the position before that move; a variation in it replaces one of its own moves. A
 -- *line* is a game's own moves, or those of a variation. This project's own: which words are taken; that a result and a
 -- tag are passed over in a variation; that no draw ends one; and how deep they may be nested.
-use Rattle.std.specs.Prelude.{ℕ, zero, suc, ◌+◌, ◌-◌, Bool, false, ◌||◌, if◌then◌else◌, List, [], ◌∷◌, codes, length, take, drop, slice_index, Option, Some, None, is_some, Result, Ok, Err, ◌==◌}
+use Rattle.std.specs.Prelude.{ℕ, zero, suc, ◌+◌, ◌-◌, Bool, false, ◌||◌, if◌then◌else◌, List, [], ◌∷◌, codes, length, take, drop, slice_index, Option, Some, None, is_some, ◌==◌}
 use Rattle.std.specs.List.{list_all}
 use Rattle.std.specs.Option.{option_map_or, option_or}
 use Rattle.std.specs.Str.{bytes_eq}
 use Rattle.byte_devices.specs.Bytes.{byte, is_digit}
-use Rattle.chess_base.specs.declared.man.Move.{Move}
 use Rattle.chess_base.specs.declared.setup.Setup.{Setup}
 use Rattle.chess_base.specs.Moves.{after}
-use Rattle.chess_text.specs.declared.reading.Reading.{Reading}
-use Rattle.chess_text.specs.declared.reading.Reading.TheVariants as reads
 use Rattle.chess_text.specs.Moves.{reading}
 use Rattle.pgn_writer.specs.Outcomes.{outcome_of}
 use Rattle.chess_pgn.specs.declared.read.PgnFault.{PgnFault}
-use Rattle.chess_pgn.specs.declared.read.PgnFaultKind.{PgnFaultKind}
-use Rattle.chess_pgn.specs.declared.read.PgnFaultKind.TheVariants.{BadToken, IllegalMove, AmbiguousMove, TooLong}
+use Rattle.chess_pgn.specs.declared.read.PgnFaultKind.TheVariants.{BadToken, TooLong}
 use Rattle.chess_pgn.specs.declared.variations.TheConstants.{MOST_NESTED}
 use Rattle.chess_pgn.specs.Split.{lacks}
 use Rattle.chess_pgn.specs.Tokens.{Token, Skip, Tag, Word, Bad}
-use Rattle.chess_pgn.specs.Words.{is_marks}
-
--- ---- one token of a line
-
--- what a word that is taken as a move does, by what it denotes in the line's position: a legal move is made, anything
--- else is a fault
-abbrev pub word_move : Reading → Result (Option Move) PgnFaultKind
-word_move (reads.Move m) = Ok (Some m)
-word_move reads.NotAMove = Err BadToken
-word_move reads.Ambiguous = Err AmbiguousMove
-word_move reads.NoSuch = Err IllegalMove
-
--- what a token does in a line whose position is `p`: the move to be made, if it is one. What is skipped, a tag, a
--- result, a number, and marks such as `!?` are passed over; any other token is a fault
-abbrev pub token_move : Setup → Token → Result (Option Move) PgnFaultKind
-token_move p Skip = Ok None
-token_move p (Tag name text to_end) = Ok None
-token_move p (Word word) = if is_some (outcome_of word) || (list_all is_digit word || is_marks word) then Ok None
-    else word_move (reading p word)
-token_move p _ = Err BadToken
+use Rattle.chess_pgn.specs.Words.{is_marks, word_gives}
 
 -- whether a token, which begins at this offset of the text, is a variation: it is skipped, and begins with `(`
 abbrev pub is_variation : List ℕ → ℕ → Token → Bool
 is_variation text at Skip = slice_index text at == byte "("
 is_variation text at _ = false
 
--- whether a token, which begins at this offset of the text, ends a variation: it is a `)`, which can't be read as a
--- token
-abbrev pub is_end : List ℕ → ℕ → Token → Bool
-is_end text at Bad = bytes_eq (take 1 (drop at text)) (codes ")")
-is_end text at _ = false
-
--- ---- lines
-
--- the first fault of a line from a token at the offset `at` on, by what that token does in the position `p`: its own
--- fault, or what `later` gives for the position before the last move (`before` if no move is made) and that after it
-abbrev pub after_token : ℕ → Option Setup → Setup → Result (Option Move) PgnFaultKind
-    → (Option Setup → Setup → Option PgnFault) → Option PgnFault
-after_token at before p (Ok None) later = later before p
-after_token at before p (Ok (Some m)) later = later (Some p) (after p m)
-after_token at before p (Err kind) later = Some (record { kind = kind; offset = at })
-
--- the first fault of a line of the text from these tokens on, in the position `p`; the line of a variation ends at its
--- `)`. `before` is the position before the line's last move, if it has one: there a variation begins, and without it
--- the variation is a fault. `inside` gives the first fault of the variation from a position, with its `(` at an offset
+-- the first fault of a line of the text from these tokens on, in the position `p`. `before` is the position before the
+-- line's last move, if it has one: there a variation begins, and without it the variation is a fault. `inside` gives
+-- the first fault of the variation from a position, with its `(` at an offset. A token's offset is `length text - left`
 abbrev pub line_fault : List ℕ → (Setup → ℕ → Option PgnFault) → Option Setup → Setup → List (ℕ × Token)
     → Option PgnFault
 line_fault text inside before p [] = None
-line_fault text inside before p ((left, token) ∷ more) = let at = length text - left in
-    if is_variation text at token then option_or
-    (option_map_or (λ start. inside start at) before (Some (record { kind = BadToken; offset = at })))
-    (line_fault text inside before p more)
-    else if is_end text at token then None
-    else after_token at before p (token_move p token) (λ b q. line_fault text inside b q more)
+line_fault text inside before p ((left, Skip) ∷ more) = let at = length text - left in
+    let found = option_map_or (λ start. inside start at) before (Some (record { kind = BadToken; offset = at })) in
+    option_or (if is_variation text at Skip then found else None) (line_fault text inside before p more)
+line_fault text inside before p ((left, Tag name string to_end) ∷ more) = line_fault text inside before p more
+-- a result, a number, and marks such as `!?` are passed over; any other word is taken as a move
+line_fault text inside before p ((left, Word word) ∷ more) =
+    if is_some (outcome_of word) || (list_all is_digit word || is_marks word) then line_fault text inside before p more
+    else word_gives None (λ m. line_fault text inside (Some p) (after p m) more)
+    (λ kind. Some (record { kind = kind; offset = length text - left })) (reading p word)
+-- a `)`, which can't be read as a token, ends the line of a variation
+line_fault text inside before p ((left, Bad) ∷ more) = let at = length text - left in
+    if bytes_eq (take 1 (drop at text)) (codes ")") then None else Some (record { kind = BadToken; offset = at })
+line_fault text inside before p ((left, _) ∷ more) = Some (record { kind = BadToken; offset = length text - left })
 
 -- the first fault of the variation whose `(` is at the offset `at` of the text, and whose moves begin in the position
 -- `start`. It and those in it may be nested at most so deep (the second argument); one deeper is a fault, too long.

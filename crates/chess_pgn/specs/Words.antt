@@ -1,8 +1,23 @@
--- Which words of a game's text are marks such as `!?` (PGN standard of 1994, section 8.2.3.8).
-use Rattle.std.specs.Prelude.{ℕ, Bool, not, ◌&&◌, ◌||◌, List, length, ◌==◌}
+-- Which words of a game's text are marks such as `!?` (PGN standard of 1994, section 8.2.3.8), and what a word gives
+-- that is taken as a move.
+use Rattle.std.specs.Prelude.{ℕ, Bool, not, ◌&&◌, ◌||◌, List, length, ◌==◌, Option}
 use Rattle.byte_devices.specs.Bytes.{byte}
 use Rattle.std.specs.List.{list_all}
+use Rattle.std.specs.Option.{option_map_or, unwrap_or}
+use Rattle.chess_base.specs.declared.man.Move.{Move}
+use Rattle.chess_text.specs.declared.reading.Reading.{Reading}
+use Rattle.chess_text.specs.declared.reading.Reading.TheVariants as reads
+use Rattle.chess_pgn.specs.declared.read.PgnFaultKind.{PgnFaultKind}
+use Rattle.chess_pgn.specs.declared.read.PgnFaultKind.TheVariants.{BadToken, IllegalMove, AmbiguousMove}
 
 -- whether a word is marks such as `!?`: one or more bytes, each of them `!` or `?`
 abbrev pub is_marks : List ℕ → Bool
 is_marks word = not (length word == 0) && list_all (λ c. c == byte "!" || c == byte "?") word
+
+-- what a word gives that is taken as a move, by what it denotes: `made` of a legal move, or else `failed` of the fault.
+-- `closed` is the fault of any move here, if there is one; but a word without a move's shape is always a bad token
+abbrev pub word_gives : {A : Type 0} → Option PgnFaultKind → (Move → A) → (PgnFaultKind → A) → Reading → A
+word_gives closed made failed reads.NotAMove = failed BadToken
+word_gives closed made failed (reads.Move m) = option_map_or failed closed (made m)
+word_gives closed made failed reads.Ambiguous = failed (unwrap_or closed AmbiguousMove)
+word_gives closed made failed reads.NoSuch = failed (unwrap_or closed IllegalMove)

@@ -3,3 +3,4 @@
 pub mod Offsets
 pub mod WordKinds
 pub mod TokenByToken
+pub mod LineEnds

@@ -4,3 +4,7 @@ pub mod Kinds
 pub mod TagParts
 pub mod Gaps
 pub mod Begins
+pub mod Rows
+pub mod LineTokens
+pub mod TagsNamed
+pub mod VariantNames

@@ -1,10 +1,9 @@
 //! Tags Variant that name no variant that is known.
 
-ghost use Rattle.std.specs.Prelude.{◌≡◌, ◌≤◌, ◌-◌, ◌∷◌, [], List, length, ℕ, codes, Some, None, if◌then◌else◌};
-ghost use Rattle.std.specs.List.{list_any};
+ghost use Rattle.std.specs.Prelude.{◌≡◌, ◌≤◌, ◌-◌, List, length, ℕ, Some, None, if◌then◌else◌};
 ghost use Rattle.std.specs.Option.{IfSome};
-ghost use Rattle.std.specs.Str.{str_eq_ignore_ascii_case};
-ghost use Rattle.chess_pgn.specs.UnknownVariants.{is_known_variant, unknown_variant_in};
+ghost use Rattle.chess_pgn.specs.UnknownVariants.{unknown_variant_in};
+ghost use Rattle.chess_pgn.specs.shared.VariantNames.{is_known_variant};
 ghost use Rattle.chess_pgn.specs.Split.{IsSplit};
 ghost use Rattle.chess_pgn.specs.Tokens.{Token};
 ghost use Rattle.byte_devices.specs.Bytes.{after_byte_order_mark};

@@ -1,5 +1,5 @@
 -- Without a fault each move of each variation is legal: by how deep variations are nested, and then token by token.
-use Rattle.std.proofs.Common.{◌≡◌, ℕ, zero, suc, ◌+◌, ◌-◌, Bool, true, false, cond, List, [], ◌∷◌, length, drop, Option, Some, None, Result, Ok, Err, refl, ap, ◌||◌, is_some}
+use Rattle.std.proofs.Common.{◌≡◌, ℕ, zero, suc, ◌+◌, ◌-◌, Bool, true, false, cond, List, [], ◌∷◌, length, drop, Option, Some, None, Result, Ok, Err, refl, sym, ap, ◌∙◌, ◌||◌, is_some}
 use Rattle.std.specs.{List.list_all, Option.option_map_or, Option.option_or}
 use Rattle.byte_devices.specs.Bytes.{is_digit}
 use Rattle.chess_base.specs.{declared.man.Move.Move, declared.setup.Setup.Setup, Moves.after}
@@ -8,7 +8,9 @@ use Rattle.chess_text.specs.declared.reading.Reading.TheVariants as reads
 use Rattle.pgn_writer.specs.Outcomes.{outcome_of}
 use Rattle.chess_pgn.specs.{declared.read.PgnFault.PgnFault, declared.read.PgnFaultKind.PgnFaultKind, declared.read.PgnFaultKind.TheVariants.BadToken, declared.variations.TheConstants.MOST_NESTED, Split.lacks, Words.is_marks}
 use Rattle.chess_pgn.specs.Tokens.{Token, Skip, Tag, Word, Bad_tag, Unclosed_comment, Unclosed_variation, Bad}
-use Rattle.chess_pgn.specs.Variations.{word_move, token_move, is_end, is_variation, after_token, line_fault, variation_fault}
+use Rattle.chess_pgn.specs.Variations.{is_variation, line_fault, variation_fault}
+use Rattle.chess_pgn.specs.{laws.LineEnds.is_end, shared.LineTokens.word_move, shared.LineTokens.token_move, shared.LineTokens.after_token}
+use Rattle.chess_pgn.proofs.shared.Games.{line_by_kind}
 use Rattle.chess_pgn_laws.specs.LegalVariations.{is_passed, IsLegalLine, no_more, closed, passed, move, variation, VariationsAreLegal}
 
 abbrev found : Move → Result (Option Move) PgnFaultKind
@@ -72,7 +74,7 @@ module _ (law : ReadMovesAreLegal) (tokens : List ℕ → ℕ → List (ℕ × T
   line_legal inner h [] before p e = no_more
   line_legal inner h ((left, token) ∷ more) before p e =
       by_kind (λ b q k. line_legal inner h more b q k) (is_variation text (length text - left) token)
-      (is_end text (length text - left) token) refl refl e
+      (is_end text (length text - left) token) refl refl (sym (line_by_kind text inner before p left more token) ∙ e)
     where
       by_before : ((b : Option Setup) (q : Setup) → line_fault text inner b q more ≡ None
           → IsLegalLine (tokens text) text b q more)

@@ -3,7 +3,8 @@ use Rattle.std.proofs.Common.{◌≡◌, ℕ, Bool, cond, List, ◌++◌, length
 use Rattle.std.specs.{List.filter_map, List.list_all, Option.option_map_or, Result.result_err}
 use Rattle.chess_base.specs.{declared.man.Variant.Variant, declared.man.Variant.TheVariants.Normal, declared.setup.Setup.Setup, Initial.initial_setup, Initial.initial_setup_of}
 use Rattle.chess_game.specs.Game.{from_start, outcome_now}
-use Rattle.chess_pgn.specs.GameRead.{GameRead, failed, last_start, variant_named, read_after_tags, pgn_read}
+use Rattle.chess_pgn.specs.GameRead.{GameRead, read_after_tags, pgn_read}
+use Rattle.chess_pgn.specs.shared.{Rows.last_start, Rows.with_fault, VariantNames.variant_named}
 use Rattle.pgn_writer.specs.{shared.TagGroups.roster_lines, shared.TagGroups.start_lines_in, shared.TagGroups.last_lines, Terminations.termination_of}
 use Rattle.chess_pgn.specs.{LastTags.says_nothing, LastTags.tag_section, LastTags.last_tag, Tokens.Token, Tokens.tokens_from}
 use Rattle.chess_pgn_laws.specs.Normal.{normal_read, NormalIsKept}
@@ -25,7 +26,7 @@ read_so draws limit text at none =
     let read : Variant → Setup → GameRead = λ v p.
     cond (list_all (λ (t : ℕ × Token). says_nothing t.1) tokens)
     (record { state = from_start (last_start p (fens (length text) v tags)); answer = Ok None })
-    (option_map_or (failed (from_start (last_start p (fens (length text) v tags))))
+    (option_map_or (with_fault (from_start (last_start p (fens (length text) v tags))))
     (slice_get (filter_map result_err (fens (length text) v tags)) 0)
     (read_after_tags draws limit (length text) (from_start (last_start p (fens (length text) v tags))) tags
     (drop (length tags) tokens))) in

@@ -8,8 +8,8 @@ use Rattle.chess_game.specs.Game.{State, from_start, outcome_now, verdict_now, I
 use Rattle.std.specs.Option.{option_map, option_map_or, option_or}
 use Rattle.chess_game.specs.declared.results.Outcome.TheVariants.{WhiteWins, BlackWins, Draw, Unfinished}
 use Rattle.pgn_writer.specs.{declared.tags.Tags.Tags, declared.termination.Termination.Termination, Terminations.termination_text, Terminations.termination_of, Outcomes.outcome_of, GameText.tag_lines, GameText.game_tokens, GameText.pgn, shared.NumberedMoves.numbered_moves, Written.escaped, Written.tag_line, Written.ended, laws.Layout.AreShort}
-use Rattle.chess_pgn.specs.GameRead.{GameRead, declared_after, variant_named, tagged_variant, pgn_read}
-use Rattle.chess_pgn.specs.{LastTags.tag_section, LastTags.last_tag, declared.tagged_result.ResultTag.ResultTag, UnknownVariants.is_known_variant}
+use Rattle.chess_pgn.specs.GameRead.{GameRead, declared_after, tagged_variant, pgn_read}
+use Rattle.chess_pgn.specs.{LastTags.tag_section, LastTags.last_tag, declared.tagged_result.ResultTag.ResultTag, shared.VariantNames.is_known_variant, shared.VariantNames.variant_named}
 use Rattle.chess_pgn.specs.laws.TokenByToken.{SoFar, game_of, nothing_read, tokens_read}
 use Rattle.pgn_writer.specs.shared.TagGroups.{fen_lines, start_lines_in, last_lines, further_lines}
 use Rattle.chess_pgn_laws.specs.PgnLaw.{AreTagTexts, IsReadBack, PgnIsReadBack, ResultIsWritten, VariantIsWritten}

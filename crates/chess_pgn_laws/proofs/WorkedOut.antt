@@ -8,12 +8,13 @@ use Rattle.chess_text.specs.{declared.reading.Reading.Reading, Moves.reading}
 use Rattle.chess_text.specs.declared.reading.Reading.TheVariants as reads
 use Rattle.chess_pgn.specs.declared.read.PgnFaultKind.TheVariants.{AfterEnd, TooLong}
 use Rattle.pgn_writer.specs.{declared.tags.Tags.Tags, GameText.tag_lines, GameText.game_tokens, Written.ended, PgnText.IsPgn}
-use Rattle.chess_pgn.specs.GameRead.{GameRead, Row, Goes_on, Fails, move_row, after_row, moves_read, read_of_split, IsRead}
+use Rattle.chess_pgn.specs.GameRead.{GameRead, moves_read, read_of_split, IsRead}
+use Rattle.chess_pgn.specs.shared.Rows.{Row, Goes_on, Fails, move_row, after_row}
 use Rattle.chess_pgn.specs.Tokens.{Token, Skip, Tag, Word, token_at, tokens_of, tokens_from}
 use Rattle.byte_devices.specs.Bytes.{after_byte_order_mark}
 use Rattle.chess_pgn_laws.specs.Examples.{finished, TextsAreSplit, TextsAreRead, TextsAreLaidOut}
 use Rattle.chess_pgn_laws.proofs.FullLines.{full_cons, grouped_full}
-use Rattle.chess_pgn.proofs.shared.Tokens.{read_split}
+use Rattle.chess_pgn.proofs.{shared.Games.moves_by_row, shared.Tokens.read_split}
 
 pub texts_are_split : TextsAreSplit
 unfolding token_at tokens_of tokens_from
@@ -54,7 +55,8 @@ unfolding token_at tokens_of tokens_from
 game_is_read m over says = record {
   tokens = tokens;
   split = read_split text 0;
-  is = sym (ap (λ (r : Row). after_row None start r
+  is = sym (moves_by_row true 1 19 None start (4, Word (codes "e4")) ((2, Skip) ∷ (1, Word (codes "*")) ∷ [])
+      ∙ ap (λ (r : Row). after_row None start r
       (λ next. moves_read true 1 19 None next ((2, Skip) ∷ (1, Word (codes "*")) ∷ [])))
       (move_plays 1 start 15 m (reading (current start) (codes "e4")) says over refl));
 }

@@ -59,13 +59,13 @@ pub record TextsAreRead : Type 0 where
       (record { state = from_start (initial_setup_of Normal); answer = Ok None })
   -- a tag, and then nothing
   pub no_result : IsRead true 1 (codes "[A \"b\"]") 0
-      (failed (from_start (initial_setup_of Normal)) (record { kind = NoResult; offset = 7 }))
+      (failed (from_start (initial_setup_of Normal)) NoResult 7)
   -- a tag that can't be read, after one that can
   pub bad_tag : IsRead true 1 (codes "[A \"b\"][A b]") 0
-      (failed (from_start (initial_setup_of Normal)) (record { kind = BadTag; offset = 7 }))
+      (failed (from_start (initial_setup_of Normal)) BadTag 7)
   -- a FEN of one field: the fault is at the first byte of its text
   pub bad_fen : IsRead true 1 (codes "[FEN \"x\"] *") 0
-      (failed (from_start (initial_setup_of Normal)) (record { kind = BadFen Fields; offset = 6 }))
+      (failed (from_start (initial_setup_of Normal)) (BadFen Fields) 6)
 
 -- examples of how tokens are laid out in lines
 pub record TextsAreLaidOut : Type 0 where

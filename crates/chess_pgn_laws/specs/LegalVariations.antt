@@ -8,7 +8,8 @@ use Rattle.chess_base.specs.declared.setup.Setup.{Setup}
 use Rattle.chess_base.specs.Moves.{after, is_legal}
 use Rattle.chess_pgn.specs.Split.{lacks}
 use Rattle.chess_pgn.specs.Tokens.{Token, Skip, Tag, Word}
-use Rattle.chess_pgn.specs.Variations.{is_end, is_variation, variations_fault}
+use Rattle.chess_pgn.specs.Variations.{is_variation, variations_fault}
+use Rattle.chess_pgn.specs.laws.LineEnds.{is_end}
 use Rattle.chess_pgn.specs.Words.{is_marks}
 use Rattle.chess_text.specs.declared.reading.Reading.TheVariants as reads
 use Rattle.chess_text.specs.Moves.{reading}

@@ -1,8 +1,8 @@
 -- The definitions that Chess960 widened, as they are for normal chess alone.
 use Rattle.std.specs.Prelude.{◌≡◌, ℕ, ◌-◌, Bool, not, List, [], ◌∷◌, ◌++◌, length, drop, map, slice_get, Ok, None, codes, if◌then◌else◌}
-use Rattle.std.specs.List.{filter_map, list_all}
-use Rattle.std.specs.Option.{option_map_or}
-use Rattle.std.specs.Result.{result_err, result_map_both}
+use Rattle.std.specs.List.{filter_map, last_or, list_all}
+use Rattle.std.specs.Option.{option_map_or, unwrap_or}
+use Rattle.std.specs.Result.{ok_prefix, result_err, result_map_both}
 use Rattle.chess_base.specs.declared.man.Variant.TheVariants.{Normal}
 use Rattle.chess_base.specs.Initial.{initial_setup}
 use Rattle.chess_base.specs.Options.{list_if}
@@ -12,9 +12,9 @@ use Rattle.chess_game.specs.Game.{State, from_start, outcome_now}
 use Rattle.chess_game.specs.Results.{outcome_text}
 use Rattle.pgn_writer.specs.declared.tags.Tags.{Tags}
 use Rattle.chess_pgn.specs.declared.read.PgnFaultKind.TheVariants.{BadFen}
-use Rattle.chess_pgn.specs.GameRead.{GameRead, failed, last_start, read_after_tags, pgn_read}
+use Rattle.chess_pgn.specs.GameRead.{GameRead, failed, read_after_tags, pgn_read}
 use Rattle.pgn_writer.specs.GameText.{tag_lines}
-use Rattle.chess_pgn.specs.LastTags.{says_nothing, tag_section, tags_named, last_tag}
+use Rattle.chess_pgn.specs.LastTags.{says_nothing, named_tag, tag_section, last_tag}
 use Rattle.pgn_writer.specs.Terminations.{termination_text, termination_of}
 use Rattle.chess_pgn.specs.Tokens.{Token, tokens_from}
 use Rattle.byte_devices.specs.Bytes.{after_byte_order_mark}
@@ -37,10 +37,10 @@ normal_read draws limit total tokens =
     let tags = tag_section tokens in
     let fens = map (λ tag. result_map_both (λ start. start)
     (λ fault. record { kind = BadFen fault; offset = total - tag.1 }) (fen_reading tag.0))
-    (tags_named (codes "FEN") tags) in
-    let s = from_start (last_start initial_setup fens) in
+    (filter_map (λ t. named_tag (codes "FEN") t.1) tags) in
+    let s = from_start (unwrap_or (last_or None (ok_prefix fens)) initial_setup) in
     if list_all (λ t. says_nothing t.1) tokens then record { state = s; answer = Ok None }
-    else option_map_or (failed s) (slice_get (filter_map result_err fens) 0)
+    else option_map_or (λ f. failed s f.kind f.offset) (slice_get (filter_map result_err fens) 0)
     (read_after_tags draws limit total s tags (drop (length tags) tokens))
 
 -- a game of normal chess is written, and a text with no tag Variant among the game's own tags is read, as if there were

@@ -1,9 +1,9 @@
 -- White space before a game is skipped: from the game's first byte on the same is read.
-use Rattle.std.proofs.Common.{◌≡◌, ℕ, ◌+◌, ◌-◌, ◌<◌, ◌≤◌, ◌||◌, ◌==◌, eqb, Bool, true, false, cond, List, [], ◌∷◌, length, drop, None, one-add, refl, sym, ap, ◌∙◌, arith, drop-drop, codes, slice_get}
+use Rattle.std.proofs.Common.{◌≡◌, ℕ, ◌+◌, ◌-◌, ◌<◌, ◌≤◌, ◌||◌, ◌==◌, eqb, Bool, true, false, cond, List, [], ◌∷◌, length, take, drop, None, one-add, refl, sym, ap, ◌∙◌, arith, drop-drop, codes, slice_get}
 use Rattle.std.specs.{List.filter_map, List.prefix_len, Option.option_map_or}
 use Rattle.std.proofs.lemmas.Bool.Decides.{nat_tests}
 use Rattle.chess_base.specs.declared.man.Variant.TheVariants.{Normal}
-use Rattle.chess_pgn.specs.{GameEnds.ends_at, GameEnds.game_end, GameRead.pgn_read, GameRead.variant_named, LastTags.may_precede_tags, laws.TokenByToken.game_of, laws.TokenByToken.nothing_read, laws.TokenByToken.tokens_read}
+use Rattle.chess_pgn.specs.{GameEnds.ends_at, GameEnds.game_end, GameRead.pgn_read, LastTags.may_precede_tags, laws.TokenByToken.game_of, laws.TokenByToken.nothing_read, laws.TokenByToken.tokens_read, shared.VariantNames.variant_named}
 use Rattle.chess_pgn.specs.Tokens.{Token, Skip, begins_line, is_white_space, tokens_from}
 use Rattle.byte_devices.specs.Bytes.{after_byte_order_mark}
 use Rattle.chess_pgn.specs.shared.Kinds.{IsOf, IsLongest, Blank, token}
@@ -33,7 +33,8 @@ one_skipped draws limit total left ts =
 
 end_skipped : (total left : ℕ) (ts : List (ℕ × Token)) → game_end total ((left, Skip) ∷ ts) ≡ game_end total ts
 end_skipped total left ts =
-    ap (λ k. slice_get (filter_map (ends_at total) (drop k ((left, Skip) ∷ ts))) 0)
+    ap (λ k. slice_get (filter_map (ends_at total)
+    (drop (length (take k ((left, Skip) ∷ ts))) ((left, Skip) ∷ ts))) 0)
     (one-add (prefix_len (λ t. may_precede_tags t.1) ts))
 
 -- what is said of tokens where nothing is said of a skipped one

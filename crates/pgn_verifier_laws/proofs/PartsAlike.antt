@@ -9,9 +9,10 @@ use Rattle.chess_game.specs.Game.{State, current, contradicts_verdict}
 use Rattle.chess_game.specs.{Results.same_outcome, declared.results.Outcome.Outcome, declared.verdicts.Verdict.Verdict}
 use Rattle.chess_text.specs.{declared.reading.Reading.Reading, Moves.reading}
 use Rattle.chess_text.specs.declared.reading.Reading.TheVariants as reads
-use Rattle.chess_pgn.specs.GameRead.{GameRead, ending, pgn_read, tagged_variant, variant_named}
-use Rattle.chess_pgn.specs.LastTags.{may_precede_tags, tag_section, tags_named, last_tag, result_tag_of}
-use Rattle.chess_pgn.specs.{shared.Kinds.IsFault, laws.WordKinds.word_kind, declared.read.PgnEnd.PgnEnd, declared.read.PgnFault.PgnFault, declared.tagged_result.ResultTag.ResultTag, UnknownVariants.is_known_variant, UnknownVariants.unknown_variant_in}
+use Rattle.chess_pgn.specs.GameRead.{GameRead, ending, pgn_read, tagged_variant}
+use Rattle.chess_pgn.specs.shared.{TagsNamed.tags_named, VariantNames.is_known_variant, VariantNames.variant_named}
+use Rattle.chess_pgn.specs.LastTags.{may_precede_tags, tag_section, last_tag, result_tag_of}
+use Rattle.chess_pgn.specs.{shared.Kinds.IsFault, laws.WordKinds.word_kind, declared.read.PgnEnd.PgnEnd, declared.read.PgnFault.PgnFault, declared.tagged_result.ResultTag.ResultTag, UnknownVariants.unknown_variant_in}
 use Rattle.chess_pgn.specs.Tokens.{Token, Skip, Tag, Word, Bad_tag, Unclosed_comment, Unclosed_variation, Bad, begins_line, tokens_from}
 use Rattle.byte_devices.specs.Bytes.{after_byte_order_mark}
 use Rattle.pgn_writer.specs.Outcomes.{outcome_of}

@@ -79,7 +79,7 @@ HasNoToken b text = (kind : Kind) (front rest : List ℕ) → text ≡ front ++ 
 abbrev pub HasUnclosedComment : List ℕ → ℕ → Type 0
 HasUnclosedComment text to_end =
     ((comment : List ℕ) × (text ≡ byte "{" ∷ comment) × (lacks (byte "}") comment ≡ true) × (to_end ≡ length text))
-    ⊎ ((inner : List ℕ) × (text ≡ byte "(" ∷ inner) × HasOpenComment false inner to_end)
+    ⊎ ((inner : List ℕ) × (text ≡ byte "(" ∷ inner) × HasOpenComment inner to_end)
 
 -- this token is the fault of a text that begins with no token (`HasNoToken`, which is not claimed here), by the text's
 -- first byte. If that is `(`, the fault is an unclosed comment in the variation if there is one, otherwise the unclosed

@@ -5,7 +5,8 @@ use Rattle.chess_pgn.specs.declared.read.PgnFault.{PgnFault}
 use Rattle.chess_pgn.specs.declared.read.PgnFaultKind.TheVariants.{BadToken, TooLong}
 use Rattle.chess_pgn.specs.declared.token.Token as code
 use Rattle.chess_pgn.specs.Tokens.{Token, Skip, Tag, Word, tokens_from}
-use Rattle.chess_pgn.specs.Variations.{is_end, variation_fault}
+use Rattle.chess_pgn.specs.Variations.{variation_fault}
+use Rattle.chess_pgn.specs.laws.LineEnds.{is_end}
 use Rattle.chess_pgn.specs.ties.Seen.{token_seen}
 
 -- whether a token can't be read

@@ -1,7 +1,11 @@
 -- The tags of a game, passed over.
-use Rattle.std.specs.Prelude.{◌≡◌, ℕ, List}
-use Rattle.chess_pgn.specs.GameEnds.{after_tags}
-use Rattle.chess_pgn.specs.Tokens.{tokens_from}
+use Rattle.std.specs.Prelude.{◌≡◌, ℕ, List, length, drop}
+use Rattle.chess_pgn.specs.LastTags.{tag_section}
+use Rattle.chess_pgn.specs.Tokens.{Token, tokens_from}
+
+-- a game's tokens after its tag section
+abbrev pub after_tags : List (ℕ × Token) → List (ℕ × Token)
+after_tags tokens = drop (length (tag_section tokens)) tokens
 
 -- the tags of the game that begins at the offset `at` of the text come before the offset `after`
 abbrev pub IsAfterTags : List ℕ → ℕ → ℕ → Type 0

@@ -1,0 +1,41 @@
+-- What a token does in a line of moves: `line_fault` says the same by the kinds of tokens (`line_by_kind`).
+use Rattle.std.specs.Prelude.{ℕ, ◌||◌, if◌then◌else◌, Option, Some, None, is_some, Result, Ok, Err}
+use Rattle.std.specs.List.{list_all}
+use Rattle.byte_devices.specs.Bytes.{is_digit}
+use Rattle.chess_base.specs.declared.man.Move.{Move}
+use Rattle.chess_base.specs.declared.setup.Setup.{Setup}
+use Rattle.chess_base.specs.Moves.{after}
+use Rattle.chess_text.specs.declared.reading.Reading.{Reading}
+use Rattle.chess_text.specs.declared.reading.Reading.TheVariants as reads
+use Rattle.chess_text.specs.Moves.{reading}
+use Rattle.pgn_writer.specs.Outcomes.{outcome_of}
+use Rattle.chess_pgn.specs.declared.read.PgnFault.{PgnFault}
+use Rattle.chess_pgn.specs.declared.read.PgnFaultKind.{PgnFaultKind}
+use Rattle.chess_pgn.specs.declared.read.PgnFaultKind.TheVariants.{BadToken, IllegalMove, AmbiguousMove}
+use Rattle.chess_pgn.specs.Tokens.{Token, Skip, Tag, Word}
+use Rattle.chess_pgn.specs.Words.{is_marks}
+
+-- what a word that is taken as a move does, by what it denotes in the line's position: a legal move is made, anything
+-- else is a fault
+abbrev pub word_move : Reading → Result (Option Move) PgnFaultKind
+word_move (reads.Move m) = Ok (Some m)
+word_move reads.NotAMove = Err BadToken
+word_move reads.Ambiguous = Err AmbiguousMove
+word_move reads.NoSuch = Err IllegalMove
+
+-- what a token does in a line whose position is `p`: the move to be made, if it is one. What is skipped, a tag, a
+-- result, a number, and marks such as `!?` are passed over; any other token is a fault
+abbrev pub token_move : Setup → Token → Result (Option Move) PgnFaultKind
+token_move p Skip = Ok None
+token_move p (Tag name text to_end) = Ok None
+token_move p (Word word) = if is_some (outcome_of word) || (list_all is_digit word || is_marks word) then Ok None
+    else word_move (reading p word)
+token_move p _ = Err BadToken
+
+-- the first fault of a line from a token at the offset `at` on, by what that token does in the position `p`: its own
+-- fault, or what `later` gives for the position before the last move (`before` if no move is made) and that after it
+abbrev pub after_token : ℕ → Option Setup → Setup → Result (Option Move) PgnFaultKind
+    → (Option Setup → Setup → Option PgnFault) → Option PgnFault
+after_token at before p (Ok None) later = later before p
+after_token at before p (Ok (Some m)) later = later (Some p) (after p m)
+after_token at before p (Err kind) later = Some (record { kind = kind; offset = at })
