@@ -20,6 +20,7 @@ mod TagsLeft
 mod TokenPlaces
 mod VariationParts
 mod LinesRead
+mod VariationsSought
 mod PassedWords
 mod Walk
 mod ByteRuns
@@ -31,3 +32,4 @@ mod TokenSplits
 mod Splits
 mod GamesByTags
 mod PastDraws
+mod UnreadGames
