@@ -1,9 +1,10 @@
 -- A game with a fault at what can't be read has no end: the split of the text stops there, and no token before ends the
 -- game, since reading went on after each.
-use Rattle.std.proofs.Common.{◌≡◌, ℕ, suc, ◌+◌, ◌-◌, ◌<◌, ◌≤◌, Bool, true, false, cond, not, List, [], ◌∷◌, ◌++◌, length, take, drop, Option, Some, None, Result, Ok, Err, IfErr, refl, sym, ap, subst, ◌∙◌, arith, bytes_eq, codes, is_some, nat_lt, option_map, slice_get, length-append, length-drop}
+use Rattle.std.proofs.Common.{◌≡◌, ℕ, suc, ◌+◌, ◌-◌, ◌<◌, ◌≤◌, Bool, true, false, cond, not, List, [], ◌∷◌, ◌++◌, length, take, drop, Option, Some, None, Result, Ok, Err, IfErr, refl, sym, ap, subst, ◌∙◌, arith, bytes_eq, codes, if◌then◌else◌, is_some, nat_lt, option_map, slice_get, length-append, length-drop}
 use Rattle.std.specs.List.{cons_option, filter_map, list_all, list_any}
 use Rattle.std.proofs.lemmas.Bool.{and_parts}
-use Rattle.byte_devices.specs.Bytes.{after_byte_order_mark}
+use Rattle.std.specs.Option.{option_map_or}
+use Rattle.byte_devices.specs.Bytes.{after_byte_order_mark, is_digit}
 use Rattle.chess_base.specs.{declared.fen_fault.FenFault.FenFault, declared.setup.Setup.Setup}
 use Rattle.chess_fen.specs.Reading.{fen_reading_as}
 use Rattle.chess_game.specs.Game.{from_start, played, current}
@@ -11,9 +12,9 @@ use Rattle.chess_game.specs.declared.results.Outcome.{Outcome}
 use Rattle.chess_text.specs.{declared.reading.Reading.Reading, Moves.reading}
 use Rattle.chess_text.specs.declared.reading.Reading.TheVariants as reads
 use Rattle.pgn_writer.specs.Outcomes.{outcome_of}
-use Rattle.chess_pgn.specs.{declared.read.PgnEnd.PgnEnd, declared.read.PgnFault.PgnFault, declared.read.PgnFaultKind.PgnFaultKind, GameEnds.ends_at, GameEnds.after_tags, GameEnds.game_end, GameRead.GameRead, GameRead.ending, GameRead.tagged_variant, LastTags.may_precede_tags, LastTags.tag_section, laws.Unreadable.is_unreadable, laws.Unreadable.UnreadableGamesHaveNoEnd, laws.WordKinds.word_kind}
+use Rattle.chess_pgn.specs.{declared.read.PgnEnd.PgnEnd, declared.read.PgnFault.PgnFault, declared.read.PgnFaultKind.PgnFaultKind, GameEnds.ends_at, GameEnds.after_tags, GameEnds.game_end, GameRead.GameRead, GameRead.ending, GameRead.tagged_variant, LastTags.may_precede_tags, LastTags.tag_section, laws.Unreadable.is_unreadable, laws.Unreadable.UnreadableGamesHaveNoEnd, laws.WordKinds.word_kind, Words.is_marks}
 use Rattle.chess_pgn.specs.declared.read.PgnFaultKind.TheVariants.{BadFen, BadToken, IllegalMove, AmbiguousMove, AfterEnd, TooLong, NoResult}
-use Rattle.chess_pgn.specs.declared.word_kind.WordKind.TheVariants.{End}
+use Rattle.chess_pgn.specs.declared.word_kind.WordKind.TheVariants.{End, Number, Marks, Move}
 use Rattle.chess_pgn.specs.laws.TokenByToken.{SoFar, Step, On, fails, unless_full, move_step, word_step, fen_step, tag_step, termination_after, step, read_rest_with, game_of, nothing_read, tokens_read}
 use Rattle.chess_pgn.specs.Tokens.{Token, Skip, Tag, Word, Bad_tag, Unclosed_comment, Unclosed_variation, Bad, is_word_byte, begins_line, tokens_from}
 use Rattle.chess_pgn.specs.Split.{IsToken, blank, line, comment, glyph, variation, tag, asterisk, word, IsTokenAt, IsFaultOf, inner_comment, other, IsSplit, ended, token, stopped}
@@ -157,10 +158,11 @@ module _ (draws : Bool) (limit : ℕ) (text : List ℕ) where
     finished : (w : List ℕ) (o : Outcome) → outcome_of w ≡ Some o
         → Leaves (Word w) (step draws limit (length text) g (length text - at) (Word w))
     finished w o is f e h =
-        let end : word_kind w ≡ End o = rw is refl in
+        let end : word_kind w ≡ End o =
+        ap (λ k. option_map_or End k (if list_all is_digit w then Number else if is_marks w then Marks else Move)) is in
         absurd (never_well _ f (ap (λ k. (read_rest_with
         (word_step draws limit g (length text - (length text - at)) w k)
-        (λ h. game_of draws limit (length text) h ts)).answer) (sym end) ∙ e))
+        (λ u. game_of draws limit (length text) u ts)).answer) (sym end) ∙ e))
 
   -- a word begins with a byte of words
   first_byte : (at : ℕ) (front rest : List ℕ) → drop at text ≡ front ++ rest → 0 < length front
