@@ -182,7 +182,7 @@ module _ (draws : Bool) (limit : ℕ) (text : List ℕ) where
   one_token at ts later (rest, e, tag {name} {opening} {string} {gap} {closing} o s k is) g =
       tagged at ts later g name string (length (string ++ closing) + length rest)
   one_token at ts later (rest, e, asterisk) g = λ f k h. absurd (never_well _ f k)
-  one_token at ts later (rest, e, word {w} some all) g = by_outcome (outcome_of w) refl
+  one_token at ts later (rest, e, word {text = w} some all) g = by_outcome (outcome_of w) refl
     where
       within : at ≤ length text
       within = omega (arith, ap length e, length-append w rest, length-drop at text, some)
@@ -195,14 +195,14 @@ module _ (draws : Bool) (limit : ℕ) (text : List ℕ) where
   -- ---- all tokens
 
   -- what can't be read ends no game
-  last_one : {xs : List ℕ} {t : Token} (n : ℕ) (begun : Bool) → IsFaultOf xs t → HasNoEnd begun ((n, t) ∷ [])
-  last_one n begun (comment {body}) = stayed (length text) n _ [] begun refl refl refl
-  last_one n begun (inner_comment h) = stayed (length text) n _ [] begun refl refl refl
-  last_one n begun (variation h) = stayed (length text) n _ [] begun refl refl refl
-  last_one n begun (tag {body}) = stayed (length text) n _ [] begun refl refl refl
-  last_one n begun (other h) = stayed (length text) n _ [] begun refl refl refl
+  last_one : {xs : List ℕ} {t : Token} (n : ℕ) (any : Bool) → IsFaultOf xs t → HasNoEnd any ((n, t) ∷ [])
+  last_one n any comment = stayed (length text) n _ [] any refl refl refl
+  last_one n any (inner_comment h) = stayed (length text) n _ [] any refl refl refl
+  last_one n any (variation h) = stayed (length text) n _ [] any refl refl refl
+  last_one n any tag = stayed (length text) n _ [] any refl refl refl
+  last_one n any (other h) = stayed (length text) n _ [] any refl refl refl
 
-  none_of_none : (begun : Bool) → HasNoEnd begun []
+  none_of_none : (any : Bool) → HasNoEnd any []
   none_of_none true = refl
   none_of_none false = refl
 
