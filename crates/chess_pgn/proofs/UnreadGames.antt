@@ -172,17 +172,18 @@ module _ (draws : Bool) (limit : ℕ) (text : List ℕ) where
       let first : is_word_byte c ≡ true = (and_parts (is_word_byte c) (list_all is_word_byte front) all).0 in
       ap (λ xs. list_any is_word_byte (take 1 xs)) e ∙ rw first refl
 
-  one_token : (at : ℕ) {front : List ℕ} {t : Token} (ts : List (ℕ × Token)) → Later ts → IsTokenAt text at front t
+  one_token : (at : ℕ) (rest : List ℕ) {front : List ℕ} {t : Token} (ts : List (ℕ × Token)) → Later ts
+      → drop at text ≡ front ++ rest → IsToken (begins_line text at) (length rest) front t
       → Later ((length text - at, t) ∷ ts)
-  one_token at ts later (rest, e, blank h) g = skipped at ts later g
-  one_token at ts later (rest, e, line h k) g = skipped at ts later g
-  one_token at ts later (rest, e, comment body h) g = skipped at ts later g
-  one_token at ts later (rest, e, glyph h) g = skipped at ts later g
-  one_token at ts later (rest, e, variation h) g = skipped at ts later g
-  one_token at ts later (rest, e, tag {name} {opening} {string} {gap} {closing} o s k is) g =
+  one_token at rest ts later e (blank h) g = skipped at ts later g
+  one_token at rest ts later e (line h k) g = skipped at ts later g
+  one_token at rest ts later e (comment body h) g = skipped at ts later g
+  one_token at rest ts later e (glyph h) g = skipped at ts later g
+  one_token at rest ts later e (variation h) g = skipped at ts later g
+  one_token at rest ts later e (tag {name} {opening} {string} {gap} {closing} o s k is) g =
       tagged at ts later g name string (length (string ++ closing) + length rest)
-  one_token at ts later (rest, e, asterisk) g = λ f k h. absurd (never_well _ f k)
-  one_token at ts later (rest, e, word {text = w} some all) g = by_outcome (outcome_of w) refl
+  one_token at rest ts later e asterisk g = λ f k h. absurd (never_well _ f k)
+  one_token at rest ts later e (word {text = w} some all) g = by_outcome (outcome_of w) refl
     where
       within : at ≤ length text
       within = omega (arith, ap length e, length-append w rest, length-drop at text, some)
@@ -208,7 +209,8 @@ module _ (draws : Bool) (limit : ℕ) (text : List ℕ) where
 
   no_end : {at : ℕ} {tokens : List (ℕ × Token)} → IsSplit text at tokens → Later tokens
   no_end (ended e) g f k h = none_of_none g.is_begun
-  no_end (token {at} {front} {t} {tokens} is longest more) g f k h = one_token at tokens (no_end more) is g f k h
+  no_end (token {at} {front} {t} {tokens} (rest, e, is) longest more) g f k h =
+      one_token at rest tokens (no_end more) e is g f k h
   no_end (stopped {at} {fault} none is) g f k h = last_one (length text - at) g.is_begun is
 
 pub unread_have_no_end : UnreadableGamesHaveNoEnd
