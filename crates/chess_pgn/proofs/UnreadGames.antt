@@ -1,6 +1,6 @@
 -- A game with a fault at what can't be read has no end: the split of the text stops there, and no token before ends the
 -- game, since reading went on after each.
-use Rattle.std.proofs.Common.{◌≡◌, ℕ, suc, ◌+◌, ◌-◌, ◌<◌, ◌≤◌, Bool, true, false, cond, not, List, [], ◌∷◌, ◌++◌, length, take, drop, Option, Some, None, Result, Ok, Err, IfErr, refl, sym, ap, subst, ◌∙◌, arith, bytes_eq, codes, if◌then◌else◌, is_some, nat_lt, option_map, slice_get, length-append, length-drop}
+use Rattle.std.proofs.Common.{◌≡◌, ℕ, ◌+◌, ◌-◌, ◌<◌, ◌≤◌, Bool, true, false, cond, not, List, [], ◌∷◌, ◌++◌, length, take, drop, Option, Some, None, Result, Ok, Err, IfErr, refl, sym, ap, subst, ◌∙◌, arith, bytes_eq, codes, if◌then◌else◌, is_some, nat_lt, option_map, slice_get, length-append, length-drop}
 use Rattle.std.specs.List.{cons_option, filter_map, list_all, list_any}
 use Rattle.std.proofs.lemmas.Bool.{and_parts}
 use Rattle.std.specs.Option.{option_map_or}
@@ -16,8 +16,8 @@ use Rattle.chess_pgn.specs.{declared.read.PgnEnd.PgnEnd, declared.read.PgnFault.
 use Rattle.chess_pgn.specs.declared.read.PgnFaultKind.TheVariants.{BadFen, BadToken, IllegalMove, AmbiguousMove, AfterEnd, TooLong, NoResult}
 use Rattle.chess_pgn.specs.declared.word_kind.WordKind.TheVariants.{End, Number, Marks, Move}
 use Rattle.chess_pgn.specs.laws.TokenByToken.{SoFar, Step, On, fails, unless_full, move_step, word_step, fen_step, tag_step, termination_after, step, read_rest_with, game_of, nothing_read, tokens_read}
-use Rattle.chess_pgn.specs.Tokens.{Token, Skip, Tag, Word, Bad_tag, Unclosed_comment, Unclosed_variation, Bad, is_word_byte, begins_line, tokens_from}
-use Rattle.chess_pgn.specs.Split.{IsToken, blank, line, comment, glyph, variation, tag, asterisk, word, IsTokenAt, IsFaultOf, inner_comment, other, IsSplit, ended, token, stopped}
+use Rattle.chess_pgn.specs.Tokens.{Token, Skip, Tag, Word, is_word_byte, begins_line, tokens_from}
+use Rattle.chess_pgn.specs.Split.{IsToken, blank, line, comment, glyph, variation, tag, asterisk, word, IsFaultOf, inner_comment, other, IsSplit, ended, token, stopped}
 use Rattle.chess_pgn.proofs.{ByteRuns.pick, GameEnds.first_end, GameEnds.tags_on, GameEnds.tags_end, GamesByTags.reads_alike, Splits.read_split, StepKinds.word_cases}
 
 -- ---- answers
