@@ -16,7 +16,7 @@ outcome_has_bytes (c ∷ word) o h = search rules
 -- ---- the tags
 
 -- one more
-tags_on : (t : ℕ × Token) (rest : List (ℕ × Token)) → true ≡ may_precede_tags t.1
+pub tags_on : (t : ℕ × Token) (rest : List (ℕ × Token)) → true ≡ may_precede_tags t.1
     → after_tags (t ∷ rest) ≡ after_tags rest
 tags_on t rest may =
     let n = prefix_len (λ u. may_precede_tags u.1) rest in
@@ -24,7 +24,7 @@ tags_on t rest may =
     ∙ ap (λ k. drop (length (take k (t ∷ rest))) (t ∷ rest)) (one-add n)
 
 -- no more
-tags_end : (t : ℕ × Token) (rest : List (ℕ × Token)) → may_precede_tags t.1 ≡ false
+pub tags_end : (t : ℕ × Token) (rest : List (ℕ × Token)) → may_precede_tags t.1 ≡ false
     → after_tags (t ∷ rest) ≡ t ∷ rest
 tags_end t rest h =
     ap (λ b. drop (length (take (cond b (1 + prefix_len (λ u. may_precede_tags u.1) rest) 0) (t ∷ rest))) (t ∷ rest)) h

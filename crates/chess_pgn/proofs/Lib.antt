@@ -21,6 +21,7 @@ mod TokenPlaces
 mod VariationParts
 mod LineKinds
 mod LinesRead
+mod VariationsSought
 mod PassedWords
 mod Walk
 mod ByteRuns
@@ -33,3 +34,4 @@ mod Splits
 mod RowsRead
 mod GamesByTags
 mod PastDraws
+mod UnreadGames

@@ -3,7 +3,7 @@
 -- *line* is a game's own moves, or those of a variation. This project's own: which words are taken; that a result and a
 -- tag are passed over in a variation; that no draw ends one; and how deep they may be nested.
 use Rattle.std.specs.Prelude.{ℕ, zero, suc, ◌+◌, ◌-◌, Bool, false, ◌||◌, if◌then◌else◌, List, [], ◌∷◌, codes, length, take, drop, slice_index, Option, Some, None, is_some, ◌==◌}
-use Rattle.std.specs.List.{list_all}
+use Rattle.std.specs.List.{list_all, list_any}
 use Rattle.std.specs.Option.{option_map_or, option_or}
 use Rattle.std.specs.Str.{bytes_eq}
 use Rattle.byte_devices.specs.Bytes.{byte, is_digit}
@@ -14,7 +14,6 @@ use Rattle.pgn_writer.specs.Outcomes.{outcome_of}
 use Rattle.chess_pgn.specs.declared.read.PgnFault.{PgnFault}
 use Rattle.chess_pgn.specs.declared.read.PgnFaultKind.TheVariants.{BadToken, TooLong}
 use Rattle.chess_pgn.specs.declared.variations.TheConstants.{MOST_NESTED}
-use Rattle.chess_pgn.specs.Split.{lacks}
 use Rattle.chess_pgn.specs.Tokens.{Token, Skip, Tag, Word, Bad}
 use Rattle.chess_pgn.specs.Words.{is_marks, word_gives}
 
@@ -52,7 +51,8 @@ variation_fault tokens (suc depth) text start at =
     line_fault text (λ p from. variation_fault tokens depth text p from) None start (tokens text (at + 1))
 
 -- the first fault in the variations of a game without another fault, whose start is `start`, and whose text goes from
--- the offset `at` to the end of `text`; without a `(` it has none. At most 64 variations may be open
+-- the offset `at` to the end of `text`; it has none if no token is a variation. At most 64 variations may be open
 abbrev pub variations_fault : (List ℕ → ℕ → List (ℕ × Token)) → List ℕ → Setup → ℕ → Option PgnFault
-variations_fault tokens text start at = if lacks (byte "(") (drop at text) then None
-    else line_fault text (λ p from. variation_fault tokens MOST_NESTED text p from) None start (tokens text at)
+variations_fault tokens text start at = if list_any (λ t. is_variation text (length text - t.0) t.1) (tokens text at)
+    then line_fault text (λ p from. variation_fault tokens MOST_NESTED text p from) None start (tokens text at)
+    else None

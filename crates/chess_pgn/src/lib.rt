@@ -42,7 +42,7 @@ mod words;
 
 pub use chess_game::{HowEnded, TagText};
 pub use game_ends::game_end;
-pub use laws::{faults_have_offsets, half_moves_have_bytes};
+pub use laws::{faults_have_offsets, half_moves_have_bytes, unreadable_games_have_no_end};
 pub use past_draws::{ReadGame, ending, read_past_draws};
 pub use pgn_writer::{Tags, Termination, outcome_of, write_pgn};
 pub use read::{PgnEnd, PgnFault, PgnFaultKind, read_pgn};

@@ -1,12 +1,11 @@
 //! Reads the variations of a game (PGN standard of 1994, section 8.2.5). `variation` skips them; here their moves are
 //! read, too.
 
-ghost use Rattle.std.specs.Prelude.{◌≡◌, ◌≤◌, ◌+◌, ◌||◌, IsTrue, IfErr, IfOk, Option, is_some, length, None};
-ghost use Rattle.std.specs.List.{list_all};
+ghost use Rattle.std.specs.Prelude.{◌≡◌, ◌≤◌, ◌+◌, ◌||◌, ◌==◌, IsTrue, IfErr, IfOk, Option, is_some, drop, length, ℕ, None};
+ghost use Rattle.std.specs.List.{list_all, position_or_len};
 ghost use Rattle.std.specs.Option.{IfSome};
 ghost use Rattle.std.specs.Result.{result_err};
 ghost use Rattle.chess_base.specs.Moves.{is_legal};
-ghost use Rattle.chess_pgn.specs.Split.{lacks};
 ghost use Rattle.chess_pgn.specs.Tokens.{tokens_from};
 ghost use Rattle.chess_base.specs.declared.setup.Setup.{Setup};
 ghost use Rattle.chess_pgn.specs.declared.read.PgnFault.{PgnFault};
@@ -18,11 +17,12 @@ ghost use Rattle.pgn_writer.specs.Outcomes.{outcome_of};
 ghost use Rattle.chess_pgn.specs.Words.{is_marks};
 ghost use Rattle.chess_text.specs.Moves.{reading};
 ghost use Rattle.chess_pgn.specs.ties.Seen.{fault_seen, token_seen};
-ghost use Rattle.chess_pgn.specs.ties.LineSteps.{IsLineToken, inside, opening, played};
+ghost use Rattle.chess_pgn.specs.ties.LineSteps.{HasNone, IsLineToken, has_variation, inside, opening, played};
 
 use crate::read::{PgnFault, PgnFaultKind};
 use crate::token::{Token, TokenFault, next_token};
 use crate::word_kind::{WordKind, word_kind};
+use byte_devices::len_before;
 use chess_base::{Move, Position};
 use chess_moves::Board;
 use chess_text::{Reading, read_move};
@@ -195,11 +195,50 @@ fn read_line<B: Board>(
     }
 }
 
-// Whether a text has no `(`.
-fn lacks_parenthesis(text: &[u8]) -> bool
-    ensures { result ≡ lacks (byte "(") text.now }
+// The offset of the first `(` of a text from the offset `at` on; the text's length if there is none.
+fn next_parenthesis(text: &[u8], at: usize) -> usize
+    requires { at ≤ length text.now }
+    ensures { result ≡ at + position_or_len (λ c. c == byte "(") (drop at text.now) }
 {
-    text.iter().all(|byte| *byte != b'(')
+    at + len_before(&text[at..], b'(')
+}
+
+// The offset of the first `(` from the offset `at` on, where `known` is that of the first from an earlier offset on: a
+// `(` is looked for only if `known` comes before `at`, so that no byte is looked at twice.
+fn parenthesis_from(text: &[u8], at: usize, known: usize) -> usize
+    requires { at ≤ length text.now }
+    ensures { (from : ℕ) → from ≤ at → HasNone text.now from known → HasNone text.now at result }
+{
+    if known < at {
+        next_parenthesis(text, at)
+    } else {
+        known
+    }
+}
+
+// Whether a token from the offset `at` on is a variation. Tokens are read only up to the text's last `(`: mostly none,
+// as a game's text mostly has no `(`.
+fn has_variation(text: &[u8], at: usize) -> bool
+    requires { at ≤ length text.now }
+    ensures { result ≡ has_variation text.now (tokens_from text.now at) }
+{
+    let mut offset = at;
+    // Where the first `(` from `offset` on is.
+    let mut place = next_parenthesis(text, at);
+    while place < text.len() {
+        match next_token(text, offset) {
+            Ok(Some((token, token_end))) => {
+                if is_variation(text, offset, &token) {
+                    return true;
+                }
+                place = parenthesis_from(text, token_end, place);
+                offset = token_end;
+            }
+            Ok(None) => return false,
+            Err(_) => return false,
+        }
+    }
+    false
 }
 
 /// Reads the variations of the game that begins at the offset `at` and ends where the text ends, right after its
@@ -224,7 +263,7 @@ pub fn read_variations<B: Board>(
     ensures fault { result_err result ≡ variations_fault tokens_from text.now start.now at }
     ensures within { IfErr result (λ fault. fault.offset ≤ length text.now) }
 {
-    if lacks_parenthesis(&text[at..]) {
+    if !has_variation(text, at) {
         return Ok(());
     }
     read_line(MOST_NESTED, text, at, start, board)

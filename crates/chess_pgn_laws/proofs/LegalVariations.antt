@@ -1,12 +1,12 @@
 -- Without a fault each move of each variation is legal: by how deep variations are nested, and then token by token.
-use Rattle.std.proofs.Common.{◌≡◌, ℕ, zero, suc, ◌+◌, ◌-◌, Bool, true, false, cond, List, [], ◌∷◌, length, drop, Option, Some, None, Result, Ok, Err, refl, sym, ap, ◌∙◌, ◌||◌, is_some}
-use Rattle.std.specs.{List.list_all, Option.option_map_or, Option.option_or}
+use Rattle.std.proofs.Common.{◌≡◌, ℕ, zero, suc, ◌+◌, ◌-◌, Bool, true, false, cond, List, [], ◌∷◌, length, Option, Some, None, Result, Ok, Err, refl, sym, ap, ◌∙◌, ◌||◌, is_some}
+use Rattle.std.specs.{List.list_all, List.list_any, Option.option_map_or, Option.option_or}
 use Rattle.byte_devices.specs.Bytes.{is_digit}
 use Rattle.chess_base.specs.{declared.man.Move.Move, declared.setup.Setup.Setup, Moves.after}
 use Rattle.chess_text.specs.{declared.reading.Reading.Reading, Moves.reading, laws.Laws.ReadMovesAreLegal}
 use Rattle.chess_text.specs.declared.reading.Reading.TheVariants as reads
 use Rattle.pgn_writer.specs.Outcomes.{outcome_of}
-use Rattle.chess_pgn.specs.{declared.read.PgnFault.PgnFault, declared.read.PgnFaultKind.PgnFaultKind, declared.read.PgnFaultKind.TheVariants.BadToken, declared.variations.TheConstants.MOST_NESTED, Split.lacks, Words.is_marks}
+use Rattle.chess_pgn.specs.{declared.read.PgnFault.PgnFault, declared.read.PgnFaultKind.PgnFaultKind, declared.read.PgnFaultKind.TheVariants.BadToken, declared.variations.TheConstants.MOST_NESTED, Words.is_marks}
 use Rattle.chess_pgn.specs.Tokens.{Token, Skip, Tag, Word, Bad_tag, Unclosed_comment, Unclosed_variation, Bad}
 use Rattle.chess_pgn.specs.Variations.{is_variation, line_fault, variation_fault}
 use Rattle.chess_pgn.specs.{laws.LineEnds.is_end, shared.LineTokens.word_move, shared.LineTokens.token_move, shared.LineTokens.after_token}
@@ -127,10 +127,11 @@ module _ (law : ReadMovesAreLegal) (tokens : List ℕ → ℕ → List (ℕ × T
 pub variations_legal : ReadMovesAreLegal → VariationsAreLegal
 variations_legal law tokens text start at some h =
     line_legal law tokens text (λ p from. variation_fault tokens MOST_NESTED text p from)
-    (variation_legal law tokens text MOST_NESTED) (tokens text at) None start (by_test (lacks 40 (drop at text)) some h)
+    (variation_legal law tokens text MOST_NESTED) (tokens text at) None start
+    (by_test (list_any (λ (t : ℕ × Token). is_variation text (length text - t.0) t.1) (tokens text at)) some h)
   where
-    by_test : (b : Bool) → b ≡ false → cond b None (line_fault text
-        (λ p from. variation_fault tokens MOST_NESTED text p from) None start (tokens text at)) ≡ None
+    by_test : (b : Bool) → b ≡ true → cond b (line_fault text
+        (λ p from. variation_fault tokens MOST_NESTED text p from) None start (tokens text at)) None ≡ None
         → line_fault text (λ p from. variation_fault tokens MOST_NESTED text p from) None start (tokens text at) ≡ None
-    by_test true e k = absurd (cc)
-    by_test false e k = k
+    by_test true e k = k
+    by_test false e k = absurd (cc)

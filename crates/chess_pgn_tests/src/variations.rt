@@ -9,10 +9,21 @@ use std::process::Abort;
 use std::test::Fail;
 
 // Texts of a game with no fault of its own, where it begins, and the first fault in its variations.
-const VARIATIONS: [(&[u8], usize, Option<(PgnFaultKind, usize)>); 14] = [
+const VARIATIONS: [(&[u8], usize, Option<(PgnFaultKind, usize)>); 16] = [
     (b"1. e4 *", 0, None),
     (b"1. e4 {(} e5 *", 0, None),
     (b"[White \"a (b)\"] 1. e4 *", 0, None),
+    // The first `(` is in a comment or a tag, the second is a variation's.
+    (
+        b"1. e4 {(} (1. e5) *",
+        0,
+        Some((PgnFaultKind::IllegalMove, 14)),
+    ),
+    (
+        b"[Site \"(\"] 1. e4 (1. e5) *",
+        0,
+        Some((PgnFaultKind::IllegalMove, 21)),
+    ),
     (b"1. e4 (1. d4) *", 0, None),
     (b"1. e4 () *", 0, None),
     (b"1. e4 e5 (1... c5 (1... e6) 2. d4) 2. d4 *", 0, None),

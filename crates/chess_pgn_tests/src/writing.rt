@@ -5,7 +5,7 @@ use chess_bits::{AttackTables, Bits};
 use chess_fen::{read_fen, read_fen_as};
 use chess_game::{Comment, Game, Outcome};
 use chess_moves::{Board, Plain};
-use chess_pgn::{faults_have_offsets, half_moves_have_bytes};
+use chess_pgn::{faults_have_offsets, half_moves_have_bytes, unreadable_games_have_no_end};
 use chess_pgn_laws::{
     a_game_is_tags_and_moves, a_text_has_one_split, empty_games_are_read, games_are_laid_out,
     games_are_of_tokens, lines_are_filled, normal_is_kept, pgn_is_read_back, texts_are_worked_out,
@@ -489,4 +489,5 @@ fn laws_are_called() {
     normal_is_kept();
     pgn_is_read_back();
     texts_are_worked_out();
+    unreadable_games_have_no_end();
 }

@@ -10,4 +10,5 @@ mod NamesShown
 mod Placed
 mod TextVerified
 mod TooLong
+mod UnreadFaults
 mod Verifying

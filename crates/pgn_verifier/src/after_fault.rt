@@ -2,10 +2,14 @@
 
 ghost use Rattle.std.specs.Prelude.{◌≡◌, ◌≤◌, ◌<◌, ◌&&◌, nat_lt, not, is_some, length};
 ghost use Rattle.std.specs.Option.{IfSome};
+ghost use Rattle.chess_pgn.specs.laws.Unreadable.{is_unreadable};
 ghost use Rattle.pgn_verifier.specs.Reports.{unread_from};
 ghost use Rattle.pgn_verifier.specs.laws.Reported.{next_at};
+ghost use Rattle.pgn_verifier.specs.ties.AfterFaults.{IsFaultAt, stops_tokens};
 
-use chess_pgn::game_end;
+use crate::game_fault::{FaultKind, GameFault};
+use crate::token_reason::begins_word;
+use chess_pgn::{PgnFaultKind, game_end, unreadable_games_have_no_end};
 
 /// What follows a game with a fault.
 #[derive(Clone, Copy)]
@@ -17,15 +21,59 @@ pub(crate) struct AfterFault {
     pub unread: Option<usize>,
 }
 
-// The offset at which reading goes on after a game with a fault, which is read from the offset `at` on: where the game
-// ends. `None` if that isn't found, or reading isn't to go on after faults (`goes_on`).
-fn next_at(goes_on: bool, text: &[u8], at: usize) -> Option<usize>
+// Whether a fault of reading at the offset `at` is one of what can't be read as a token.
+fn is_unreadable(text: &[u8], at: usize, kind: PgnFaultKind) -> bool
     requires { at ≤ length text.now }
+    ensures { result ≡ is_unreadable text.now at kind }
+{
+    match kind {
+        PgnFaultKind::BadTag => true,
+        PgnFaultKind::BadFen(_) => false,
+        PgnFaultKind::BadToken => !begins_word(&text[at..]),
+        PgnFaultKind::IllegalMove => false,
+        PgnFaultKind::AmbiguousMove => false,
+        PgnFaultKind::AfterEnd => false,
+        PgnFaultKind::TooLong => false,
+        PgnFaultKind::UnclosedComment => true,
+        PgnFaultKind::UnclosedVariation => true,
+        PgnFaultKind::NoResult => false,
+    }
+}
+
+// Whether the tokens of the text stop at a game's fault, since it is one of what can't be read as a token.
+fn stops_tokens(text: &[u8], fault: GameFault) -> bool
+    requires { fault.offset ≤ length text.now }
+    ensures { result ≡ stops_tokens text.now fault.offset fault.kind }
+{
+    match fault.kind {
+        FaultKind::Pgn(kind) => is_unreadable(text, fault.offset, kind),
+        FaultKind::InVariation(_) => false,
+        FaultKind::UnknownVariant => false,
+        FaultKind::ResultDiffers { .. } => false,
+        FaultKind::BoardSaysOtherwise => false,
+    }
+}
+
+// The offset at which reading goes on after a game with this fault, which is read from the offset `at` on: where the
+// game ends. `None` if that isn't found, or reading isn't to go on after faults (`goes_on`). It isn't looked for if the
+// text's tokens stop at the fault.
+fn next_at(goes_on: bool, text: &[u8], at: usize, fault: GameFault) -> Option<usize>
+    requires at { at ≤ length text.now }
+    requires fault { fault.offset ≤ length text.now }
+    requires judged { IsFaultAt text.now at fault }
     ensures value { result ≡ next_at goes_on text.now at }
     ensures further { IfSome result (λ next. at < next) }
     ensures within { IfSome result (λ next. next ≤ length text.now) }
 {
-    if goes_on { game_end(text, at) } else { None }
+    // The prover wants this law: a game with a fault at what can't be read has no end.
+    unreadable_games_have_no_end();
+    if !goes_on {
+        return None;
+    }
+    if stops_tokens(text, fault) {
+        return None;
+    }
+    game_end(text, at)
 }
 
 // Whether there is a rest of a text of `len` bytes from the fault's offset `offset` on, and it is left unread although
@@ -50,18 +98,21 @@ fn unread_from(goes_on: bool, len: usize, offset: usize, next: Option<usize>) ->
 }
 
 impl AfterFault {
-    /// What follows the game of a text that is read from the offset `at` on, and has a fault at the offset `offset`.
-    /// `goes_on`: whether reading is to go on after faults.
-    pub(crate) fn of_game(goes_on: bool, text: &[u8], at: usize, offset: usize) -> Self
+    /// What follows the game of a text that is read from the offset `at` on, and has this fault. `goes_on`: whether
+    /// reading is to go on after faults.
+    pub(crate) fn of_game(goes_on: bool, text: &[u8], at: usize, fault: GameFault) -> Self
         requires at { at ≤ length text.now }
+        requires fault { fault.offset ≤ length text.now }
+        requires judged { IsFaultAt text.now at fault }
         ensures next { result.next ≡ next_at goes_on text.now at }
-        ensures unread { result.unread ≡ unread_from goes_on (length text.now) offset (next_at goes_on text.now at) }
+        ensures unread { result.unread
+            ≡ unread_from goes_on (length text.now) fault.offset (next_at goes_on text.now at) }
         ensures further { IfSome result.next (λ next. at < next) }
         ensures within { IfSome result.next (λ next. next ≤ length text.now) }
         ensures unread_within { IfSome result.unread (λ begin. begin ≤ length text.now) }
     {
-        let next = next_at(goes_on, text, at);
-        let unread = unread_from(goes_on, text.len(), offset, next);
+        let next = next_at(goes_on, text, at, fault);
+        let unread = unread_from(goes_on, text.len(), fault.offset, next);
         AfterFault { next, unread }
     }
 }

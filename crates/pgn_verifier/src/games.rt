@@ -67,7 +67,7 @@ pub(crate) fn verify_text<W: Output>(
                 at = end.offset;
             }
             Err(fault) => {
-                let after = AfterFault::of_game(start.goes_on, text, at, fault.offset);
+                let after = AfterFault::of_game(start.goes_on, text, at, fault);
                 let faulty = FaultLabel::of_game(options, number, start.offset, text, at, after);
                 let explained = explained_at(fault, faulty.begin, text);
                 place = place.counted_to(options.explain, text, explained);

@@ -67,8 +67,8 @@ pub(crate) fn bad_tag_reason(text: &[u8]) -> &'static [u8]
     }
 }
 
-// Whether the text begins with a byte of a word.
-fn begins_word(text: &[u8]) -> bool
+/// Whether the text begins with a byte of a word.
+pub(crate) fn begins_word(text: &[u8]) -> bool
     ensures { result ≡ list_any is_word_byte (take 1 text.now) }
 {
     match text {

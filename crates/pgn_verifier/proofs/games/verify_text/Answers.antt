@@ -19,6 +19,10 @@ loop-judged-init g c = (
       (known_at_start c.args.options.explain c.args.text.now c.args.start),
 )
 
+-- the fault is the game's
+pub of_game-after-requires-clause-judged : goal.of_game-after-requires-clause-judged
+of_game-after-requires-clause-judged g c = (c.args.options.strict, sym c.in-Err.ensures.judged)
+
 pub counted_to-place-requires-clause-few_lines : goal.counted_to-place-requires-clause-few_lines
 counted_to-place-requires-clause-few_lines g c =
     let same = ap (λ (t : TextStart). t.line) c.loop-judged.invariant.2 in
