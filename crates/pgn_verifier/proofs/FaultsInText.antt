@@ -6,7 +6,8 @@ use Rattle.chess_base.specs.declared.setup.Setup.{Setup}
 use Rattle.chess_pgn.specs.{Split.lacks, Tokens.tokens_from, Variations.line_fault, Variations.variation_fault, declared.variations.TheConstants.MOST_NESTED, declared.read.PgnEnd.PgnEnd, declared.read.PgnFault.PgnFault, declared.tagged_result.ResultTag.ResultTag}
 use Rattle.std.specs.Option.{option_eq, option_or}
 use Rattle.chess_game.specs.{Game.contradicts_verdict, declared.verdicts.Verdict.Verdict, Results.same_outcome}
-use Rattle.pgn_verifier.specs.GameFaults.{looked_for, result_differs, board_says_otherwise, variation_in}
+use Rattle.pgn_verifier.specs.GameFaults.{result_differs, board_says_otherwise}
+use Rattle.pgn_verifier.specs.shared.Contradictions.{looked_for, variation_in}
 use Rattle.pgn_verifier.specs.declared.game_fault.GameFault.{GameFault}
 
 abbrev pub InText : ℕ → Option GameFault → Type 0

@@ -1,3 +1,4 @@
 -- What only joins code to the definitions: no claim rests on it.
 pub mod Counting
+pub mod Explaining
 pub mod OnTheWay

@@ -2,8 +2,8 @@
 
 ghost use Rattle.std.specs.Prelude.{◌≡◌, ◌≤◌, ◌<◌, ◌&&◌, nat_lt, not, is_some, length};
 ghost use Rattle.std.specs.Option.{IfSome};
-ghost use Rattle.pgn_verifier.specs.Reports.{unread_from};
 ghost use Rattle.pgn_verifier.specs.laws.Reported.{next_at};
+ghost use Rattle.pgn_verifier.specs.ties.Explaining.{unread_from};
 
 use chess_pgn::game_end;
 
