@@ -1,5 +1,5 @@
 -- The games that a match writes are verified without a fault.
-use Rattle.std.proofs.Common.{◌≡◌, ◌∙◌, ℕ, ◌+◌, ◌≤◌, ◌<◌, List, [], ◌∷◌, ◌++◌, length, map, take, None, refl, sym, ap, subst, codes, flat_map}
+use Rattle.std.proofs.Common.{◌≡◌, ◌∙◌, ℕ, ◌+◌, ◌≤◌, ◌<◌, List, [], ◌∷◌, ◌++◌, length, map, take, None, false, refl, sym, ap, subst, codes, flat_map}
 use Rattle.std.specs.List.{enumerate_from}
 use Rattle.byte_devices.specs.Transfers.{OutputTook, all_of}
 use Rattle.chess_base.specs.{Sound.IsSound, declared.man.Move.Move, declared.setup.Setup.Setup}
@@ -8,7 +8,7 @@ use Rattle.chess_game.specs.declared.results.Outcome.TheVariants.{WhiteWins, Bla
 use Rattle.chess_match_laws.specs.OfActs.{EndsAtVerdicts, GamesAreLines, InEachMatch, OutcomesAreOfTheGame}
 use Rattle.match_runner.specs.Games.{GameRecord, game_text, game_texts, tags_of}
 use Rattle.match_runner.specs.declared.plan.GamesPlan.{GamesPlan}
-use Rattle.pgn_verifier.specs.{declared.options.Strictness.Strictness, Reports.AreReports, Reports.Report, Reports.without_spans, laws.Reported.placed_on, laws.Reported.reports_on}
+use Rattle.pgn_verifier.specs.{declared.options.Strictness.Strictness, Reports.AreReports, laws.Reported.Plain, laws.Reported.placed_on, laws.Reported.reports_on, laws.Reported.without_spans}
 use Rattle.pgn_verifier_laws.specs.WrittenGames.{AreWritable, TaggedGame, WrittenTextsHaveNoFault, report_of, written_text}
 use Rattle.match_pgn_laws.specs.{Scores.result_lines, Scores.sum_of, Verified.MatchesPassVerify, Verified.result_reported}
 use Rattle.match_pgn_laws.proofs.Games.{AreOfPlan, IsGame, is_game, is_line, is_sound, tag_texts, wrote}
@@ -75,7 +75,7 @@ same_results outcomes plan n (g ∷ games) h =
 -- the reports on a text are those that are made one after another
 abbrev pub ReportsAreMade : Type 0
 ReportsAreMade = (strict : Strictness) (start : ℕ) (text : List ℕ)
-    → AreReports strict start text 0 (placed_on strict start text)
+    → AreReports false strict start text 0 (placed_on strict start text)
 
 -- and so they are without their spans
 abbrev pub PlainReportsAreMade : Type 0
@@ -88,7 +88,7 @@ matches_pass_verify lines ends outcomes made plain faultless strict none plan re
     let w = wrote plan result steps d d' scored played in
     let text : List ℕ = game_texts plan w.games in
     let found : result_lines text ≡ map tag_of w.games = tags_found outcomes lines plan 1 w.games sound w.of_plan in
-    let reports : List Report = map report_of (tagged plan 1 w.games) in
+    let reports : List Plain = map report_of (tagged plan 1 w.games) in
     let are : without_spans (placed_on strict 0 text) ≡ reports =
     plain strict 0 text ∙ ap (reports_on strict 0) (sym (same_text plan 1 w.games))
     ∙ faultless strict none 0 (tagged plan 1 w.games) (writable lines ends outcomes plan 1 w.games sound w.of_plan) in (
@@ -98,7 +98,7 @@ matches_pass_verify lines ends outcomes made plain faultless strict none plan re
       record {
         reports = placed_on strict 0 text;
         are = made strict 0 text;
-        results = ap (λ (all : List Report). map result_reported all) are
+        results = ap (λ (all : List Plain). map result_reported all) are
             ∙ same_results outcomes plan 1 w.games w.of_plan ∙ sym found;
       },
     )

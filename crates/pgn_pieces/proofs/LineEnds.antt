@@ -1,13 +1,13 @@
 -- How many lines end in a text, and where its last line begins.
-use Rattle.std.proofs.Common.{◌≡◌, ◌≤◌, ℕ, zero, suc, ◌+◌, ◌-◌, List, [], ◌∷◌, ◌++◌, length, take, ap, ◌∙◌, arith, if◌then◌else◌}
+use Rattle.std.proofs.Common.{◌≡◌, ◌≤◌, ℕ, zero, suc, ◌+◌, ◌-◌, List, [], ◌∷◌, ◌++◌, length, take, ap, ◌∙◌, arith, if◌then◌else◌, ◌==◌}
 use Rattle.std.proofs.lemmas.List.Sums.{sum_by-append, count_by-le-length}
-use Rattle.pgn_pieces.specs.Places.{ends_line, line_ends}
+use Rattle.pgn_pieces.specs.Places.{line_ends}
 
 pub count_append : (xs ys : List ℕ) → line_ends (xs ++ ys) ≡ line_ends xs + line_ends ys
-count_append = sum_by-append (λ c. if ends_line c then 1 else 0)
+count_append = sum_by-append (λ c. if c == 10 then 1 else 0)
 
 pub line_ends-le : (xs : List ℕ) → line_ends xs ≤ length xs
-line_ends-le xs = count_by-le-length ends_line xs
+line_ends-le xs = count_by-le-length (λ c. c == 10) xs
 
 pub take_append : (n : ℕ) (xs ys : List ℕ) → take n (xs ++ ys) ≡ take n xs ++ take (n - length xs) ys
 take_append zero xs ys = let e : 0 ≡ 0 - length xs = omega arith in ap (λ k. take k ys) e

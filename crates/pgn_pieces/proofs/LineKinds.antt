@@ -2,12 +2,12 @@
 use Rattle.std.proofs.Common.{◌≡◌, ◌≤◌, ◌<◌, ℕ, zero, suc, ◌+◌, eqb, leb, Bool, true, false, List, [], ◌∷◌, ◌++◌, length, take, drop, cond, refl, sym, ap, ◌∙◌, length-drop, append_assoc, arith, bytes_eq, if◌then◌else◌, ◌&&◌, ◌||◌, not, nat_lt, codes}
 use Rattle.std.specs.List.{list_any, prefix_len, take_while}
 use Rattle.std.proofs.{lemmas.Bool.and_parts, lemmas.Bool.leb-true, lemmas.Bool.Decides.nat_tests, lemmas.List.take-append-le, lemmas.List.drop-append-le, lemmas.List.take_all, lemmas.List.Folds.prefix_len-append, lemmas.List.Folds.length-prefix_len, lemmas.List.Sums.prefix_len-le-length}
-use Rattle.pgn_pieces.specs.Pieces.{without_blanks, front_of, tag_name, after_name, after_tag, is_tag_line, is_event_line, is_moves_line}
-use Rattle.byte_devices.specs.Bytes.{is_blank, is_name_byte}
-use Rattle.pgn_pieces.specs.{ties.Fronts.begins_tag, ties.Fronts.is_empty_front, ties.Held.SameKind, ties.Held.SameTag, ties.Held.IsDecided}
+use Rattle.pgn_pieces.specs.Pieces.{front_of, tag_name, after_name, after_tag, is_tag_line, is_event_line, is_moves_line}
+use Rattle.byte_devices.specs.Bytes.{after_byte_order_mark, is_blank, is_name_byte}
+use Rattle.pgn_pieces.specs.{ties.Fronts.begins_tag, ties.Fronts.is_empty_front, ties.Fronts.without_blanks, ties.Held.SameKind, ties.Held.SameTag, ties.Held.IsDecided}
 
 abbrev without_mark : List ℕ → List ℕ
-without_mark text = if bytes_eq (take 3 text) (239 ∷ 187 ∷ 191 ∷ []) then drop 3 text else text
+without_mark text = drop (after_byte_order_mark text 0) text
 
 -- ---- a line of 256 bytes or more
 
@@ -119,10 +119,15 @@ module _ (front : List ℕ) (tag : begins_tag front ≡ true) where
 
 mark_kept : (text more : List ℕ) → 3 ≤ length text → without_mark (text ++ more) ≡ without_mark text ++ more
 mark_kept text more h =
-    let a = take-append-le 3 text more h in let b = drop-append-le 3 text more h in grind (arith, a, b)
+    ap (λ xs. drop (if bytes_eq xs (239 ∷ 187 ∷ 191 ∷ []) then 3 else 0) (text ++ more)) (take-append-le 3 text more h)
+    ∙ by_test (bytes_eq (take 3 text) (239 ∷ 187 ∷ 191 ∷ []))
+  where
+    by_test : (b : Bool) → drop (if b then 3 else 0) (text ++ more) ≡ drop (if b then 3 else 0) text ++ more
+    by_test true = drop-append-le 3 text more h
+    by_test false = refl
 
 unmarked_le : (text : List ℕ) → length (without_mark text) ≤ length text
-unmarked_le text = let l = length-drop 3 text in grind (arith, l)
+unmarked_le text = let l = length-drop (after_byte_order_mark text 0) text in omega (arith, l)
 
 -- a text taken whole, with what follows it as far as that is taken
 taken : (n : ℕ) (xs ys : List ℕ) → length xs ≤ n → (zs : List ℕ) × (take n (xs ++ ys) ≡ xs ++ zs)

@@ -3,9 +3,9 @@ use Rattle.std.specs.Prelude.{◌≡◌, ◌≤◌, ◌^◌, ℕ, ◌+◌, ◌-�
 use Rattle.std.specs.Io.KnownBytes.{Consumes, IsAtEnd}
 use Rattle.std.specs.List.{onto_first, take_while, prefix_len, list_any, list_all, concat, fold}
 use Rattle.std.specs.Str.{bytes_eq}
-use Rattle.byte_devices.specs.Bytes.{byte, is_blank, is_name_byte}
+use Rattle.byte_devices.specs.Bytes.{byte, is_blank, is_name_byte, after_byte_order_mark}
 use Rattle.byte_devices.specs.Devices.{InputState, saturating_increment}
-use Rattle.pgn_pieces.specs.Places.{ends_line, breaks_line}
+use Rattle.pgn_pieces.specs.Places.{breaks_line}
 use Rattle.pgn_pieces.specs.declared.pieces.PieceFault.{PieceFault}
 use Rattle.pgn_pieces.specs.declared.pieces.PieceFault.TheVariants.{ReadFailed, NoMemory, InputTooLong}
 
@@ -17,15 +17,14 @@ abbrev pub lines_of : List ℕ → List (List ℕ)
 lines_of [] = []
 lines_of (c ∷ cs) = if breaks_line c then (c ∷ []) ∷ lines_of cs else onto_first c (lines_of cs)
 
--- a text without the spaces and tabs at its beginning
-abbrev pub without_blanks : List ℕ → List ℕ
-without_blanks text = drop (prefix_len is_blank text) text
+-- a text without the bytes at its beginning that pass the test
+abbrev pub drop_while : (ℕ → Bool) → List ℕ → List ℕ
+drop_while test text = drop (prefix_len test text) text
 
 -- the front of a line, which decides the line's kind: its first 256 bytes, without a byte order mark (EF BB BF) and
 -- then spaces and tabs at their beginning
 abbrev pub front_of : List ℕ → List ℕ
-front_of line = let first = take 256 line in
-    without_blanks (if bytes_eq (take 3 first) (239 ∷ 187 ∷ 191 ∷ []) then drop 3 first else first)
+front_of line = let first = take 256 line in drop_while is_blank (drop (after_byte_order_mark first 0) first)
 
 -- the name after the `[` with which the front of a tag line begins
 abbrev pub tag_name : List ℕ → List ℕ
@@ -33,7 +32,7 @@ tag_name front = take_while is_name_byte (drop 1 front)
 
 -- what comes after the tag's name and any spaces and tabs in the front of a tag line
 abbrev pub after_name : List ℕ → List ℕ
-after_name front = without_blanks (drop (length (tag_name front)) (drop 1 front))
+after_name front = drop_while is_blank (drop (length (tag_name front)) (drop 1 front))
 
 -- whether a line is a tag line: its front begins with `[`, a name of one byte or more, any spaces and tabs, and `"`
 abbrev pub is_tag_line : List ℕ → Bool
@@ -47,14 +46,13 @@ is_event_line line = is_tag_line line && bytes_eq (tag_name (front_of line)) (co
 -- whether a line counts as empty: its front has nothing but spaces, tabs, `\r` and `\n`, or begins with `%` or `;`
 abbrev pub is_empty_line : List ℕ → Bool
 is_empty_line line = bytes_eq (take 1 (front_of line)) (codes "%") || bytes_eq (take 1 (front_of line)) (codes ";")
-    || list_all (λ c. is_blank c || (c == 13) || ends_line c) (front_of line)
+    || list_all (λ c. is_blank c || (c == 13) || (c == 10)) (front_of line)
 
 -- what comes after the first tag in the front of a tag line and any spaces and tabs; nothing if no `"]` ends the tag.
 -- Its value goes to the next quote, even one after a backslash
 abbrev pub after_tag : List ℕ → List ℕ
-after_tag front = let value = drop 1 (after_name front) in
-    let close = drop (prefix_len (λ c. not (c == byte "\"")) value) value in
-    if bytes_eq (take 2 close) (codes "\"]") then without_blanks (drop 2 close) else []
+after_tag front = let close = drop_while (λ c. not (c == byte "\"")) (drop 1 (after_name front)) in
+    if bytes_eq (take 2 close) (codes "\"]") then drop_while is_blank (drop 2 close) else []
 
 -- whether a line counts as one of moves, even if it is in a `{` comment: one that is neither a tag line nor empty, or a
 -- tag line in which, after the first tag and any spaces and tabs, a letter, digit, `_` or `*` follows

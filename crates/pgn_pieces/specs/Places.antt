@@ -2,22 +2,18 @@
 use Rattle.std.specs.Prelude.{ℕ, ◌+◌, ◌==◌, Bool, ◌||◌, not, List, take}
 use Rattle.std.specs.List.{count_by, suffix_len}
 
--- whether a byte ends a line, as lines are numbered: it is `\n`
-abbrev pub ends_line : ℕ → Bool
-ends_line c = c == 10
-
 -- whether a byte ends a line, as a collection is cut into lines: it is `\n`, or `\r`, which alone ends the lines of
 -- some old files
 abbrev pub breaks_line : ℕ → Bool
-breaks_line c = ends_line c || (c == 13)
+breaks_line c = (c == 10) || (c == 13)
 
--- how many lines end in a text
+-- how many lines end in a text, as lines are numbered: how often it has `\n`
 abbrev pub line_ends : List ℕ → ℕ
-line_ends text = count_by ends_line text
+line_ends text = count_by (λ c. c == 10) text
 
--- the line of the byte at this offset of a text: one more than the number of line ends before it
+-- the line of the byte at this offset of a text: one more than how often `\n` comes before it
 abbrev pub line_of : List ℕ → ℕ → ℕ
-line_of text offset = count_by ends_line (take offset text) + 1
+line_of text offset = count_by (λ c. c == 10) (take offset text) + 1
 
 -- the column of the byte at this offset of a text: one more than the number of bytes between it and the last `\n` or
 -- `\r` before it, or the text's beginning

@@ -10,13 +10,13 @@
 //! The functions that `kind_of` calls are inlined, since `verify --keep-going` calls it for every line of a collection
 //! (the workloads collections and puzzles). What that gains was not measured apart.
 
-ghost use Rattle.std.specs.Prelude.{◌≡◌, ◌≤◌, nat_lt, true, false, ◌&&◌, ◌||◌, ◌==◌, if◌then◌else◌, [], ◌∷◌, length, take, drop, codes};
+ghost use Rattle.std.specs.Prelude.{◌≡◌, ◌≤◌, nat_lt, true, false, ◌&&◌, ◌||◌, ◌==◌, length, take, drop, codes};
 ghost use Rattle.std.specs.Str.{bytes_eq};
 ghost use Rattle.std.specs.List.{list_all, list_any};
-ghost use Rattle.pgn_pieces.specs.Pieces.{without_blanks, front_of, after_name, tag_name, is_tag_line, is_event_line, is_moves_line};
-ghost use Rattle.byte_devices.specs.Bytes.{byte, is_blank, is_name_byte};
-ghost use Rattle.pgn_pieces.specs.Places.{ends_line, line_ends};
-ghost use Rattle.pgn_pieces.specs.ties.Fronts.{after_value, is_empty_front};
+ghost use Rattle.pgn_pieces.specs.Pieces.{front_of, after_name, tag_name, is_tag_line, is_event_line, is_moves_line};
+ghost use Rattle.byte_devices.specs.Bytes.{after_byte_order_mark, byte, is_blank, is_name_byte};
+ghost use Rattle.pgn_pieces.specs.Places.{line_ends};
+ghost use Rattle.pgn_pieces.specs.ties.Fronts.{after_value, is_empty_front, without_blanks};
 
 use byte_devices::{after_byte_order_mark, is_blank, is_name_byte, len_before, split_while};
 
@@ -98,7 +98,7 @@ fn after_value(after_name: &[u8]) -> &[u8]
 // line's mark is left out, so that files with marks can be joined to one collection.
 #[inline(always)]
 fn without_mark(text: &[u8]) -> &[u8]
-    ensures { result.now ≡ (if bytes_eq (take 3 text.now) (239 ∷ 187 ∷ 191 ∷ []) then drop 3 text.now else text.now) }
+    ensures { result.now ≡ drop (after_byte_order_mark text.now 0) text.now }
 {
     &text[after_byte_order_mark(text, 0)..]
 }
@@ -171,7 +171,7 @@ fn begins_tag(name: &[u8], after_name: &[u8]) -> bool
 // Whether a byte is white space, as an empty line may contain: a space, a tab, `\r` or `\n`.
 #[inline(always)]
 fn is_white(byte: u8) -> bool
-    ensures { result ≡ (is_blank byte || (byte == 13) || ends_line byte) }
+    ensures { result ≡ (is_blank byte || (byte == 13) || (byte == 10)) }
 {
     is_blank(byte) || byte == b'\r' || byte == b'\n'
 }
@@ -179,7 +179,7 @@ fn is_white(byte: u8) -> bool
 // Whether all these bytes are white space; true if there are no bytes.
 #[inline(always)]
 fn is_all_white(bytes: &[u8]) -> bool
-    ensures { result ≡ list_all (λ c. is_blank c || (c == 13) || ends_line c) bytes.now }
+    ensures { result ≡ list_all (λ c. is_blank c || (c == 13) || (c == 10)) bytes.now }
 {
     bytes.iter().all(|byte| is_white(*byte))
 }

@@ -11,11 +11,11 @@ use Rattle.byte_devices.specs.Devices.{InputState, OutputState, Took, CutShort}
 use Rattle.byte_devices.proofs.shared.Devices.{breaks_longer}
 use Rattle.pgn_pieces.specs.Stream.{Piece, pieces, State, IsStateOf, Next, MayFollow, PieceSeen, piece_at, pieces_seen, past_piece, current, unread, pieces_after_part, pieces_held}
 use Rattle.pgn_pieces.proofs.shared.Inputs.{nothing_read}
-use Rattle.pgn_verifier.specs.Reports.{Faulty, Placed, report_lines, without_spans, counts_line, counts_of}
+use Rattle.pgn_verifier.specs.Reports.{Faulty, Placed, report_lines, counts_line, counts_of}
 use Rattle.pgn_verifier.specs.laws.Reported.{placed_of, placed_in, collection_placed, too_long_placed}
 use Rattle.pgn_verifier.specs.ties.OnTheWay.{WritesCollection, Writes, PieceStandsIf, GrowsBy, reports_seen, reports_of, counted, collection_lines}
 use Rattle.pgn_verifier.proofs.{Placed.piece_there, Verifying.collection_broke_off, Verifying.reading_stopped}
-use Rattle.pgn_verifier.proofs.LinesWritten.{took_after, broke_after, lines_after, wrote_none, counted_after, all_counted}
+use Rattle.pgn_verifier.proofs.LinesWritten.{took_after, broke_after, lines_after, wrote_none, counted_after}
 
 abbrev pub none : Tally
 none = record { games = 0; half_moves = 0; faults = 0 }
@@ -34,10 +34,7 @@ seen_alike strict piece = by_test (nat_le (length piece.bytes) PIECE_LEN)
     too_long_with text = record {
       begin = piece.offset;
       end = piece.offset + length piece.bytes;
-      first = [];
-      unread = Some piece.offset;
-      names = None;
-      report = Faulty (record { kind = Pgn TooLong; offset = piece.offset }) piece.offset text;
+      report = Faulty (record { kind = Pgn TooLong; offset = piece.offset }) [] piece.offset text [] true;
     }
 
     by_test : (b : Bool) → (if b then placed_of true strict piece.offset piece.bytes else too_long_placed piece ∷ [])
@@ -207,7 +204,7 @@ module _ (options : VerifyOptions) (r r' r'' : InputState) (w w' : OutputState) 
       (reports_of options.strict later)) first in
       collection_broke_off options r r'' w w'' s'.ended text next.1.read
       (breaks_longer w w'' (collection_lines options s'.ended text)
-      (if s'.ended then counts_line (counts_of (without_spans (collection_placed options.strict s'.ended text))) else [])
+      (if s'.ended then counts_line (counts_of (collection_placed options.strict s'.ended text)) else [])
       (subst (CutShort w w'') (sym (lines_after options text 1
       (reports_of options.strict so.done ++ reports_seen options.strict (current s')) (reports_of options.strict later))
       ∙ ap (report_lines options text 1) (sym all)) lines))
@@ -225,7 +222,7 @@ module _ (options : VerifyOptions) (r r' r'' : InputState) (w w' : OutputState) 
         text,
         next.1,
         subst (λ xs. Took w w' (report_lines options text 1 xs)) (sym all) (so.took more),
-        so.is ∙ ap (counted none) (sym all) ∙ all_counted (collection_placed options.strict true text),
+        so.is ∙ ap (counted none) (sym all),
       )
 
   pub stopped : (law : PiecesAreCut) (fault : PieceFault) → Next s s' r r'' so.text (Err fault)

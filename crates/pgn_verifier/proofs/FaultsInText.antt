@@ -7,7 +7,8 @@ use Rattle.chess_pgn.specs.{Split.ended, Tokens.Token, Tokens.tokens_from, Varia
 use Rattle.std.specs.{List.list_any, Option.option_eq, Option.option_or}
 use Rattle.chess_pgn.proofs.shared.Tokens.{split_read}
 use Rattle.chess_game.specs.{Game.contradicts_verdict, declared.verdicts.Verdict.Verdict, Results.same_outcome}
-use Rattle.pgn_verifier.specs.GameFaults.{looked_for, result_differs, board_says_otherwise, variation_in}
+use Rattle.pgn_verifier.specs.GameFaults.{result_differs, board_says_otherwise}
+use Rattle.pgn_verifier.specs.shared.Contradictions.{looked_for, variation_in}
 use Rattle.pgn_verifier.specs.declared.game_fault.GameFault.{GameFault}
 
 abbrev pub InText : ℕ → Option GameFault → Type 0

@@ -8,9 +8,9 @@ use Rattle.pgn_pieces.specs.Stream.{pieces}
 use Rattle.pgn_verifier.specs.{declared.options.Strictness.Strictness, declared.options.VerifyOptions.VerifyOptions, declared.tally.Tally.Tally, declared.tally.Verified.Verified, declared.fault.VerifyFault.TheVariants.WriteFailed, declared.fault.VerifyFault.TheVariants.NoMemory, Collection.VerifiesCollection, laws.Reported.placed_on, laws.Reported.collection_placed}
 use Rattle.pgn_pieces.specs.declared.pieces.PieceFault.TheVariants as piece
 use Rattle.pgn_pieces.proofs.shared.Inputs.{nothing_read}
-use Rattle.pgn_verifier.specs.Reports.{report_lines, without_spans, counts_line, counts_of, verified}
+use Rattle.pgn_verifier.specs.Reports.{report_lines, counts_line, counts_of, verified}
 use Rattle.pgn_verifier.specs.ties.OnTheWay.{WritesCollection, StandsIf, next_number, counted, text_lines, collection_lines}
-use Rattle.pgn_verifier.proofs.{LinesWritten.all_counted, Verifying.collection_verified, Verifying.collection_broke_off, Verifying.reading_stopped}
+use Rattle.pgn_verifier.proofs.{Verifying.collection_verified, Verifying.collection_broke_off, Verifying.reading_stopped}
 
 abbrev pub none : Tally
 none = record { games = 0; half_moves = 0; faults = 0 }
@@ -37,10 +37,9 @@ whole_lines options t text is =
     ap (λ (u : Tally). report_lines options text (next_number u) (placed_on options.strict 0 text)) is
 
 pub whole_counted : (strict : Strictness) (t u : Tally) (text : List ℕ) (v : Verified) → t ≡ none
-    → u ≡ counted t (placed_on strict 0 text) → v ≡ verified u → v ≡ verified (counts_of (without_spans (placed_on strict 0 text)))
+    → u ≡ counted t (placed_on strict 0 text) → v ≡ verified u → v ≡ verified (counts_of (placed_on strict 0 text))
 whole_counted strict t u text v is h e =
-    e ∙ ap verified (h ∙ ap (λ (x : Tally). counted x (placed_on strict 0 text)) is
-    ∙ all_counted (placed_on strict 0 text))
+    e ∙ ap verified (h ∙ ap (λ (x : Tally). counted x (placed_on strict 0 text)) is)
 
 -- ---- a collection
 
@@ -49,7 +48,7 @@ pub finished : (options : VerifyOptions) (r r' : InputState) (w w' w'' : OutputS
     → Ran (VerifiesCollection options (Ok v)) (record { input = r; output = w })
     (record { input = r'; output = w'' })
 finished options r r' w w' w'' t v (text, read, took, is) sent h =
-    let counts = counts_line (counts_of (without_spans (collection_placed options.strict true text))) in
+    let counts = counts_line (counts_of (collection_placed options.strict true text)) in
     collection_verified options r r' w w'' text v read
     (sent_more w w' w'' (collection_lines options true text) counts took
     (subst (λ (u : Tally). Sent w' w'' (counts_line u)) is sent)) (h ∙ ap verified is)
@@ -59,7 +58,7 @@ pub not_finished : (options : VerifyOptions) (r r' : InputState) (w w' w'' : Out
     → Ran (VerifiesCollection options (Err WriteFailed)) (record { input = r; output = w })
     (record { input = r'; output = w'' })
 not_finished options r r' w w' w'' t (text, read, took, is) broke =
-    let counts = counts_line (counts_of (without_spans (collection_placed options.strict true text))) in
+    let counts = counts_line (counts_of (collection_placed options.strict true text)) in
     collection_broke_off options r r' w w'' true text read
     (breaks_more w w' w'' (collection_lines options true text) counts took
     (subst (λ (u : Tally). CutShort w' w'' (counts_line u)) is broke))

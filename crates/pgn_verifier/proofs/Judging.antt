@@ -7,7 +7,7 @@ use Rattle.chess_fen.specs.Writing.{fen}
 use Rattle.chess_game.specs.{Game.State, Game.current, declared.game.TheConstants.MOST_MOVES, declared.verdicts.Verdict.Verdict}
 use Rattle.chess_pgn.specs.{GameRead.GameRead, GameRead.ending, LastTags.result_tag_of, Tokens.Token, Tokens.tokens_from, UnknownVariants.unknown_variant_in, declared.past_draws.ReadGame.ReadGame, declared.read.PgnEnd.PgnEnd, declared.read.PgnFault.PgnFault, declared.tagged_result.ResultTag.ResultTag, laws.Offsets.FaultsHaveOffsets, laws.Offsets.HalfMovesHaveBytes, PastDraws.IsAnswer, PastDraws.Stands}
 use Rattle.chess_pgn.proofs.shared.Ends.{ends_in_text}
-use Rattle.pgn_verifier.specs.{Explanations.explanation, Explanations.has_position, Explanations.wrong_part, GameFaults.judged, GameFaults.variation_in, declared.game_fault.FaultKind.FaultKind, declared.game_fault.FaultKind.TheVariants.Pgn, declared.game_fault.GameFault.GameFault, declared.options.Strictness.Strictness, laws.Reasons.explanation_of, laws.Reasons.reason, laws.Reported.judged_of, laws.Reported.read_at, shared.Contradictions.end_fault}
+use Rattle.pgn_verifier.specs.{Explanations.explanation, Explanations.has_position, GameFaults.judged, declared.game_fault.FaultKind.FaultKind, declared.game_fault.FaultKind.TheVariants.Pgn, declared.game_fault.GameFault.GameFault, declared.options.Strictness.Strictness, laws.Reasons.reason, laws.Reported.judged_of, laws.Reported.read_at, shared.Contradictions.end_fault, shared.Contradictions.variation_in, ties.Explaining.explanation_of, ties.Explaining.part_on}
 
 -- a game stands for itself
 pub stands_same : (draws : Bool) (g s : State) → g ≡ s → Stands draws g s
@@ -17,9 +17,9 @@ stands_same draws g s e = record { position = ap current e; ends = ap (ending dr
 pub explained_alike : (draws : Bool) (g s : State) → Stands draws g s → (text : List ℕ) (kind : FaultKind)
     → explanation_of draws g text kind ≡ explanation_of draws s text kind
 explained_alike draws g s alike text kind =
-    ap (λ (p : Setup). (wrong_part kind text).1 ++ ((if has_position kind then codes " | " ++ fen p else [])
+    ap (λ (p : Setup). (part_on kind text).1 ++ ((if has_position kind then codes " | " ++ fen p else [])
     ++ option_map_or (λ why. codes " | " ++ why) (reason kind text (ending draws g)) [])) alike.position
-    ∙ ap (λ (v : Option Verdict). explanation s text kind (reason kind text v)) alike.ends
+    ∙ ap (λ (v : Option Verdict). (part_on kind text).1 ++ explanation s kind (reason kind text v)) alike.ends
 
 -- ---- a game that is read as if the draws of 2014 ended none
 

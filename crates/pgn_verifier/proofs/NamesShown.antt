@@ -1,10 +1,10 @@
--- What is shown of a tag is from the last tag of its name in the text's only split; a game without names shows none.
-use Rattle.std.proofs.Common.{◌≡◌, ℕ, Bool, true, false, List, [], ◌++◌, map, take, Option, Some, None, refl, ap, ◌∙◌, if◌then◌else◌, codes}
+-- What is shown of a tag is from the last tag of its name in the text's only split; a piece without names shows none.
+use Rattle.std.proofs.Common.{◌≡◌, ℕ, Bool, true, false, List, map, take, Option, Some, None, refl, ap, ◌∙◌, if◌then◌else◌, codes}
 use Rattle.std.specs.Option.{option_map, option_map_or}
 use Rattle.byte_devices.specs.Bytes.{shown_byte}
 use Rattle.chess_pgn.specs.{LastTags.last_tag, LastTags.tag_section, Split.IsSplit, Tokens.Token, Tokens.tokens_from}
 use Rattle.chess_pgn.proofs.shared.Tokens.{split_read}
-use Rattle.pgn_verifier.specs.{Reports.names_text, Reports.shown_tag, declared.options.VerifyOptions.VerifyOptions}
+use Rattle.pgn_verifier.specs.Reports.{shown_tag}
 
 abbrev pub shown_or : Option (List ℕ) → List ℕ
 shown_or text = option_map_or (λ t. map shown_byte (take 40 t)) text (codes "?")
@@ -24,10 +24,6 @@ shown_is text name at found (tokens, split, is) =
     ∙ ap (λ ts. shown_tag ts name) (split_read text split)
 
 -- without names there is nothing, whether they are asked for or not
-pub unnamed : (options : VerifyOptions) → names_text options None ≡ []
-unnamed options = by_test options.names
-  where
-    by_test : (b : Bool)
-        → option_map_or (λ (text : List ℕ). codes " | " ++ text) (if b then None else None) [] ≡ []
-    by_test true = refl
-    by_test false = refl
+pub unnamed : (asked : Bool) (none : List ℕ) → none ≡ (if asked then none else none)
+unnamed true none = refl
+unnamed false none = refl

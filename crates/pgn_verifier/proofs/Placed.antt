@@ -4,7 +4,7 @@ use Rattle.std.proofs.Common.{◌≡◌, ◌≤◌, ◌<◌, ℕ, ◌+◌, ◌-�
 use Rattle.std.specs.List.{prefix_len, suffix_len, sum_by}
 use Rattle.std.proofs.{lemmas.Bool.Decides.nat_tests, lemmas.List.Folds.prefix_len-append, lemmas.List.Sums.count_by-le-length, lemmas.List.Sums.prefix_len-le-length, lemmas.List.Sums.sum_by-append}
 use Rattle.std.proofs.lemmas.List.{take-take, take-append-le, drop-append-le, length-take, length-reverse, reverse-append}
-use Rattle.pgn_pieces.specs.Places.{ends_line, breaks_line, line_ends, line_of, column_of}
+use Rattle.pgn_pieces.specs.Places.{breaks_line, line_ends, line_of, column_of}
 use Rattle.pgn_verifier.specs.{declared.place.Place.Place, declared.start.TextStart.TextStart, ties.Counting.Known, ties.Counting.column_on, ties.OnTheWay.StandsAt, ties.OnTheWay.PieceStandsAt}
 use Rattle.pgn_pieces.specs.{Stream.PieceSeen, laws.Places.IsInPlace}
 
@@ -12,11 +12,11 @@ abbrev last_line_len : List ℕ → ℕ
 last_line_len text = suffix_len (λ c. not (breaks_line c)) text
 
 line_ends_after : (xs ys : List ℕ) → line_ends (xs ++ ys) ≡ line_ends xs + line_ends ys
-line_ends_after = sum_by-append (λ c. if ends_line c then 1 else 0)
+line_ends_after = sum_by-append (λ c. if eqb c 10 then 1 else 0)
 
 -- no text has more line ends than bytes
 line_ends_few : (xs : List ℕ) → line_ends xs ≤ length xs
-line_ends_few xs = count_by-le-length ends_line xs
+line_ends_few xs = count_by-le-length (λ c. eqb c 10) xs
 
 last_few : (xs : List ℕ) → last_line_len xs ≤ length xs
 last_few xs =

@@ -5,9 +5,10 @@ use Rattle.byte_devices.specs.Devices.{OutputState, Took, CutShort}
 use Rattle.chess_game.specs.Game.{State}
 use Rattle.chess_pgn.specs.declared.read.PgnEnd.{PgnEnd}
 use Rattle.pgn_verifier.specs.{declared.options.Strictness.Strictness, declared.game_fault.GameFault.GameFault, declared.options.VerifyOptions.VerifyOptions, declared.tally.Tally.Tally, declared.start.TextStart.TextStart}
-use Rattle.pgn_verifier.specs.Reports.{Placed, game_begin, span_text, report_lines}
+use Rattle.pgn_verifier.specs.Reports.{Placed, game_begin, report_lines, with_report}
 use Rattle.pgn_verifier.specs.laws.Reported.{read_at, judged_at, next_at, game_placed, fault_placed, placed_then, placed_from, placed_of}
-use Rattle.pgn_verifier.specs.ties.OnTheWay.{StandsIf, game_line, with_report, next_number, Writes, counted}
+use Rattle.pgn_verifier.specs.ties.Explaining.{span_from}
+use Rattle.pgn_verifier.specs.ties.OnTheWay.{StandsIf, game_line, next_number, Writes, counted}
 use Rattle.pgn_verifier.proofs.LinesWritten.{placed_line, wrote_none, took_after, broke_after, writes_after, one_line, first_broke, counted_after}
 
 -- ---- the reports that are left
@@ -57,7 +58,7 @@ begun options place text before w = record {
 
 -- the end of a line on the game from `at` to `end`
 abbrev pub span_at : VerifyOptions → ℕ → List ℕ → ℕ → ℕ → List ℕ
-span_at options start text at end = span_text options (start + game_begin text at) (start + end)
+span_at options start text at end = span_from options (start + game_begin text at) (start + end)
 
 module _ (options : VerifyOptions) (place : TextStart) (text : List ℕ) (before : Tally) (w w' w'' : OutputState)
     (at : ℕ) (tally : Tally) (done : List Placed) (s : SoFar options place text before w w' at tally done)

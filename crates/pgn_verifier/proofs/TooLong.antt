@@ -5,8 +5,10 @@ use Rattle.byte_devices.specs.Devices.{OutputState, Took, CutShort}
 use Rattle.chess_pgn.specs.declared.read.PgnFaultKind.TheVariants.{TooLong}
 use Rattle.pgn_pieces.specs.{Places.line_of, Places.column_of, Stream.PieceSeen}
 use Rattle.pgn_verifier.specs.{Explanations.shown, Explanations.explanation_line, declared.game_fault.FaultKind.TheVariants.Pgn, declared.options.VerifyOptions.VerifyOptions, declared.start.TextStart.TextStart, declared.tally.Tally.Tally, laws.Reported.placed_of}
-use Rattle.pgn_verifier.specs.Reports.{names_text, report_lines, span_text, unread_text}
+use Rattle.pgn_verifier.specs.Reports.{report_lines}
+use Rattle.pgn_verifier.specs.ties.Explaining.{span_from, unread_text}
 use Rattle.pgn_verifier.specs.ties.OnTheWay.{StandsIf, PieceStandsIf, Writes, counted, fault_line, next_number, reports_seen, too_long_seen}
+use Rattle.pgn_verifier.proofs.NamesShown.{unnamed}
 
 -- the lines on a piece that is too long, which begins at the offset `at` with these bytes; `span` and `names`: the end
 -- of the first; `unread`: the end of the second
@@ -28,15 +30,15 @@ stands_there explain start line input piece offset is stands e =
 module _ (options : VerifyOptions) (input : List ℕ) (before : Tally) (w w' : OutputState) (piece : PieceSeen)
     (none : piece.bytes ≡ None) (number at : ℕ) (span names unread beginning : List ℕ)
     (number_is : number ≡ next_number before)
-    (at_is : at ≡ piece.offset) (span_is : span ≡ span_text options piece.offset piece.end)
-    (names_is : names ≡ names_text options None)
+    (at_is : at ≡ piece.offset) (span_is : span ≡ span_from options piece.offset piece.end)
+    (names_is : names ≡ [])
     (unread_is : unread ≡ unread_text (Some piece.offset) piece.end) (beginning_is : beginning ≡ piece.beginning)
   where
     abbrev own : List ℕ
-    own = span_text options piece.offset piece.end
+    own = span_from options piece.offset piece.end
 
-    abbrev unnamed : List ℕ
-    unnamed = names_text options None
+    abbrev no_names : List ℕ
+    no_names = if options.names then [] else []
 
     abbrev all : List ℕ
     all = unread_text (Some piece.offset) piece.end
@@ -49,13 +51,13 @@ module _ (options : VerifyOptions) (input : List ℕ) (before : Tally) (w w' : O
         ∙ ap (λ xs. long_lines options.explain input (next_number before) piece.offset xs names unread beginning)
         span_is
         ∙ ap (λ xs. long_lines options.explain input (next_number before) piece.offset own xs unread beginning)
-        names_is
-        ∙ ap (λ xs. long_lines options.explain input (next_number before) piece.offset own unnamed xs beginning)
+        (names_is ∙ unnamed options.names [])
+        ∙ ap (λ xs. long_lines options.explain input (next_number before) piece.offset own no_names xs beginning)
         unread_is
-        ∙ ap (λ xs. long_lines options.explain input (next_number before) piece.offset own unnamed all xs)
+        ∙ ap (λ xs. long_lines options.explain input (next_number before) piece.offset own no_names all xs)
         beginning_is
         ∙ sym (append-nil
-        (long_lines options.explain input (next_number before) piece.offset own unnamed all piece.beginning))
+        (long_lines options.explain input (next_number before) piece.offset own no_names all piece.beginning))
         ∙ sym (ap (λ bytes. report_lines options input (next_number before)
         (option_map_or (placed_of true options.strict piece.offset) bytes (too_long_seen piece ∷ []))) none)
 

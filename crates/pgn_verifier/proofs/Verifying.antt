@@ -8,7 +8,7 @@ use Rattle.pgn_pieces.specs.declared.pieces.PieceFault.{PieceFault}
 use Rattle.pgn_pieces.specs.declared.pieces.PieceFault.TheVariants as piece
 use Rattle.pgn_verifier.specs.{declared.fault.VerifyFault.VerifyFault, declared.options.VerifyOptions.VerifyOptions, declared.tally.Verified.Verified, Verify.Verifies, Collection.AreCollectionReports, Collection.VerifiesCollection, laws.Reported.placed_on, laws.Reported.collection_placed, Faults.of_piece}
 use Rattle.pgn_verifier.specs.declared.fault.VerifyFault.TheVariants.{ReadFailed, WriteFailed, NoMemory, InputTooLong}
-use Rattle.pgn_verifier.specs.Reports.{Placed, without_spans, counts_of, verified}
+use Rattle.pgn_verifier.specs.Reports.{Placed, counts_of, verified}
 use Rattle.pgn_verifier.proofs.shared.ReportsAre.{are_reports, are_collection_reports}
 use Rattle.pgn_verifier.specs.ties.OnTheWay.{IsAll, IsNotAll, WritesText, text_lines, collection_lines, collection_written}
 
@@ -92,7 +92,7 @@ text_broke_off options r r' w w' text (read, few) (start, begins, failed) = (
 
 pub collection_verified : (options : VerifyOptions) (r r' : InputState) (w w' : OutputState) (text : List ℕ)
     (verdict : Verified) → HasRead true r r' text → Sent w w' (collection_written options true text)
-    → verdict ≡ verified (counts_of (without_spans (collection_placed options.strict true text)))
+    → verdict ≡ verified (counts_of (collection_placed options.strict true text))
     → Ran (VerifiesCollection options (Ok verdict)) (record { input = r; output = w })
     (record { input = r'; output = w' })
 collection_verified options r r' w w' text verdict read sent is = (

@@ -8,7 +8,7 @@ use Rattle.pgn_verifier.specs.declared.fault.VerifyFault.{VerifyFault}
 use Rattle.pgn_verifier.specs.declared.fault.VerifyFault.TheVariants.{ReadFailed, WriteFailed, NoMemory, InputTooLong}
 use Rattle.pgn_verifier.specs.declared.options.VerifyOptions.{VerifyOptions}
 use Rattle.pgn_verifier.specs.declared.tally.Verified.{Verified}
-use Rattle.pgn_verifier.specs.Reports.{Placed, AreReportsIn, report_lines, without_spans, counts_line, counts_of, verified}
+use Rattle.pgn_verifier.specs.Reports.{Placed, AreReportsIn, report_lines, counts_line, counts_of, verified}
 
 -- these are the reports on these pieces, piece after piece (`AreReportsIn`). The first piece begins at this offset of
 -- the input, each other one where the one before it ends
@@ -35,15 +35,11 @@ CollectionEnds text expected (Err NoMemory) i o = (i.ended ≡ false) × (i.fail
 CollectionEnds text expected (Err InputTooLong) i o =
     (i.ended ≡ false) × (i.failed ≡ false) × (2 ^ 63 ≤ length i.text + 2 ^ 16) × (o ≡ all_unflushed text)
 
--- what is to be written for these reports: their lines, numbered from 1; then, if the end of the input (`i`) was
--- reported, the line of counts
-abbrev pub collection_text : VerifyOptions → List Placed → FromInput → List ℕ
-collection_text options reports i =
-    report_lines options i.text 1 reports ++ (if i.ended then counts_line (counts_of (without_spans reports)) else [])
-
 -- what verifying a collection reads (`i`) and writes (`o`), by its result: the reports on its pieces, also after
--- faults. Before the input's end the last piece read is left out, since it may go on (`known_pieces`)
+-- faults, are numbered from 1, and after the input's end comes the line of counts. Before that the last piece read is
+-- left out, since it may go on (`known_pieces`)
 abbrev pub VerifiesCollection : VerifyOptions → Result Verified VerifyFault → FromInput → ToOutput → Type 0
 VerifiesCollection options result i o = (reports : List Placed)
     × AreCollectionReports options.strict 0 (known_pieces i.ended i.text) reports
-    × CollectionEnds (collection_text options reports i) (verified (counts_of (without_spans reports))) result i o
+    × CollectionEnds (report_lines options i.text 1 reports
+    ++ (if i.ended then counts_line (counts_of reports) else [])) (verified (counts_of reports)) result i o

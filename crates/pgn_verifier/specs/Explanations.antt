@@ -1,18 +1,19 @@
 -- What explains a fault: where it is, the text there, the position and the reason.
-use Rattle.std.specs.Prelude.{◌≡◌, ℕ, ◌-◌, ◌==◌, Bool, true, false, not, if◌then◌else◌, List, [], ◌∷◌, ◌++◌, length, take, take_while, map, codes, decimal, Option, Some, None}
+use Rattle.std.specs.Prelude.{◌≡◌, ℕ, ◌+◌, ◌-◌, ◌==◌, Bool, true, false, not, if◌then◌else◌, List, [], ◌∷◌, ◌++◌, length, take, take_while, drop, map, codes, decimal, Option, Some, None}
 use Rattle.std.specs.Option.{option_map, option_map_or}
+use Rattle.std.specs.Str.{bytes_eq}
 use Rattle.byte_devices.specs.Bytes.{byte, new_line, shown_byte}
 use Rattle.chess_fen.specs.Writing.{fen}
 use Rattle.chess_game.specs.Ends.{verdict_result, result_text}
 use Rattle.chess_game.specs.Game.{State, current}
 use Rattle.chess_game.specs.Results.{outcome_text}
 use Rattle.chess_game.specs.declared.verdicts.Verdict.{Verdict}
-use Rattle.chess_pgn.specs.Tokens.{is_white_space}
+use Rattle.chess_pgn.specs.Tokens.{is_white_space, is_word_byte}
 use Rattle.chess_pgn.specs.declared.read.PgnFaultKind.TheVariants.{BadTag, BadFen, BadToken, IllegalMove, AfterEnd, NoResult}
 use Rattle.pgn_pieces.specs.Places.{line_of, column_of}
 use Rattle.pgn_verifier.specs.declared.game_fault.FaultKind.{FaultKind}
 use Rattle.pgn_verifier.specs.declared.game_fault.FaultKind.TheVariants.{Pgn, InVariation, UnknownVariant, ResultDiffers, BoardSaysOtherwise}
-use Rattle.pgn_verifier.specs.WrongParts.{from_field, field_at, field_number, fen_reason, IsTagReason, move_reason, token_reason}
+use Rattle.pgn_verifier.specs.WrongParts.{from_field, field_at, field_number, fen_reason, IsTagReason, token_reason}
 
 -- ---- the text at a fault
 
@@ -26,24 +27,18 @@ shown text = shown_word (take_while (λ c. not (is_white_space c)) (take 40 text
 
 -- ---- the part that is wrong
 
--- whether such a fault is explained where its game begins, by the game's first word: a missing result, whose byte is
--- the next game's, or the text's end
-abbrev pub is_at_begin : FaultKind → Bool
-is_at_begin (Pgn NoResult) = true
-is_at_begin _ = false
-
--- the part that is wrong: how many bytes after the fault's byte it begins, and what is shown of it. `text` is the text
--- from the fault's byte on
-abbrev pub wrong_part : FaultKind → List ℕ → ℕ × List ℕ
+-- the part of a text that is wrong: the offset at which it begins, and what is shown of it. The fault is at the offset
+-- `at`, and its game begins at the offset `begin`
+abbrev pub wrong_part : FaultKind → List ℕ → (begin at : ℕ) → ℕ × List ℕ
 -- of a bad FEN it is a field, at most 80 bytes of it; the FEN is looked at only up to its next quote, even one after a
 -- backslash
-wrong_part (Pgn (BadFen fault)) text =
-    let all = take_while (λ c. not (c == byte "\"")) text in let number = field_number fault all in
-    (length all - length (from_field number all), shown_word (take 80 (field_at number all)))
--- of a missing result nothing is there (see `is_at_begin`)
-wrong_part (Pgn NoResult) text = (0, [])
+wrong_part (Pgn (BadFen fault)) text begin at =
+    let all = take_while (λ c. not (c == byte "\"")) (drop at text) in let number = field_number fault all in
+    (at + (length all - length (from_field number all)), shown_word (take 80 (field_at number all)))
+-- of a missing result, whose byte is the next game's or the text's end, it is the first word of its game
+wrong_part (Pgn NoResult) text begin at = (begin, shown (drop begin text))
 -- of any other fault it is the first word from the fault's byte on
-wrong_part _ text = (0, shown text)
+wrong_part _ text begin at = (at, shown (drop at text))
 
 -- ---- the reason
 
@@ -54,8 +49,9 @@ abbrev pub IsReason : FaultKind → List ℕ → Option Verdict → Option (List
 IsReason (Pgn BadTag) text verdict reason = IsTagReason text reason
 IsReason (Pgn (BadFen fault)) text verdict reason = reason ≡ Some (fen_reason fault)
 IsReason (Pgn BadToken) text verdict reason = reason ≡ Some (token_reason text)
--- an illegal move that may have been meant as a result
-IsReason (Pgn IllegalMove) text verdict reason = reason ≡ move_reason text
+-- of an illegal move only if it is the word `0-0`, which may be meant as a result
+IsReason (Pgn IllegalMove) text verdict reason = reason ≡ (if bytes_eq (take_while is_word_byte text) (codes "0-0")
+    then Some (codes "castling, and no result of PGN") else None)
 -- a move after the end: the verdict that ended the game
 IsReason (Pgn AfterEnd) text verdict reason = reason ≡ option_map (λ v. result_text (verdict_result v)) verdict
 -- a bad token in a variation
@@ -83,13 +79,11 @@ has_position (InVariation kind) = false
 has_position UnknownVariant = false
 has_position _ = true
 
--- the text that explains a fault: the wrong part; then, as far as they are given, the FEN of the position in which
--- reading stopped and the reason, each after ` | `. `s` is the game as far as it was read, and `text` the text from the
--- fault's byte on
-abbrev pub explanation : State → List ℕ → FaultKind → Option (List ℕ) → List ℕ
-explanation s text kind reason = (wrong_part kind text).1
-    ++ ((if has_position kind then codes " | " ++ fen (current s) else [])
-    ++ option_map_or (λ why. codes " | " ++ why) reason [])
+-- what explains a fault besides the part that is wrong: as far as they are given, the FEN of the position in which
+-- reading stopped and the reason, each after ` | `. `s` is the game as far as it was read
+abbrev pub explanation : State → FaultKind → Option (List ℕ) → List ℕ
+explanation s kind reason = (if has_position kind then codes " | " ++ fen (current s) else [])
+    ++ option_map_or (λ why. codes " | " ++ why) reason []
 
 -- the line that explains a fault by this text: `# line 2 column 4 ` and the text. The line and the column are those of
 -- the offset `begin` of the input

@@ -1,5 +1,5 @@
 -- The faults of a game, and when its result contradicts its text or the board.
-use Rattle.std.specs.Prelude.{◌≡◌, ℕ, ◌-◌, ◌++◌, Bool, if◌then◌else◌, List, length, take, codes, Option, Some, None, Result, Ok, Err}
+use Rattle.std.specs.Prelude.{◌≡◌, ℕ, ◌-◌, ◌++◌, if◌then◌else◌, List, length, take, codes, Option, Some, None, Result, Ok, Err}
 use Rattle.std.specs.Option.{option_eq, option_map, option_map_or, option_or}
 use Rattle.chess_game.specs.Game.{State, contradicts_verdict}
 use Rattle.chess_game.specs.Results.{outcome_text, same_outcome}
@@ -9,7 +9,6 @@ use Rattle.chess_pgn.specs.GameRead.{ending, read_of_split}
 use Rattle.chess_pgn.specs.LastTags.{result_tag_of}
 use Rattle.chess_pgn.specs.UnknownVariants.{unknown_variant_in}
 use Rattle.chess_pgn.specs.Variations.{variations_fault}
-use Rattle.chess_base.specs.declared.setup.Setup.{Setup}
 use Rattle.pgn_verifier.specs.declared.options.Strictness.{Strictness}
 use Rattle.chess_pgn.specs.Split.{IsSplit}
 use Rattle.chess_pgn.specs.Tokens.{Token}
@@ -40,10 +39,6 @@ board_says_otherwise verdict end = if contradicts_verdict verdict end.outcome
 
 -- ---- a game
 
--- a fault, if faults of its kind are looked for
-abbrev pub looked_for : Bool → Option GameFault → Option GameFault
-looked_for is_looked_for fault = if is_looked_for then fault else None
-
 -- what is reported of a game, from how its text was read (the last argument). In a game without a fault these are
 -- looked for as `strict` says, and the first is reported: a fault in its variations (`variation`, by the game's end); a
 -- tag Variant that names none that is known (`unknown`, the offset of its text); an end that contradicts the last tag
@@ -52,24 +47,17 @@ abbrev pub judged : Strictness → (PgnEnd → Option PgnFault) → Option ℕ �
     → Result (Option PgnEnd) PgnFault → Result (Option PgnEnd) GameFault
 judged strict variation unknown tag verdict (Ok None) = Ok None
 judged strict variation unknown tag verdict (Ok (Some end)) = option_map_or Err
-    (option_or (looked_for strict.variations
-    (option_map (λ fault. record { kind = InVariation fault.kind; offset = fault.offset }) (variation end)))
-    (option_or (looked_for strict.variant (option_map (λ at. record { kind = UnknownVariant; offset = at }) unknown))
-    (option_or (looked_for strict.result (result_differs tag end))
-    (looked_for strict.board (board_says_otherwise verdict end))))) (Ok (Some end))
+    (option_or (if strict.variations
+    then option_map (λ f. record { kind = InVariation f.kind; offset = f.offset }) (variation end) else None)
+    (option_or (if strict.variant then option_map (λ n. record { kind = UnknownVariant; offset = n }) unknown else None)
+    (option_or (if strict.result then result_differs tag end else None)
+    (if strict.board then board_says_otherwise verdict end else None)))) (Ok (Some end))
 judged strict variation unknown tag verdict (Err fault) = Err (record { kind = Pgn fault.kind; offset = fault.offset })
-
--- the first fault in the variations of one game of `text`. The game is read from the offset `at` on, starts in the
--- position `start` and ends before `end.offset`; nothing from there on is looked at. `split other from` are the tokens
--- of a text `other` from its offset `from` on
-abbrev pub variation_in : (List ℕ → ℕ → List (ℕ × Token)) → List ℕ → ℕ → Setup → PgnEnd → Option PgnFault
-variation_in split text at start end =
-    variations_fault split (take end.offset text) start (after_byte_order_mark text at)
 
 -- `answer` is what is reported (`judged`) of the first game from the offset `at` of the text on, and `s` is this game
 -- as far as it was read, at most 20,000 half-moves. It is read by the only split of the text into tokens, and its
--- variations by the only splits (`split_of`) of the text that ends where the game does. `strict.draws_of_2014` says
--- whether the draws of 2014 end it
+-- variations by the only splits (`split_of`) of the text that ends where the game does (`end.offset`): nothing from
+-- there on is looked at. `strict.draws_of_2014` says whether the draws of 2014 end it
 pub record IsJudged (strict : Strictness) (text : List ℕ) (at : ℕ) (s : State)
     (answer : Result (Option PgnEnd) GameFault) : Type 0 where
   pub tokens : List (ℕ × Token)
@@ -80,8 +68,9 @@ pub record IsJudged (strict : Strictness) (text : List ℕ) (at : ℕ) (s : Stat
   -- how reading the game ended
   pub ended : Result (Option PgnEnd) PgnFault
   pub read : read_of_split strict.draws_of_2014 MOST_MOVES (length text) tokens ≡ record { state = s; answer = ended }
-  pub is : answer ≡ judged strict (variation_in split_of text at s.start) (unknown_variant_in (length text) tokens)
-      (result_tag_of (length text) tokens) (ending strict.draws_of_2014 s) ended
+  pub is : answer ≡ judged strict (λ end. variations_fault split_of (take end.offset text) s.start
+      (after_byte_order_mark text at)) (unknown_variant_in (length text) tokens) (result_tag_of (length text) tokens)
+      (ending strict.draws_of_2014 s) ended
 
 -- ---- names
 

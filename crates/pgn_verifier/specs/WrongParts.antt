@@ -1,7 +1,7 @@
 -- Which part of a game's text a fault is about, and what is wrong there (PGN standard of 1994): the field of a FEN
--- (section 16.1.3), what a tag lacks (8.1), and what begins no token or is no move (7 and 8.2).
-use Rattle.std.specs.Prelude.{◌≡◌, ℕ, zero, suc, ◌==◌, Bool, true, false, not, ◌||◌, List, [], ◌∷◌, ◌++◌, take, take_while, drop, Option, Some, None, codes, is_some, if◌then◌else◌}
-use Rattle.std.specs.List.{prefix_len, list_any}
+-- (section 16.1.3), what a tag lacks (8.1), and what begins no token (7 and 8.2).
+use Rattle.std.specs.Prelude.{◌≡◌, ℕ, zero, suc, ◌==◌, true, false, not, ◌||◌, List, [], ◌∷◌, ◌++◌, take, take_while, Option, Some, codes, is_some, if◌then◌else◌}
+use Rattle.std.specs.List.{list_any}
 use Rattle.std.specs.Str.{bytes_eq}
 use Rattle.byte_devices.specs.Bytes.{byte, space, is_name_byte}
 use Rattle.chess_base.specs.Faults.{fen_fault_name}
@@ -10,12 +10,9 @@ use Rattle.chess_base.specs.declared.fen_fault.FenFault.TheVariants.{Side, Castl
 use Rattle.text_lines.specs.Words.{short_number}
 use Rattle.chess_pgn.specs.Split.{IsGap, OpensTag, IsString}
 use Rattle.chess_pgn.specs.Tokens.{is_word_byte}
+use Rattle.pgn_pieces.specs.Pieces.{drop_while}
 
 -- ---- the fields of a FEN
-
--- a text without the bytes at its front that pass the test
-abbrev pub drop_while : (ℕ → Bool) → List ℕ → List ℕ
-drop_while test text = drop (prefix_len test text) text
 
 -- a FEN from its field with this number on, 0 for the first; one or more spaces separate fields. Empty if it has no
 -- such field
@@ -86,9 +83,3 @@ token_reason text =
     else if bytes_eq (take 1 text) (codes "(") then codes "no move that this variation replaces"
     -- any other word is not a move, and with any other byte no token begins
     else if list_any is_word_byte (take 1 text) then codes "not a move" else codes "begins no token"
-
--- the reason for an illegal move, which begins the text: of the word `0-0`, which may be meant as a result
-abbrev pub move_reason : List ℕ → Option (List ℕ)
-move_reason text =
-    if bytes_eq (take_while is_word_byte text) (codes "0-0") then Some (codes "castling, and no result of PGN")
-    else None

@@ -3,9 +3,9 @@
 ghost use Rattle.std.specs.Prelude.{◌≡◌, ◌≤◌, ◌<◌, ◌&&◌, nat_lt, not, is_some, length};
 ghost use Rattle.std.specs.Option.{IfSome};
 ghost use Rattle.chess_pgn.specs.laws.Unreadable.{is_unreadable};
-ghost use Rattle.pgn_verifier.specs.Reports.{unread_from};
 ghost use Rattle.pgn_verifier.specs.laws.Reported.{next_at};
 ghost use Rattle.pgn_verifier.specs.ties.AfterFaults.{IsFaultAt, stops_tokens};
+ghost use Rattle.pgn_verifier.specs.ties.Explaining.{unread_from};
 
 use crate::game_fault::{FaultKind, GameFault};
 use crate::token_reason::begins_word;

@@ -8,8 +8,8 @@ ghost use Rattle.chess_pgn.specs.LastTags.{result_tag_of};
 ghost use Rattle.chess_pgn.specs.Tokens.{tokens_from};
 ghost use Rattle.byte_devices.specs.Bytes.{after_byte_order_mark};
 ghost use Rattle.chess_game.specs.Results.{same_outcome};
-ghost use Rattle.pgn_verifier.specs.GameFaults.{looked_for, result_differs, board_says_otherwise};
-ghost use Rattle.pgn_verifier.specs.shared.Contradictions.{contradiction};
+ghost use Rattle.pgn_verifier.specs.GameFaults.{result_differs, board_says_otherwise};
+ghost use Rattle.pgn_verifier.specs.shared.Contradictions.{contradiction, looked_for};
 
 use crate::game_fault::{FaultKind, GameFault};
 use crate::options::Strictness;

@@ -8,8 +8,7 @@ ghost use Rattle.chess_pgn.specs.GameRead.{ending};
 ghost use Rattle.chess_pgn.specs.LastTags.{result_tag_of};
 ghost use Rattle.chess_pgn.specs.Tokens.{tokens_from};
 ghost use Rattle.chess_pgn.specs.UnknownVariants.{unknown_variant_in};
-ghost use Rattle.pgn_verifier.specs.GameFaults.{looked_for, variation_in};
-ghost use Rattle.pgn_verifier.specs.shared.Contradictions.{contradiction, end_fault, variant_fault, variation_fault};
+ghost use Rattle.pgn_verifier.specs.shared.Contradictions.{contradiction, end_fault, looked_for, variant_fault, variation_fault, variation_in};
 
 use crate::contradiction::contradiction;
 use crate::game_fault::{FaultKind, GameFault};

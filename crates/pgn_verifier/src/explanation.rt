@@ -7,13 +7,14 @@ ghost use Rattle.chess_fen.specs.Writing.{fen};
 ghost use Rattle.chess_game.specs.Ends.{verdict_result, result_text};
 ghost use Rattle.chess_game.specs.Game.{current};
 ghost use Rattle.chess_pgn.specs.declared.read.PgnFaultKind.TheVariants.{TooLong};
-ghost use Rattle.pgn_verifier.specs.Explanations.{is_at_begin, wrong_part, has_position, explanation_line, shown};
+ghost use Rattle.pgn_verifier.specs.Explanations.{has_position, explanation_line, shown};
 ghost use Rattle.chess_game.specs.Results.{outcome_text};
 ghost use Rattle.pgn_verifier.specs.declared.game_fault.FaultKind.TheVariants.{InVariation, Pgn};
 ghost use Rattle.pgn_verifier.specs.GameFaults.{fault_name};
-ghost use Rattle.pgn_verifier.specs.WrongParts.{move_reason};
-ghost use Rattle.pgn_verifier.specs.laws.Reasons.{reason, explanation_of};
+ghost use Rattle.pgn_verifier.specs.laws.Reasons.{move_reason, reason};
+ghost use Rattle.pgn_verifier.specs.laws.Reported.{is_at_begin};
 ghost use Rattle.pgn_verifier.specs.ties.Counting.{IsHere};
+ghost use Rattle.pgn_verifier.specs.ties.Explaining.{explanation_of, part_on};
 ghost use Rattle.pgn_verifier.specs.ties.OnTheWay.{StandsIf, moved, fault_line, span_written, unread_written};
 ghost use Rattle.pgn_verifier.specs.declared.explanation.TheConstants.{FAULT_LINES_LEN};
 
@@ -81,7 +82,7 @@ fn append_fault_line(lines: &mut FaultLines, label: &FaultLabel, fault: GameFaul
 // How many bytes after a fault's byte the part begins that is wrong: of a FEN the field that is shown for its fault,
 // otherwise the byte itself. `text` is the text from the byte on.
 fn part_offset(kind: FaultKind, text: &[u8]) -> usize
-    ensures value { result ≡ (wrong_part kind text.now).0 }
+    ensures value { result ≡ (part_on kind text.now).0 }
     ensures within { result ≤ length text.now }
 {
     match kind {
@@ -92,7 +93,7 @@ fn part_offset(kind: FaultKind, text: &[u8]) -> usize
 
 // What is shown of the part that is wrong; `text` is the text from the fault's byte on.
 fn shown_part(kind: FaultKind, text: &[u8]) -> Shown
-    ensures { result.items ≡ (wrong_part kind text.now).1 }
+    ensures { result.items ≡ (part_on kind text.now).1 }
 {
     match kind {
         FaultKind::Pgn(PgnFaultKind::BadFen(fault)) => {
@@ -116,7 +117,7 @@ pub(crate) fn explained_at(fault: GameFault, begin: usize, text: &[u8]) -> usize
     requires offset { fault.offset ≤ length text.now }
     requires begin { begin ≤ length text.now }
     ensures value { result ≡ (if is_at_begin fault.kind then begin
-        else fault.offset + (wrong_part fault.kind (drop fault.offset text.now)).0) }
+        else fault.offset + (part_on fault.kind (drop fault.offset text.now)).0) }
     ensures within { result ≤ length text.now }
 {
     if is_at_begin(fault.kind) {
@@ -333,13 +334,13 @@ pub(crate) fn fault_lines<B: Board>(
     requires within { fault.offset ≤ length text.now }
     requires few { place.start.offset + length text.now ≤ 2 ^ 63 }
     requires there { options.explain ≡ true → place.offset ≡ (if is_at_begin fault.kind then label.now.begin
-        else fault.offset + (wrong_part fault.kind (drop fault.offset text.now)).0) }
+        else fault.offset + (part_on fault.kind (drop fault.offset text.now)).0) }
     ensures { (input : List ℕ) → (options.explain ≡ true → IsHere place input)
         → result.items
         ≡ fault_line label.now.game.number (moved place.start.offset fault) (span_written label.now.game.span)
         label.now.names.items ++ (if options.explain
         then explanation_line input (if is_at_begin fault.kind then place.start.offset + label.now.begin
-        else place.start.offset + fault.offset + (wrong_part fault.kind (drop fault.offset text.now)).0)
+        else place.start.offset + fault.offset + (part_on fault.kind (drop fault.offset text.now)).0)
         ((if is_at_begin fault.kind then shown (drop label.now.begin text.now) else [])
         ++ (explanation_of options.strict.draws_of_2014 game.now.state (drop fault.offset text.now) fault.kind
         ++ unread_written label.now.unread))

@@ -2,7 +2,8 @@
 
 ghost use Rattle.std.specs.Prelude.{◌≡◌, ◌≤◌, ◌-◌, not, take_while, length, ◌==◌};
 ghost use Rattle.byte_devices.specs.Bytes.{byte, space};
-ghost use Rattle.pgn_verifier.specs.WrongParts.{drop_while, fen_reason, from_field, field_at, field_number};
+ghost use Rattle.pgn_pieces.specs.Pieces.{drop_while};
+ghost use Rattle.pgn_verifier.specs.WrongParts.{fen_reason, from_field, field_at, field_number};
 
 use byte_devices::split_while;
 use chess_base::FenFault;

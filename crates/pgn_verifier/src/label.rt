@@ -1,15 +1,16 @@
 //! What the line of each report says of its game: the number, with `--spans` where the game is, and of a game with a
 //! fault with `--names` its players, event and date.
 
-ghost use Rattle.std.specs.Prelude.{◌≡◌, ◌≤◌, ◌<◌, ◌+◌, ◌++◌, ◌^◌, None, Some, length};
+ghost use Rattle.std.specs.Prelude.{◌≡◌, ◌≤◌, ◌<◌, ◌+◌, ◌++◌, ◌^◌, [], if◌then◌else◌, Some, length};
 ghost use Rattle.std.specs.Option.{IfSome, option_map, unwrap_or};
 ghost use Rattle.std.specs.List.{prefix_len};
 ghost use Rattle.arrayvec.specs.ArrayVec.{array_vec_len};
 ghost use Rattle.chess_pgn.specs.Tokens.{is_white_space};
 ghost use Rattle.byte_devices.specs.Bytes.{after_byte_order_mark};
 ghost use Rattle.pgn_pieces.specs.Stream.{current};
-ghost use Rattle.pgn_verifier.specs.Reports.{game_begin, names_text, span_text, unread_text};
+ghost use Rattle.pgn_verifier.specs.Reports.{game_begin};
 ghost use Rattle.pgn_verifier.specs.laws.Reported.{names_at};
+ghost use Rattle.pgn_verifier.specs.ties.Explaining.{span_from, unread_text};
 ghost use Rattle.pgn_verifier.specs.ties.OnTheWay.{span_written, unread_written};
 
 use crate::after_fault::AfterFault;
@@ -74,7 +75,7 @@ impl Label {
         requires end { end ≤ length text.now }
         requires few { start + length text.now ≤ 2 ^ 63 }
         ensures number { result.number ≡ number }
-        ensures span { span_written result.span ≡ span_text options (start + game_begin text.now at) (start + end) }
+        ensures span { span_written result.span ≡ span_from options (start + game_begin text.now at) (start + end) }
     {
         let span = if options.spans {
             Some(Span {
@@ -91,7 +92,7 @@ impl Label {
     fn of_piece(options: VerifyOptions, number: usize, pieces: &PgnPieces) -> Self
         ensures number { result.number ≡ number }
         ensures span { span_written result.span
-            ≡ span_text options (current pieces.now).offset (current pieces.now).end }
+            ≡ span_from options (current pieces.now).offset (current pieces.now).end }
     {
         let span = if options.spans {
             Some(piece_span(pieces))
@@ -155,13 +156,13 @@ impl FaultLabel {
         requires few { start + length text.now ≤ 2 ^ 63 }
         ensures number { result.game.number ≡ number }
         ensures span { span_written result.game.span
-            ≡ span_text options (start + game_begin text.now at) (start + unwrap_or after.next (length text.now)) }
+            ≡ span_from options (start + game_begin text.now at) (start + unwrap_or after.next (length text.now)) }
         ensures begin { result.begin ≡ game_begin text.now at }
         ensures begin_within { result.begin ≤ length text.now }
         ensures unread { unread_written result.unread
             ≡ unread_text (option_map (λ offset. start + offset) after.unread)
             (start + unwrap_or after.next (length text.now)) }
-        ensures names { result.names.items ≡ names_text options (Some (names_at text.now at)) }
+        ensures names { result.names.items ≡ (if options.names then names_at text.now at else []) }
     {
         let end = next_or_end(after.next, text);
         let game = Label::of_game(options, number, start, text, at, end);
@@ -189,8 +190,8 @@ impl FaultLabel {
     pub(crate) fn of_piece(options: VerifyOptions, number: usize, pieces: &PgnPieces) -> Self
         ensures number { result.game.number ≡ number }
         ensures span { span_written result.game.span
-            ≡ span_text options (current pieces.now).offset (current pieces.now).end }
-        ensures names { result.names.items ≡ names_text options None }
+            ≡ span_from options (current pieces.now).offset (current pieces.now).end }
+        ensures names { result.names.items ≡ [] }
         ensures unread { unread_written result.unread
             ≡ unread_text (Some (current pieces.now).offset) (current pieces.now).end }
     {

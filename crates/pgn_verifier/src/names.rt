@@ -1,7 +1,7 @@
 //! What names a game in the line of its fault: with `--names` its players, event and date.
 
 ghost use Rattle.pgn_verifier.specs.declared.names.TheConstants.{NAMES_LEN};
-ghost use Rattle.std.specs.Prelude.{◌≡◌, ◌≤◌, ◌+◌, ◌++◌, length, codes};
+ghost use Rattle.std.specs.Prelude.{◌≡◌, ◌≤◌, ◌+◌, ◌++◌, length};
 ghost use Rattle.arrayvec.specs.ArrayVec.{array_vec_len};
 ghost use Rattle.chess_pgn.specs.Tokens.{tokens_from};
 ghost use Rattle.byte_devices.specs.Bytes.{after_byte_order_mark};
@@ -39,7 +39,7 @@ fn append_tag(names: &mut NamesText, text: &[u8], at: usize, name: &[u8])
 /// by its tags.
 pub(crate) fn game_names(text: &[u8], at: usize) -> NamesText
     requires { at ≤ length text.now }
-    ensures { result.items ≡ codes " | " ++ names_at text.now at }
+    ensures { result.items ≡ names_at text.now at }
 {
     let mut names = NamesText::new();
     append(&mut names, b" | ");

@@ -5,8 +5,8 @@ ghost use Rattle.std.specs.List.{list_any, prefix_len};
 ghost use Rattle.std.specs.Option.{IfSome, option_map};
 ghost use Rattle.std.specs.Str.{bytes_eq};
 ghost use Rattle.chess_pgn.specs.Tokens.{name_at, is_word_byte};
-ghost use Rattle.pgn_verifier.specs.WrongParts.{move_reason, token_reason};
-ghost use Rattle.pgn_verifier.specs.laws.Reasons.{string_reason, value_reason, name_reason, tag_reason};
+ghost use Rattle.pgn_verifier.specs.WrongParts.{token_reason};
+ghost use Rattle.pgn_verifier.specs.laws.Reasons.{move_reason, string_reason, value_reason, name_reason, tag_reason};
 
 use chess_pgn::token_parts::{after_gap, is_word_byte, split_name, split_string};
 

@@ -11,8 +11,9 @@ use Rattle.chess_text.specs.Moves.{denotes, one_of, reading, shape}
 use Rattle.chess_text.specs.declared.reading.Reading.TheVariants as reads
 use Rattle.chess_text.specs.laws.Laws.{ReadMovesAreLegal}
 use Rattle.pgn_pieces.specs.declared.pieces.TheConstants.{PIECE_LEN}
-use Rattle.pgn_verifier.specs.{declared.options.Strictness.Strictness, Explanations.shown, declared.game_fault.FaultKind.TheVariants.Pgn, GameFaults.IsJudged, GameFaults.variation_in}
-use Rattle.pgn_verifier.specs.Reports.{AreReportsOf, Placed, Faulty, without_spans, none_left, next_game, next_fault}
+use Rattle.pgn_verifier.specs.{declared.options.Strictness.Strictness, Explanations.shown, declared.game_fault.FaultKind.TheVariants.Pgn, GameFaults.IsJudged, shared.Contradictions.variation_in}
+use Rattle.pgn_verifier.specs.Reports.{AreReports, Placed, Faulty, none_left, next_game, next_fault, spanning}
+use Rattle.pgn_verifier.specs.laws.Reported.{without_spans}
 use Rattle.pgn_writer.specs.Outcomes.{outcome_of}
 use Rattle.pgn_verifier_laws.specs.Counted.{AreTold, CountedGamesAreGames, CountedGamesOfPiecesAreGames, HasGame, HasGames}
 use Rattle.pgn_verifier_laws.proofs.{PartsAlike.judged_so, SoundStarts.start_sound}
@@ -139,7 +140,7 @@ module _ (legal : ReadMovesAreLegal) (law : GamesAreOfTokens)
       }
 
   has_games : {goes_on : Bool} {strict : Strictness} {start : ℕ} {text : List ℕ} {at : ℕ} {reports : List Placed}
-      → AreReportsOf goes_on strict start text at reports
+      → AreReports goes_on strict start text at reports
       → HasGames strict.draws_of_2014 text at (without_spans reports)
   has_games (none_left j) = tt
   has_games {goes_on} {strict} {start} {text} (next_game {at} {s} {end} {reports} j h) =
@@ -155,15 +156,9 @@ pub counted_games_of_pieces : ReadMovesAreLegal → GamesAreOfTokens → ((v : V
     → CountedGamesOfPiecesAreGames
 counted_games_of_pieces legal law initial strict offset piece reports h = at (nat_le (length piece) PIECE_LEN) h
   where
-    at : (b : Bool) → MatchBool b (AreReportsOf true strict offset piece 0 reports)
-        (reports ≡ record {
-          begin = offset;
-          end = offset + length piece;
-          first = [];
-          unread = Some offset;
-          names = None;
-          report = Faulty (record { kind = Pgn TooLong; offset = offset }) offset (shown piece);
-        } ∷ [])
+    at : (b : Bool) → MatchBool b (AreReports true strict offset piece 0 reports)
+        (reports ≡ spanning offset (offset + length piece)
+        (Faulty (record { kind = Pgn TooLong; offset = offset }) [] offset (shown piece) [] true) ∷ [])
         → HasGames strict.draws_of_2014 piece 0 (without_spans reports)
     at true are = has_games legal law initial are
     at false is =

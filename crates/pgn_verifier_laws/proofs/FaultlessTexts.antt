@@ -1,28 +1,43 @@
 -- If no fault is reported on a text's pieces, then their reports are those on the text.
-use Rattle.std.proofs.Common.{◌≡◌, ℕ, zero, suc, ◌+◌, ◌-◌, ◌<◌, ◌≤◌, Bool, true, false, cond, eqb, not, List, [], ◌∷◌, ◌++◌, length, get_or, drop, take, Option, Some, None, Result, Ok, Err, refl, sym, ap, subst, ◌∙◌, inl, inr, ◌⊎◌, append_assoc, append-nil, length-append, arith, bytes_eq, nat_le, if◌then◌else◌, ◌&&◌, ◌||◌}
+use Rattle.std.proofs.Common.{◌≡◌, ℕ, zero, suc, ◌+◌, ◌-◌, ◌<◌, ◌≤◌, Bool, true, false, cond, count_by, sum_by, ap₂, eqb, not, List, [], ◌∷◌, ◌++◌, length, get_or, drop, take, Option, Some, None, Result, Ok, Err, refl, sym, ap, subst, ◌∙◌, inl, inr, ◌⊎◌, append_assoc, append-nil, length-append, arith, bytes_eq, nat_le, if◌then◌else◌, ◌&&◌, ◌||◌}
 use Rattle.std.specs.List.{concat, flat_map, list_all, list_any}
-use Rattle.std.proofs.{lemmas.Bool.and_parts, lemmas.Bool.or_parts, lemmas.Bool.eqb-true, lemmas.Bool.Decides.nat_tests, lemmas.List.get_or_at, lemmas.List.reverse-append, Math.Path.fun_ext, lemmas.List.Folds.list_all-append, lemmas.List.Folds.sum_by-zero}
+use Rattle.std.proofs.{lemmas.Bool.and_parts, lemmas.Bool.or_parts, lemmas.Bool.eqb-true, lemmas.Bool.Decides.nat_tests, lemmas.List.get_or_at, lemmas.List.reverse-append, Math.Path.fun_ext, lemmas.List.Folds.list_all-append, lemmas.List.Folds.sum_by-zero, lemmas.List.Sums.sum_by-cons}
 use Rattle.chess_pgn.specs.{Tokens.begins_line, declared.read.PgnEnd.PgnEnd}
 use Rattle.byte_devices.specs.Bytes.{after_byte_order_mark}
 use Rattle.pgn_pieces.specs.{Pieces.cut, Places.breaks_line, Stream.with_offsets, Stream.pieces, declared.pieces.TheConstants.PIECE_LEN}
 use Rattle.pgn_pieces.proofs.shared.Cuts.{AreLines, no_texts, last_text, next_text, cut_is_all, cut_ends}
 use Rattle.pgn_verifier.specs.{declared.options.Strictness.Strictness, declared.game_fault.GameFault.GameFault, declared.tally.Verified.TheVariants.EachGame, declared.tally.Verified.TheVariants.FaultReported}
-use Rattle.pgn_verifier.specs.Reports.{Report, Game, Faulty, counts_of, verified}
+use Rattle.pgn_verifier.specs.Reports.{Report, Game, Faulty, Placed, counts_of, verified}
+use Rattle.pgn_verifier.proofs.shared.Counts.{is_game as is_counted, faults_counted}
 use Rattle.pgn_verifier_laws.specs.NoFaults.{begins_with_mark, ends_with_return, FaultlessTextsAreReportedAlike}
 use Rattle.pgn_verifier_laws.specs.Parts.{BeginsAlike, HoldsWhole, no_more, game, AllHoldWhole, no_parts, next_part}
 use Rattle.pgn_verifier_laws.proofs.Parts.{next_begins, reported_alike, reported_alone, all_reported_alike}
-use Rattle.pgn_verifier_laws.proofs.{PartsAlike.TokenByToken, PartsAlike.no_mark, PartsRead.IsClosed, PartsRead.in_text, GoesOn.is_game, GoesOn.same_of}
-use Rattle.pgn_verifier.specs.laws.Reported.{collection_reports, judged_at, read_at, report_then, games_from, games_of, reports_from, reports_in, reports_on, too_long_report}
+use Rattle.pgn_verifier_laws.proofs.{PartsAlike.TokenByToken, PartsAlike.no_mark, PartsRead.IsClosed, PartsRead.in_text, GoesOn.is_game, GoesOn.same_of, OnlyReports.same_of_collection}
+use Rattle.pgn_verifier.specs.laws.Reported.{Plain, PlainGame, PlainFault, plain_of, without_spans, collection_placed, judged_at, read_at, report_then, games_from, games_of, reports_from, reports_in, reports_on, too_long_report}
 
 -- ---- reports without a fault
 
-no_fault : (r : Report) → eqb (cond (not (is_game r)) 1 0) 0 ≡ is_game r
-no_fault (Game plies outcome termination) = refl
-no_fault (Faulty fault at explanation) = refl
+no_fault : (r : Plain) → eqb (cond (not (is_game r)) 1 0) 0 ≡ is_game r
+no_fault (PlainGame plies outcome termination) = refl
+no_fault (PlainFault fault at explanation) = refl
 
-all_games : (rs : List Report) → verified (counts_of rs) ≡ EachGame → list_all is_game rs ≡ true
-all_games rs h = ap (λ p. list_all p rs) (sym (fun_ext no_fault))
-    ∙ sym (sum_by-zero (λ r. cond (not (is_game r)) 1 0) rs) ∙ by_test (eqb (counts_of rs).faults 0) refl h
+-- a report and the same without its span are on a game alike
+game_alike : (report : Report) → is_counted report ≡ is_game (plain_of report)
+game_alike (Game plies outcome termination) = refl
+game_alike (Faulty fault names wrong_at part why is_unread) = refl
+
+faults_alike : (rs : List Placed) → count_by (λ (p : Placed). not (is_counted p.report)) rs
+    ≡ sum_by (λ r. cond (not (is_game r)) 1 0) (without_spans rs)
+faults_alike [] = refl
+faults_alike (p ∷ rs) =
+    sum_by-cons (λ (q : Placed). cond (not (is_counted q.report)) 1 0) p rs
+    ∙ ap₂ (λ (b : Bool) (n : ℕ). cond (not b) 1 0 + n) (game_alike p.report) (faults_alike rs)
+    ∙ sym (sum_by-cons (λ r. cond (not (is_game r)) 1 0) (plain_of p.report) (without_spans rs))
+
+all_games : (rs : List Placed) → verified (counts_of rs) ≡ EachGame → list_all is_game (without_spans rs) ≡ true
+all_games rs h = ap (λ p. list_all p (without_spans rs)) (sym (fun_ext no_fault))
+    ∙ sym (sum_by-zero (λ r. cond (not (is_game r)) 1 0) (without_spans rs))
+    ∙ ap (λ n. eqb n 0) (sym (faults_counted rs ∙ faults_alike rs)) ∙ by_test (eqb (counts_of rs).faults 0) refl h
   where
     by_test : (b : Bool) → eqb (counts_of rs).faults 0 ≡ b → (if b then EachGame else FaultReported) ≡ EachGame
         → eqb (counts_of rs).faults 0 ≡ true
@@ -32,7 +47,7 @@ all_games rs h = ap (λ p. list_all p rs) (sym (fun_ext no_fault))
 -- ---- one part
 
 pub record Holds (strict : Strictness) (before part after : List ℕ) (at : ℕ) : Type 0 where
-  pub games : List Report
+  pub games : List Plain
   pub holds : HoldsWhole strict before part after at games
 
 module _ (law : TokenByToken) (strict : Strictness) (plain : strict.variations ≡ false) (start : ℕ)
@@ -65,7 +80,7 @@ module _ (law : TokenByToken) (strict : Strictness) (plain : strict.variations �
             (omega (arith, many, found.some_bytes)) all in
             record {
               games =
-                  Game (length (read_at strict.draws_of_2014 (before ++ (part ++ after))
+                  PlainGame (length (read_at strict.draws_of_2014 (before ++ (part ++ after))
                   (length before + at)).state.moves) end.outcome
                   end.termination ∷ rest.games;
               holds = game (record end { offset = length before + end.offset }) found.judged inside
@@ -170,7 +185,7 @@ next_starts before front end parts ten (inr (line, is, unmarked)) = inr (
 -- ---- all parts
 
 record AllHold (strict : Strictness) (offset : ℕ) (before : List ℕ) (parts : List (List ℕ)) : Type 0 where
-  games : List Report
+  games : List Plain
   holds : AllHoldWhole strict before parts games
   reported : flat_map (reports_in strict) (with_offsets offset parts) ≡ games
 
@@ -187,7 +202,7 @@ module _ (law : TokenByToken) (strict : Strictness) (plain : strict.variations �
   one_part first parts before offset begins closed all again =
       by_length (nat_le (length first) PIECE_LEN) refl all
     where
-      later : List Report
+      later : List Plain
       later = flat_map (reports_in strict) (with_offsets (offset + length first) parts)
 
       by_length : (b : Bool) → nat_le (length first) PIECE_LEN ≡ b
@@ -235,7 +250,8 @@ pub faultless_alike : TokenByToken → FaultlessTextsAreReportedAlike
 unfolding pieces
 faultless_alike law strict plain text none unmarked other =
     let games : list_all is_game (flat_map (reports_in strict) (with_offsets 0 (cut text))) ≡ true =
-    all_games (collection_reports strict true text) none in
+    ap (list_all is_game) (sym (same_of_collection strict true text))
+    ∙ all_games (collection_placed strict true text) none in
     let all = all_hold law strict plain (cut_ends text) other [] 0 (inl (refl, unmarked)) games in
     let starts : List ℕ → ℕ = λ part. 0 in
     all.reported ∙ sym (reported_alone law strict plain all.holds starts)

@@ -1,15 +1,16 @@
 -- The reports on a collection's files, one after another, are those on the collection.
-use Rattle.std.proofs.Common.{◌≡◌, ℕ, zero, suc, ◌+◌, Bool, true, false, List, [], ◌∷◌, ◌++◌, length, map, drop, Option, Some, None, Result, Ok, Err, refl, sym, ap, ◌∙◌, append-nil, length-append, arith, ap₂, if◌then◌else◌, nat_le, not, is_some}
+use Rattle.std.proofs.Common.{◌≡◌, ℕ, zero, suc, ◌+◌, Bool, true, false, List, [], ◌∷◌, ◌++◌, length, map, drop, Option, Some, None, Result, Ok, Err, refl, sym, ap, ◌∙◌, ◌&&◌, append-nil, length-append, arith, ap₂, cond, if◌then◌else◌, nat_le, nat_lt, not, is_some}
 use Rattle.std.specs.List.{onto_first, concat, flat_map, sum_by}
-use Rattle.std.specs.Option.{option_map, option_map_or, unwrap_or}
-use Rattle.std.proofs.{lemmas.List.map-append, lemmas.List.Concat.flat_map-append, lemmas.List.Sums.sum_by-append, lemmas.List.Sums.sum_by-cons}
-use Rattle.chess_pgn.specs.declared.read.PgnEnd.{PgnEnd}
+use Rattle.std.specs.Option.{option_map_or, unwrap_or}
+use Rattle.std.proofs.{Math.Path.fun_ext, lemmas.List.map-append, lemmas.List.Concat.flat_map-append, lemmas.List.Sums.sum_by-append, lemmas.List.Sums.sum_by-cons}
+use Rattle.chess_pgn.specs.{GameRead.ending, declared.read.PgnEnd.PgnEnd}
 use Rattle.pgn_pieces.specs.{Pieces.cut, Pieces.lines_of, Places.breaks_line, Stream.with_offsets, declared.pieces.TheConstants.PIECE_LEN, laws.Shards.begins_in_tag, laws.Shards.ends_in_moves, laws.Shards.ShardsAreCut}
 use Rattle.pgn_pieces.proofs.shared.Cuts.{cut_is_all, lines_joined}
-use Rattle.pgn_verifier.specs.{declared.options.Strictness.Strictness, Collection.AreCollectionReports, Explanations.wrong_part, declared.game_fault.GameFault.GameFault, laws.Reasons.explanation_of}
-use Rattle.pgn_verifier.specs.Reports.{Report, Game, Faulty, Placed, game_begin, unread_from, half_moves_of, without_spans, counts_of}
-use Rattle.pgn_verifier.specs.laws.Reported.{next_at, read_at, judged_at, game_placed, fault_placed, placed_then, placed_from, placed_of, placed_in, too_long_placed}
+use Rattle.pgn_verifier.specs.{declared.options.Strictness.Strictness, Collection.AreCollectionReports, Explanations.explanation, Explanations.wrong_part, declared.game_fault.GameFault.GameFault, laws.Reasons.reason}
+use Rattle.pgn_verifier.specs.Reports.{Report, Game, Faulty, Placed, game_begin, counts_of}
+use Rattle.pgn_verifier.specs.laws.Reported.{names_at, next_at, read_at, judged_at, game_placed, fault_placed, placed_then, placed_from, placed_of, placed_in, too_long_placed}
 use Rattle.pgn_verifier_laws.specs.Files.{AreCutWherePiecesBegin, moved, one_after_another, IsSumOf, FilesAreVerifiedAlike}
+use Rattle.pgn_verifier.proofs.shared.Counts.{is_game, plies_of, games_counted, moves_counted, faults_counted}
 use Rattle.pgn_verifier_laws.proofs.OnlyReports.{only_all}
 
 -- ---- the pieces of the files
@@ -65,17 +66,11 @@ abbrev moved_placed : ℕ → Placed → Placed
 moved_placed by p = record p {
   begin = by + p.begin;
   end = by + p.end;
-  unread = option_map (λ from. by + from) p.unread;
   report = moved by p.report;
 }
 
 grouped : (by start n : ℕ) → by + start + n ≡ by + (start + n)
 grouped by start n = omega arith
-
-grouped_in : (by start : ℕ) (o : Option ℕ)
-    → option_map (λ n. by + start + n) o ≡ option_map (λ n. by + n) (option_map (λ n. start + n) o)
-grouped_in by start None = refl
-grouped_in by start (Some n) = ap (λ k. Some k) (grouped by start n)
 
 game_moved : (draws : Bool) (by start : ℕ) (text : List ℕ) (at : ℕ) (end : PgnEnd)
     → game_placed (by + start) text at end (read_at draws text at).state
@@ -89,18 +84,18 @@ fault_moved : (draws goes_on : Bool) (by start : ℕ) (text : List ℕ) (at : �
     → fault_placed draws goes_on (by + start) text at next fault (read_at draws text at).state
     ≡ moved_placed by (fault_placed draws goes_on start text at next fault (read_at draws text at).state)
 fault_moved draws goes_on by start text at next fault =
-    let wrong : ℕ = (wrong_part fault.kind (drop fault.offset text)).0 in
-    let why : List ℕ = explanation_of draws (read_at draws text at).state (drop fault.offset text) fault.kind in
-    let from : Option ℕ = unread_from goes_on (length text) fault.offset next in
+    let wrong : ℕ = (wrong_part fault.kind text (game_begin text at) fault.offset).0 in
+    let report : ℕ → ℕ → Report = λ offset place. Faulty (record fault { offset = offset }) (names_at text at) place
+    (wrong_part fault.kind text (game_begin text at) fault.offset).1
+    (explanation (read_at draws text at).state fault.kind
+    (reason fault.kind (drop fault.offset text) (ending draws (read_at draws text at).state)))
+    (goes_on && not (is_some next) && nat_lt fault.offset (length text)) in
     let here : Placed = fault_placed draws goes_on (by + start) text at next fault (read_at draws text at).state in
     let there : Placed = moved_placed by (fault_placed draws goes_on start text at next fault
     (read_at draws text at).state) in
     ap₂ (λ (b e : ℕ). record here { begin = b; end = e }) (grouped by start (game_begin text at))
     (grouped by start (unwrap_or next (length text)))
-    ∙ ap (λ (o : Option ℕ). record there { unread = o; report = here.report }) (grouped_in by start from)
-    ∙ ap₂ (λ (o w : ℕ). record there { report = Faulty (record fault { offset = o }) w why })
-    (grouped by start fault.offset)
-    (ap (λ k. k + wrong) (grouped by start fault.offset) ∙ grouped by (start + fault.offset) wrong)
+    ∙ ap₂ (λ (o w : ℕ). record there { report = report o w }) (grouped by start fault.offset) (grouped by start wrong)
 
 moved_from : (goes_on : Bool) (strict : Strictness) (by start n : ℕ) (text : List ℕ) (at : ℕ)
     → placed_from goes_on strict (by + start) n text at
@@ -198,48 +193,53 @@ module _ (strict : Strictness) (reports : List ℕ → List Placed)
 
   -- what a report counts doesn't depend on its offset
   module _ (counted : Report → ℕ) (kept : (by : ℕ) (report : Report) → counted (moved by report) ≡ counted report) where
-    abbrev sum_on : List Placed → ℕ
-    sum_on placed = sum_by counted (without_spans placed)
+    abbrev of_placed : Placed → ℕ
+    of_placed p = counted p.report
 
-    moved_sum : (by : ℕ) (placed : List Placed) → sum_on (map (moved_placed by) placed) ≡ sum_on placed
+    moved_sum : (by : ℕ) (placed : List Placed) → sum_by of_placed (map (moved_placed by) placed) ≡ sum_by of_placed placed
     moved_sum by [] = refl
     moved_sum by (p ∷ more) =
-        sum_by-cons counted (moved by p.report) (without_spans (map (moved_placed by) more))
-        ∙ ap₂ (λ a b. a + b) (kept by p.report) (moved_sum by more)
-        ∙ sym (sum_by-cons counted p.report (without_spans more))
+        sum_by-cons of_placed (moved_placed by p) (map (moved_placed by) more)
+        ∙ ap₂ (λ a b. a + b) (kept by p.report) (moved_sum by more) ∙ sym (sum_by-cons of_placed p more)
 
+    -- the sums of all files are added
     added : (offset : ℕ) (files : List (List ℕ))
-        → sum_on (one_after_another reports offset files) ≡ sum_by (λ file. sum_on (reports file)) files
+        → sum_by of_placed (one_after_another reports offset files)
+        ≡ sum_by (λ file. sum_by of_placed (reports file)) files
     added offset [] = refl
     added offset (file ∷ files) =
         let first = map (moved_placed offset) (reports file) in
         let later = one_after_another reports (offset + length file) files in
-        ap (sum_by counted) (map-append (λ (p : Placed). p.report) first later)
-        ∙ sum_by-append counted (without_spans first) (without_spans later)
+        sum_by-append of_placed first later
         ∙ ap₂ (λ a b. a + b) (moved_sum offset (reports file)) (added (offset + length file) files)
-        ∙ sym (sum_by-cons (λ f. sum_on (reports f)) file files)
+        ∙ sym (sum_by-cons (λ f. sum_by of_placed (reports f)) file files)
+
+    -- and so are counts that are such sums
+    pub summed : (count : List Placed → ℕ) → ((rs : List Placed) → count rs ≡ sum_by of_placed rs) → (files : List (List ℕ))
+        → reports (concat files) ≡ one_after_another reports 0 files
+        → count (reports (concat files)) ≡ sum_by (λ file. count (reports file)) files
+    summed count is files alike =
+        is (reports (concat files)) ∙ ap (sum_by of_placed) alike ∙ added 0 files
+        ∙ ap (λ f. sum_by f files) (fun_ext (λ file. sym (is (reports file))))
 
   -- what a report counts as a game, and as a fault
   abbrev as_game : Report → ℕ
-  as_game report = if is_some (half_moves_of report) then 1 else 0
+  as_game report = cond (is_game report) 1 0
 
   abbrev as_fault : Report → ℕ
-  as_fault report = if not (is_some (half_moves_of report)) then 1 else 0
-
-  abbrev its_moves : Report → ℕ
-  its_moves report = unwrap_or (half_moves_of report) 0
+  as_fault report = cond (not (is_game report)) 1 0
 
   game_kept : (by : ℕ) (report : Report) → as_game (moved by report) ≡ as_game report
   game_kept by (Game plies outcome termination) = refl
-  game_kept by (Faulty fault wrong_at explanation) = refl
+  game_kept by (Faulty fault names wrong_at part why is_unread) = refl
 
-  moves_kept : (by : ℕ) (report : Report) → its_moves (moved by report) ≡ its_moves report
+  moves_kept : (by : ℕ) (report : Report) → plies_of (moved by report) ≡ plies_of report
   moves_kept by (Game plies outcome termination) = refl
-  moves_kept by (Faulty fault wrong_at explanation) = refl
+  moves_kept by (Faulty fault names wrong_at part why is_unread) = refl
 
   fault_kept : (by : ℕ) (report : Report) → as_fault (moved by report) ≡ as_fault report
   fault_kept by (Game plies outcome termination) = refl
-  fault_kept by (Faulty fault wrong_at explanation) = refl
+  fault_kept by (Faulty fault names wrong_at part why is_unread) = refl
 
   pub sum_of_files : ShardsAreCut → (files : List (List ℕ)) → AreCutWherePiecesBegin files → IsSumOf reports files
   sum_of_files law files h =
@@ -248,9 +248,9 @@ module _ (strict : Strictness) (reports : List ℕ → List Placed)
       ∙ ap (λ ps. flat_map (placed_in strict) (with_offsets 0 ps)) (pieces_of_files law files h)
       ∙ file_after_file 0 files in record {
         alike = alike;
-        games = ap (λ rs. (counts_of (without_spans rs)).games) alike ∙ added as_game game_kept 0 files;
-        half_moves = ap (λ rs. (counts_of (without_spans rs)).half_moves) alike ∙ added its_moves moves_kept 0 files;
-        faults = ap (λ rs. (counts_of (without_spans rs)).faults) alike ∙ added as_fault fault_kept 0 files;
+        games = summed as_game game_kept (λ rs. (counts_of rs).games) games_counted files alike;
+        half_moves = summed plies_of moves_kept (λ rs. (counts_of rs).half_moves) moves_counted files alike;
+        faults = summed as_fault fault_kept (λ rs. (counts_of rs).faults) faults_counted files alike;
       }
 
 pub files_alike : ShardsAreCut → FilesAreVerifiedAlike

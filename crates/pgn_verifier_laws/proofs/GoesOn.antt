@@ -1,14 +1,15 @@
 -- Without a fault the reports on a text are the same, whether reading goes on after faults or not.
-use Rattle.std.proofs.Common.{◌≡◌, ℕ, zero, suc, ◌+◌, Bool, true, List, ◌∷◌, length, Option, Some, None, Result, Ok, Err, refl, ap, is_some}
+use Rattle.std.proofs.Common.{◌≡◌, ℕ, zero, suc, ◌+◌, Bool, true, false, List, ◌∷◌, length, Option, Some, None, Result, Ok, Err, refl, ap}
 use Rattle.std.specs.List.{list_all}
 use Rattle.chess_game.specs.Game.{State}
 use Rattle.chess_pgn.specs.declared.read.PgnEnd.{PgnEnd}
-use Rattle.pgn_verifier.specs.{declared.options.Strictness.Strictness, Reports.Report, Reports.Game, Reports.half_moves_of, declared.game_fault.GameFault.GameFault}
-use Rattle.pgn_verifier.specs.laws.Reported.{games_from, games_of, judged_at, next_at, read_at, report_then}
+use Rattle.pgn_verifier.specs.{declared.options.Strictness.Strictness, declared.game_fault.GameFault.GameFault}
+use Rattle.pgn_verifier.specs.laws.Reported.{Plain, PlainGame, PlainFault, games_from, games_of, judged_at, next_at, read_at, report_then}
 
 -- whether a report is on a game without a fault
-abbrev pub is_game : Report → Bool
-is_game r = is_some (half_moves_of r)
+abbrev pub is_game : Plain → Bool
+is_game (PlainGame plies outcome termination) = true
+is_game (PlainFault fault wrong_at explanation) = false
 
 module _ (strict : Strictness) (start : ℕ) (text : List ℕ) (a b : Bool) where
   -- if those are on games without a fault that are given by the one way of reading, the other gives the same
@@ -32,7 +33,7 @@ module _ (strict : Strictness) (start : ℕ) (text : List ℕ) (a b : Bool) wher
           (λ m. games_from a strict start n text m)
       by_answer (Ok None) later k = refl
       by_answer (Ok (Some end)) later k =
-          ap (λ rs. Game (length s.moves) end.outcome end.termination ∷ rs) (later end.offset k)
+          ap (λ rs. PlainGame (length s.moves) end.outcome end.termination ∷ rs) (later end.offset k)
       by_answer (Err fault) later k = absurd (cc)
 
   pub same_of : list_all is_game (games_of a strict start text) ≡ true

@@ -1,5 +1,5 @@
 -- No other reports are those of the definitions than those that are made one after another.
-use Rattle.std.proofs.Common.{◌≡◌, ℕ, zero, suc, ◌+◌, Bool, List, [], ◌∷◌, ◌++◌, length, drop, Option, Some, None, true, false, Result, Ok, Err, refl, sym, ap, subst, ◌∙◌, flat_map, MatchBool, nat_le, if◌then◌else◌}
+use Rattle.std.proofs.Common.{◌≡◌, ℕ, zero, suc, ◌+◌, Bool, List, [], ◌∷◌, ◌++◌, length, drop, Option, Some, None, true, false, not, ◌&&◌, is_some, nat_lt, Result, Ok, Err, refl, sym, ap, subst, ◌∙◌, append-nil, flat_map, MatchBool, nat_le, if◌then◌else◌}
 use Rattle.std.proofs.{Math.Path.ap₂, Math.Path.fun_ext, lemmas.List.map-append}
 use Rattle.std.specs.Option.{option_map_or, unwrap_or}
 use Rattle.chess_game.specs.{Game.State, declared.game.TheConstants.MOST_MOVES}
@@ -7,10 +7,12 @@ use Rattle.chess_pgn.specs.{GameRead.GameRead, GameRead.ending, GameRead.pgn_rea
 use Rattle.byte_devices.specs.Bytes.{after_byte_order_mark}
 use Rattle.chess_pgn.proofs.shared.Tokens.{split_read}
 use Rattle.pgn_pieces.specs.{Pieces.known_pieces, Stream.Piece, Stream.with_offsets, Stream.pieces, declared.pieces.TheConstants.PIECE_LEN}
-use Rattle.pgn_verifier.specs.{declared.options.Strictness.Strictness, Collection.AreCollectionReports, Collection.no_piece, Collection.next_piece, Explanations.IsReason, Explanations.explanation, GameFaults.judged, GameFaults.variation_in, GameFaults.IsJudged, declared.game_fault.GameFault.GameFault, laws.Reasons.reason}
-use Rattle.pgn_verifier.specs.Reports.{Report, Game, Placed, fault_in, names_of, AreReports, AreReportsOf, none_left, next_game, next_fault, AreReportsIn, without_spans}
+use Rattle.pgn_verifier.specs.{declared.options.Strictness.Strictness, Collection.AreCollectionReports, Collection.no_piece, Collection.next_piece, Explanations.IsReason, Explanations.explanation, Explanations.shown, Explanations.wrong_part, GameFaults.judged, GameFaults.IsJudged, declared.game_fault.FaultKind.FaultKind, declared.game_fault.GameFault.GameFault, laws.Reasons.reason, shared.Contradictions.variation_in}
+use Rattle.pgn_verifier.specs.declared.game_fault.FaultKind.TheVariants.{Pgn, InVariation, UnknownVariant, ResultDiffers, BoardSaysOtherwise}
+use Rattle.chess_pgn.specs.declared.read.PgnFaultKind.TheVariants as pgn
+use Rattle.pgn_verifier.specs.Reports.{Faulty, Placed, game_begin, names_of, AreReports, none_left, next_game, next_fault, AreReportsIn, spanning}
 use Rattle.pgn_verifier_laws.proofs.OnlyReasons.{only_reason}
-use Rattle.pgn_verifier.specs.laws.Reported.{names_at, next_at, read_at, judged_at, report_then, games_from, games_of, reports_on, reports_in, collection_reports, game_placed, fault_placed, placed_then, placed_from, placed_of, placed_on, placed_in, collection_placed, too_long_report, too_long_placed}
+use Rattle.pgn_verifier.specs.laws.Reported.{Plain, PlainGame, PlainFault, is_at_begin, plain_of, plain_fault, without_spans, names_at, next_at, read_at, judged_at, report_then, fault_report, games_from, games_of, reports_on, reports_in, collection_reports, game_placed, fault_placed, placed_then, placed_from, placed_of, placed_on, placed_in, collection_placed, too_long_report, too_long_placed}
 use Rattle.pgn_verifier.proofs.shared.ReportsAre.{are_reports_of, named, goes_on_there}
 
 -- ---- one game
@@ -44,43 +46,36 @@ only_judged strict text at s answer j =
 
 -- ---- a text
 
--- the report on a game without a fault, whose names are given
-abbrev game_report : ℕ → List ℕ → ℕ → PgnEnd → List ℕ → State → Placed
-game_report start text at end names s = record (game_placed start text at end s) { names = Some names }
-
--- the report on a fault, whose names and explanation are given
-abbrev fault_report : Bool → Bool → ℕ → List ℕ → ℕ → Option ℕ → GameFault → List ℕ → List ℕ → Placed
-fault_report draws goes_on start text at next fault names why =
-    record (fault_placed draws goes_on start text at next fault (read_at draws text at).state) {
-      names = Some names;
-      report = fault_in start text fault why;
-    }
+-- the report on a fault, whose names and reason are given
+abbrev fault_given : Bool → ℕ → List ℕ → ℕ → Option ℕ → GameFault → List ℕ → State → Option (List ℕ) → Placed
+fault_given goes_on start text at next fault names s reason =
+    spanning (start + game_begin text at) (start + unwrap_or next (length text))
+    (Faulty (record fault { offset = start + fault.offset }) names
+    (start + (wrong_part fault.kind text (game_begin text at) fault.offset).0)
+    (wrong_part fault.kind text (game_begin text at) fault.offset).1 (explanation s fault.kind reason)
+    (goes_on && not (is_some next) && nat_lt fault.offset (length text)))
 
 -- what reports are, by how their first game was judged
 abbrev ReportsBy : Bool → Strictness → ℕ → List ℕ → ℕ → State → Result (Option PgnEnd) GameFault → List Placed → Type 0
 ReportsBy goes_on strict start text at s (Ok None) reports = reports ≡ []
 ReportsBy goes_on strict start text at s (Ok (Some end)) reports =
-    (more : List Placed) × AreReportsOf goes_on strict start text end.offset more
+    (more : List Placed) × AreReports goes_on strict start text end.offset more
     × (reports ≡ game_placed start text at end s ∷ more)
 ReportsBy goes_on strict start text at s (Err fault) reports =
     (more : List Placed)
-    × AreReportsOf goes_on strict start text (unwrap_or (next_at goes_on text at) (length text)) more
+    × AreReports goes_on strict start text (unwrap_or (next_at goes_on text at) (length text)) more
     × (reports ≡ fault_placed strict.draws_of_2014 goes_on start text at (next_at goes_on text at) fault s ∷ more)
 
 -- the report on a fault whose names and reason are given
 fault_explained : (draws goes_on : Bool) (start : ℕ) (text : List ℕ) (at : ℕ) (next : Option ℕ) (fault : GameFault)
     (names : List ℕ) (s : State) (reason : Option (List ℕ)) → next ≡ next_at goes_on text at
     → names ≡ names_at text at → IsReason fault.kind (drop fault.offset text) (ending draws s) reason
-    → fault_report draws goes_on start text at next fault names
-    (explanation s (drop fault.offset text) fault.kind reason)
+    → fault_given goes_on start text at next fault names s reason
     ≡ fault_placed draws goes_on start text at (next_at goes_on text at) fault s
 fault_explained draws goes_on start text at next fault names s reason there are h =
-    ap (λ o. fault_report draws goes_on start text at o fault names
-    (explanation s (drop fault.offset text) fault.kind reason)) there
-    ∙ ap (λ ns. fault_report draws goes_on start text at (next_at goes_on text at) fault ns
-    (explanation s (drop fault.offset text) fault.kind reason)) are
-    ∙ ap (λ r. fault_report draws goes_on start text at (next_at goes_on text at) fault (names_at text at)
-    (explanation s (drop fault.offset text) fault.kind r))
+    ap (λ o. fault_given goes_on start text at o fault names s reason) there
+    ∙ ap (λ ns. fault_given goes_on start text at (next_at goes_on text at) fault ns s reason) are
+    ∙ ap (λ r. fault_given goes_on start text at (next_at goes_on text at) fault (names_at text at) s r)
     (only_reason fault.kind (drop fault.offset text) (ending draws s) reason h)
 
 module _ (goes_on : Bool) (strict : Strictness) (start : ℕ) (text : List ℕ) where
@@ -89,30 +84,23 @@ module _ (goes_on : Bool) (strict : Strictness) (start : ℕ) (text : List ℕ) 
       ReportsBy goes_on strict start text at (read_at strict.draws_of_2014 text at).state
       (judged_at strict text at) reports
 
-  reports_at : {at : ℕ} {reports : List Placed} → AreReportsOf goes_on strict start text at reports
+  reports_at : {at : ℕ} {reports : List Placed} → AreReports goes_on strict start text at reports
       → ReportsAt at reports
   reports_at (none_left {at} {s} j) =
       let is = only_judged strict text at s (Ok None) j in
       subst (λ r. ReportsBy goes_on strict start text at (read_at strict.draws_of_2014 text at).state r []) is.1 refl
   reports_at (next_game {at} {s} {end} {reports} j h) =
       let is = only_judged strict text at s (Ok (Some end)) j in
-      let own : List ℕ = names_of j.tokens in
       subst (λ r. ReportsBy goes_on strict start text at (read_at strict.draws_of_2014 text at).state r
-      (game_report start text at end own s ∷ reports)) is.1 (
-        reports,
-        h,
-        ap (λ (g : State). game_report start text at end own g ∷ reports) is.0
-            ∙ ap (λ ns. game_report start text at end ns (read_at strict.draws_of_2014 text at).state ∷ reports)
-            (named j),
-      )
+      (game_placed start text at end s ∷ reports)) is.1
+      (reports, h, ap (λ (g : State). game_placed start text at end g ∷ reports) is.0)
   reports_at (next_fault {at} {s} {fault} {reports} reason next j h there later) =
       let is = only_judged strict text at s (Err fault) j in
       let on : next ≡ next_at goes_on text at = there ∙ goes_on_there goes_on j in
       subst (λ r. ReportsBy goes_on strict start text at (read_at strict.draws_of_2014 text at).state r
-      (fault_report strict.draws_of_2014 goes_on start text at next fault (names_of j.tokens)
-      (explanation s (drop fault.offset text) fault.kind reason) ∷ reports)) is.1 (
+      (fault_given goes_on start text at next fault (names_of j.tokens) s reason ∷ reports)) is.1 (
         reports,
-        subst (λ o. AreReportsOf goes_on strict start text (unwrap_or o (length text)) reports) on later,
+        subst (λ o. AreReports goes_on strict start text (unwrap_or o (length text)) reports) on later,
         ap (λ (p : Placed). p ∷ reports)
             (fault_explained strict.draws_of_2014 goes_on start text at next fault (names_of j.tokens) s reason on
             (named j) h)
@@ -120,8 +108,8 @@ module _ (goes_on : Bool) (strict : Strictness) (start : ℕ) (text : List ℕ) 
             (next_at goes_on text at) fault g ∷ reports) is.0,
       )
 
-  one_list : {at : ℕ} {reports : List Placed} → AreReportsOf goes_on strict start text at reports
-      → (others : List Placed) → AreReportsOf goes_on strict start text at others → others ≡ reports
+  one_list : {at : ℕ} {reports : List Placed} → AreReports goes_on strict start text at reports
+      → (others : List Placed) → AreReports goes_on strict start text at others → others ≡ reports
   one_list (none_left {at} {s} j) others k =
       let is = only_judged strict text at s (Ok None) j in
       subst (λ r. ReportsBy goes_on strict start text at (read_at strict.draws_of_2014 text at).state r others)
@@ -133,10 +121,7 @@ module _ (goes_on : Bool) (strict : Strictness) (start : ℕ) (text : List ℕ) 
       (reports_at k) in
       more.2
       ∙ ap (λ rs. game_placed start text at end (read_at strict.draws_of_2014 text at).state ∷ rs)
-      (one_list h more.0 more.1)
-      ∙ ap (λ ns. game_report start text at end ns (read_at strict.draws_of_2014 text at).state ∷ reports)
-      (sym (named j))
-      ∙ ap (λ (g : State). game_report start text at end (names_of j.tokens) g ∷ reports) (sym is.0)
+      (one_list h more.0 more.1) ∙ ap (λ (g : State). game_placed start text at end g ∷ reports) (sym is.0)
   one_list (next_fault {at} {s} {fault} {reports} reason next j h there later) others k =
       let is = only_judged strict text at s (Err fault) j in
       let on : next ≡ next_at goes_on text at = there ∙ goes_on_there goes_on j in
@@ -144,7 +129,7 @@ module _ (goes_on : Bool) (strict : Strictness) (start : ℕ) (text : List ℕ) 
       (read_at strict.draws_of_2014 text at).state r others) (sym is.1)
       (reports_at k) in
       let same : more.0 ≡ reports = one_list later more.0
-      (subst (λ o. AreReportsOf goes_on strict start text (unwrap_or o (length text)) more.0) (sym on) more.1) in
+      (subst (λ o. AreReports goes_on strict start text (unwrap_or o (length text)) more.0) (sym on) more.1) in
       more.2
       ∙ ap (λ rs. fault_placed strict.draws_of_2014 goes_on start text at (next_at goes_on text at) fault
       (read_at strict.draws_of_2014 text at).state ∷ rs) same
@@ -154,12 +139,12 @@ module _ (goes_on : Bool) (strict : Strictness) (start : ℕ) (text : List ℕ) 
       (sym (fault_explained strict.draws_of_2014 goes_on start text at next fault (names_of j.tokens) s reason on
       (named j) h))
 
-  pub only_reports_of : (reports : List Placed) → AreReportsOf goes_on strict start text 0 reports
+  pub only_reports_of : (reports : List Placed) → AreReports goes_on strict start text 0 reports
       → reports ≡ placed_of goes_on strict start text
   only_reports_of reports h = one_list (are_reports_of goes_on strict start text) reports h
 
 pub only_reports : (strict : Strictness) (start : ℕ) (text : List ℕ) (reports : List Placed)
-    → AreReports strict start text 0 reports → reports ≡ placed_on strict start text
+    → AreReports false strict start text 0 reports → reports ≡ placed_on strict start text
 only_reports strict start text reports h = only_reports_of false strict start text reports h
 
 -- ---- pieces
@@ -169,7 +154,7 @@ only_reports_in : (strict : Strictness) (piece : Piece) (reports : List Placed)
     → reports ≡ placed_in strict piece
 only_reports_in strict piece reports h = by_test (nat_le (length piece.bytes) PIECE_LEN) h
   where
-    by_test : (b : Bool) → MatchBool b (AreReportsOf true strict piece.offset piece.bytes 0 reports)
+    by_test : (b : Bool) → MatchBool b (AreReports true strict piece.offset piece.bytes 0 reports)
         (reports ≡ too_long_placed piece ∷ [])
         → reports ≡ (if b then placed_of true strict piece.offset piece.bytes else too_long_placed piece ∷ [])
     by_test true h = only_reports_of true strict piece.offset piece.bytes reports h
@@ -189,6 +174,38 @@ only_collection_reports strict ended text reports h = only_all h
 
 -- ---- without their spans
 
+-- a fault's report as such doesn't depend on where its game begins
+record IsPlain (kind : FaultKind) (text : List ℕ) (start begin at : ℕ) : Type 0 where
+  pub place : (if is_at_begin kind then start + at else start + (wrong_part kind text begin at).0)
+      ≡ start + (wrong_part kind text at at).0
+  pub word : (if is_at_begin kind then [] else (wrong_part kind text begin at).1)
+      ≡ (if is_at_begin kind then [] else (wrong_part kind text at at).1)
+
+is_plain : (kind : FaultKind) (text : List ℕ) (start begin at : ℕ) → IsPlain kind text start begin at
+is_plain (Pgn pgn.BadTag) text start begin at = record { place = refl; word = refl }
+is_plain (Pgn (pgn.BadFen fault)) text start begin at = record { place = refl; word = refl }
+is_plain (Pgn pgn.BadToken) text start begin at = record { place = refl; word = refl }
+is_plain (Pgn pgn.IllegalMove) text start begin at = record { place = refl; word = refl }
+is_plain (Pgn pgn.AmbiguousMove) text start begin at = record { place = refl; word = refl }
+is_plain (Pgn pgn.AfterEnd) text start begin at = record { place = refl; word = refl }
+is_plain (Pgn pgn.TooLong) text start begin at = record { place = refl; word = refl }
+is_plain (Pgn pgn.UnclosedComment) text start begin at = record { place = refl; word = refl }
+is_plain (Pgn pgn.UnclosedVariation) text start begin at = record { place = refl; word = refl }
+is_plain (Pgn pgn.NoResult) text start begin at = record { place = refl; word = refl }
+is_plain (InVariation kind) text start begin at = record { place = refl; word = refl }
+is_plain UnknownVariant text start begin at = record { place = refl; word = refl }
+is_plain (ResultDiffers tag_len outcome) text start begin at = record { place = refl; word = refl }
+is_plain BoardSaysOtherwise text start begin at = record { place = refl; word = refl }
+
+plain_is : (draws goes_on : Bool) (start : ℕ) (text : List ℕ) (at : ℕ) (next : Option ℕ) (fault : GameFault)
+    (s : State) → plain_of (fault_report draws goes_on start text at next fault s)
+    ≡ plain_fault draws start text fault s
+plain_is draws goes_on start text at next fault s =
+    let plain = is_plain fault.kind text start (game_begin text at) fault.offset in
+    ap₂ (λ n xs. PlainFault (record fault { offset = start + fault.offset }) n
+    (xs ++ explanation s fault.kind (reason fault.kind (drop fault.offset text) (ending draws s))))
+    plain.place plain.word
+
 same_from : (goes_on : Bool) (strict : Strictness) (start n : ℕ) (text : List ℕ) (at : ℕ)
     → without_spans (placed_from goes_on strict start n text at) ≡ games_from goes_on strict start n text at
 unfolding placed_from games_from
@@ -202,7 +219,7 @@ same_from goes_on strict start (suc n) text at =
     placed : ℕ → List Placed
     placed next = placed_from goes_on strict start n text next
 
-    plain : ℕ → List Report
+    plain : ℕ → List Plain
     plain next = games_from goes_on strict start n text next
 
     on : (next : Option ℕ) → ((m : ℕ) → without_spans (placed m) ≡ plain m)
@@ -215,10 +232,10 @@ same_from goes_on strict start (suc n) text at =
         ≡ report_then strict.draws_of_2014 start text (next_at goes_on text at) r s plain
     by_answer (Ok None) later = refl
     by_answer (Ok (Some end)) later =
-        ap (λ rs. Game (length s.moves) end.outcome end.termination ∷ rs) (later end.offset)
+        ap (λ rs. PlainGame (length s.moves) end.outcome end.termination ∷ rs) (later end.offset)
     by_answer (Err fault) later =
-        ap (λ rs. (fault_placed strict.draws_of_2014 goes_on start text at
-        (next_at goes_on text at) fault s).report ∷ rs)
+        ap₂ (λ (r : Plain) (rs : List Plain). r ∷ rs)
+        (plain_is strict.draws_of_2014 goes_on start text at (next_at goes_on text at) fault s)
         (on (next_at goes_on text at) later)
 
 pub same_of : (goes_on : Bool) (strict : Strictness) (start : ℕ) (text : List ℕ)
@@ -236,13 +253,14 @@ same_in strict piece = by_test (nat_le (length piece.bytes) PIECE_LEN)
         → without_spans (if b then placed_of true strict piece.offset piece.bytes else too_long_placed piece ∷ [])
         ≡ (if b then games_of true strict piece.offset piece.bytes else too_long_report piece ∷ [])
     by_test true = same_of true strict piece.offset piece.bytes
-    by_test false = refl
+    by_test false = ap (λ xs. PlainFault (record { kind = Pgn pgn.TooLong; offset = piece.offset }) piece.offset xs ∷ [])
+        (append-nil (shown piece.bytes))
 
 same_all : (strict : Strictness) (all : List Piece)
     → without_spans (flat_map (placed_in strict) all) ≡ flat_map (reports_in strict) all
 same_all strict [] = refl
 same_all strict (piece ∷ more) =
-    map-append (λ (p : Placed). p.report) (placed_in strict piece) (flat_map (placed_in strict) more)
+    map-append (λ (p : Placed). plain_of p.report) (placed_in strict piece) (flat_map (placed_in strict) more)
     ∙ ap₂ (λ xs ys. xs ++ ys) (same_in strict piece) (same_all strict more)
 
 pub same_of_collection : (strict : Strictness) (ended : Bool) (text : List ℕ)

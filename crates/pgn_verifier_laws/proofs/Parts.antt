@@ -9,13 +9,13 @@ use Rattle.chess_pgn.specs.{LastTags.tag_section, LastTags.result_tag_of, Unknow
 use Rattle.chess_pgn.specs.shared.Kinds.{IsOf, IsLongest, Kind, ended}
 use Rattle.byte_devices.specs.Bytes.{after_byte_order_mark}
 use Rattle.chess_pgn.proofs.shared.Tokens.{read_kinds, kinds_read}
-use Rattle.pgn_verifier.specs.{declared.options.Strictness.Strictness, GameFaults.judged, GameFaults.variation_in, Reports.Report, Reports.Game}
+use Rattle.pgn_verifier.specs.{declared.options.Strictness.Strictness, GameFaults.judged, shared.Contradictions.variation_in}
 use Rattle.pgn_verifier_laws.specs.Parts.{BeginsAlike, GamesAreInParts, HoldsWhole, no_more, game, WholeGamesAreReportedAlike, AllHoldWhole, no_parts, next_part, TextsAreReportedInParts, PiecesAreReportedAlike}
 use Rattle.pgn_pieces.specs.{Pieces.cut, Stream.with_offsets, Stream.pieces, declared.pieces.TheConstants.PIECE_LEN}
 use Rattle.pgn_pieces.proofs.shared.Cuts.{cut_is_all}
 use Rattle.pgn_verifier_laws.proofs.{GoesOn.is_game, GoesOn.same_of, GamesAlike.Fits, GamesAlike.found, PartsRead.skips_to_end}
 use Rattle.pgn_verifier_laws.proofs.PartsAlike.{TokenByToken, there, lines, over, same_variant, outcome_in, same_result, same_known, judged_so, agrees, not_before, no_mark}
-use Rattle.pgn_verifier.specs.laws.Reported.{read_at, report_then, games_from, games_of, reports_from, reports_in, reports_on, too_long_report}
+use Rattle.pgn_verifier.specs.laws.Reported.{Plain, PlainGame, read_at, report_then, games_from, games_of, reports_from, reports_in, reports_on, too_long_report}
 
 -- ---- the part
 
@@ -115,7 +115,7 @@ next_begins before part after at next begins h = record {
 
 module _ (law : TokenByToken)
     (strict : Strictness) (plain : strict.variations ≡ false) (start : ℕ) (before part after : List ℕ) where
-  alone : {at : ℕ} {games : List Report} → HoldsWhole strict before part after at games
+  alone : {at : ℕ} {games : List Plain} → HoldsWhole strict before part after at games
       → BeginsAlike before part after at → at ≤ length part → (k : ℕ) → length part < k + at
       → reports_from strict start k part at ≡ games
   unfolding games_from
@@ -129,16 +129,16 @@ module _ (law : TokenByToken)
       ap (λ j. report_then strict.draws_of_2014 start part None j (read_at strict.draws_of_2014 part at).state
       (λ n. reports_from strict start k part n))
       found.judged
-      ∙ ap (λ (s : State). Game (length s.moves) end.outcome end.termination ∷ reports_from strict start k part next)
+      ∙ ap (λ (s : State). PlainGame (length s.moves) end.outcome end.termination ∷ reports_from strict start k part next)
       found.state
-      ∙ ap (λ l. Game (length (read_at strict.draws_of_2014 (before ++ (part ++ after))
+      ∙ ap (λ l. PlainGame (length (read_at strict.draws_of_2014 (before ++ (part ++ after))
       (length before + at)).state.moves) end.outcome
       end.termination ∷ l)
       (alone {at = end.offset - length before} {games = games} more (next_begins before part after at next begins
       (omega (arith, found.some_bytes)))
       (omega (arith, inside)) k (omega (arith, found.some_bytes, many)))
 
-  in_text : {at : ℕ} {games : List Report} → HoldsWhole strict before part after at games
+  in_text : {at : ℕ} {games : List Plain} → HoldsWhole strict before part after at games
       → BeginsAlike before part after at → at ≤ length part → (most : ℕ)
       → reports_from strict start (length games + most) (before ++ (part ++ after)) (length before + at)
       ≡ games ++ reports_from strict start most (before ++ (part ++ after)) (length before + length part)
@@ -153,7 +153,7 @@ module _ (law : TokenByToken)
       let next : ℕ = end.offset - length before in
       let here : length before + next ≡ end.offset = omega (arith, found.some_bytes) in
       let count : suc (length games) + most ≡ suc (length games + most) = omega arith in
-      let report : Report = Game (length (read_at strict.draws_of_2014 text
+      let report : Plain = PlainGame (length (read_at strict.draws_of_2014 text
       (length before + at)).state.moves) end.outcome end.termination in
       ap (λ k. reports_from strict start k text (length before + at)) count
       ∙ ap (λ j. report_then strict.draws_of_2014 start text None j
@@ -200,7 +200,7 @@ nothing_left strict start (suc k) text = by_first text (mark text)
         (λ next. reports_from strict start k text next)) (sym none)
 
 module _ (law : TokenByToken) (strict : Strictness) (plain : strict.variations ≡ false) where
-  few : (before part after : List ℕ) {at : ℕ} {games : List Report} → HoldsWhole strict before part after at games
+  few : (before part after : List ℕ) {at : ℕ} {games : List Plain} → HoldsWhole strict before part after at games
       → BeginsAlike before part after at → at ≤ length part → length games + at ≤ length part
   few before part after (no_more none closed) begins within = omega (arith, within)
   few before part after (game {at} {games} end is inside more) begins within =
@@ -212,7 +212,7 @@ module _ (law : TokenByToken) (strict : Strictness) (plain : strict.variations �
             (omega (arith, found.some_bytes))) (omega (arith, inside)),
       )
 
-  all_alone : {before : List ℕ} {parts : List (List ℕ)} {games : List Report} → AllHoldWhole strict before parts games
+  all_alone : {before : List ℕ} {parts : List (List ℕ)} {games : List Plain} → AllHoldWhole strict before parts games
       → (starts : List ℕ → ℕ) → flat_map (λ part. reports_on strict (starts part) part) parts ≡ games
   all_alone no_parts starts = refl
   all_alone (next_part {before} {first} {parts} {games} {more} begins holds rest) starts =
@@ -220,7 +220,7 @@ module _ (law : TokenByToken) (strict : Strictness) (plain : strict.variations �
       (reported_alike law strict plain (starts first) before first (concat parts) games begins holds).alone
       ∙ ap (λ l. games ++ l) (all_alone rest starts)
 
-  few_of_all : {before : List ℕ} {parts : List (List ℕ)} {games : List Report} → AllHoldWhole strict before parts games
+  few_of_all : {before : List ℕ} {parts : List (List ℕ)} {games : List Plain} → AllHoldWhole strict before parts games
       → length games ≤ length (concat parts)
   few_of_all no_parts = omega arith
   few_of_all (next_part {before} {first} {parts} {games} {more} begins holds rest) =
@@ -232,7 +232,7 @@ module _ (law : TokenByToken) (strict : Strictness) (plain : strict.variations �
         few before first (concat parts) holds begins (omega arith),
       )
 
-  whole : (start k : ℕ) {before : List ℕ} {parts : List (List ℕ)} {games : List Report}
+  whole : (start k : ℕ) {before : List ℕ} {parts : List (List ℕ)} {games : List Plain}
       → AllHoldWhole strict before parts games
       → reports_from strict start (length games + k) (before ++ concat parts) (length before) ≡ games
   whole start k (no_parts {before}) =
@@ -252,7 +252,7 @@ module _ (law : TokenByToken) (strict : Strictness) (plain : strict.variations �
       ∙ ap (λ l. games ++ l) (whole start k rest)
 
 pub reported_alone : TokenByToken → (strict : Strictness) → strict.variations ≡ false → {before : List ℕ}
-    {parts : List (List ℕ)} {games : List Report} → AllHoldWhole strict before parts games → (starts : List ℕ → ℕ)
+    {parts : List (List ℕ)} {games : List Plain} → AllHoldWhole strict before parts games → (starts : List ℕ → ℕ)
     → flat_map (λ part. reports_on strict (starts part) part) parts ≡ games
 reported_alone law strict plain holds starts = all_alone law strict plain holds starts
 
@@ -267,13 +267,13 @@ all_reported_alike law strict plain start parts games holds starts =
 -- ---- pieces
 
 -- whole games have no fault
-are_games : {strict : Strictness} {before part after : List ℕ} {at : ℕ} {games : List Report}
+are_games : {strict : Strictness} {before part after : List ℕ} {at : ℕ} {games : List Plain}
     → HoldsWhole strict before part after at games → list_all is_game games ≡ true
 are_games (no_more none closed) = refl
 are_games (game end is inside more) = are_games more
 
 module _ (law : TokenByToken) (strict : Strictness) (plain : strict.variations ≡ false) where
-  in_pieces : {before : List ℕ} {parts : List (List ℕ)} {games : List Report}
+  in_pieces : {before : List ℕ} {parts : List (List ℕ)} {games : List Plain}
       → AllHoldWhole strict before parts games → (offset : ℕ) → length (concat parts) ≤ PIECE_LEN
       → flat_map (reports_in strict) (with_offsets offset parts) ≡ games
   in_pieces no_parts offset h = refl
@@ -281,7 +281,7 @@ module _ (law : TokenByToken) (strict : Strictness) (plain : strict.variations �
       let all : length (first ++ concat parts) ≡ length first + length (concat parts) =
       length-append first (concat parts) in
       let short : nat_le (length first) PIECE_LEN ≡ true = le-leb (length first) PIECE_LEN (omega (arith, h, all)) in
-      let later : List Report = flat_map (reports_in strict) (with_offsets (offset + length first) parts) in
+      let later : List Plain = flat_map (reports_in strict) (with_offsets (offset + length first) parts) in
       let alone : reports_on strict offset first ≡ games =
       (reported_alike law strict plain offset before first (concat parts) games begins holds).alone in
       ap (λ b. (if b then games_of true strict offset first else

@@ -19,8 +19,8 @@ use Rattle.pgn_writer.specs.Outcomes.{outcome_of}
 use Rattle.chess_pgn.specs.laws.TokenByToken.{SoFar, Step, On, Stop, ends, move_step, word_step, fen_step, step, read_rest_with, game_of, tokens_read}
 use Rattle.chess_pgn.proofs.shared.Words.{word_cases}
 use Rattle.pgn_verifier.specs.{declared.options.Strictness.Strictness, declared.game_fault.GameFault.GameFault}
-use Rattle.pgn_verifier.specs.GameFaults.{looked_for, result_differs, board_says_otherwise, judged}
-use Rattle.pgn_verifier.specs.shared.Contradictions.{contradiction, end_fault, variant_fault, variation_fault}
+use Rattle.pgn_verifier.specs.GameFaults.{result_differs, board_says_otherwise, judged}
+use Rattle.pgn_verifier.specs.shared.Contradictions.{contradiction, end_fault, looked_for, variant_fault, variation_fault}
 
 -- what is read of a text is read token by token
 abbrev pub TokenByToken : Type 0

@@ -12,13 +12,13 @@ use Rattle.byte_devices.specs.Bytes.{after_byte_order_mark}
 use Rattle.pgn_writer.specs.Written as written
 use Rattle.chess_pgn_laws.specs.PgnLaw.{AreTagTexts, IsReadBack, PgnIsReadBack}
 use Rattle.chess_pgn.proofs.shared.Tokens.{kinds_read}
-use Rattle.pgn_verifier.specs.{declared.options.Strictness.Strictness, GameFaults.judged, GameFaults.variation_in, Reports.Report, Reports.Game}
+use Rattle.pgn_verifier.specs.{declared.options.Strictness.Strictness, GameFaults.judged, shared.Contradictions.variation_in}
 use Rattle.pgn_verifier_laws.specs.NoFaults.{begins_with_mark}
 use Rattle.pgn_verifier_laws.specs.Parts.{BeginsAlike, AllHoldWhole, no_parts, next_part}
 use Rattle.pgn_verifier_laws.specs.WrittenGames.{HasNoFault, TaggedGame, AreWritable, written_text, report_of, WrittenTextsHaveNoFault}
 use Rattle.pgn_verifier_laws.proofs.{FaultlessTexts.part_holds, FaultlessTexts.begins_first, FaultlessTexts.begins_later, GoesOn.is_game, Parts.all_reported_alike, PartsRead.in_text, OnlyReports.only_judged, WrittenGames.TagsAreWritten, WrittenGames.written_games}
 use Rattle.pgn_verifier_laws.proofs.PartsAlike.{TokenByToken, read_so, judged_so, no_mark}
-use Rattle.pgn_verifier.specs.laws.Reported.{games_from, judged_at, read_at, report_then, reports_from, reports_on}
+use Rattle.pgn_verifier.specs.laws.Reported.{Plain, PlainGame, games_from, judged_at, read_at, report_then, reports_from, reports_on}
 
 -- ---- the end of a game's text
 
@@ -152,12 +152,12 @@ module _ (law : TokenByToken) (read : PgnIsReadBack) (result : TagsAreWritten) (
         ap (λ k. reports_from strict start k text 0) count
         ∙ ap (λ j. report_then strict.draws_of_2014 start text None j (read_at strict.draws_of_2014 text 0).state
         (λ next. reports_from strict start (length text) text next)) is
-        ∙ ap (λ l. Game (length (read_at strict.draws_of_2014 text 0).state.moves) found.end.outcome
+        ∙ ap (λ l. PlainGame (length (read_at strict.draws_of_2014 text 0).state.moves) found.end.outcome
         found.end.termination ∷ l)
         (nothing_more strict start (length text) text found.end.offset none)
-        ∙ ap (λ ms. Game (length ms) found.end.outcome found.end.termination ∷ []) moves
-        ∙ ap (λ o. Game (length g.state.moves) o found.end.termination ∷ []) found.outcome
-        ∙ ap (λ t. Game (length g.state.moves) (outcome_now g.state) t ∷ []) termination
+        ∙ ap (λ ms. PlainGame (length ms) found.end.outcome found.end.termination ∷ []) moves
+        ∙ ap (λ o. PlainGame (length g.state.moves) o found.end.termination ∷ []) found.outcome
+        ∙ ap (λ t. PlainGame (length g.state.moves) (outcome_now g.state) t ∷ []) termination
 
     -- ---- all games
 
@@ -188,7 +188,7 @@ module _ (law : TokenByToken) (read : PgnIsReadBack) (result : TagsAreWritten) (
         )
 
     all_held : (games : List TaggedGame) → AreWritable games → (before : List ℕ) → Starts before
-        → (reports : List Report) × AllHoldWhole strict before (map text_of games) reports
+        → (reports : List Plain) × AllHoldWhole strict before (map text_of games) reports
     all_held [] h before starts = ([], no_parts)
     all_held (g ∷ games) (texts, playable, h) before starts =
         let part : List ℕ = pgn [] g.tags g.state in

@@ -1,5 +1,5 @@
 -- What `verify` says of a game that it counts.
-use Rattle.std.specs.Prelude.{◌≡◌, ⊤, ℕ, ◌+◌, ◌-◌, ◌<◌, Bool, List, [], ◌∷◌, ◌++◌, length, take, Some, None, IsTrue}
+use Rattle.std.specs.Prelude.{◌≡◌, ⊤, ℕ, ◌+◌, ◌-◌, ◌<◌, Bool, false, List, [], ◌∷◌, ◌++◌, length, take, Some, None, IsTrue}
 use Rattle.std.specs.List.{filter}
 use Rattle.chess_base.specs.MoveList.{moves}
 use Rattle.chess_base.specs.Moves.{after, is_legal}
@@ -14,7 +14,8 @@ use Rattle.byte_devices.specs.Bytes.{after_byte_order_mark}
 use Rattle.chess_pgn_laws.specs.GameOfTokens.{game_by, move_words}
 use Rattle.chess_text.specs.Moves.{denotes}
 use Rattle.pgn_verifier.specs.declared.options.Strictness.{Strictness}
-use Rattle.pgn_verifier.specs.Reports.{AreReports, AreReportsIn, Report, Placed, Game, Faulty, without_spans}
+use Rattle.pgn_verifier.specs.Reports.{AreReports, AreReportsIn, Placed}
+use Rattle.pgn_verifier.specs.laws.Reported.{Plain, PlainGame, PlainFault, without_spans}
 use Rattle.pgn_writer.specs.Outcomes.{outcome_of}
 
 -- from the position `p` on these are moves of a game, each with its word: each is legal where it is made, and of all
@@ -51,17 +52,17 @@ pub record HasGame (draws : Bool) (text : List ℕ) (from to plies : ℕ) (outco
 
 -- from this offset of the text on it has the games of which these are the reports, one after another; after a fault the
 -- others come from some offset on
-abbrev pub HasGames : Bool → List ℕ → ℕ → List Report → Type 0
+abbrev pub HasGames : Bool → List ℕ → ℕ → List Plain → Type 0
 HasGames draws text from [] = ⊤
-HasGames draws text from (Game plies outcome termination ∷ reports) =
+HasGames draws text from (PlainGame plies outcome termination ∷ reports) =
     (to : ℕ) × HasGame draws text from to plies outcome × HasGames draws text to reports
-HasGames draws text from (Faulty fault wrong_at explanation ∷ reports) = (to : ℕ) × HasGames draws text to reports
+HasGames draws text from (PlainFault fault wrong_at explanation ∷ reports) = (to : ℕ) × HasGames draws text to reports
 
 -- the games that `verify` counts in a text are games; `start` is the offset of the input at which the text begins,
 -- `strict`: what is looked for at a game's end
 abbrev pub CountedGamesAreGames : Type 0
 CountedGamesAreGames = (strict : Strictness) (start : ℕ) (text : List ℕ) (reports : List Placed)
-    → AreReports strict start text 0 reports → HasGames strict.draws_of_2014 text 0 (without_spans reports)
+    → AreReports false strict start text 0 reports → HasGames strict.draws_of_2014 text 0 (without_spans reports)
 
 -- the games that `verify --keep-going` counts in a piece of a collection are games; the piece begins at this offset of
 -- the input

@@ -2,13 +2,12 @@
 -- whole.
 use Rattle.std.specs.Prelude.{◌≡◌, ⊤, ℕ, ◌+◌, true, List, [], ◌∷◌, ◌++◌, length, map}
 use Rattle.std.specs.List.{concat, sum_by}
-use Rattle.std.specs.Option.{option_map}
 use Rattle.byte_devices.specs.Bytes.{new_line}
 use Rattle.pgn_pieces.specs.Pieces.{cut, lines_of}
 use Rattle.pgn_pieces.specs.laws.Shards.{begins_in_tag, ends_in_moves}
 use Rattle.pgn_verifier.specs.declared.options.Strictness.{Strictness}
 use Rattle.pgn_verifier.specs.Collection.{AreCollectionReports}
-use Rattle.pgn_verifier.specs.Reports.{Placed, Report, Game, Faulty, without_spans, counts_of}
+use Rattle.pgn_verifier.specs.Reports.{Placed, Report, Game, Faulty, counts_of}
 
 -- a file ends in a line of moves, and perhaps empty lines after it; its last line, too, has its `\n`
 pub record EndsInMoves (file : List ℕ) : Type 0 where
@@ -30,8 +29,8 @@ AreCutWherePiecesBegin (file ∷ next ∷ files) =
 -- beginning, and all else is the same
 abbrev pub moved : ℕ → Report → Report
 moved by (Game plies outcome termination) = Game plies outcome termination
-moved by (Faulty fault wrong_at explanation) =
-    Faulty (record fault { offset = by + fault.offset }) (by + wrong_at) explanation
+moved by (Faulty fault names wrong_at part why is_unread) =
+    Faulty (record fault { offset = by + fault.offset }) names (by + wrong_at) part why is_unread
 
 -- the reports on these files, one after another, with offsets counted from the collection's beginning. `reports` gives
 -- the reports on each file by itself; the first file begins at this offset of the collection
@@ -41,7 +40,6 @@ one_after_another reports offset (file ∷ files) =
     map (λ (p : Placed). record p {
       begin = offset + p.begin;
       end = offset + p.end;
-      unread = option_map (λ from. offset + from) p.unread;
       report = moved offset p.report;
     }) (reports file)
     ++ one_after_another reports (offset + length file) files
@@ -50,12 +48,12 @@ one_after_another reports offset (file ∷ files) =
 -- theirs
 pub record IsSumOf (reports : List ℕ → List Placed) (files : List (List ℕ)) : Type 0 where
   pub alike : reports (concat files) ≡ one_after_another reports 0 files
-  pub games : (counts_of (without_spans (reports (concat files)))).games
-      ≡ sum_by (λ file. (counts_of (without_spans (reports file))).games) files
-  pub half_moves : (counts_of (without_spans (reports (concat files)))).half_moves
-      ≡ sum_by (λ file. (counts_of (without_spans (reports file))).half_moves) files
-  pub faults : (counts_of (without_spans (reports (concat files)))).faults
-      ≡ sum_by (λ file. (counts_of (without_spans (reports file))).faults) files
+  pub games : (counts_of (reports (concat files))).games
+      ≡ sum_by (λ file. (counts_of (reports file)).games) files
+  pub half_moves : (counts_of (reports (concat files))).half_moves
+      ≡ sum_by (λ file. (counts_of (reports file)).half_moves) files
+  pub faults : (counts_of (reports (concat files))).faults
+      ≡ sum_by (λ file. (counts_of (reports file)).faults) files
 
 -- if a collection is cut into files where pieces begin, what `verify --keep-going` reports of it (`reports`) is the sum
 -- of what it reports of the files (`IsSumOf`), with `--strict` (`strict`) or without

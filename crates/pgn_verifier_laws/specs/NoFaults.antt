@@ -7,7 +7,7 @@ use Rattle.pgn_pieces.specs.Pieces.{cut}
 use Rattle.pgn_verifier.specs.declared.options.Strictness.{Strictness}
 use Rattle.pgn_verifier.specs.declared.tally.Verified.TheVariants.{EachGame}
 use Rattle.pgn_verifier.specs.Reports.{counts_of, verified}
-use Rattle.pgn_verifier.specs.laws.Reported.{collection_reports, reports_on}
+use Rattle.pgn_verifier.specs.laws.Reported.{collection_placed, collection_reports, reports_on}
 
 -- whether a text begins with a byte order mark: EF BB BF
 abbrev pub begins_with_mark : List ℕ → Bool
@@ -22,7 +22,7 @@ ends_with_return text = bytes_eq (take 1 (reverse text)) (carriage_return ∷ []
 -- piece ends with `\r`, which doesn't end a `;` comment within a text. Variations aren't looked at
 abbrev pub FaultlessTextsAreReportedAlike : Type 0
 FaultlessTextsAreReportedAlike = (strict : Strictness) → strict.variations ≡ false → (text : List ℕ)
-    → verified (counts_of (collection_reports strict true text)) ≡ EachGame
+    → verified (counts_of (collection_placed strict true text)) ≡ EachGame
     → list_any begins_with_mark (drop 1 (cut text)) ≡ false
     → list_any ends_with_return (cut text) ≡ false
     → collection_reports strict true text ≡ reports_on strict 0 text

@@ -8,8 +8,7 @@ use Rattle.chess_pgn.specs.declared.read.PgnEnd.{PgnEnd}
 use Rattle.pgn_pieces.specs.Pieces.{cut}
 use Rattle.pgn_pieces.specs.declared.pieces.TheConstants.{PIECE_LEN}
 use Rattle.pgn_verifier.specs.declared.options.Strictness.{Strictness}
-use Rattle.pgn_verifier.specs.Reports.{Report, Game}
-use Rattle.pgn_verifier.specs.laws.Reported.{collection_reports, read_at, judged_at, reports_from, reports_on}
+use Rattle.pgn_verifier.specs.laws.Reported.{Plain, PlainGame, collection_reports, read_at, judged_at, reports_from, reports_on}
 
 -- ---- one game
 
@@ -50,23 +49,23 @@ EndsAlike part after = ((front : List ℕ) × (part ≡ front ++ new_line ∷ []
 -- from its offset `at` on, a part that stands in a text after `before` holds whole games, of which these are the
 -- reports: one after another is read in the text without a fault and ends in the part. After the last, the part alone
 -- has no more games, and it ends where a line ends, or where the text ends
-pub data HoldsWhole (strict : Strictness) (before part after : List ℕ) : ℕ → List Report → Type 0 where
+pub data HoldsWhole (strict : Strictness) (before part after : List ℕ) : ℕ → List Plain → Type 0 where
   no_more : {at : ℕ} → judged_at strict part at ≡ Ok None → EndsAlike part after
       → HoldsWhole strict before part after at []
   -- a game without a fault, which ends in the part, and those after it
-  game : {at : ℕ} {games : List Report} (end : PgnEnd)
+  game : {at : ℕ} {games : List Plain} (end : PgnEnd)
       → judged_at strict (before ++ (part ++ after)) (length before + at) ≡ Ok (Some end)
       → end.offset ≤ length before + length part
       → HoldsWhole strict before part after (end.offset - length before) games
       → HoldsWhole strict before part after at
-      (Game (length (read_at strict.draws_of_2014 (before ++ (part ++ after))
+      (PlainGame (length (read_at strict.draws_of_2014 (before ++ (part ++ after))
       (length before + at)).state.moves) end.outcome end.termination
       ∷ games)
 
 -- of a part that holds whole games, the reports are theirs. From the part's beginning on, those on the text are theirs
 -- too, and then those from the part's end on. The input's offset `start`, at which the part or the text begins, doesn't
 -- matter; `strict`: what is looked for at a game's end
-pub record AreReportedAlike (strict : Strictness) (start : ℕ) (before part after : List ℕ) (games : List Report)
+pub record AreReportedAlike (strict : Strictness) (start : ℕ) (before part after : List ℕ) (games : List Plain)
     : Type 0 where
   pub alone : reports_on strict start part ≡ games
   -- `most`: how many reports at most come after those of the part
@@ -78,7 +77,7 @@ pub record AreReportedAlike (strict : Strictness) (start : ℕ) (before part aft
 -- (`AreReportedAlike`)
 abbrev pub WholeGamesAreReportedAlike : Type 0
 WholeGamesAreReportedAlike = (strict : Strictness) → strict.variations ≡ false → (start : ℕ)
-    (before part after : List ℕ) (games : List Report) → BeginsAlike before part after 0
+    (before part after : List ℕ) (games : List Plain) → BeginsAlike before part after 0
     → HoldsWhole strict before part after 0 games
     → AreReportedAlike strict start before part after games
 
@@ -86,9 +85,9 @@ WholeGamesAreReportedAlike = (strict : Strictness) → strict.variations ≡ fal
 
 -- a text's parts, one after another, each of which begins where a line begins and holds whole games; these are the
 -- reports on all of them. The first argument after `strict` is the text before the parts
-pub data AllHoldWhole (strict : Strictness) : List ℕ → List (List ℕ) → List Report → Type 0 where
+pub data AllHoldWhole (strict : Strictness) : List ℕ → List (List ℕ) → List Plain → Type 0 where
   no_parts : {before : List ℕ} → AllHoldWhole strict before [] []
-  next_part : {before first : List ℕ} {parts : List (List ℕ)} {games more : List Report}
+  next_part : {before first : List ℕ} {parts : List (List ℕ)} {games more : List Plain}
       → BeginsAlike before first (concat parts) 0 → HoldsWhole strict before first (concat parts) 0 games
       → AllHoldWhole strict (before ++ first) parts more → AllHoldWhole strict before (first ∷ parts) (games ++ more)
 
@@ -96,12 +95,12 @@ pub data AllHoldWhole (strict : Strictness) : List ℕ → List (List ℕ) → L
 -- `start`: the offset of the input at which a text begins, `strict`: what is looked for at a game's end
 abbrev pub TextsAreReportedInParts : Type 0
 TextsAreReportedInParts = (strict : Strictness) → strict.variations ≡ false → (start : ℕ) (parts : List (List ℕ))
-    (games : List Report) → AllHoldWhole strict [] parts games → (starts : List ℕ → ℕ)
+    (games : List Plain) → AllHoldWhole strict [] parts games → (starts : List ℕ → ℕ)
     → reports_on strict start (concat parts) ≡ flat_map (λ part. reports_on strict (starts part) part) parts
 
 -- if the pieces of a text hold whole games, and it has at most 16,777,216 bytes, as `verify` takes it, then the reports
 -- on the text and on its pieces are the same
 abbrev pub PiecesAreReportedAlike : Type 0
-PiecesAreReportedAlike = (strict : Strictness) → strict.variations ≡ false → (text : List ℕ) (games : List Report)
+PiecesAreReportedAlike = (strict : Strictness) → strict.variations ≡ false → (text : List ℕ) (games : List Plain)
     → length text ≤ PIECE_LEN → AllHoldWhole strict [] (cut text) games
     → collection_reports strict true text ≡ reports_on strict 0 text

@@ -1,5 +1,5 @@
 -- The spans of the reports on a text are in order and don't overlap, and with what lies between them they are the text.
-use Rattle.std.specs.Prelude.{◌≡◌, ◌<◌, ℕ, ◌+◌, Bool, List, [], ◌∷◌, ◌++◌, length}
+use Rattle.std.specs.Prelude.{◌≡◌, ◌<◌, ℕ, ◌+◌, Bool, false, List, [], ◌∷◌, ◌++◌, length}
 use Rattle.pgn_pieces.specs.Pieces.{known_pieces}
 use Rattle.pgn_verifier.specs.declared.options.Strictness.{Strictness}
 use Rattle.pgn_verifier.specs.Collection.{AreCollectionReports}
@@ -19,7 +19,7 @@ pub data MakeUp : ℕ → List ℕ → List Placed → Type 0 where
 -- the input; `strict`: what is looked for at a game's end
 abbrev pub SpansMakeUpTheText : Type 0
 SpansMakeUpTheText = (strict : Strictness) (start : ℕ) (text : List ℕ) (reports : List Placed)
-    → AreReports strict start text 0 reports → MakeUp start text reports
+    → AreReports false strict start text 0 reports → MakeUp start text reports
 
 -- the spans of the reports on the pieces of a text come one after another in it (`MakeUp`). If the text is not all of
 -- the input (`ended` is false), its last piece isn't reported

@@ -1,10 +1,10 @@
 -- What is written of reports, where games begin and end, and into which pieces a collection is cut, worked out.
-use Rattle.std.specs.Prelude.{◌≡◌, ℕ, true, false, List, [], ◌∷◌, map, codes, Some, None}
+use Rattle.std.specs.Prelude.{◌≡◌, ℕ, true, false, List, [], ◌∷◌, ◌++◌, map, codes, Some, None}
 use Prim.Native.String.{String as Text}
 use Rattle.chess_game.specs.declared.results.Outcome.TheVariants.{BlackWins, Draw}
 use Rattle.chess_pgn.specs.declared.read.PgnFaultKind.TheVariants.{IllegalMove}
 use Rattle.pgn_pieces.specs.Pieces.{cut}
-use Rattle.pgn_verifier.specs.Reports.{Report, Placed, Game, Faulty, counts_line, counts_of, report_lines}
+use Rattle.pgn_verifier.specs.Reports.{Report, Placed, Game, Faulty, counts_line, counts_of, report_lines, spanning}
 use Rattle.pgn_verifier.specs.declared.game_fault.FaultKind.TheVariants.{Pgn}
 use Rattle.pgn_verifier.specs.declared.options.Strictness.{Strictness}
 use Rattle.pgn_verifier.specs.declared.options.VerifyOptions.{VerifyOptions}
@@ -30,30 +30,18 @@ with_spans = record plain { spans = true }
 abbrev pub with_names : VerifyOptions
 with_names = record plain { names = true }
 
--- the report on a game of two half-moves that White lost on time, and that on an illegal move in a game between A and B
+-- the report on a game of two half-moves that White lost on time, and that on the illegal move Ke3 in a game between A
+-- and B
 abbrev pub lost : Report
 lost = Game 2 BlackWins (Some TimeForfeit)
 
 abbrev pub illegal : Report
-illegal = Faulty (record { kind = Pgn IllegalMove; offset = 39 }) 39 []
+illegal =
+    Faulty (record { kind = Pgn IllegalMove; offset = 39 }) (codes " | A - B, E F") 39 (codes "Ke3") [] false
 
 -- the first goes up to the byte 9, the second from the byte 10 on up to the byte 45
 abbrev pub both : List Placed
-both = record {
-  begin = 0;
-  end = 9;
-  first = codes "1.";
-  unread = None;
-  names = Some (codes "C - D, E F");
-  report = lost;
-} ∷ record {
-  begin = 10;
-  end = 45;
-  first = codes "1.";
-  unread = None;
-  names = Some (codes "A - B, E F");
-  report = illegal;
-} ∷ []
+both = spanning 0 9 lost ∷ spanning 10 45 illegal ∷ []
 
 -- the lines of these two reports, with these options, are this text
 abbrev pub AreWritten : VerifyOptions → Text → Type 0
@@ -70,7 +58,7 @@ pub record ReportsAreWritten : Type 0 where
   pub names : AreWritten with_names
       "game 1: 2 half-moves, 0-1, time forfeit\ngame 2: illegal move at byte 39 | A - B, E F\n"
   -- two games, of two half-moves and of four, and a fault
-  pub counts : counts_line (counts_of (lost ∷ illegal ∷ Game 4 Draw None ∷ []))
+  pub counts : counts_line (counts_of (both ++ spanning 46 60 (Game 4 Draw None) ∷ []))
       ≡ codes "games 2 half-moves 6 faults 1\n"
 
 -- ---- spans

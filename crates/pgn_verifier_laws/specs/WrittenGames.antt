@@ -10,8 +10,7 @@ use Rattle.pgn_writer.specs.declared.tags.Tags.{Tags}
 use Rattle.chess_pgn_laws.specs.PgnLaw.{AreTagTexts}
 use Rattle.pgn_verifier.specs.declared.options.Strictness.{Strictness}
 use Rattle.pgn_verifier.specs.GameFaults.{IsJudged}
-use Rattle.pgn_verifier.specs.Reports.{Report, Game}
-use Rattle.pgn_verifier.specs.laws.Reported.{reports_on}
+use Rattle.pgn_verifier.specs.laws.Reported.{Plain, PlainGame, reports_on}
 
 -- the game from the offset `at` on (`read`) has no fault, and is the game `s`, whose text ends at the offset
 -- `text_end`; `strict`: what is looked for
@@ -52,9 +51,9 @@ abbrev pub written_text : List TaggedGame → List ℕ
 written_text games = flat_map (λ g. pgn [] g.tags g.state) games
 
 -- the report on a game's text: the game's half-moves and its outcome, and the termination that its tag names
-abbrev pub report_of : TaggedGame → Report
+abbrev pub report_of : TaggedGame → Plain
 report_of g =
-    Game (length g.state.moves) (outcome_now g.state) (Some (termination_of g.tags.ended (outcome_now g.state)))
+    PlainGame (length g.state.moves) (outcome_now g.state) (Some (termination_of g.tags.ended (outcome_now g.state)))
 
 -- the texts of games that are `AreWritable`, one after another, have no fault: the reports are on just these games,
 -- whichever faults are looked for but those in variations. `start` is the offset of the input at which the text begins

@@ -1,7 +1,7 @@
 //! Laws of the definitions, each the contract of a function that does nothing. What a law refuses are wrong
 //! definitions: with one of them it can't be proved.
 
-ghost use Rattle.std.specs.Prelude.{◌≡◌, Bool, List, Option, Result, ℕ};
+ghost use Rattle.std.specs.Prelude.{◌≡◌, Bool, false, List, Option, Result, ℕ};
 ghost use Rattle.chess_game.specs.Game.{State};
 ghost use Rattle.chess_pgn.specs.declared.read.PgnEnd.{PgnEnd};
 ghost use Rattle.pgn_verifier.specs.declared.options.Strictness.{Strictness};
@@ -9,8 +9,8 @@ ghost use Rattle.pgn_verifier.specs.declared.game_fault.GameFault.{GameFault};
 ghost use Rattle.pgn_pieces.specs.Pieces.{known_pieces};
 ghost use Rattle.pgn_verifier.specs.Collection.{AreCollectionReports};
 ghost use Rattle.pgn_verifier.specs.GameFaults.{IsJudged};
-ghost use Rattle.pgn_verifier.specs.Reports.{AreReports, Placed, Report, without_spans};
-ghost use Rattle.pgn_verifier.specs.laws.Reported.{collection_placed, collection_reports, judged_at, placed_on, read_at, reports_on};
+ghost use Rattle.pgn_verifier.specs.Reports.{AreReports, Placed};
+ghost use Rattle.pgn_verifier.specs.laws.Reported.{collection_placed, collection_reports, judged_at, placed_on, read_at, reports_on, without_spans};
 ghost use Rattle.pgn_verifier_laws.specs.Counted.{CountedGamesAreGames, CountedGamesOfPiecesAreGames};
 ghost use Rattle.pgn_verifier_laws.specs.FaultOrder.{FaultsAreInOrder};
 ghost use Rattle.pgn_verifier_laws.specs.Files.{FilesAreVerifiedAlike};
@@ -35,9 +35,9 @@ pub fn reports_are_the_only_ones()
         (answer : Result (Option PgnEnd) GameFault) → IsJudged strict text at s answer
         → (s ≡ (read_at strict.draws_of_2014 text at).state) × (answer ≡ judged_at strict text at) }
     ensures text { (strict : Strictness) (start : ℕ) (text : List ℕ)
-        → AreReports strict start text 0 (placed_on strict start text) }
+        → AreReports false strict start text 0 (placed_on strict start text) }
     ensures no_other_of_text { (strict : Strictness) (start : ℕ) (text : List ℕ) (reports : List Placed)
-        → AreReports strict start text 0 reports → reports ≡ placed_on strict start text }
+        → AreReports false strict start text 0 reports → reports ≡ placed_on strict start text }
     ensures collection { (strict : Strictness) (ended : Bool) (text : List ℕ)
         → AreCollectionReports strict 0 (known_pieces ended text) (collection_placed strict ended text) }
     ensures no_other_of_collection { (strict : Strictness) (ended : Bool) (text : List ℕ) (reports : List Placed)

@@ -2,9 +2,12 @@
 use Rattle.std.specs.Prelude.{ℕ, Bool, not, ◌&&◌, ◌||◌, ◌==◌, nat_lt, if◌then◌else◌, List, [], length, take, drop, codes}
 use Rattle.std.specs.List.{list_all, prefix_len}
 use Rattle.std.specs.Str.{bytes_eq}
-use Rattle.pgn_pieces.specs.Pieces.{without_blanks, tag_name, after_name}
+use Rattle.pgn_pieces.specs.Pieces.{drop_while, tag_name, after_name}
 use Rattle.byte_devices.specs.Bytes.{byte, is_blank}
-use Rattle.pgn_pieces.specs.Places.{ends_line}
+
+-- a text without the spaces and tabs at its beginning
+abbrev pub without_blanks : List ℕ → List ℕ
+without_blanks text = drop_while is_blank text
 
 -- whether a line with this front is a tag line
 abbrev pub begins_tag : List ℕ → Bool
@@ -20,4 +23,4 @@ after_value after_name = let value = drop 1 after_name in
 -- whether a line with this front counts as empty
 abbrev pub is_empty_front : List ℕ → Bool
 is_empty_front front = bytes_eq (take 1 front) (codes "%") || bytes_eq (take 1 front) (codes ";")
-    || list_all (λ c. is_blank c || (c == 13) || ends_line c) front
+    || list_all (λ c. is_blank c || (c == 13) || (c == 10)) front

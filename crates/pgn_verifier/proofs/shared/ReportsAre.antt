@@ -1,15 +1,16 @@
 -- The reports that are made one after another are those of the definitions.
-use Rattle.std.proofs.Common.{◌≡◌, ℕ, zero, suc, ◌+◌, ◌<◌, ◌≤◌, Bool, List, [], ◌∷◌, length, drop, Option, Some, None, IfSome, true, false, Result, Ok, Err, IfOk, refl, sym, ap, subst, arith, flat_map, MatchBool, nat_le, if◌then◌else◌}
+use Rattle.std.proofs.Common.{◌≡◌, ℕ, zero, suc, ◌+◌, ◌<◌, ◌≤◌, Bool, List, [], ◌∷◌, length, drop, Option, Some, None, IfSome, true, false, not, ◌&&◌, is_some, nat_lt, Result, Ok, Err, IfOk, refl, sym, ap, subst, arith, flat_map, MatchBool, nat_le, if◌then◌else◌}
 use Rattle.std.specs.Option.{option_map_or, unwrap_or}
 use Rattle.chess_game.specs.{Game.State, declared.game.TheConstants.MOST_MOVES, declared.verdicts.Verdict.Verdict}
-use Rattle.chess_pgn.specs.{GameRead.ending, GameRead.pgn_read, GameRead.read_of_split, LastTags.result_tag_of, UnknownVariants.unknown_variant_in, Tokens.tokens_from, declared.read.PgnEnd.PgnEnd, declared.read.PgnFault.PgnFault, declared.tagged_result.ResultTag.ResultTag}
+use Rattle.chess_pgn.specs.{GameRead.ending, GameRead.pgn_read, GameRead.read_of_split, LastTags.result_tag_of, UnknownVariants.unknown_variant_in, Tokens.tokens_from, GameEnds.game_end, declared.read.PgnEnd.PgnEnd, declared.read.PgnFault.PgnFault, declared.tagged_result.ResultTag.ResultTag}
 use Rattle.byte_devices.specs.Bytes.{after_byte_order_mark}
 use Rattle.chess_pgn.proofs.{shared.Ends.ends_in_text, shared.Ends.end_in_text, shared.Ends.none_from_end, shared.Tokens.read_split, shared.Tokens.split_read}
 use Rattle.pgn_pieces.specs.{Pieces.known_pieces, Stream.Piece, Stream.with_offsets, Stream.pieces, declared.pieces.TheConstants.PIECE_LEN}
-use Rattle.pgn_verifier.specs.{declared.options.Strictness.Strictness, Collection.AreCollectionReports, Collection.no_piece, Collection.next_piece, GameFaults.judged, GameFaults.variation_in, GameFaults.IsJudged, shared.Contradictions.end_fault, declared.game_fault.GameFault.GameFault, laws.Reasons.reason}
-use Rattle.pgn_verifier.specs.Reports.{Placed, names_of, next_begin, AreReports, AreReportsOf, none_left, next_game, next_fault, AreReportsIn}
+use Rattle.pgn_verifier.specs.{declared.options.Strictness.Strictness, Collection.AreCollectionReports, Collection.no_piece, Collection.next_piece, GameFaults.judged, GameFaults.IsJudged, shared.Contradictions.end_fault, shared.Contradictions.variation_in, declared.game_fault.GameFault.GameFault, laws.Reasons.reason}
+use Rattle.pgn_verifier.specs.Reports.{Faulty, Placed, game_begin, names_of, AreReports, none_left, next_game, next_fault, AreReportsIn}
+use Rattle.pgn_verifier.specs.Explanations.{explanation, wrong_part}
 use Rattle.pgn_verifier.proofs.shared.TagReasons.{reason_is}
-use Rattle.pgn_verifier.specs.laws.Reported.{names_at, next_at, read_at, judged_at, game_placed, fault_placed, placed_then, placed_from, placed_of, placed_on, placed_in, collection_placed, too_long_placed}
+use Rattle.pgn_verifier.specs.laws.Reported.{names_at, next_at, read_at, judged_at, fault_placed, placed_then, placed_from, placed_of, placed_on, placed_in, collection_placed, too_long_placed}
 
 -- ---- one game
 
@@ -33,6 +34,17 @@ judged_is strict text at = record {
 pub named : {strict : Strictness} {text : List ℕ} {at : ℕ} {s : State} {r : Result (Option PgnEnd) GameFault}
     → (j : IsJudged strict text at s r) → names_of j.tokens ≡ names_at text at
 named {strict} {text} j = ap names_of (split_read text j.split)
+
+-- the report on a fault, with its span, of a game whose names are given
+abbrev pub fault_named : Bool → Bool → ℕ → List ℕ → ℕ → Option ℕ → GameFault → State → List ℕ → Placed
+fault_named draws goes_on start text at next fault s names =
+    record (fault_placed draws goes_on start text at next fault s) {
+      report = Faulty (record fault { offset = start + fault.offset }) names
+          (start + (wrong_part fault.kind text (game_begin text at) fault.offset).0)
+          (wrong_part fault.kind text (game_begin text at) fault.offset).1
+          (explanation s fault.kind (reason fault.kind (drop fault.offset text) (ending draws s)))
+          (goes_on && not (is_some next) && nat_lt fault.offset (length text));
+    }
 
 -- if a game was read and judged without a fault, it ends after `at` and within `total` bytes
 abbrev EndsIn : ℕ → ℕ → Result (Option PgnEnd) GameFault → Type 0
@@ -65,8 +77,9 @@ ends strict text at h =
 -- where reading goes on after a fault, by the tokens by which the game was judged
 pub goes_on_there : {strict : Strictness} {text : List ℕ} {at : ℕ} {s : State} {r : Result (Option PgnEnd) GameFault}
     → (goes_on : Bool) (j : IsJudged strict text at s r)
-    → next_begin goes_on (length text) j.tokens ≡ next_at goes_on text at
-goes_on_there {strict} {text} goes_on j = ap (next_begin goes_on (length text)) (split_read text j.split)
+    → (if goes_on then game_end (length text) j.tokens else None) ≡ next_at goes_on text at
+goes_on_there {strict} {text} goes_on j =
+    ap (λ ts. if goes_on then game_end (length text) ts else None) (split_read text j.split)
 
 -- that is later in the text
 pub later_there : (goes_on : Bool) (text : List ℕ) (at : ℕ) → at ≤ length text
@@ -86,13 +99,13 @@ none_at_end strict text =
     (read_of_split strict.draws_of_2014 MOST_MOVES (length text) ts).answer) (none_from_end text)
 
 module _ (goes_on : Bool) (strict : Strictness) (start : ℕ) (text : List ℕ) where
-  nothing_there : AreReportsOf goes_on strict start text (length text) []
+  nothing_there : AreReports goes_on strict start text (length text) []
   nothing_there =
       none_left (subst (IsJudged strict text (length text) (read_at strict.draws_of_2014 text (length text)).state)
       (none_at_end strict text) (judged_is strict text (length text)))
 
   from_here : (n at : ℕ) → at ≤ length text → length text < n + at
-      → AreReportsOf goes_on strict start text at (placed_from goes_on strict start n text at)
+      → AreReports goes_on strict start text at (placed_from goes_on strict start n text at)
   unfolding placed_from
   from_here zero at h k = absurd (omega (arith, h, k))
   from_here (suc n) at h k =
@@ -104,43 +117,38 @@ module _ (goes_on : Bool) (strict : Strictness) (start : ℕ) (text : List ℕ) 
 
       Later : Type 0
       Later = (m : ℕ) → m ≤ length text → length text < n + m
-          → AreReportsOf goes_on strict start text m (placed_from goes_on strict start n text m)
+          → AreReports goes_on strict start text m (placed_from goes_on strict start n text m)
 
       after_fault : (next : Option ℕ) → IfSome next (λ m. (at < m) × (m ≤ length text)) → Later
-          → AreReportsOf goes_on strict start text (unwrap_or next (length text))
+          → AreReports goes_on strict start text (unwrap_or next (length text))
           (option_map_or (λ m. placed_from goes_on strict start n text m) next [])
       after_fault None h later = nothing_there
       after_fault (Some m) low later = let further = low.0 in later m low.1 (omega (arith, k, further))
 
       by_answer : (r : Result (Option PgnEnd) GameFault) → IsJudged strict text at s r → EndsIn (length text) at r
-          → Later → AreReportsOf goes_on strict start text at
+          → Later → AreReports goes_on strict start text at
           (placed_then strict.draws_of_2014 goes_on start text at (next_at goes_on text at) r s
           (λ m. placed_from goes_on strict start n text m))
       by_answer (Ok None) j i later = none_left j
       by_answer (Ok (Some end)) j i later =
-          let low = i.0 in
-          let more : List Placed = placed_from goes_on strict start n text end.offset in
-          subst (λ ns. AreReportsOf goes_on strict start text at (record (game_placed start text at end s) {
-            names = Some ns;
-          } ∷ more)) (named j) (next_game j (later end.offset i.1 (omega (arith, k, low))))
+          let low = i.0 in next_game j (later end.offset i.1 (omega (arith, k, low)))
       by_answer (Err fault) j i later =
           let rest : List ℕ = drop fault.offset text in
           let verdict : Option Verdict = ending strict.draws_of_2014 s in
           let next : Option ℕ = next_at goes_on text at in
           let more : List Placed = option_map_or (λ m. placed_from goes_on strict start n text m) next [] in
-          subst (λ ns. AreReportsOf goes_on strict start text at
-          (record (fault_placed strict.draws_of_2014 goes_on start text at next fault s) { names = Some ns } ∷ more))
-          (named j)
+          subst (λ ns. AreReports goes_on strict start text at
+          (fault_named strict.draws_of_2014 goes_on start text at next fault s ns ∷ more)) (named j)
           (next_fault (reason fault.kind rest verdict) next j (reason_is fault.kind rest verdict)
           (sym (goes_on_there goes_on j)) (after_fault next (later_there goes_on text at h) later))
 
-  -- the reports on a text are those that `AreReportsOf` asks for
-  pub are_reports_of : AreReportsOf goes_on strict start text 0 (placed_of goes_on strict start text)
+  -- the reports on a text are those that `AreReports` asks for
+  pub are_reports_of : AreReports goes_on strict start text 0 (placed_of goes_on strict start text)
   are_reports_of = from_here (length text + 1) 0 (omega arith) (omega arith)
 
--- the reports on a text are those that `AreReports` asks for
+-- and so are those up to the first fault
 pub are_reports : (strict : Strictness) (start : ℕ) (text : List ℕ)
-    → AreReports strict start text 0 (placed_on strict start text)
+    → AreReports false strict start text 0 (placed_on strict start text)
 are_reports strict start text = are_reports_of false strict start text
 
 -- ---- pieces
@@ -150,7 +158,7 @@ reports_are_in : (strict : Strictness) (piece : Piece)
     → AreReportsIn strict piece.offset piece.bytes (placed_in strict piece)
 reports_are_in strict piece = by_test (nat_le (length piece.bytes) PIECE_LEN)
   where
-    by_test : (b : Bool) → MatchBool b (AreReportsOf true strict piece.offset piece.bytes 0
+    by_test : (b : Bool) → MatchBool b (AreReports true strict piece.offset piece.bytes 0
         (if b then placed_of true strict piece.offset piece.bytes else too_long_placed piece ∷ []))
         ((if b then placed_of true strict piece.offset piece.bytes else too_long_placed piece ∷ [])
         ≡ too_long_placed piece ∷ [])

@@ -1,17 +1,16 @@
 -- The reason for a fault as a function, which asks for the parts of a bad tag one after another. The law
 -- `reports_are_the_only_ones` says that each fault that is reported has just this reason.
-use Rattle.std.specs.Prelude.{ℕ, ◌++◌, Bool, if◌then◌else◌, List, take, codes, is_some, Option, Some, None}
+use Rattle.std.specs.Prelude.{ℕ, ◌++◌, if◌then◌else◌, List, take, take_while, codes, is_some, Option, Some, None}
 use Rattle.std.specs.Option.{option_map, option_map_or}
+use Rattle.std.specs.Str.{bytes_eq}
 use Rattle.byte_devices.specs.Bytes.{byte}
 use Rattle.chess_game.specs.Ends.{verdict_result, result_text}
-use Rattle.chess_game.specs.Game.{State}
 use Rattle.chess_game.specs.Results.{outcome_text}
 use Rattle.chess_game.specs.declared.verdicts.Verdict.{Verdict}
-use Rattle.chess_pgn.specs.GameRead.{ending}
-use Rattle.chess_pgn.specs.Tokens.{after_byte, after_gap, after_next, name_at, string_at}
+use Rattle.chess_pgn.specs.Tokens.{after_byte, after_gap, after_next, is_word_byte, name_at, string_at}
 use Rattle.chess_pgn.specs.declared.read.PgnFaultKind.TheVariants.{BadTag, BadFen, BadToken, IllegalMove, AfterEnd}
-use Rattle.pgn_verifier.specs.Explanations.{explanation, shown}
-use Rattle.pgn_verifier.specs.WrongParts.{fen_reason, move_reason, token_reason}
+use Rattle.pgn_verifier.specs.Explanations.{shown}
+use Rattle.pgn_verifier.specs.WrongParts.{fen_reason, token_reason}
 use Rattle.pgn_verifier.specs.declared.game_fault.FaultKind.{FaultKind}
 use Rattle.pgn_verifier.specs.declared.game_fault.FaultKind.TheVariants.{Pgn, InVariation, UnknownVariant, ResultDiffers, BoardSaysOtherwise}
 
@@ -39,6 +38,12 @@ tag_reason text = option_map_or name_reason (after_byte (byte "[") text) (codes 
 
 -- ---- faults
 
+-- the reason for an illegal move, which begins the text: of the word `0-0`, which may be meant as a result
+abbrev pub move_reason : List ℕ → Option (List ℕ)
+move_reason text =
+    if bytes_eq (take_while is_word_byte text) (codes "0-0") then Some (codes "castling, and no result of PGN")
+    else None
+
 -- the reason for a fault (see `IsReason`), or `None` if none is given. `text` is the text from the fault's byte on, and
 -- `verdict` is the one that ended the game where reading stopped, if any
 abbrev pub reason : FaultKind → List ℕ → Option Verdict → Option (List ℕ)
@@ -54,8 +59,3 @@ reason (ResultDiffers tag_len outcome) text verdict =
     Some (codes "Result " ++ (shown (take tag_len text) ++ (codes ", ended " ++ outcome_text outcome)))
 reason BoardSaysOtherwise text verdict = option_map (λ v. result_text (verdict_result v)) verdict
 reason _ text verdict = None
-
--- the text that explains a fault of this kind, with its reason; `s` is the game as far as it was read, and `text` is
--- the text from the fault's byte on; `draws`: whether the draws of 2014 end a game
-abbrev pub explanation_of : Bool → State → List ℕ → FaultKind → List ℕ
-explanation_of draws s text kind = explanation s text kind (reason kind text (ending draws s))

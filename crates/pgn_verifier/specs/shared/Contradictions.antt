@@ -1,14 +1,29 @@
 -- The faults that are looked for at a game's end, by names that proofs use, also those of pgn_verifier_laws.
-use Rattle.std.specs.Prelude.{ℕ, Option}
+use Rattle.std.specs.Prelude.{ℕ, Bool, if◌then◌else◌, List, take, Option, None}
 use Rattle.std.specs.Option.{option_map, option_or}
-use Rattle.pgn_verifier.specs.GameFaults.{looked_for, result_differs, board_says_otherwise}
+use Rattle.byte_devices.specs.Bytes.{after_byte_order_mark}
+use Rattle.pgn_verifier.specs.GameFaults.{result_differs, board_says_otherwise}
+use Rattle.chess_base.specs.declared.setup.Setup.{Setup}
 use Rattle.chess_game.specs.declared.verdicts.Verdict.{Verdict}
 use Rattle.chess_pgn.specs.declared.read.PgnEnd.{PgnEnd}
 use Rattle.chess_pgn.specs.declared.read.PgnFault.{PgnFault}
 use Rattle.chess_pgn.specs.declared.tagged_result.ResultTag.{ResultTag}
+use Rattle.chess_pgn.specs.Tokens.{Token}
+use Rattle.chess_pgn.specs.Variations.{variations_fault}
 use Rattle.pgn_verifier.specs.declared.game_fault.FaultKind.TheVariants.{InVariation, UnknownVariant}
 use Rattle.pgn_verifier.specs.declared.game_fault.GameFault.{GameFault}
 use Rattle.pgn_verifier.specs.declared.options.Strictness.{Strictness}
+
+-- a fault, if faults of its kind are looked for
+abbrev pub looked_for : Bool → Option GameFault → Option GameFault
+looked_for is_looked_for fault = if is_looked_for then fault else None
+
+-- the first fault in the variations of one game of `text`, as in `IsJudged`. The game is read from the offset `at` on,
+-- starts in the position `start` and ends before `end.offset`. `split other from` are the tokens of a text `other` from
+-- its offset `from` on
+abbrev pub variation_in : (List ℕ → ℕ → List (ℕ × Token)) → List ℕ → ℕ → Setup → PgnEnd → Option PgnFault
+variation_in split text at start end =
+    variations_fault split (take end.offset text) start (after_byte_order_mark text at)
 
 -- the fault of a game with this fault in its variations
 abbrev pub variation_fault : Option PgnFault → Option GameFault

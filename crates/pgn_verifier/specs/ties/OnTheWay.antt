@@ -25,7 +25,7 @@ use Rattle.pgn_verifier.specs.declared.game_fault.GameFault.{GameFault}
 use Rattle.pgn_verifier.specs.declared.options.VerifyOptions.{VerifyOptions}
 use Rattle.pgn_verifier.specs.declared.tally.Tally.{Tally}
 use Rattle.pgn_verifier.specs.declared.tally.Verified.{Verified}
-use Rattle.pgn_verifier.specs.Reports.{Report, Game, Faulty, Placed, counts_of, verified, report_line, report_lines, without_spans, counts_line}
+use Rattle.pgn_verifier.specs.Reports.{Faulty, Placed, counts_of, verified, report_line, report_lines, counts_line, with_report}
 use Rattle.pgn_verifier.specs.Collection.{VerifiesCollection}
 use Rattle.pgn_verifier.specs.declared.judged.Judged.{Judged}
 use Rattle.pgn_verifier.specs.laws.Reported.{placed_of, placed_on, collection_placed}
@@ -59,7 +59,7 @@ text_lines options text = report_lines options text 1 (placed_on options.strict 
 -- beginning of them was written
 abbrev pub WritesText : {E : Type 0} → VerifyOptions → List ℕ → OutputState → OutputState → Result Verified E → Type 0
 WritesText options text w w' (Ok verdict) =
-    (verdict ≡ verified (counts_of (without_spans (placed_on options.strict 0 text)))) × Sent w w' (text_lines options text)
+    (verdict ≡ verified (counts_of (placed_on options.strict 0 text))) × Sent w w' (text_lines options text)
 WritesText options text w w' (Err e) = CutShort w w' (text_lines options text)
 
 -- the lines that report the games of a collection of which this text was read, numbered from 1. `ended`: the text is
@@ -70,7 +70,7 @@ collection_lines options ended text = report_lines options text 1 (collection_pl
 -- all that is written of it: these lines, and if the text is all of it the line of counts
 abbrev pub collection_written : VerifyOptions → Bool → List ℕ → List ℕ
 collection_written options ended text = collection_lines options ended text
-    ++ (if ended then counts_line (counts_of (without_spans (collection_placed options.strict ended text))) else [])
+    ++ (if ended then counts_line (counts_of (collection_placed options.strict ended text)) else [])
 
 -- from the input's state `r` to `r'` and the output's `w` to `w'`, the lines of all pieces were written, and their
 -- reports counted; the line of counts is still to be written
@@ -78,7 +78,7 @@ abbrev pub WritesCollection : VerifyOptions → InputState → InputState → Ou
     → Result Tally VerifyFault → Type 0
 WritesCollection options r r' w w' (Ok tally) =
     (text : List ℕ) × HasRead true r r' text × Took w w' (collection_lines options true text)
-    × (tally ≡ counts_of (without_spans (collection_placed options.strict true text)))
+    × (tally ≡ counts_of (collection_placed options.strict true text))
 WritesCollection options r r' w w' (Err fault) = Ran (VerifiesCollection options (Err fault))
     (record { input = r; output = w }) (record { input = r'; output = w' })
 
@@ -91,10 +91,7 @@ abbrev pub too_long_seen : PieceSeen → Placed
 too_long_seen piece = record {
   begin = piece.offset;
   end = piece.end;
-  first = [];
-  unread = Some piece.offset;
-  names = None;
-  report = Faulty (record { kind = Pgn TooLong; offset = piece.offset }) piece.offset (shown piece.beginning);
+  report = Faulty (record { kind = Pgn TooLong; offset = piece.offset }) [] piece.offset (shown piece.beginning) [] true;
 }
 
 -- the reports on the games of a piece (`placed_in`), from what is seen of it; `strict`: what is looked for at a game's
@@ -129,15 +126,9 @@ fault_line number fault span names =
 abbrev pub reports_of : Strictness → List PieceSeen → List Placed
 reports_of strict pieces = flat_map (reports_seen strict) pieces
 
--- the counts `t` with one more report: it adds a game and its half-moves, or a fault
-abbrev pub with_report : Tally → Report → Tally
-with_report t (Game plies outcome termination) =
-    record t { games = t.games + 1; half_moves = t.half_moves + plies }
-with_report t (Faulty fault wrong_at explanation) = record t { faults = t.faults + 1 }
-
 -- the counts `t` with these reports added: games, their half-moves, and faults
 abbrev pub counted : Tally → List Placed → Tally
-counted t reports = fold with_report t (without_spans reports)
+counted t reports = fold (λ t placed. with_report t placed.report) t reports
 
 -- the number of the next game, where `before` counts the reports so far, with and without faults
 abbrev pub next_number : Tally → ℕ

@@ -1,6 +1,6 @@
 -- The part that is wrong begins in the text.
 use Rattle.std.proofs.Common.{◌≤◌, ◌+◌, length, drop, sym, ap, subst, ◌∙◌, length-drop, arith, if◌then◌else◌}
-use Rattle.pgn_verifier.specs.Explanations.{wrong_part}
+use Rattle.pgn_verifier.specs.ties.Explaining.{part_on}
 use Rattle.byte_devices.proofs.shared.Devices.{rest_is}
 use Rattle.pgn_verifier.proofs.explanation.explained_at.Goals as goal
 
@@ -9,9 +9,9 @@ returns-clause-value c =
     let at = c.args.fault.offset in
     let text = c.args.text.now in
     let kind = c.args.fault.kind in
-    let part = c.part_offset.ensures.value ∙ ap (λ t. (wrong_part kind t).0) (rest_is at text) in
+    let part = c.part_offset.ensures.value ∙ ap (λ t. (part_on kind t).0) (rest_is at text) in
     ap (λ n. at + n) part
-    ∙ sym (ap (λ b. if b then c.args.begin else at + (wrong_part kind (drop at text)).0)
+    ∙ sym (ap (λ b. if b then c.args.begin else at + (part_on kind (drop at text)).0)
     (sym c.is_at_begin.ensures ∙ c.if-is_at_begin.false))
 
 pub returns-clause-within : goal.returns-clause-within

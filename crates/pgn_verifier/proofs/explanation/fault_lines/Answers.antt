@@ -2,7 +2,7 @@
 -- definition groups them to the right.
 use Rattle.std.proofs.Common.{◌≡◌, ◌+◌, [], ◌++◌, drop, sym, ap, ◌∙◌, append_assoc, if◌then◌else◌}
 use Rattle.pgn_pieces.specs.Places.{line_of, column_of}
-use Rattle.pgn_verifier.specs.{Explanations.is_at_begin, Explanations.shown, Explanations.wrong_part, Explanations.explanation_line, laws.Reasons.explanation_of, ties.OnTheWay.fault_line, ties.OnTheWay.span_written}
+use Rattle.pgn_verifier.specs.{Explanations.shown, Explanations.explanation_line, laws.Reported.is_at_begin, ties.Explaining.explanation_of, ties.Explaining.part_on, ties.OnTheWay.fault_line, ties.OnTheWay.span_written}
 use Rattle.pgn_verifier.proofs.Placed.{either_moved}
 use Rattle.byte_devices.proofs.shared.Devices.{rest_is}
 use Rattle.pgn_verifier.proofs.explanation.fault_lines.Goals as goal
@@ -23,9 +23,9 @@ returns-then-options g c input stands =
     ∙ ap (λ f. c.new-lines.result.items
     ++ fault_line label.game.number f (span_written label.game.span) label.names.items) c.moved.ensures in
     let there : start + c.args.place.offset
-    ≡ (if is_at_begin kind then start + label.begin else start + at + (wrong_part kind rest).0) =
+    ≡ (if is_at_begin kind then start + label.begin else start + at + (part_on kind rest).0) =
     ap (λ n. start + n) (c.requires.there c.if-options.true)
-    ∙ either_moved (is_at_begin kind) start label.begin at (wrong_part kind rest).0 in
+    ∙ either_moved (is_at_begin kind) start label.begin at (part_on kind rest).0 in
     let line = sym here.line ∙ ap (line_of input) there in
     let column = sym here.column ∙ ap (column_of input) there in
     let word = c.append_first.ensures.text
