@@ -1,11 +1,12 @@
 -- What was parsed, taken as written and planned is a reading of the arguments.
-use Rattle.std.proofs.Common.{◌≡◌, ◌∙◌, ◌≤◌, ℕ, Bool, true, false, refl, ap, ap₂, sym, subst, inl, inr, option_map, unwrap_or, [], codes, IfOk, IfErr, IfSome, List, Option, Some, None, Result, Ok, Err, Bor, ◌*◌}
-use Rattle.std.specs.List.{list_all}
-use Rattle.clap.specs.Words.{HasKind, IsAmong, Kinds, Row, Text, found_of, kind_of, rows_of, subcommand_of, subcommand_rows_of}
+use Rattle.std.proofs.Common.{◌≡◌, ◌∙◌, ◌≤◌, ◌&&◌, ◌||◌, Bool, true, false, refl, ap, ap₂, sym, subst, inl, inr, option_map, unwrap_or, [], ◌∷◌, bytes_eq, codes, IfOk, IfErr, IfSome, List, Option, Some, None, Result, Ok, Err, Bor, ◌*◌}
+use Rattle.std.proofs.Math.Bool.{or-false}
+use Rattle.std.specs.List.{list_all, list_any}
+use Rattle.clap.specs.Words.{HasKind, IsAmong, Kinds, Row, Text, fault_of, found_of, kind_of, rows_of, subcommand_of, subcommand_rows_of}
 use Rattle.clap.specs.{declared.error.Error.Error, declared.parser.matches.ArgMatches.ArgMatches}
-use Rattle.arbiter_grammar.specs.Grammar.{AreOptionNames, IsComplete, IsParsed, OptionNames, arbiter_app, asked, faults_in}
-use Rattle.arbiter_cli.specs.Plans.{IsMatchPlan, IsPlanOf, IsReadAs, IsReading, Said, Values, is_date, is_kind, is_set, levels_asked, levels_by, levels_start_and_date, number_of, said_by, start_asked}
-use Rattle.arbiter_cli.specs.ties.Requests.{IsJudged, IsJudgedFault, IsMatchOf, IsPlanFault, IsPlanned, IsRequestOf, Refuses, levels_in, names_in, patience_by, start_of}
+use Rattle.arbiter_grammar.specs.Grammar.{IsComplete, IsParsed, OptionNames, arbiter_app}
+use Rattle.arbiter_cli.specs.Plans.{IsMatchPlan, IsPlanOf, IsReadAs, IsReading, Said, Values, ignores_kinds, is_date, levels_asked, levels_start_and_date, number_of, said_by, start_asked}
+use Rattle.arbiter_cli.specs.ties.Requests.{IsJudged, IsJudgedFault, IsMatchOf, IsPlanFault, IsPlanned, IsRequestOf, Refuses, asked, is_kind, levels_by, levels_in, names_in, said_of, start_of}
 use Rattle.match_runner.specs.declared.plan.GamesPlan.{GamesPlan}
 use Rattle.chess_match.specs.declared.patience.Patience.{Patience}
 use Rattle.arbiter_cli.specs.{declared.fault.WordsFault.WordsFault, declared.plan.Plan.Plan, declared.request.MatchRequest.MatchRequest, declared.request.Request.Request}
@@ -40,16 +41,14 @@ refused_by kinds said BadKind h = absurd h
 pub refused_reading : (texts : List Text) (e : Error) (f : WordsFault) → IsParsed texts (Err e) → Refuses e f
     → IsReading texts (Err f)
 refused_reading texts e f p fits =
-    (p.0, p.1, refused_by (faults_in p.0 texts) (said_by (asked p.0 texts)) f (refusal_by (faults_in p.0 texts) e f p.2 fits))
+    let kinds = fault_of (arbiter_app p.0) texts in
+    (p.0, refused_by kinds (said_by p.0 texts) f (refusal_by kinds e f p.1 fits))
 
 -- seconds that are read and then taken as milliseconds
 in_millis : (o : Option Text) → option_map (λ n. n * 1000) (option_map number_of o)
     ≡ option_map (λ t. number_of t * 1000) o
 in_millis None = refl
 in_millis (Some t) = refl
-
-abbrev with_flag : Values → Option ℕ → Patience
-with_flag value reply = record { flag = is_set (codes "flag") value; reply = reply }
 
 -- a match that was taken as written and then judged is played by what its options denote
 module _ (value : Values) (m : MatchRequest) (is : IsMatchOf value m) where
@@ -71,8 +70,9 @@ module _ (value : Values) (m : MatchRequest) (is : IsMatchOf value m) where
     games = validate.games ∙ is.games;
     games_range = subst (λ n. (1 ≤ n) × (n ≤ 1000)) (sym validate.games) is.games_range;
     log = validate.log ∙ is.log;
-    patience = validate.patience ∙ ap₂ patience_by is.flag is.reply
-        ∙ ap (with_flag value) (in_millis (value (codes "reply-timeout")));
+    flag = ap (λ (p : Patience). p.flag) validate.patience ∙ is.flag;
+    reply = ap (λ (p : Patience). p.reply) validate.patience ∙ ap (option_map (λ n. n * 1000)) is.reply
+        ∙ in_millis (value (codes "reply-timeout"));
     draws = validate.draws ∙ is.draws;
   }
 
@@ -101,10 +101,28 @@ match_fault kinds said BadDate none name m is h = (none, name, judged_fault _ m 
 abbrev are_kinds : Option Text → Bool
 are_kinds list = list_all is_kind (names_in list)
 
+abbrev is_listed : Text → Bool
+is_listed name =
+    list_any (bytes_eq name) (codes "variant" ∷ codes "result" ∷ codes "board" ∷ codes "after-end" ∷ [])
+
+kind_listed : (name : Text) → is_listed name ≡ is_kind name
+kind_listed name = ap (λ (b : Bool). bytes_eq name (codes "variant")
+    || (bytes_eq name (codes "result") || (bytes_eq name (codes "board") || b)))
+    (or-false (bytes_eq name (codes "after-end")))
+
+all_listed : (names : List Text) → list_all is_listed names ≡ list_all is_kind names
+all_listed [] = refl
+all_listed (name ∷ names) = ap₂ (λ (a b : Bool). a && b) (kind_listed name) (all_listed names)
+
+-- the kinds to ignore are judged by the list that `--ignore` was given
+kinds_judged : (value : Values) (list : Option Text) (are : Bool) → list ≡ value (codes "ignore")
+    → are_kinds list ≡ are → ignores_kinds value ≡ are
+kinds_judged value list are is e = all_listed (names_in (value (codes "ignore"))) ∙ sym (ap are_kinds is) ∙ e
+
 planned_plan : (said : Said) (s : Request) (plan : Plan) → IsRequestOf said s → IsPlanned s plan → IsPlanOf said plan
 planned_plan said request.Session plan is e = subst (IsPlanOf said) (sym e) is
-planned_plan said (request.Verify v ignored) plan is e =
-    subst (IsPlanOf said) (sym e.0) (is.0, is.1, sym (ap are_kinds is.2) ∙ e.1)
+planned_plan said (request.Verify keep_going options ignored) plan is e =
+    subst (IsPlanOf said) (sym e.0) (is.0, kinds_judged said.value _ true is.3 e.1, is.1, is.2)
 planned_plan said (request.Stub arguments) plan is e = subst (IsPlanOf said) (sym e) is
 planned_plan said (request.Match m) plan is e =
     subst (IsPlanOf said) (sym e.1) (is.0, match_judged said.value m is.1 e.0 e.2)
@@ -112,18 +130,19 @@ planned_plan said (request.Match m) plan is e =
 plan_fault : (kinds : Kinds) (said : Said) (s : Request) (f : WordsFault) → kinds ≡ [] → IsRequestOf said s
     → IsPlanFault s f → IsReadAs kinds said (Err f)
 plan_fault kinds said request.Session f none is h = absurd h
-plan_fault kinds said (request.Verify v ignored) f none is h =
-    subst (λ (x : WordsFault). IsReadAs kinds said (Err x)) (sym h.0) (none, is.0, sym (ap are_kinds is.2) ∙ h.1)
+plan_fault kinds said (request.Verify keep_going options ignored) f none is h =
+    subst (λ (x : WordsFault). IsReadAs kinds said (Err x)) (sym h.0)
+    (none, is.0, kinds_judged said.value _ false is.3 h.1)
 plan_fault kinds said (request.Stub arguments) f none is h = absurd h
 plan_fault kinds said (request.Match m) f none is h = match_fault kinds said f none is.0 m is.1 h
 
 -- what was taken as written was planned
-pub planned_reading : (names : OptionNames) (texts : List Text) → AreOptionNames names → faults_in names texts ≡ []
-    → (s : Request) → IsRequestOf (said_by (asked names texts)) s
+pub planned_reading : (names : OptionNames) (texts : List Text) → fault_of (arbiter_app names) texts ≡ []
+    → (s : Request) → IsRequestOf (said_of (asked names texts)) s
     → (r : Result Plan WordsFault) → IfOk r (IsPlanned s) → IfErr r (IsPlanFault s) → IsReading texts r
-planned_reading names texts are none s is (Ok plan) p f =
-    (names, are, (none, planned_plan (said_by (asked names texts)) s plan is p))
-planned_reading names texts are none s is (Err e) p f = (names, are, plan_fault (faults_in names texts) (said_by (asked names texts)) s e none is f)
+planned_reading names texts none s is (Ok plan) p f = (names, (none, planned_plan (said_by names texts) s plan is p))
+planned_reading names texts none s is (Err e) p f =
+    (names, plan_fault (fault_of (arbiter_app names) texts) (said_by names texts) s e none is f)
 
 -- ---- the command that was entered
 
@@ -137,7 +156,7 @@ or_session o = unwrap_or o (codes "session", [])
 module _ (texts : List Text) (m : ArgMatches) (p : IsParsed texts (Ok m)) (o : Option (Bor Text × Bor ArgMatches))
     (e : option_map with_rows o ≡ subcommand_rows_of m) where
   abbrev pub met : option_map with_rows o ≡ subcommand_of (arbiter_app p.0) texts
-  met = e ∙ p.2.1
+  met = e ∙ p.1.1
 
   pub none_asked : o ≡ None → asked p.0 texts ≡ (codes "session", [])
   none_asked is = ap or_session (sym met ∙ ap (option_map with_rows) is)

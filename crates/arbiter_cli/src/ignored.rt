@@ -3,8 +3,7 @@
 ghost use Rattle.std.specs.Prelude.{◌≡◌, ◌==◌, option_map};
 ghost use Rattle.std.specs.List.{list_all, list_any, slice_split};
 ghost use Rattle.std.specs.Str.{bytes_eq};
-ghost use Rattle.arbiter_cli.specs.Plans.{is_kind as kind_test};
-ghost use Rattle.arbiter_cli.specs.ties.Requests.{names_in};
+ghost use Rattle.arbiter_cli.specs.ties.Requests.{is_kind as kind_test, names_in};
 
 // Whether a kind with this name can be ignored.
 fn is_kind(name: &str) -> bool

@@ -2,8 +2,8 @@
 //!
 //! ```
 //! let arguments = ["verify", "--quiet"];
-//! if let Ok(Plan::Verify(plan)) = read_words(alloc, &arguments) {
-//!     println!(rt; "quiet: {}, keep going: {}", plan.quiet, plan.keep_going)?;
+//! if let Ok(Plan::Verify { options, .. }) = read_words(alloc, &arguments) {
+//!     println!(rt; "quiet: {}, names: {}", options.quiet, options.names)?;
 //! }
 //! ```
 #![tactic(auto)]
@@ -15,5 +15,5 @@ mod reading;
 mod request;
 
 pub use fault::WordsFault;
-pub use plan::{Plan, VerifyPlan};
+pub use plan::Plan;
 pub use reading::read_words;

@@ -4,9 +4,9 @@ ghost use Rattle.std.specs.Prelude.{◌≡◌, ◌&&◌, IfErr, IfOk, Ok, false,
 ghost use Rattle.std.specs.List.{list_all};
 ghost use Rattle.std.specs.Option.{option_map_or};
 ghost use Rattle.cecp_engine.specs.Levels.{level_reading};
-ghost use Rattle.arbiter_cli.specs.Plans.{is_date as date_test, is_kind, levels_by};
+ghost use Rattle.arbiter_cli.specs.Plans.{is_date as date_test};
 ghost use Rattle.arbiter_cli.specs.declared.fault.WordsFault.TheVariants.{BadKind};
-ghost use Rattle.arbiter_cli.specs.ties.Requests.{IsJudged, IsJudgedFault, IsPlanFault, IsPlanned, names_in, patience_by, start_of};
+ghost use Rattle.arbiter_cli.specs.ties.Requests.{IsJudged, IsJudgedFault, IsPlanFault, IsPlanned, is_kind, levels_by, names_in, patience_by, start_of};
 
 use crate::fault::WordsFault;
 use crate::ignored::can_be_ignored;
@@ -16,31 +16,7 @@ use chess_base::{FenFault, Position, Variant};
 use chess_fen::read_fen_as;
 use chess_match::Patience;
 use match_runner::GamesPlan;
-
-/// How the games on the standard input are verified.
-#[derive(Clone, Copy, Debug, PartialEq, Eq)]
-pub struct VerifyPlan {
-    /// Whether verifying continues after a fault, where its game ends, and writes totals at the end.
-    pub keep_going: bool,
-    /// Whether only games with a fault are reported.
-    pub quiet: bool,
-    /// Whether the variant is to be known.
-    pub variant: bool,
-    /// Whether the result is also checked against the tag Result.
-    pub result: bool,
-    /// Whether the result is also checked against the final position.
-    pub board: bool,
-    /// Whether each fault is followed by a line that says where it is and why.
-    pub explain: bool,
-    /// Whether each line says where its game begins and ends.
-    pub spans: bool,
-    /// Whether the line of a fault ends with the players, event and date of its game.
-    pub names: bool,
-    /// Whether the moves in variations are read, too.
-    pub variations: bool,
-    /// Whether fivefold repetition and 75 moves end a game, as they do since the Laws of Chess of 2014.
-    pub draws_of_2014: bool,
-}
+use pgn_verifier::VerifyOptions;
 
 /// What the arguments ask for.
 #[derive(Drop)]
@@ -48,7 +24,12 @@ pub enum Plan<'a> {
     /// A session on the standard streams.
     Session,
     /// To verify the games on the standard input.
-    Verify(VerifyPlan),
+    Verify {
+        /// Whether verifying continues after a fault, where its game ends, and writes totals at the end.
+        keep_going: bool,
+        /// How they are verified.
+        options: VerifyOptions,
+    },
     /// To be an engine that plays these arguments.
     Stub(Vec<&'a str>),
     /// Games between two engines, 1 to 1,000 of them; their log, if there is one, goes to the error output.
@@ -145,15 +126,18 @@ fn validate<'a>(request: &MatchRequest<'a>) -> Result<GamesPlan<'a>, WordsFault>
     })
 }
 
-// The plan of `verify`, if all names in the list that `--ignore` was given are those of kinds that can be ignored.
-fn validate_kinds(plan: VerifyPlan, ignored: Option<&str>) -> Result<VerifyPlan, WordsFault>
-    ensures plan { IfOk result (λ p. (p ≡ plan)
+// The options of `verify`, if all names in the list that `--ignore` was given are those of kinds that can be ignored.
+fn validate_kinds(
+    options: VerifyOptions,
+    ignored: Option<&str>,
+) -> Result<VerifyOptions, WordsFault>
+    ensures options { IfOk result (λ o. (o ≡ options)
         × (list_all is_kind (names_in (option_map (λ t. t.now) ignored.entry)) ≡ true)) }
     ensures fault { IfErr result (λ f. (f ≡ BadKind)
         × (list_all is_kind (names_in (option_map (λ t. t.now) ignored.entry)) ≡ false)) }
 {
     if can_be_ignored(ignored) {
-        Ok(plan)
+        Ok(options)
     } else {
         Err(WordsFault::BadKind)
     }
@@ -167,7 +151,14 @@ pub(crate) fn planned<'a>(request: Request<'a>) -> Result<Plan<'a>, WordsFault>
 {
     match request {
         Request::Session => Ok(Plan::Session),
-        Request::Verify { plan, ignored } => Ok(Plan::Verify(validate_kinds(plan, ignored)?)),
+        Request::Verify {
+            keep_going,
+            options,
+            ignored,
+        } => Ok(Plan::Verify {
+            keep_going,
+            options: validate_kinds(options, ignored)?,
+        }),
         Request::Stub(arguments) => Ok(Plan::Stub(arguments)),
         Request::Match(request) => Ok(Plan::Match(validate(&request)?)),
     }

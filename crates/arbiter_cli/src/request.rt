@@ -5,14 +5,14 @@ ghost use Rattle.std.specs.List.{list_any};
 ghost use Rattle.std.specs.Str.{bytes_eq};
 ghost use Rattle.clap.specs.Words.{all_of, first_of, found_of, rows_of, subcommand_rows_of};
 ghost use Rattle.arbiter_grammar.specs.Grammar.{HasNumber, HasNumbers, IsCommand, NamesBoth};
-ghost use Rattle.arbiter_cli.specs.Plans.{draws_in, is_set, number_of, said_by, variant_in, verify_plan_of};
-ghost use Rattle.arbiter_cli.specs.ties.Requests.{IsMatchOf, IsRequestOf, games_in, matched, names_in};
+ghost use Rattle.arbiter_cli.specs.Plans.{has_value, is_set, number_of, verify_options_of};
+ghost use Rattle.arbiter_cli.specs.ties.Requests.{IsMatchOf, IsRequestOf, draws_in, games_in, matched, names_in, said_of, variant_in};
 
 use crate::ignored::is_ignored;
-use crate::plan::VerifyPlan;
 use chess_base::Variant;
 use chess_match::Draws;
 use clap::ArgMatches;
+use pgn_verifier::{Strictness, VerifyOptions};
 use std::alloc::{AllocError, Global};
 
 /// The options of a match, not yet read as levels or positions.
@@ -39,7 +39,8 @@ pub(crate) struct MatchRequest<'a> {
 pub(crate) enum Request<'a> {
     Session,
     Verify {
-        plan: VerifyPlan,
+        keep_going: bool,
+        options: VerifyOptions,
         ignored: Option<&'a str>,
     },
     Stub(Vec<&'a str>),
@@ -56,11 +57,21 @@ fn text_or<'a>(found: &ArgMatches<'a>, name: &str, default: &'a str) -> &'a str
     }
 }
 
+// Whether the option `name` was given this value; `found` are the options as matched.
+fn has_value(found: &ArgMatches<'_>, name: &str, text: &str) -> bool
+    ensures { result ≡ has_value name.now text.now (matched (rows_of (found_of found.now))) }
+{
+    match found.get_str(name) {
+        Some(given) => given == text,
+        None => false,
+    }
+}
+
 // Whether the flag `name`, such as `--quiet`, was given; `found` are the options as matched.
 fn is_set(found: &ArgMatches<'_>, name: &str) -> bool
     ensures { result ≡ is_set name.now (matched (rows_of (found_of found.now))) }
 {
-    text_or(found, name, "false") == "true"
+    has_value(found, name, "true")
 }
 
 // The value that the option `name` was given, if it was given; `found` are the options as matched.
@@ -78,23 +89,33 @@ fn is_looked_for(strict: bool, ignored: Option<&str>, kind: &str) -> bool
     strict && !is_ignored(ignored, kind)
 }
 
-// What the flags of `verify` and the list `ignored` of `--ignore` ask for; `found` are the flags as matched.
-fn verify_plan(found: &ArgMatches<'_>, ignored: Option<&str>) -> VerifyPlan
+// Which faults the flags of `verify` and the list `ignored` of `--ignore` ask for; `found` are the flags as matched.
+fn strictness(found: &ArgMatches<'_>, ignored: Option<&str>) -> Strictness
     requires { option_map (λ t. t.now) ignored ≡ first_of (codes "ignore") (rows_of (found_of found.now)) }
-    ensures { result ≡ verify_plan_of (matched (rows_of (found_of found.now))) }
+    ensures { result ≡ (verify_options_of (matched (rows_of (found_of found.now)))).strict }
 {
-    let strict = is_set(found, "strict");
-    VerifyPlan {
-        keep_going: is_set(found, "keep-going"),
+    let is_strict = is_set(found, "strict");
+    Strictness {
+        draws_of_2014: !is_ignored(ignored, "after-end"),
+        variations: is_set(found, "variations"),
+        variant: is_looked_for(is_strict, ignored, "variant"),
+        result: is_looked_for(is_strict, ignored, "result"),
+        board: is_looked_for(is_strict, ignored, "board"),
+    }
+}
+
+// What the flags of `verify` but `--keep-going`, and the list `ignored` of `--ignore`, ask for; `found` are the flags as
+// matched.
+fn verify_options(found: &ArgMatches<'_>, ignored: Option<&str>) -> VerifyOptions
+    requires { option_map (λ t. t.now) ignored ≡ first_of (codes "ignore") (rows_of (found_of found.now)) }
+    ensures { result ≡ verify_options_of (matched (rows_of (found_of found.now))) }
+{
+    VerifyOptions {
         quiet: is_set(found, "quiet"),
-        variant: is_looked_for(strict, ignored, "variant"),
-        result: is_looked_for(strict, ignored, "result"),
-        board: is_looked_for(strict, ignored, "board"),
-        explain: is_set(found, "explain"),
+        strict: strictness(found, ignored),
         spans: is_set(found, "spans"),
         names: is_set(found, "names"),
-        variations: is_set(found, "variations"),
-        draws_of_2014: !is_ignored(ignored, "after-end"),
+        explain: is_set(found, "explain"),
     }
 }
 
@@ -137,7 +158,7 @@ fn games_of(found: &ArgMatches<'_>) -> u16
 fn variant_of(found: &ArgMatches<'_>) -> Variant
     ensures { result ≡ variant_in (matched (rows_of (found_of found.now))) }
 {
-    if text_or(found, "variant", "normal") == "fischerandom" {
+    if has_value(found, "variant", "fischerandom") {
         Variant::Fischerandom
     } else {
         Variant::Normal
@@ -148,7 +169,7 @@ fn variant_of(found: &ArgMatches<'_>) -> Variant
 fn draws_of(found: &ArgMatches<'_>) -> Draws
     ensures { result ≡ draws_in (matched (rows_of (found_of found.now))) }
 {
-    if text_or(found, "draws", "claimed") == "automatic" {
+    if has_value(found, "draws", "automatic") {
         Draws::Automatic
     } else {
         Draws::Claimed
@@ -191,12 +212,15 @@ pub(crate) fn request_in<'a>(
     requires known { IsCommand name.now }
     requires both { NamesBoth (name.now, rows_of (found_of found.now)) }
     requires numbers { HasNumbers (rows_of (found_of found.now)) }
-    ensures { IfOk result (IsRequestOf (said_by (name.now, rows_of (found_of found.now)))) }
+    ensures { IfOk result (IsRequestOf (said_of (name.now, rows_of (found_of found.now)))) }
 {
     if name == "verify" {
         let ignored = value_in(found, "ignore");
-        let plan = verify_plan(found, ignored);
-        return Ok(Request::Verify { plan, ignored });
+        return Ok(Request::Verify {
+            keep_going: is_set(found, "keep-going"),
+            options: verify_options(found, ignored),
+            ignored,
+        });
     }
     if name == "stub" {
         let arguments = stub_arguments(alloc, found)?;

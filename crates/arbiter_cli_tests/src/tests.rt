@@ -1,11 +1,12 @@
 //! What the arguments of the command line ask for, and which are refused.
 
-use arbiter_cli::{Plan, VerifyPlan, WordsFault, read_words};
+use arbiter_cli::{Plan, WordsFault, read_words};
 use cecp_engine::{Level, LevelFault};
 use chess_base::Variant;
 use chess_fen::write_fen;
 use chess_match::Draws;
 use match_runner::GamesPlan;
+use pgn_verifier::{Strictness, VerifyOptions};
 use std::alloc::{AllocError, Global};
 use std::fmt::Debug;
 use std::process::Abort;
@@ -266,23 +267,29 @@ const VERIFY: [(&[&str], bool, bool, bool, bool, bool, bool, bool); 23] = [
 #[test]
 fn verify_by_its_options(rt: HostRuntime) -> Result<(), Fail> {
     for (arguments, keep_going, quiet, strict, explain, spans, names, variations) in &VERIFY {
-        let Plan::Verify(plan) = read_words(rt.alloc(), arguments)? else {
+        let Plan::Verify {
+            keep_going: keeps_going,
+            options,
+        } = read_words(rt.alloc(), arguments)?
+        else {
             return Err(Fail::new("another plan"));
         };
+        is_equal(&rt, &keeps_going, keep_going);
         is_equal(
             &rt,
-            &plan,
-            &VerifyPlan {
-                keep_going: *keep_going,
+            &options,
+            &VerifyOptions {
                 quiet: *quiet,
-                variant: *strict,
-                result: *strict,
-                board: *strict,
-                explain: *explain,
+                strict: Strictness {
+                    draws_of_2014: true,
+                    variations: *variations,
+                    variant: *strict,
+                    result: *strict,
+                    board: *strict,
+                },
                 spans: *spans,
                 names: *names,
-                variations: *variations,
-                draws_of_2014: true,
+                explain: *explain,
             },
         );
     }
@@ -377,13 +384,13 @@ const IGNORED: [(&[&str], bool, bool, bool, bool); 13] = [
 #[test]
 fn kinds_are_ignored(rt: HostRuntime) -> Result<(), Fail> {
     for (arguments, variant, result, board, draws_of_2014) in &IGNORED {
-        let Plan::Verify(plan) = read_words(rt.alloc(), arguments)? else {
+        let Plan::Verify { options, .. } = read_words(rt.alloc(), arguments)? else {
             return Err(Fail::new("another plan"));
         };
-        is_equal(&rt, &plan.variant, variant);
-        is_equal(&rt, &plan.result, result);
-        is_equal(&rt, &plan.board, board);
-        is_equal(&rt, &plan.draws_of_2014, draws_of_2014);
+        is_equal(&rt, &options.strict.variant, variant);
+        is_equal(&rt, &options.strict.result, result);
+        is_equal(&rt, &options.strict.board, board);
+        is_equal(&rt, &options.strict.draws_of_2014, draws_of_2014);
     }
     Ok(())
 }

@@ -1,10 +1,11 @@
 -- The grammar of the command line, in the terms of `clap`, the parser of arguments.
-use Rattle.std.specs.Prelude.{◌≡◌, ◌⊎◌, ◌++◌, ℕ, List, codes, fold, [], ◌∷◌, Some, Result, Ok, Err, is_some, map, true, unwrap_or}
+use Rattle.std.specs.Prelude.{◌≡◌, ◌⊎◌, ◌++◌, ℕ, List, codes, fold, [], ◌∷◌, Some, Result, Ok, Err, is_some, map, true}
 use Rattle.std.specs.Borrow.{Bor}
-use Rattle.clap.specs.Words.{App, HasKind, Kinds, Row, Rule, Text, fault_of, first_of, new_app, new_rule, subcommand_of, subcommand_rows_of, with_rule, with_subcommand}
+use Rattle.clap.specs.Words.{App, HasKind, Row, Rule, Text, fault_of, first_of, new_app, new_rule, subcommand_of, subcommand_rows_of, with_rule, with_subcommand}
 use Rattle.clap.specs.ValueTests.{is_unsigned_in}
 use Rattle.clap.specs.declared.error.Error.{Error}
 use Rattle.clap.specs.declared.parser.matches.ArgMatches.{ArgMatches}
+use Rattle.clap.specs.declared.builder.value_parser.ValueParser.{ValueParser}
 use Rattle.clap.specs.declared.builder.value_parser.ValueParser.TheVariants.{Names, Unsigned}
 use Rattle.clap.specs.declared.builder.action.ArgAction.TheVariants.{Append, SetTrue}
 
@@ -12,34 +13,31 @@ use Rattle.clap.specs.declared.builder.action.ArgAction.TheVariants.{Append, Set
 abbrev pub option_rule : Text → Rule
 option_rule name = record (new_rule name) { long = Some name; value_names = 1 }
 
+-- that option, but it takes only a text that `parser` accepts
+abbrev pub checked_rule : Text → ValueParser → Rule
+checked_rule name parser = record (option_rule name) { parser = Some parser }
+
 -- the option `--NAME` with this name, which takes no text
 abbrev pub flag_rule : Text → Rule
 flag_rule name = record (new_rule name) { long = Some name; action = Some SetTrue }
 
--- references to the lists of the names that `--variant` and `--draws` take; lists and names may be anywhere in memory
+-- references to the lists of the names that `--variant` and `--draws` take, in their order; lists and names may be
+-- anywhere in memory
 pub record OptionNames : Type 0 where
   pub variants : Bor (List (Bor Text))
   pub draws : Bor (List (Bor Text))
+  pub variants_are : map (λ n. n.now) variants.now ≡ codes "normal" ∷ codes "fischerandom" ∷ []
+  pub draws_are : map (λ n. n.now) draws.now ≡ codes "claimed" ∷ codes "automatic" ∷ []
 
--- the names of variants, in their order, are `normal` and `fischerandom`, and those of draws `claimed` and `automatic`
-abbrev pub AreOptionNames : OptionNames → Type 0
-AreOptionNames names = (map (λ n. n.now) names.variants.now ≡ codes "normal" ∷ codes "fischerandom" ∷ [])
-    × (map (λ n. n.now) names.draws.now ≡ codes "claimed" ∷ codes "automatic" ∷ [])
-
--- the subcommand `match` with its options, of which `--white` and `--black` are required. `names` are the lists of
--- names; `Unsigned` takes both its bounds
+-- the subcommand `match` with its options, of which `--white` and `--black` are required. `Unsigned` takes both its
+-- bounds
 abbrev pub match_app : OptionNames → App
 match_app names = fold with_rule (new_app (codes "match")) (
     record (option_rule (codes "white")) { required = true } ∷ record (option_rule (codes "black")) { required = true }
     ∷ option_rule (codes "level") ∷ option_rule (codes "white-level") ∷ option_rule (codes "black-level")
-    ∷ option_rule (codes "fen")
-    ∷ record (option_rule (codes "games")) { parser = Some (Unsigned 1 1000) }
-    ∷ option_rule (codes "date")
-    ∷ record (option_rule (codes "variant")) { parser = Some (Names names.variants) }
-    ∷ record (option_rule (codes "draws")) { parser = Some (Names names.draws) }
-    ∷ flag_rule (codes "log") ∷ flag_rule (codes "flag")
-    ∷ record (option_rule (codes "reply-timeout")) { parser = Some (Unsigned 1 999) }
-    ∷ [])
+    ∷ option_rule (codes "fen") ∷ checked_rule (codes "games") (Unsigned 1 1000) ∷ option_rule (codes "date")
+    ∷ checked_rule (codes "variant") (Names names.variants) ∷ checked_rule (codes "draws") (Names names.draws)
+    ∷ flag_rule (codes "log") ∷ flag_rule (codes "flag") ∷ checked_rule (codes "reply-timeout") (Unsigned 1 999) ∷ [])
 
 -- the subcommand `verify` with its flags, and `--ignore`
 abbrev pub verify_app : App
@@ -52,38 +50,25 @@ abbrev pub stub_app : App
 stub_app =
     with_rule (new_app (codes "stub")) (record (new_rule (codes "words")) { action = Some Append; value_names = 1 })
 
--- `arbiter` without its subcommands (`top` is `clap`'s name for what an app is apart from them): it has `--version` but
--- no subcommand `help`, and its arguments don't begin with the program's name
-abbrev pub bare_app : App
-bare_app = let a = new_app (codes "arbiter") in
-    record a { top = record a.top { has_version = true; no_binary_name = true; disable_help_subcommand = true } }
-
--- the whole grammar: `arbiter` with its subcommands, of which `session` has no options
+-- the whole grammar: `arbiter` with its subcommands, of which `session` has no options. It has `--version` but no
+-- subcommand `help`, and its arguments don't begin with the program's name; `top` is `clap`'s name for what an app is
+-- apart from its subcommands
 abbrev pub arbiter_app : OptionNames → App
-arbiter_app names = fold with_subcommand bare_app
+arbiter_app names = let a = new_app (codes "arbiter") in fold with_subcommand
+    (record a { top = record a.top { has_version = true; no_binary_name = true; disable_help_subcommand = true } })
     ((new_app (codes "session")).top ∷ verify_app.top ∷ stub_app.top ∷ (match_app names).top ∷ [])
 
--- what the arguments (`words`) ask for if they have no fault: the subcommand's name and its options, as `clap` matches
--- them; `session` without options if there is no subcommand
-abbrev pub asked : OptionNames → List Text → Text × List Row
-asked names words = unwrap_or (subcommand_of (arbiter_app names) words) (codes "session", [])
-
--- the kinds of fault, apart from out of memory, that `clap` may report for the arguments `words`; empty if it accepts
--- them. A request for help or for the version is one
-abbrev pub faults_in : OptionNames → List Text → Kinds
-faults_in names words = fault_of (arbiter_app names) words
-
 -- the result of parsing the arguments `words` is right: their subcommand and options if they have no fault, otherwise
--- an error of one of the kinds of fault that they have. `names` are those that `--variant` and `--draws` take
+-- an error of one of the kinds of fault that they have
 abbrev pub IsParsedBy : OptionNames → List Text → Result ArgMatches Error → Type 0
-IsParsedBy names words (Ok m) = (faults_in names words ≡ [])
+IsParsedBy names words (Ok m) = (fault_of (arbiter_app names) words ≡ [])
     × (subcommand_rows_of m ≡ subcommand_of (arbiter_app names) words)
-IsParsedBy names words (Err e) = HasKind (faults_in names words) e
+IsParsedBy names words (Err e) = HasKind (fault_of (arbiter_app names) words) e
 
 -- the result of parsing the arguments `words` is right by the grammar, wherever in memory its names of variants and of
 -- draws are
 abbrev pub IsParsed : List Text → Result ArgMatches Error → Type 0
-IsParsed words result = (names : OptionNames) × AreOptionNames names × IsParsedBy names words result
+IsParsed words result = (names : OptionNames) × IsParsedBy names words result
 
 -- the text is the name of a subcommand: `session`, `verify`, `stub` or `match`
 abbrev pub IsCommand : Text → Type 0

@@ -5,8 +5,8 @@ ghost use Rattle.clap.specs.Words.{app_of, new_app, rule_of};
 ghost use Rattle.clap.specs.declared.builder.texts.Texts.TheVariants.{One};
 ghost use Rattle.clap.specs.declared.builder.value_parser.ValueParser.TheVariants.{Names, Unsigned};
 ghost use Rattle.clap.specs.declared.builder.command.Command.TheViews.{out-Command as fields_of};
-ghost use Rattle.arbiter_grammar.specs.Grammar.{bare_app, flag_rule, option_rule, stub_app, verify_app};
-ghost use Rattle.arbiter_grammar.specs.ties.Grammars.{GivesMatchApp, GivesArbiterApp};
+ghost use Rattle.arbiter_grammar.specs.Grammar.{checked_rule, flag_rule, option_rule, stub_app, verify_app};
+ghost use Rattle.arbiter_grammar.specs.ties.Grammars.{GivesMatchApp, GivesArbiterApp, bare_app};
 
 use clap::builder::ValueParser;
 use clap::{Arg, ArgAction, Command};
@@ -170,7 +170,7 @@ fn needed_option<'a>(alloc: Global, name: &'a str, value: &'a str, help: &'a str
 
 // The option `--games N`, with N from 1 to 1,000.
 fn games_option<'a>(alloc: Global) -> Arg<'a>
-    ensures rule { rule_of result ≡ record (option_rule (codes "games")) { parser = Some (Unsigned 1 1000) } }
+    ensures rule { rule_of result ≡ checked_rule (codes "games") (Unsigned 1 1000) }
     ensures local { result.global ≡ false }
 {
     option(
@@ -188,7 +188,7 @@ static DRAWS: [&str; 2] = ["claimed", "automatic"];
 // The option `--variant NAME`, where NAME is `normal` or `fischerandom`.
 fn variant_option<'a>(alloc: Global) -> Arg<'a>
     ensures rule { (names : _) × (map (λ n. n.now) names.now ≡ codes "normal" ∷ codes "fischerandom" ∷ [])
-        × (rule_of result ≡ record (option_rule (codes "variant")) { parser = Some (Names names) }) }
+        × (rule_of result ≡ checked_rule (codes "variant") (Names names)) }
     ensures local { result.global ≡ false }
 {
     option(
@@ -203,7 +203,7 @@ fn variant_option<'a>(alloc: Global) -> Arg<'a>
 // The option `--draws NAME`, where NAME is `claimed` or `automatic`.
 fn draws_option<'a>(alloc: Global) -> Arg<'a>
     ensures rule { (names : _) × (map (λ n. n.now) names.now ≡ codes "claimed" ∷ codes "automatic" ∷ [])
-        × (rule_of result ≡ record (option_rule (codes "draws")) { parser = Some (Names names) }) }
+        × (rule_of result ≡ checked_rule (codes "draws") (Names names)) }
     ensures local { result.global ≡ false }
 {
     option(
@@ -217,7 +217,7 @@ fn draws_option<'a>(alloc: Global) -> Arg<'a>
 
 // The option `--reply-timeout S`, with S from 1 to 999.
 fn reply_timeout_option<'a>(alloc: Global) -> Arg<'a>
-    ensures rule { rule_of result ≡ record (option_rule (codes "reply-timeout")) { parser = Some (Unsigned 1 999) } }
+    ensures rule { rule_of result ≡ checked_rule (codes "reply-timeout") (Unsigned 1 999) }
     ensures local { result.global ≡ false }
 {
     option(

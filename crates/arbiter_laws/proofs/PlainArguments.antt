@@ -1,17 +1,16 @@
 -- What no arguments, `session` and `verify` do.
-use Rattle.std.proofs.Common.{◌≡◌, ◌∙◌, ◌<◌, ℕ, List, [], length, lit<, codes, Result, Ok, Err, refl, sym, ap, subst, inr, false, arith, true≢false}
-use Rattle.std.specs.List.{list_all}
+use Rattle.std.proofs.Common.{◌≡◌, ◌∙◌, ◌<◌, ℕ, Bool, List, [], ◌∷◌, bytes_eq, length, lit<, codes, Result, Ok, Err, refl, sym, ap, subst, inr, false, arith, true≢false}
+use Rattle.std.specs.List.{list_all, list_any}
 use Rattle.clap.specs.Words.{IsAmong, Text, kind_of}
-use Rattle.arbiter_grammar.specs.Grammar.{asked}
-use Rattle.arbiter_cli.specs.{Plans.IsReading, Plans.is_kind, Plans.said_by, declared.fault.WordsFault.WordsFault, declared.plan.Plan.Plan, declared.plan.VerifyPlan.VerifyPlan}
-use Rattle.arbiter_laws.specs.Arguments.{AskFor, PlansAreNamed, VerifyAsBare, VerifyIsAsAsked, bare_plan, command_name}
+use Rattle.arbiter_cli.specs.{Plans.IsReading, Plans.said_by, declared.fault.WordsFault.WordsFault, declared.plan.Plan.Plan}
+use Rattle.arbiter_laws.specs.Arguments.{AskFor, PlansAreNamed, VerifyAsBare, VerifyIsAsAsked, bare_options, bare_plan, command_name}
 use Rattle.arbiter_laws.specs.{PlainArguments.PlainArgumentsAreRead, Programs.PlainArgumentsAreFollowed, Programs.ServesSession, Programs.VerifiesGames}
 use Rattle.arbiter_cli.specs.declared.fault.WordsFault.TheVariants as faults
 use Rattle.arbiter_cli.specs.declared.plan.Plan.TheVariants.{Session, Verify, Stub, Match}
 use Rattle.byte_devices.specs.Devices.{InputState}
 use Rattle.byte_devices.specs.Transfers.{Devices, InputGave, Ran, nothing}
 use Rattle.byte_devices.proofs.{shared.Transfers.came, shared.Transfers.took_nothing, shared.Devices.consumes_none}
-use Rattle.chess_arbiter.specs.Program.{Does, Surroundings, options_of}
+use Rattle.chess_arbiter.specs.Program.{Does, Surroundings}
 use Rattle.match_runner.specs.GamesTable.{HostStep}
 use Rattle.pgn_verifier.specs.{Verify.Verifies, declared.options.VerifyOptions.VerifyOptions}
 use Rattle.pgn_verifier.specs.declared.fault.VerifyFault.TheVariants as verifying
@@ -26,8 +25,13 @@ as_followed law line s s' steps status plain (read, is, ran) = (read, law line r
 -- a plan that was read of arguments that ask for that command
 read_argument : PlansAreNamed → (arguments : List Text) (name : Text) (plan : Plan) → AskFor arguments name
     → IsReading arguments (Ok plan) → name ≡ command_name plan
-read_argument named arguments name plan a (names, are, (none, is)) = sym (a.named names)
-    ∙ named (said_by (asked names arguments)) plan is
+read_argument named arguments name plan a (names, (none, is)) = sym (a.named names)
+    ∙ named (said_by names arguments) plan is
+
+-- the text names a kind that `verify` may ignore
+abbrev pub is_listed : Text → Bool
+is_listed name =
+    list_any (bytes_eq name) (codes "variant" ∷ codes "result" ∷ codes "board" ∷ codes "after-end" ∷ [])
 
 -- arguments that are taken and ask for no match are refused for being out of memory alone
 abbrev IsWant : WordsFault → Type 0
@@ -36,18 +40,18 @@ IsWant _ = ⊥
 
 refused_argument : (arguments : List Text) (name : Text) (fault : WordsFault) → AskFor arguments name
     → (name ≡ codes "match" → ⊥) → IsReading arguments (Err fault) → IsWant fault
-refused_argument ws name (faults.Words e) a other (names, are, among) =
+refused_argument ws name (faults.Words e) a other (names, among) =
     absurd (subst (IsAmong (kind_of e)) (a.taken names) among)
 refused_argument ws name faults.NoMemory a other is = tt
-refused_argument ws name (faults.BadLevel f) a other (names, are, (none, named, h)) =
+refused_argument ws name (faults.BadLevel f) a other (names, (none, named, h)) =
     absurd (other (sym (a.named names) ∙ named))
-refused_argument ws name (faults.BadFen f) a other (names, are, (none, named, h)) =
+refused_argument ws name (faults.BadFen f) a other (names, (none, named, h)) =
     absurd (other (sym (a.named names) ∙ named))
-refused_argument ws name faults.BadDate a other (names, are, (none, named, h)) =
+refused_argument ws name faults.BadDate a other (names, (none, named, h)) =
     absurd (other (sym (a.named names) ∙ named))
 -- no kind is ignored, so none is wrong
-refused_argument ws name faults.BadKind a other (names, are, (none, named, h)) =
-    absurd (true≢false (sym (ap (list_all is_kind) (a.ignores names)) ∙ h))
+refused_argument ws name faults.BadKind a other (names, (none, named, h)) =
+    absurd (true≢false (sym (ap (list_all is_listed) (a.ignores names)) ∙ h))
 
 no_match_by_session : codes "session" ≡ codes "match" → ⊥
 no_match_by_session e = shorter (codes "match") (codes "session") (lit< tt) (sym e)
@@ -94,9 +98,9 @@ session_or_want faults.BadDate s s' steps status want ran = absurd want
 session_or_want faults.BadKind s s' steps status want ran = absurd want
 
 verify_or_want : (fault : WordsFault) (s s' : Surroundings) (steps : List HostStep) (status : ℕ)
-    → IsWant fault → Does (Err fault) s s' steps status → Does (Ok (Verify bare_plan)) s s' steps status
+    → IsWant fault → Does (Err fault) s s' steps status → Does (Ok bare_plan) s s' steps status
 verify_or_want faults.NoMemory s s' steps status want (none, same, (kept, is)) =
-    (none, (Err verifying.NoMemory, is, not_begun (options_of bare_plan) s.devices s'.devices same kept))
+    (none, (Err verifying.NoMemory, is, not_begun bare_options s.devices s'.devices same kept))
 verify_or_want (faults.Words e) s s' steps status want ran = absurd want
 verify_or_want (faults.BadLevel f) s s' steps status want ran = absurd want
 verify_or_want (faults.BadFen f) s s' steps status want ran = absurd want
@@ -108,9 +112,9 @@ serves : PlansAreNamed → (arguments : List Text) → AskFor arguments (codes "
     → (s s' : Surroundings) (steps : List HostStep) (status : ℕ) → Does read s s' steps status
     → Does (Ok Session) s s' steps status
 serves named ws a (Ok Session) is s s' steps status ran = ran
-serves named ws a (Ok (Verify v)) is s s' steps status ran =
+serves named ws a (Ok (Verify keep_going options)) is s s' steps status ran =
     absurd (shorter (codes "verify") (codes "session") (lit< tt)
-    (sym (read_argument named ws (codes "session") (Verify v) a is)))
+    (sym (read_argument named ws (codes "session") (Verify keep_going options) a is)))
 serves named ws a (Ok (Stub replies)) is s s' steps status ran =
     absurd (shorter (codes "stub") (codes "session") (lit< tt)
     (sym (read_argument named ws (codes "session") (Stub replies) a is)))
@@ -121,19 +125,20 @@ serves named ws a (Err fault) is s s' steps status ran =
     ran
 
 -- `verify` alone sets none of its flags
-without_flags : VerifyIsAsAsked → (arguments : List Text) (v : VerifyPlan) → VerifyAsBare arguments
-    → IsReading arguments (Ok (Verify v)) → v ≡ bare_plan
-without_flags denoted ws v bare (names, are, (none, is)) = denoted (said_by (asked names ws)) v is ∙ bare names
+without_flags : VerifyIsAsAsked → (arguments : List Text) (keep_going : Bool) (options : VerifyOptions)
+    → VerifyAsBare arguments → IsReading arguments (Ok (Verify keep_going options))
+    → Verify keep_going options ≡ bare_plan
+without_flags denoted ws keep_going options bare (names, (none, is)) =
+    denoted (said_by names ws) keep_going options is ∙ bare names
 
 verifies : PlansAreNamed → VerifyIsAsAsked → (arguments : List Text) → AskFor arguments (codes "verify")
     → VerifyAsBare arguments → (read : Result Plan WordsFault) → IsReading arguments read
     → (s s' : Surroundings) (steps : List HostStep) (status : ℕ) → Does read s s' steps status
-    → Does (Ok (Verify bare_plan)) s s' steps status
+    → Does (Ok bare_plan) s s' steps status
 verifies named denoted ws a bare (Ok Session) is s s' steps status ran =
     absurd (shorter (codes "verify") (codes "session") (lit< tt) (read_argument named ws (codes "verify") Session a is))
-verifies named denoted ws a bare (Ok (Verify v)) is s s' steps status ran =
-    subst (λ (plan : VerifyPlan). Does (Ok (Verify plan)) s s' steps status)
-    (without_flags denoted ws v bare is) ran
+verifies named denoted ws a bare (Ok (Verify keep_going options)) is s s' steps status ran =
+    subst (λ (plan : Plan). Does (Ok plan) s s' steps status) (without_flags denoted ws keep_going options bare is) ran
 verifies named denoted ws a bare (Ok (Stub replies)) is s s' steps status ran =
     absurd (shorter (codes "stub") (codes "verify") (lit< tt)
     (sym (read_argument named ws (codes "verify") (Stub replies) a is)))

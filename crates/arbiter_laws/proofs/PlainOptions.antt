@@ -6,7 +6,7 @@ use Rattle.clap.specs.Simple.{Shape, filled_from, help_rule, new_shape}
 use Rattle.clap.specs.declared.builder.value_parser.ValueParser.TheVariants as vp
 use Rattle.clap.specs.declared.error.kind.ErrorKind.TheVariants as kind
 use Rattle.clap.proofs.{ValueTestLemmas.Accepts-accepts, WalkLemmas.list_any-map}
-use Rattle.arbiter_grammar.specs.Grammar.{AreOptionNames, OptionNames, match_app, stub_app, verify_app}
+use Rattle.arbiter_grammar.specs.Grammar.{OptionNames, match_app, stub_app, verify_app}
 use Rattle.arbiter_laws.specs.PlainArguments.{Given, IsDraws, IsNumberTo, IsOfMatch, IsOfVerify, IsVariant, flag, has_hyphen, valued}
 use Rattle.arbiter_laws.proofs.PlainWalk.{IsFlag, Known, TakesValue}
 
@@ -191,9 +191,9 @@ module _ (names : OptionNames) (text : Text) (plain : has_hyphen text ≡ false)
         (or_else (if b then [] else kind.ValueValidation ∷ []) [])) (number_passes 999 (omega arith) text number);
   }
 
-  variant : AreOptionNames names → IsVariant text → TakesValue (match_shape names) (codes "variant") text
+  variant : IsVariant text → TakesValue (match_shape names) (codes "variant") text
   unfolding walked
-  variant are is = record {
+  variant is = record {
     first = λ rows p. refl;
     first_fault = λ rows p. refl;
     plain = plain;
@@ -201,12 +201,12 @@ module _ (names : OptionNames) (text : Text) (plain : has_hyphen text ≡ false)
     uses = λ rows. refl;
     passes = λ rows. ap (λ (b : Bool). or_else (repeat_fault false (codes "variant") rows)
         (or_else (if b then [] else kind.InvalidValue ∷ []) [])) (list_any-map (is_text text) now_of names.variants.now
-        ∙ ap (list_any (is_text text)) are.0 ∙ variant_named text is);
+        ∙ ap (list_any (is_text text)) names.variants_are ∙ variant_named text is);
   }
 
-  draws : AreOptionNames names → IsDraws text → TakesValue (match_shape names) (codes "draws") text
+  draws : IsDraws text → TakesValue (match_shape names) (codes "draws") text
   unfolding walked
-  draws are is = record {
+  draws is = record {
     first = λ rows p. refl;
     first_fault = λ rows p. refl;
     plain = plain;
@@ -214,7 +214,7 @@ module _ (names : OptionNames) (text : Text) (plain : has_hyphen text ≡ false)
     uses = λ rows. refl;
     passes = λ rows. ap (λ (b : Bool). or_else (repeat_fault false (codes "draws") rows)
         (or_else (if b then [] else kind.InvalidValue ∷ []) [])) (list_any-map (is_text text) now_of names.draws.now
-        ∙ ap (list_any (is_text text)) are.1 ∙ draws_named text is);
+        ∙ ap (list_any (is_text text)) names.draws_are ∙ draws_named text is);
   }
 
 log : (names : OptionNames) → IsFlag (match_shape names) (codes "log")
@@ -225,28 +225,28 @@ falls : (names : OptionNames) → IsFlag (match_shape names) (codes "flag")
 unfolding walked
 falls names = record { first = λ rows p. refl; first_fault = λ rows p. refl }
 
-pub of_match : (names : OptionNames) → AreOptionNames names → (g : Given) → IsOfMatch g → Known (match_shape names) g
-of_match names are (flag name) (inl e) = subst (IsFlag (match_shape names)) (sym e) (log names)
-of_match names are (flag name) (inr e) = subst (IsFlag (match_shape names)) (sym e) (falls names)
-of_match names are (valued name text) (plain, inl e) =
+pub of_match : (names : OptionNames) (g : Given) → IsOfMatch g → Known (match_shape names) g
+of_match names (flag name) (inl e) = subst (IsFlag (match_shape names)) (sym e) (log names)
+of_match names (flag name) (inr e) = subst (IsFlag (match_shape names)) (sym e) (falls names)
+of_match names (valued name text) (plain, inl e) =
     subst (λ n. TakesValue (match_shape names) n text) (sym e) (white names text plain)
-of_match names are (valued name text) (plain, inr (inl e)) =
+of_match names (valued name text) (plain, inr (inl e)) =
     subst (λ n. TakesValue (match_shape names) n text) (sym e) (black names text plain)
-of_match names are (valued name text) (plain, inr (inr (inl e))) =
+of_match names (valued name text) (plain, inr (inr (inl e))) =
     subst (λ n. TakesValue (match_shape names) n text) (sym e) (level names text plain)
-of_match names are (valued name text) (plain, inr (inr (inr (inl e)))) =
+of_match names (valued name text) (plain, inr (inr (inr (inl e)))) =
     subst (λ n. TakesValue (match_shape names) n text) (sym e) (white_level names text plain)
-of_match names are (valued name text) (plain, inr (inr (inr (inr (inl e))))) =
+of_match names (valued name text) (plain, inr (inr (inr (inr (inl e))))) =
     subst (λ n. TakesValue (match_shape names) n text) (sym e) (black_level names text plain)
-of_match names are (valued name text) (plain, inr (inr (inr (inr (inr (inl e)))))) =
+of_match names (valued name text) (plain, inr (inr (inr (inr (inr (inl e)))))) =
     subst (λ n. TakesValue (match_shape names) n text) (sym e) (fen names text plain)
-of_match names are (valued name text) (plain, inr (inr (inr (inr (inr (inr (inl e))))))) =
+of_match names (valued name text) (plain, inr (inr (inr (inr (inr (inr (inl e))))))) =
     subst (λ n. TakesValue (match_shape names) n text) (sym e) (date names text plain)
-of_match names are (valued name text) (plain, inr (inr (inr (inr (inr (inr (inr (inl (e, number))))))))) =
+of_match names (valued name text) (plain, inr (inr (inr (inr (inr (inr (inr (inl (e, number))))))))) =
     subst (λ n. TakesValue (match_shape names) n text) (sym e) (games names text plain number)
-of_match names are (valued name text) (plain, inr (inr (inr (inr (inr (inr (inr (inr (inl (e, number)))))))))) =
+of_match names (valued name text) (plain, inr (inr (inr (inr (inr (inr (inr (inr (inl (e, number)))))))))) =
     subst (λ n. TakesValue (match_shape names) n text) (sym e) (reply_timeout names text plain number)
-of_match names are (valued name text) (plain, inr (inr (inr (inr (inr (inr (inr (inr (inr (inl (e, is))))))))))) =
-    subst (λ n. TakesValue (match_shape names) n text) (sym e) (variant names text plain are is)
-of_match names are (valued name text) (plain, inr (inr (inr (inr (inr (inr (inr (inr (inr (inr ((e, is)))))))))))) =
-    subst (λ n. TakesValue (match_shape names) n text) (sym e) (draws names text plain are is)
+of_match names (valued name text) (plain, inr (inr (inr (inr (inr (inr (inr (inr (inr (inl (e, is))))))))))) =
+    subst (λ n. TakesValue (match_shape names) n text) (sym e) (variant names text plain is)
+of_match names (valued name text) (plain, inr (inr (inr (inr (inr (inr (inr (inr (inr (inr ((e, is)))))))))))) =
+    subst (λ n. TakesValue (match_shape names) n text) (sym e) (draws names text plain is)

@@ -27,15 +27,15 @@ IsRefusal k _ = ⊥
 
 refusal : (ws : List Text) (k : ErrorKind) (fault : WordsFault) → AreRefused ws (k ∷ []) → IsReading ws (Err fault)
     → IsRefusal k fault
-refusal ws k (faults.Words e) one (names, are, among) = the_fault k (kind_of e) _ (one names) among
+refusal ws k (faults.Words e) one (names, among) = the_fault k (kind_of e) _ (one names) among
 refusal ws k faults.NoMemory one is = tt
-refusal ws k (faults.BadLevel f) one (names, are, (none, named, h)) = absurd (no_fault k _ none (one names))
-refusal ws k (faults.BadFen f) one (names, are, (none, named, h)) = absurd (no_fault k _ none (one names))
-refusal ws k faults.BadDate one (names, are, (none, named, h)) = absurd (no_fault k _ none (one names))
-refusal ws k faults.BadKind one (names, are, (none, named, h)) = absurd (no_fault k _ none (one names))
+refusal ws k (faults.BadLevel f) one (names, (none, named, h)) = absurd (no_fault k _ none (one names))
+refusal ws k (faults.BadFen f) one (names, (none, named, h)) = absurd (no_fault k _ none (one names))
+refusal ws k faults.BadDate one (names, (none, named, h)) = absurd (no_fault k _ none (one names))
+refusal ws k faults.BadKind one (names, (none, named, h)) = absurd (no_fault k _ none (one names))
 
 no_plan : (ws : List Text) (k : ErrorKind) (plan : Plan) → AreRefused ws (k ∷ []) → IsReading ws (Ok plan) → ⊥
-no_plan ws k plan one (names, are, (none, is)) = no_fault k _ none (one names)
+no_plan ws k plan one (names, (none, is)) = no_fault k _ none (one names)
 
 -- ---- help and the version
 

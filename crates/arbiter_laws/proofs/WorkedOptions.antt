@@ -1,4 +1,4 @@
--- What options mean, by computation.
+-- What options mean, by computation; of a match, by the parts of its plan.
 use Rattle.std.proofs.Common.{refl}
 use Rattle.cecp_engine.specs.Levels.{base_of, level_reading, milliseconds_of, thousandths_of}
 use Rattle.text_lines.specs.Words.{argument_of}
@@ -7,6 +7,7 @@ use Rattle.arbiter_laws.specs.WorkedOptions.{LevelsAreRead, OptionsMean}
 pub levels_are_read : LevelsAreRead
 unfolding argument_of base_of level_reading milliseconds_of thousandths_of
 levels_are_read = record {
+  by_default = refl;
   common = refl;
   own_of_white = refl;
   own_of_black = refl;
@@ -16,12 +17,12 @@ levels_are_read = record {
 
 pub options_mean : OptionsMean
 options_mean = record {
-  reply = refl;
-  any_reply = refl;
-  falls = refl;
-  stays = refl;
-  automatic = refl;
-  claimed = refl;
+  reply = λ white black plan is. is.reply;
+  any_reply = λ white black plan is. is.reply;
+  falls = λ white black plan is. is.flag;
+  stays = λ white black plan is. is.flag;
+  automatic = λ white black plan is. is.draws;
+  claimed = λ white black plan is. is.draws;
   keep_going = refl;
   quiet = refl;
   explain = refl;

@@ -3,7 +3,7 @@ use Rattle.std.specs.Prelude.{◌≡◌, ◌⊎◌, ℕ, List, [], Result, Ok}
 use Rattle.clap.specs.Words.{Text}
 use Rattle.arbiter_cli.specs.Plans.{IsReadAs, Said}
 use Rattle.arbiter_cli.specs.declared.plan.Plan.{Plan}
-use Rattle.arbiter_cli.specs.declared.plan.Plan.TheVariants.{Session, Verify}
+use Rattle.arbiter_cli.specs.declared.plan.Plan.TheVariants.{Session}
 use Rattle.arbiter_cli.specs.declared.fault.WordsFault.{WordsFault}
 use Rattle.arbiter_laws.specs.Arguments.{bare_plan}
 use Rattle.arbiter_laws.specs.PlainArguments.{CommandLine, IsPlain, arguments_of, said_in}
@@ -32,7 +32,7 @@ ServesSession arguments = (s s' : Surroundings) (steps : List HostStep) (status 
 -- games of its input, and starts nothing
 abbrev pub VerifiesGames : List Text → Type 0
 VerifiesGames arguments = (s s' : Surroundings) (steps : List HostStep) (status : ℕ)
-    → RanProgram arguments s s' steps status → Does (Ok (Verify bare_plan)) s s' steps status
+    → RanProgram arguments s s' steps status → Does (Ok bare_plan) s s' steps status
 
 -- whenever a program runs with these arguments, it writes a text, such as the help, to its output, or fails to
 -- (`WritesHelp`); it reads nothing, and starts nothing

@@ -1,12 +1,18 @@
 -- What options mean, worked out: the time controls of a match, how long its engines are waited for, whether draws must
 -- be claimed, and what `verify` looks for and writes.
-use Rattle.std.specs.Prelude.{◌≡◌, true, false, List, [], ◌∷◌, codes, Some, None, Ok, Err}
-use Rattle.arbiter_cli.specs.Plans.{Values, draws_in, levels_by, patience_of, verify_plan_of}
-use Rattle.arbiter_cli.specs.declared.plan.VerifyPlan.{VerifyPlan}
+use Rattle.std.specs.Prelude.{◌≡◌, true, false, List, [], ◌∷◌, codes, Some, None, Result, Ok, Err}
+use Rattle.clap.specs.Words.{Text}
+use Rattle.arbiter_cli.specs.Plans.{IsMatchPlan, levels_asked}
+use Rattle.arbiter_cli.specs.declared.plan.Plan.{Plan}
+use Rattle.arbiter_cli.specs.declared.plan.Plan.TheVariants.{Verify}
 use Rattle.cecp_engine.specs.Levels.{LevelSeen}
+use Rattle.cecp_engine.specs.declared.level_fault.LevelFault.{LevelFault}
 use Rattle.cecp_engine.specs.declared.level_fault.LevelFault.TheVariants.{Words, Base}
 use Rattle.chess_match.specs.declared.draws.Draws.TheVariants.{Automatic, Claimed}
-use Rattle.arbiter_laws.specs.Arguments.{bare_plan}
+use Rattle.match_runner.specs.declared.plan.GamesPlan.{GamesPlan}
+use Rattle.pgn_verifier.specs.declared.options.Strictness.{Strictness}
+use Rattle.pgn_verifier.specs.declared.options.VerifyOptions.{VerifyOptions}
+use Rattle.arbiter_laws.specs.Arguments.{bare_options, bare_plan, verify_plan_of}
 use Rattle.arbiter_laws.specs.PlainArguments.{Given, valued, flag, values_in}
 
 -- ---- time controls
@@ -21,55 +27,86 @@ one_minute = record { moves = 0; base = 60000; increment = 0 }
 abbrev pub two_minutes : LevelSeen
 two_minutes = record { moves = 0; base = 120000; increment = 0 }
 
+-- these options ask for these time controls of both engines, or have this fault
+abbrev pub AskForLevels : List Given → Result (LevelSeen × LevelSeen) LevelFault → Type 0
+AskForLevels options levels = levels_asked (values_in options) ≡ levels
+
+-- the option of the common level, of White's own and of Black's own
+abbrev pub level_of_both : Text → Given
+level_of_both = valued (codes "level")
+
+abbrev pub level_of_white : Text → Given
+level_of_white = valued (codes "white-level")
+
+abbrev pub level_of_black : Text → Given
+level_of_black = valued (codes "black-level")
+
 -- the time controls of both engines, by the common level, White's own and Black's own
 pub record LevelsAreRead : Type 0 where
-  pub common : levels_by (codes "40 5 0") None None ≡ Ok (forty_in_five, forty_in_five)
-  pub own_of_white : levels_by (codes "40 5 0") (Some (codes "0 1 0")) None ≡ Ok (one_minute, forty_in_five)
-  pub own_of_black : levels_by (codes "40 5 0") None (Some (codes "0 2 0")) ≡ Ok (forty_in_five, two_minutes)
+  pub by_default : AskForLevels [] (Ok (forty_in_five, forty_in_five))
+  pub common : AskForLevels (level_of_both (codes "0 1 0") ∷ []) (Ok (one_minute, one_minute))
+  pub own_of_white : AskForLevels (level_of_white (codes "0 1 0") ∷ []) (Ok (one_minute, forty_in_five))
+  pub own_of_black : AskForLevels (level_of_black (codes "0 2 0") ∷ []) (Ok (forty_in_five, two_minutes))
   -- the common level must be valid, even if each has its own; of several faults the first is reported
-  pub common_first : levels_by (codes "x") (Some (codes "0 1 0")) (Some (codes "0 2 0")) ≡ Err Words
-  pub white_first : levels_by (codes "40 5 0") (Some (codes "0 0:60 0")) (Some (codes "x")) ≡ Err Base
+  pub common_first : AskForLevels
+      (level_of_white (codes "0 1 0") ∷ level_of_black (codes "0 2 0") ∷ level_of_both (codes "x") ∷ []) (Err Words)
+  pub white_first : AskForLevels (level_of_black (codes "x") ∷ level_of_white (codes "0 0:60 0") ∷ []) (Err Base)
 
 -- ---- other options
 
--- the values of `--flag`, of `--reply-timeout 30`, and of `--draws automatic`
-abbrev pub flag_given : Values
-flag_given = values_in (flag (codes "flag") ∷ [])
+-- the options `--flag`, `--reply-timeout 30`, and `--draws automatic`
+abbrev pub flag_given : List Given
+flag_given = flag (codes "flag") ∷ []
 
-abbrev pub thirty_seconds : Values
-thirty_seconds = values_in (valued (codes "reply-timeout") (codes "30") ∷ [])
+abbrev pub thirty_seconds : List Given
+thirty_seconds = valued (codes "reply-timeout") (codes "30") ∷ []
 
-abbrev pub automatic_draws : Values
-automatic_draws = values_in (valued (codes "draws") (codes "automatic") ∷ [])
+abbrev pub automatic_draws : List Given
+automatic_draws = valued (codes "draws") (codes "automatic") ∷ []
+
+-- each plan of a match by two engines and these options is such
+abbrev pub PlansAre : List Given → (GamesPlan → Type 0) → Type 0
+PlansAre options Is = (white black : Text) (plan : GamesPlan)
+    → IsMatchPlan (values_in (valued (codes "white") white ∷ valued (codes "black") black ∷ options)) plan → Is plan
 
 -- these options of `verify` ask for this plan
-abbrev pub AskForPlan : List Given → VerifyPlan → Type 0
+abbrev pub AskForPlan : List Given → Plan → Type 0
 AskForPlan options plan = verify_plan_of (values_in options) ≡ plan
+
+-- these options of `verify` ask for this, and not for `--keep-going`
+abbrev pub AskForOptions : List Given → VerifyOptions → Type 0
+AskForOptions given options = AskForPlan given (Verify false options)
+
+-- these options of `verify` say which faults are looked for, and nothing else
+abbrev pub LookFor : List Given → Strictness → Type 0
+LookFor given strict = AskForOptions given (record bare_options { strict = strict })
+
+-- the faults that are looked for without options
+abbrev pub lenient : Strictness
+lenient = bare_options.strict
 
 -- what options ask for
 pub record OptionsMean : Type 0 where
   -- a time for replies is given in seconds and kept in milliseconds; without the option it has no end
-  pub reply : (patience_of thirty_seconds).reply ≡ Some 30000
-  pub any_reply : (patience_of flag_given).reply ≡ None
-  pub falls : (patience_of flag_given).flag ≡ true
-  pub stays : (patience_of thirty_seconds).flag ≡ false
-  pub automatic : draws_in automatic_draws ≡ Automatic
-  pub claimed : draws_in thirty_seconds ≡ Claimed
+  pub reply : PlansAre thirty_seconds (λ plan. plan.patience.reply ≡ Some 30000)
+  pub any_reply : PlansAre flag_given (λ plan. plan.patience.reply ≡ None)
+  pub falls : PlansAre flag_given (λ plan. plan.patience.flag ≡ true)
+  pub stays : PlansAre thirty_seconds (λ plan. plan.patience.flag ≡ false)
+  pub automatic : PlansAre automatic_draws (λ plan. plan.draws ≡ Automatic)
+  pub claimed : PlansAre thirty_seconds (λ plan. plan.draws ≡ Claimed)
   -- the flags of `verify`, one by one
-  pub keep_going : AskForPlan (flag (codes "keep-going") ∷ []) (record bare_plan { keep_going = true })
-  pub quiet : AskForPlan (flag (codes "quiet") ∷ []) (record bare_plan { quiet = true })
-  pub explain : AskForPlan (flag (codes "explain") ∷ []) (record bare_plan { explain = true })
-  pub spans : AskForPlan (flag (codes "spans") ∷ []) (record bare_plan { spans = true })
-  pub names : AskForPlan (flag (codes "names") ∷ []) (record bare_plan { names = true })
-  pub variations : AskForPlan (flag (codes "variations") ∷ []) (record bare_plan { variations = true })
+  pub keep_going : AskForPlan (flag (codes "keep-going") ∷ []) (Verify true bare_options)
+  pub quiet : AskForOptions (flag (codes "quiet") ∷ []) (record bare_options { quiet = true })
+  pub explain : AskForOptions (flag (codes "explain") ∷ []) (record bare_options { explain = true })
+  pub spans : AskForOptions (flag (codes "spans") ∷ []) (record bare_options { spans = true })
+  pub names : AskForOptions (flag (codes "names") ∷ []) (record bare_options { names = true })
+  pub variations : LookFor (flag (codes "variations") ∷ []) (record lenient { variations = true })
   -- `--strict` looks for three faults, but for those that `--ignore` names, which says nothing of them without it
-  pub strict : AskForPlan (flag (codes "strict") ∷ [])
-      (record bare_plan { variant = true; result = true; board = true })
-  pub no_board : AskForPlan (flag (codes "strict") ∷ valued (codes "ignore") (codes "board") ∷ [])
-      (record bare_plan { variant = true; result = true })
-  pub only_board : AskForPlan (flag (codes "strict") ∷ valued (codes "ignore") (codes "variant,result") ∷ [])
-      (record bare_plan { board = true })
+  pub strict : LookFor (flag (codes "strict") ∷ []) (record lenient { variant = true; result = true; board = true })
+  pub no_board : LookFor (flag (codes "strict") ∷ valued (codes "ignore") (codes "board") ∷ [])
+      (record lenient { variant = true; result = true })
+  pub only_board : LookFor (flag (codes "strict") ∷ valued (codes "ignore") (codes "variant,result") ∷ [])
+      (record lenient { board = true })
   pub not_strict : AskForPlan (valued (codes "ignore") (codes "board") ∷ []) bare_plan
   -- after fivefold repetition and 75 moves a game may go on, with `--strict` or without
-  pub after_end : AskForPlan (valued (codes "ignore") (codes "after-end") ∷ [])
-      (record bare_plan { draws_of_2014 = false })
+  pub after_end : LookFor (valued (codes "ignore") (codes "after-end") ∷ []) (record lenient { draws_of_2014 = false })

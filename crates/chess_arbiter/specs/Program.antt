@@ -17,10 +17,7 @@ use Rattle.chess_cecp.specs.Serving.{Server}
 use Rattle.chess_cecp.specs.Session.{session_response}
 use Rattle.chess_cecp.specs.Served.{Served}
 use Rattle.chess_arbiter.specs.declared.fault.ProgramFault.{ProgramFault}
-use Rattle.arbiter_cli.specs.declared.plan.VerifyPlan.{VerifyPlan}
 use Rattle.pgn_verifier.specs.declared.fault.VerifyFault.{VerifyFault}
-use Rattle.pgn_verifier.specs.declared.options.Strictness.{Strictness}
-use Rattle.pgn_verifier.specs.declared.options.VerifyOptions.{VerifyOptions}
 use Rattle.pgn_verifier.specs.declared.tally.Verified.{Verified}
 use Rattle.pgn_verifier.specs.declared.tally.Verified.TheVariants.{EachGame}
 use Rattle.pgn_verifier.specs.Collection.{VerifiesCollection}
@@ -47,21 +44,6 @@ fault_status _ = 1
 abbrev pub Serves : {S : Type 0} → Server S → S → Devices → Devices → ℕ → Type 0
 Serves {S} respond s d d' status =
     (result : Result End Fault) × (s' : S) × Ran (Served respond s s' result) d d' × (status ≡ status_of result)
-
--- which faults are looked for in a game, by `--variations`, `--strict` and `--ignore`
-abbrev pub strictness_of : VerifyPlan → Strictness
-strictness_of plan = record {
-  draws_of_2014 = plan.draws_of_2014;
-  variations = plan.variations;
-  variant = plan.variant;
-  result = plan.result;
-  board = plan.board;
-}
-
--- the options of verifying that these flags ask for
-abbrev pub options_of : VerifyPlan → VerifyOptions
-options_of p =
-    record { quiet = p.quiet; strict = strictness_of p; spans = p.spans; names = p.names; explain = p.explain }
 
 -- the exit status of `verify`, by its result: 0 if all was verified and no fault was found, otherwise 1
 abbrev pub verify_status : Result Verified VerifyFault → ℕ
@@ -109,9 +91,9 @@ abbrev pub Does : Result Plan WordsFault → Surroundings → Surroundings → L
 Does (Ok Session) s s' steps status = (steps ≡ []) × (Serves session_response (opened_session default_tags MOST_MOVES)
     s.devices s'.devices status ⊎ ((s'.devices ≡ s.devices) × (status ≡ 1)))
 -- the input's games were verified, with `--keep-going` piece by piece, otherwise as one text, up to its first fault
-Does (Ok (Verify plan)) s s' steps status = (steps ≡ [])
+Does (Ok (Verify keep_going options)) s s' steps status = (steps ≡ [])
     × ((result : Result Verified VerifyFault) × (status ≡ verify_status result)
-    × Ran ((cond plan.keep_going VerifiesCollection Verifies) (options_of plan) result) s.devices s'.devices)
+    × Ran ((cond keep_going VerifiesCollection Verifies) options result) s.devices s'.devices)
 -- a stub engine ran on input and output
 Does (Ok (Stub arguments)) s s' steps status =
     (steps ≡ []) × Serves stub_response (waiting arguments.items) s.devices s'.devices status
@@ -119,8 +101,7 @@ Does (Ok (Stub arguments)) s s' steps status =
 -- status is 0 if all were played without a fault and were written, and the score too. `logged` is the error output, to
 -- which the log goes, after the games; then a fault is reported on it
 Does (Ok (Match plan)) s s' steps status = (s'.devices.input ≡ s.devices.input)
-    × ((result : Result (Unit {0}) GamesFault) × (logged : LogSeen)
-    × PlaysGamesWith plan result steps
+    × ((result : Result (Unit {0}) GamesFault) × (logged : LogSeen) × PlaysGamesWith plan result steps
     (record { output = s.devices.output; log = s.errors }) (record { output = s'.devices.output; log = logged })
     × (status ≡ status_of result) × Reports (report_of result) logged s'.errors)
 -- no plan: nothing of the input is read

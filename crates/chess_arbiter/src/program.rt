@@ -11,19 +11,19 @@ ghost use Rattle.match_runner.specs.declared.fault.GamesFault.{GamesFault};
 ghost use Rattle.pgn_verifier.specs.Collection.{VerifiesCollection};
 ghost use Rattle.pgn_verifier.specs.Verify.{Verifies};
 ghost use Rattle.byte_devices.specs.Transfers.{Devices, Ran};
-ghost use Rattle.chess_arbiter.specs.Program.{RanProgram, Reports, ReportsArguments, Serves, WritesHelp, options_of, status_of, strictness_of, verify_status};
+ghost use Rattle.chess_arbiter.specs.Program.{RanProgram, Reports, ReportsArguments, Serves, WritesHelp, status_of, verify_status};
 ghost use Rattle.stub_engine.specs.Stub.{stub_response, waiting};
 ghost use Rattle.chess_game.specs.declared.game.TheConstants.{MOST_MOVES};
 
 use crate::fault::{ProgramFault, report, report_text, reported};
-use arbiter_cli::{Plan, VerifyPlan, WordsFault, read_words};
+use arbiter_cli::{Plan, WordsFault, read_words};
 use byte_devices::{Input, Output, send};
 use chess_bits::{AttackTables, Bits};
 use chess_cecp::{Session, run_session, serve_lines};
 use chess_game::MOST_MOVES;
 use clap::Error;
 use match_runner::{GamesPlan, Host, Log, play_games_with};
-use pgn_verifier::{Strictness, Verified, VerifyFault, VerifyOptions, verify, verify_collection};
+use pgn_verifier::{Verified, VerifyFault, VerifyOptions, verify, verify_collection};
 use pgn_writer::Tags;
 use std::alloc::{AllocError, Global};
 use std::fmt::Display;
@@ -95,67 +95,42 @@ fn verified_status(verified: Verified) -> u8
     }
 }
 
-// Which faults the options of `verify` ask for.
-fn strictness_of(plan: VerifyPlan) -> Strictness
-    ensures { result ≡ strictness_of plan }
-{
-    Strictness {
-        draws_of_2014: plan.draws_of_2014,
-        variations: plan.variations,
-        variant: plan.variant,
-        result: plan.result,
-        board: plan.board,
-    }
-}
-
-// The options that the flags of `verify` ask for.
-fn options_of(plan: VerifyPlan) -> VerifyOptions
-    ensures { result ≡ options_of plan }
-{
-    VerifyOptions {
-        quiet: plan.quiet,
-        strict: strictness_of(plan),
-        spans: plan.spans,
-        names: plan.names,
-        explain: plan.explain,
-    }
-}
-
 // Verifies the input's games: with `--keep-going` piece by piece, also after faults; otherwise as one text up to its
 // first fault.
 fn verify_as<R: Input, W: Output>(
     alloc: Global,
-    plan: VerifyPlan,
+    keep_going: bool,
+    options: VerifyOptions,
     input: &mut R,
     output: &mut W,
 ) -> Result<Verified, VerifyFault>
-    ensures { Ran (cond plan.keep_going VerifiesCollection Verifies (options_of plan) result)
+    ensures { Ran (cond keep_going VerifiesCollection Verifies options result)
         (record { input = R.seen input.old; output = W.seen output.old })
         (record { input = R.seen input.new; output = W.seen output.new }) }
 {
-    let options = options_of(plan);
-    if plan.keep_going {
+    if keep_going {
         verify_collection(alloc, options, input, output)
     } else {
         verify(alloc, options, input, output)
     }
 }
 
-// Verifies the input's games as the flags of the plan ask, and returns the exit status: 0, or 1 if a game has a fault
-// or something failed.
+// Verifies the input's games as the options ask, and returns the exit status: 0, or 1 if a game has a fault or something
+// failed.
 fn verified<R: Input, W: Output, E: Output>(
     alloc: Global,
-    plan: VerifyPlan,
+    keep_going: bool,
+    options: VerifyOptions,
     input: &mut R,
     output: &mut W,
     errors: &mut E,
 ) -> u8
     ensures { (found : Result Verified VerifyFault) × (result ≡ verify_status found)
-        × Ran (cond plan.keep_going VerifiesCollection Verifies (options_of plan) found)
+        × Ran (cond keep_going VerifiesCollection Verifies options found)
         (record { input = R.seen input.old; output = W.seen output.old })
         (record { input = R.seen input.new; output = W.seen output.new }) }
 {
-    match verify_as(alloc, plan, input, output) {
+    match verify_as(alloc, keep_going, options, input, output) {
         Ok(verified) => verified_status(verified),
         Err(fault) => reported(errors, &fault, 1),
     }
@@ -324,7 +299,17 @@ pub fn run_program<'a, H: Host, R: Input, W: Output, E: Output>(
     };
     match plan {
         Plan::Session => status_of(session(alloc, input, output), &mut errors.output),
-        Plan::Verify(plan) => verified(alloc, plan, input, output, &mut errors.output),
+        Plan::Verify {
+            keep_going,
+            options,
+        } => verified(
+            alloc,
+            keep_going,
+            options,
+            input,
+            output,
+            &mut errors.output,
+        ),
         Plan::Stub(arguments) => status_of(
             stub(arguments.as_slice(), input, output),
             &mut errors.output,

@@ -130,8 +130,8 @@ fn verified(rt: &HostRuntime, alloc: Global) -> Result<()> {
 // arbiter_cli
 fn arguments(rt: &HostRuntime, alloc: Global) -> Result<()> {
     let arguments = ["verify", "--quiet"];
-    if let Ok(Plan::Verify(plan)) = read_words(alloc, &arguments) {
-        println!(rt; "quiet: {}, keep going: {}", plan.quiet, plan.keep_going)?;
+    if let Ok(Plan::Verify { options, .. }) = read_words(alloc, &arguments) {
+        println!(rt; "quiet: {}, names: {}", options.quiet, options.names)?;
     }
     Ok(())
 }

@@ -2,8 +2,8 @@
 -- took the arguments (Readings.entered_well). What is planned by it is a reading of the arguments
 -- (Readings.planned_reading).
 use Rattle.std.proofs.Common.{rules, ◌≡◌, ap, sym, subst, map, Some, None, Ok}
-use Rattle.arbiter_grammar.specs.Grammar.{IsParsed, asked}
-use Rattle.arbiter_cli.specs.{Plans.said_by, ties.Requests.IsRequestOf}
+use Rattle.arbiter_grammar.specs.Grammar.{IsParsed}
+use Rattle.arbiter_cli.specs.ties.Requests.{IsRequestOf, asked, said_of}
 use Rattle.arbiter_cli.proofs.Readings.{refused_reading, planned_reading, none_asked, some_asked, entered_well}
 use Rattle.arbiter_cli.proofs.reading.read_words.Goals as goal
 use Rattle.arbiter_cli.proofs.reading.read_words.Goals.{in-None, in-Some+in-Ok-request_in}
@@ -41,16 +41,16 @@ returns c =
     let texts = map (λ w. w.now) c.args.arguments.now in
     let m = c.in-Ok.matches in
     let parsed : IsParsed texts (Ok m) = c.in-Ok.ensures.parsed in
-    let denoted : IsRequestOf (said_by (asked parsed.0 texts)) c.match-entered.request = elim c.match-entered.branch [
+    let denoted : IsRequestOf (said_of (asked parsed.0 texts)) c.match-entered.request = elim c.match-entered.branch [
       | in-None w ↦
           let is : c.entered.result ≡ None = search rules in
-          subst (IsRequestOf (said_by (asked parsed.0 texts))) (sym w.request-is)
+          subst (IsRequestOf (said_of (asked parsed.0 texts))) (sym w.request-is)
           (ap (λ p. p.0) (none_asked texts m parsed c.entered.result c.entered.ensures is))
       | in-Some+in-Ok-request_in w ↦
           let is : c.entered.result ≡ Some (w.in-Some.name, w.in-Some.found) = search rules in
           let e = some_asked texts m parsed c.entered.result c.entered.ensures (w.in-Some.name, w.in-Some.found) is in
-          subst (IsRequestOf (said_by (asked parsed.0 texts))) (sym w.request-is)
-          (subst (λ p. IsRequestOf (said_by p) w.in-Ok-request_in.request) (sym e) w.in-Ok-request_in.ensures)
+          subst (IsRequestOf (said_of (asked parsed.0 texts))) (sym w.request-is)
+          (subst (λ p. IsRequestOf (said_of p) w.in-Ok-request_in.request) (sym e) w.in-Ok-request_in.ensures)
     ] in
-    planned_reading parsed.0 texts parsed.1 parsed.2.0 c.match-entered.request denoted c.planned.result
+    planned_reading parsed.0 texts parsed.1.0 c.match-entered.request denoted c.planned.result
     c.planned.ensures.plan c.planned.ensures.fault

@@ -15,5 +15,5 @@ returns c =
     let e3 = c.in_ok-subcommand-3.ensures.shape c.in_ok-stub_command.ensures.local
     ∙ ap₂ with_subcommand e2 (ap top c.in_ok-stub_command.ensures.app) in
     IfOk-weaker c.subcommand-4.result _ _
-    (λ r h. (found.0, found.1, h.shape c.in_ok-match_command.ensures.local ∙ ap₂ with_subcommand e3 (ap top found.2)))
+    (λ r h. (found.0, h.shape c.in_ok-match_command.ensures.local ∙ ap₂ with_subcommand e3 (ap top found.1)))
     c.subcommand-4.ensures

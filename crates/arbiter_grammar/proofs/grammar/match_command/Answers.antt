@@ -33,10 +33,10 @@ returns-clause-app c =
     let e10 = c.in_ok-arg-10.ensures.shape c.draws_option.ensures.local ∙ ap₂ with_rule e9 draws.2 in
     let e11 = c.in_ok-arg-11.ensures.shape c.log_option.ensures.local ∙ ap₂ with_rule e10 c.log_option.ensures.rule in
     let e12 = c.in_ok-arg-12.ensures.shape c.flag.ensures.local ∙ ap₂ with_rule e11 falls in
-    let names : OptionNames = record { variants = variant.0; draws = draws.0 } in
+    let names : OptionNames =
+    record { variants = variant.0; draws = draws.0; variants_are = variant.1; draws_are = draws.1 } in
     IfOk-weaker c.arg-13.result _ _
-    (λ r h. (names, (variant.1, draws.1), h.shape reply.local ∙ ap₂ with_rule e12 reply.rule))
-    c.arg-13.ensures
+    (λ r h. (names, h.shape reply.local ∙ ap₂ with_rule e12 reply.rule)) c.arg-13.ensures
 
 pub returns-clause-local : goal.returns-clause-local
 returns-clause-local c =

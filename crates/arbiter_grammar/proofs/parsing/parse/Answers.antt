@@ -21,6 +21,8 @@ abbrev some_names : OptionNames
 some_names = record {
   variants = record { ref_ptr = (0, 0); now = lent (codes "normal") ∷ lent (codes "fischerandom") ∷ [] };
   draws = record { ref_ptr = (0, 0); now = lent (codes "claimed") ∷ lent (codes "automatic") ∷ [] };
+  variants_are = refl;
+  draws_are = refl;
 }
 
 parsed_by : (names : OptionNames) (a : App) (words : List Text) → a ≡ arbiter_app names → (r : Result ArgMatches Error)
@@ -37,7 +39,7 @@ parsed_by names a words e (Err x) h k =
 without_grammar : (words : List Text) (r : Result ArgMatches Error) → IsErr r → IfErr r (λ e. kind_of e ≡ OutOfMemory)
     → IsParsed words r
 without_grammar words (Ok m) is none = cc
-without_grammar words (Err e) is none = (some_names, (refl, refl), inl none)
+without_grammar words (Err e) is none = (some_names, inl none)
 
 -- what was parsed is complete
 complete_by : (names : OptionNames) (words : List Text) (r : Result ArgMatches Error) → IsParsedBy names words r
@@ -61,8 +63,7 @@ returns-clause-parsed c =
     let given = c.in_ok-arbiter_command.ensures in
     let m = c.try_get_matches_from.ensures in (
       given.0,
-      given.1,
-      parsed_by given.0 _ (map (λ a. a.now) c.args.arguments.now) given.2 c.try_get_matches_from.result
+      parsed_by given.0 _ (map (λ a. a.now) c.args.arguments.now) given.1 c.try_get_matches_from.result
           m.matches m.kinds,
     )
 
@@ -77,4 +78,4 @@ returns-clause-complete c =
     let m = c.try_get_matches_from.ensures in
     let words = map (λ a. a.now) c.args.arguments.now in
     complete_by given.0 words c.try_get_matches_from.result
-    (parsed_by given.0 _ words given.2 c.try_get_matches_from.result m.matches m.kinds)
+    (parsed_by given.0 _ words given.1 c.try_get_matches_from.result m.matches m.kinds)
