@@ -89,6 +89,9 @@ pub record ByTheGame (session : SessionSeen) : Type 0 where
   pub other_result : verdict_now session.state ≡ Some BlackMates
       → IsAnswered session "result 1-0 {Black resigns}"
       "Error (the board says otherwise): result 1-0 {Black resigns}\n"
+  -- a comment holds no brace: `?` takes the place of each
+  pub braces : verdict_now session.state ≡ None
+      → Declares session "result 1-0 {Black {resigns}}" "" WhiteWins "Black ?resigns?"
   -- FENs that are refused, each by its fault
   pub no_fen : session.state.start.variant ≡ Normal
       → IsAnswered session "setboard e4" "tellusererror Illegal position (fields)\n"

@@ -26,7 +26,7 @@ pub fn session_lines_are_answered()
 /// stalemate's, and what is shown of a game that has just begun.
 ///
 /// It refuses a result against the board's verdict that is taken, a move more than the limit, a mate or a stalemate
-/// that is not answered, and an `undo` that keeps a declared result.
+/// that is not answered, an `undo` that keeps a declared result, and a brace that stays in a comment.
 pub fn game_lines_are_answered()
     ensures { GameLinesAreAnswered }
 {}

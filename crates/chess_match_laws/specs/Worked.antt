@@ -128,11 +128,11 @@ e4 = record { from = 12; to = 28; promotion = None }
 abbrev pub e5 : Move
 e5 = record { from = 52; to = 36; promotion = None }
 
--- this match after 1 e4, for which White took 1,000 milliseconds; Black's engine has `usermove` on, White's has not
+-- this match after 1 e4, for which White took 1,001 milliseconds; Black's engine has `usermove` on, White's has not
 abbrev pub after_e4 : Match
 after_e4 = record {
   phase = AfterMove White;
-  seat = by_colour (seat_of "" (1000 ∷ [])) (seat_of "usermove=1" []);
+  seat = by_colour (seat_of "" (1001 ∷ [])) (seat_of "usermove=1" []);
   played = e4 ∷ [];
   count = 0;
   since = None;
@@ -142,7 +142,7 @@ after_e4 = record {
 abbrev pub after_e5 : Match
 after_e5 = record {
   phase = AfterMove Black;
-  seat = by_colour (seat_of "" (1000 ∷ [])) (seat_of "usermove=1" (2000 ∷ []));
+  seat = by_colour (seat_of "" (1001 ∷ [])) (seat_of "usermove=1" (2000 ∷ []));
   played = e4 ∷ e5 ∷ [];
   count = 0;
   since = None;
@@ -158,10 +158,11 @@ pub record LinesAreSent : Type 0 where
   pub only_white : AreSentAs (beginning.to Black) ""
   pub second_handshake : AreSentAs ((handshake_done worked_rules White beginning.after).to Black) "xboard\nprotover 2\n"
   pub first_turn : AreSentAs (opening worked_rules beginning.after White) "time 30000\notim 30000\ngo\n"
-  -- a first turn after a move: the move comes before the clocks
-  pub answer : AreSentAs (opening worked_rules after_e4 Black) "usermove e2e4\ntime 30000\notim 29900\ngo\n"
+  -- a first turn after a move: the move comes before the clocks, which are rounded down: White has
+  -- 298,999 milliseconds
+  pub answer : AreSentAs (opening worked_rules after_e4 Black) "usermove e2e4\ntime 30000\notim 29899\ngo\n"
   -- a later turn: the move comes after them
-  pub later_turn : AreSentAs (opening worked_rules after_e5 White) "time 29900\notim 29800\ne7e5\n"
+  pub later_turn : AreSentAs (opening worked_rules after_e5 White) "time 29899\notim 29800\ne7e5\n"
 
 -- ---- bare kings
 

@@ -21,7 +21,7 @@ pub fn levels_are_worked_out()
 /// States a law and does nothing: the lines by which handshakes and turns are opened in a match of 40 moves in 5
 /// minutes, byte by byte: in an engine's first turn the move comes before the clocks, in later turns after them.
 ///
-/// It refuses another version of the protocol, and `time` and `otim` that are exchanged.
+/// It refuses another version of the protocol, `time` and `otim` that are exchanged, and clocks that are rounded up.
 pub fn sent_lines_are_worked_out()
     ensures { LinesAreSent }
 {}
