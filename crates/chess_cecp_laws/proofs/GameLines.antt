@@ -21,7 +21,7 @@ use Rattle.chess_cecp.specs.{Commands.command_of, Commands.is_ignored, Commands.
 use Rattle.chess_cecp.specs.Session.{answers, becomes_judged, claim_row, declares, move_row, moves_text, reading_row, result_row, row, setboard_row, take_back_row}
 use Rattle.chess_cecp.specs.declared.command.Command.TheVariants.{Claim, Declare, Remove, SetBoard, ShowFen, ShowMoves, ShowState, Undo, UserMove}
 use Rattle.chess_cecp.specs.declared.command.Command.TheVariants as commands
-use Rattle.chess_cecp_laws.specs.{GameLines.Declares, GameLines.GameLinesAreAnswered, GameLines.Plays, SessionLines.Becomes, SessionLines.IsAnswered, SessionLines.IsIgnored, SessionLines.response_to}
+use Rattle.chess_cecp_laws.specs.{GameLines.ClaimsAreShown, GameLines.Declares, GameLines.GameLinesAreAnswered, GameLines.Plays, SessionLines.Becomes, SessionLines.IsAnswered, SessionLines.IsIgnored, SessionLines.response_to}
 use Rattle.chess_cecp_laws.proofs.SessionLines.{answered, if_false, if_true, responds, with_game}
 use Rattle.chess_cecp_laws.proofs.ShownLines.{fen_shown, moves_shown, stalemate_set, state_shown}
 
@@ -443,3 +443,6 @@ game_lines_are_answered session = record {
   no_king = no_king session;
   ended = ended session;
 }
+
+pub claims_are_shown : ClaimsAreShown
+claims_are_shown = record { neither = refl; threefold = refl; fifty_moves = refl; both = refl }
