@@ -21,7 +21,7 @@ use Rattle.chess_cecp.specs.{Commands.command_of, Commands.is_ignored, Commands.
 use Rattle.chess_cecp.specs.Session.{answers, becomes_judged, claim_row, declares, move_row, moves_text, reading_row, result_row, row, setboard_row, take_back_row}
 use Rattle.chess_cecp.specs.declared.command.Command.TheVariants.{Claim, Declare, Remove, SetBoard, ShowFen, ShowMoves, ShowState, Undo, UserMove}
 use Rattle.chess_cecp.specs.declared.command.Command.TheVariants as commands
-use Rattle.chess_cecp_laws.specs.{GameLines.Declares, GameLines.GameLinesAreAnswered, GameLines.Plays, SessionLines.Becomes, SessionLines.IsAnswered, SessionLines.IsIgnored, SessionLines.response_to}
+use Rattle.chess_cecp_laws.specs.{GameLines.ClaimsAreShown, GameLines.Declares, GameLines.GameLinesAreAnswered, GameLines.Plays, SessionLines.Becomes, SessionLines.IsAnswered, SessionLines.IsIgnored, SessionLines.response_to}
 use Rattle.chess_cecp_laws.proofs.SessionLines.{answered, if_false, if_true, responds, with_game}
 use Rattle.chess_cecp_laws.proofs.ShownLines.{fen_shown, moves_shown, stalemate_set, state_shown}
 
@@ -130,6 +130,23 @@ on_claim s claim e is =
 -- the result that is declared
 abbrev black_resigns : Declared
 black_resigns = record { outcome = WhiteWins; comment = codes "Black resigns" }
+
+-- a result whose comment was sent with braces in it
+abbrev without_braces : Declared
+without_braces = record { outcome = WhiteWins; comment = codes "Black ?resigns?" }
+
+braces_read : read_result (argument_of (codes "result 1-0 {Black {resigns}}")) ≡ Some without_braces
+unfolding argument_of read_result result_comment
+braces_read = refl
+
+braces_taken : (s : State) (text : List ℕ) → verdict_now s ≡ None
+    → result_row s text (read_result (argument_of (codes "result 1-0 {Black {resigns}}")))
+    ≡ becomes (result_in s without_braces)
+braces_taken s text e =
+    ap (result_row s text) braces_read
+    ∙ if_false (contradicts_verdict (verdict_now s) WhiteWins)
+    (answers s (codes "Error (the board says otherwise): ") text) (becomes (result_in s without_braces))
+    (ap (λ (w : Option Verdict). contradicts_verdict w WhiteWins) e)
 
 result_read : read_result (argument_of (codes "result 1-0 {Black resigns}")) ≡ Some black_resigns
 unfolding argument_of read_result result_comment
@@ -352,6 +369,17 @@ module _ (session : SessionSeen) where
             ∙ ap (λ (r : Response State). with_game session r.state) taken;
       }
 
+  braces : verdict_now s ≡ None
+      → Declares session "result 1-0 {Black {resigns}}" "" WhiteWins "Black ?resigns?"
+  unfolding command_of named_command is_ignored
+  braces e =
+      let first = responds session "result 1-0 {Black {resigns}}" Declare refl in
+      let taken = braces_taken s (codes "result 1-0 {Black {resigns}}") e in record {
+        text = ap (λ (r : Response SessionSeen). r.text) first ∙ ap (λ (r : Response State). r.text) taken;
+        state = ap (λ (r : Response SessionSeen). r.state) first
+            ∙ ap (λ (r : Response State). with_game session r.state) taken;
+      }
+
   other_result : verdict_now s ≡ Some BlackMates
       → IsAnswered session "result 1-0 {Black resigns}"
       "Error (the board says otherwise): result 1-0 {Black resigns}\n"
@@ -410,7 +438,11 @@ game_lines_are_answered session = record {
   new_result = λ e. taken_result session None e refl;
   same_result = λ e. taken_result session (Some WhiteMates) e refl;
   other_result = other_result session;
+  braces = braces session;
   no_fen = no_fen session;
   no_king = no_king session;
   ended = ended session;
 }
+
+pub claims_are_shown : ClaimsAreShown
+claims_are_shown = record { neither = refl; threefold = refl; fifty_moves = refl; both = refl }

@@ -6,12 +6,12 @@ use Rattle.std.proofs.{lemmas.Bool.or_parts, lemmas.List.Folds.list_any-append}
 use Rattle.chess_base.specs.{declared.man.Variant.TheVariants.Fischerandom, declared.man.Move.Move, Initial.initial_setup, Initial.initial_setup_of}
 use Rattle.chess_game.specs.Game.{State, from_start, taken_back}
 use Rattle.chess_text.specs.Moves.{shape}
-use Rattle.text_lines.specs.{Lines.LineSeen, Words.argument_of, Words.command_number, Words.word_of}
+use Rattle.text_lines.specs.{Lines.LineSeen, Lines.line_of, Lines.lines_of_parts, Lines.trimmed, Words.argument_of, Words.command_number, Words.word_of}
 use Rattle.chess_cecp.specs.Commands.{command_of, commands, ignored_commands, is_ignored, named_command}
 use Rattle.chess_cecp.specs.{Declaring.read_result, Declaring.result_comment, Held.SessionSeen, Serving.Response, Serving.becomes, declared.command.Command.Command}
 use Rattle.chess_cecp.specs.Session.{answers, features_line, row, session_response, take_back_row}
 use Rattle.chess_cecp.specs.declared.command.Command.TheVariants.{BadNumber, BareMove, Declare, Go, New, Ping, Protover, Quit, Remove, Silent, Undo, Unknown, Variant}
-use Rattle.chess_cecp_laws.specs.SessionLines.{Becomes, IsAnswered, IsIgnored, IsUnknown, OtherWordsAreUnknown, SessionLinesAreAnswered, known_words, lines_for_engines, response_to}
+use Rattle.chess_cecp_laws.specs.SessionLines.{Becomes, IsAnswered, IsIgnored, IsUnknown, LinesAreCut, OtherWordsAreUnknown, SessionLinesAreAnswered, known_words, lines_for_engines, response_to}
 
 pub if_true : {X : Type 0} (b : Bool) (x y : X) → b ≡ true → (if b then x else y) ≡ x
 if_true true x y e = refl
@@ -243,6 +243,12 @@ quits : (session : SessionSeen) → (response_to session "quit").ends ≡ true
 unfolding command_of named_command is_ignored
 quits session = ap (λ (r : Response SessionSeen). r.ends) (responds session "quit" Quit refl)
 
+too_long : (session : SessionSeen)
+    → (session_response session (record { text = codes "quit"; too_long = true; ended = true })).text
+    ≡ codes "Error (line too long): quit\n"
+unfolding session_response
+too_long session = refl
+
 -- there is nothing to take back
 none_back : (name : List ℕ) (s : State) → s.moves ≡ []
     → (take_back_row 1 name s ≡ answers s (codes "Error (command not legal now): ") name)
@@ -287,6 +293,13 @@ session_lines_are_answered session = record {
   new = begins session;
   chess960 = chess960 session;
   quit = quits session;
+  too_long = too_long session;
   undo = no_undo session;
   remove = no_remove session;
 }
+
+-- ---- lines of an input
+
+pub lines_are_cut : LinesAreCut
+unfolding trimmed line_of lines_of_parts
+lines_are_cut = record { trimmed = refl; last = refl; unended = refl; long = refl }

@@ -13,6 +13,7 @@ use Rattle.chess_game.specs.declared.verdicts.DrawClaim.TheVariants.{Threefold, 
 use Rattle.chess_game.specs.declared.verdicts.Verdict.TheVariants.{WhiteMates, BlackMates}
 use Rattle.chess_text.specs.Moves.{reading}
 use Rattle.chess_text.specs.declared.reading.Reading.TheVariants as reads
+use Rattle.chess_cecp.specs.Declaring.{claims_text}
 use Rattle.chess_cecp.specs.Held.{SessionSeen}
 use Rattle.chess_cecp_laws.specs.SessionLines.{Becomes, IsAnswered, IsIgnored, response_to}
 
@@ -89,6 +90,9 @@ pub record ByTheGame (session : SessionSeen) : Type 0 where
   pub other_result : verdict_now session.state ≡ Some BlackMates
       → IsAnswered session "result 1-0 {Black resigns}"
       "Error (the board says otherwise): result 1-0 {Black resigns}\n"
+  -- a comment holds no brace: `?` takes the place of each
+  pub braces : verdict_now session.state ≡ None
+      → Declares session "result 1-0 {Black {resigns}}" "" WhiteWins "Black ?resigns?"
   -- FENs that are refused, each by its fault
   pub no_fen : session.state.start.variant ≡ Normal
       → IsAnswered session "setboard e4" "tellusererror Illegal position (fields)\n"
@@ -101,3 +105,17 @@ pub record ByTheGame (session : SessionSeen) : Type 0 where
 -- in every session these lines are answered as `ByTheGame` says
 abbrev pub GameLinesAreAnswered : Type 0
 GameLinesAreAnswered = (session : SessionSeen) → ByTheGame session
+
+-- ---- draws that can be claimed
+
+-- `showstate` shows these claims so
+abbrev pub AreShown : (threefold fifty_moves : Bool) → Text → Type 0
+AreShown threefold fifty_moves text =
+    claims_text (record { threefold = threefold; fifty_moves = fifty_moves }) ≡ codes text
+
+-- how claims are shown
+pub record ClaimsAreShown : Type 0 where
+  pub neither : AreShown false false "none"
+  pub threefold : AreShown true false "threefold"
+  pub fifty_moves : AreShown false true "50"
+  pub both : AreShown true true "threefold+50"

@@ -1,14 +1,15 @@
--- Lines of an interface and what every session answers to them, as texts (CECP, version 2).
-use Rattle.std.specs.Prelude.{◌≡◌, Bool, true, false, List, [], ◌∷◌, ◌++◌, ℕ, codes}
+-- Lines of an interface and what every session answers to them, as texts (CECP, version 2); and how an input is cut into
+-- lines.
+use Rattle.std.specs.Prelude.{◌≡◌, Bool, true, false, List, [], ◌∷◌, ◌++◌, ℕ, codes, length, map}
 use Prim.Native.String.{String as Text}
 use Rattle.std.specs.List.{AllByRecursion, list_any}
 use Rattle.std.specs.Str.{bytes_eq}
-use Rattle.byte_devices.specs.Bytes.{new_line}
+use Rattle.byte_devices.specs.Bytes.{carriage_return, new_line, tab}
 use Rattle.chess_base.specs.declared.man.Variant.TheVariants.{Fischerandom}
 use Rattle.chess_base.specs.Initial.{initial_setup, initial_setup_of}
 use Rattle.chess_game.specs.Game.{State, from_start}
 use Rattle.chess_text.specs.Moves.{shape}
-use Rattle.text_lines.specs.Lines.{LineSeen}
+use Rattle.text_lines.specs.Lines.{LineSeen, stream_lines}
 use Rattle.text_lines.specs.Words.{word_of}
 use Rattle.chess_cecp.specs.Held.{SessionSeen}
 use Rattle.chess_cecp.specs.Serving.{Response}
@@ -83,6 +84,9 @@ pub record LinesAreAnswered (session : SessionSeen) : Type 0 where
   pub new : Becomes session "new" (from_start initial_setup)
   pub chess960 : Becomes session "variant fischerandom" (from_start (initial_setup_of Fischerandom))
   pub quit : (response_to session "quit").ends ≡ true
+  -- a line that is too long, whatever its first word is
+  pub too_long : (session_response session (record { text = codes "quit"; too_long = true; ended = true })).text
+      ≡ codes "Error (line too long): quit\n"
   -- without moves there is nothing to take back
   pub undo : session.state.moves ≡ [] → IsAnswered session "undo" "Error (command not legal now): undo\n"
   pub remove : session.state.moves ≡ [] → IsAnswered session "remove" "Error (command not legal now): remove\n"
@@ -90,3 +94,21 @@ pub record LinesAreAnswered (session : SessionSeen) : Type 0 where
 -- in every session these lines are answered as `LinesAreAnswered` says
 abbrev pub SessionLinesAreAnswered : Type 0
 SessionLinesAreAnswered = (session : SessionSeen) → LinesAreAnswered session
+
+-- ---- lines of an input
+
+-- the texts of the lines of an input that has ended, and that gave these bytes
+abbrev pub texts_of : List ℕ → List (List ℕ)
+texts_of bytes = map (λ (line : LineSeen). line.text) (stream_lines 9 true bytes)
+
+-- how an input is cut into lines
+pub record LinesAreCut : Type 0 where
+  -- a line's text is without a `\r` at its end, and then without spaces and tabs at both ends; it may be empty
+  pub trimmed : texts_of (codes " go" ++ carriage_return ∷ new_line ∷ tab ∷ codes "ping 7 \n\nquit\n")
+      ≡ codes "go" ∷ codes "ping 7" ∷ [] ∷ codes "quit" ∷ []
+  -- what follows the last `\n` is a line only if the input has ended
+  pub last : texts_of (codes "go\nquit") ≡ codes "go" ∷ codes "quit" ∷ []
+  pub unended : length (stream_lines 9 false (codes "go\nquit")) ≡ 1
+  -- a line of four bytes, and one of five, where four are the most
+  pub long : map (λ (line : LineSeen). line.too_long) (stream_lines 4 true (codes "quit\nquits\n"))
+      ≡ false ∷ true ∷ []

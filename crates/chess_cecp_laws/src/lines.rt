@@ -1,8 +1,8 @@
 //! Laws of the lines that a session is sent. A caller learns one by calling its function, which does nothing. What a
 //! law refuses are wrong definitions: with one of them it can't be proved.
 
-ghost use Rattle.chess_cecp_laws.specs.GameLines.{GameLinesAreAnswered};
-ghost use Rattle.chess_cecp_laws.specs.SessionLines.{OtherWordsAreUnknown, SessionLinesAreAnswered};
+ghost use Rattle.chess_cecp_laws.specs.GameLines.{ClaimsAreShown, GameLinesAreAnswered};
+ghost use Rattle.chess_cecp_laws.specs.SessionLines.{LinesAreCut, OtherWordsAreUnknown, SessionLinesAreAnswered};
 
 /// A law: the contract says it, and the function does nothing. A line whose first word is none of 37 words, and which
 /// has no move's shape, is answered as an unknown command.
@@ -13,20 +13,23 @@ pub fn other_words_are_unknown()
 {}
 
 /// A law: the contract says it, and the function does nothing. Some lines, a line for each ignored command among them,
-/// are answered by these texts in every session.
+/// are answered by these texts in every session. And some bytes of an input are cut into these lines: without `\r`,
+/// spaces and tabs at their ends, and too long only if they have more bytes than the most.
 ///
 /// It refuses an ignored command that is missing, another list of features, and a `variant` that begins another game.
 pub fn session_lines_are_answered()
-    ensures { SessionLinesAreAnswered }
+    ensures answers { SessionLinesAreAnswered }
+    ensures lines { LinesAreCut }
 {}
 
 /// A law: the contract says it, and the function does nothing. By what a session's game is, some lines have these
 /// answers: a move while the game is on, moves and `claim` after the end, a move beyond the limit, `undo` and `remove`
 /// of one or two half-moves, `variant normal`, `claim`, `result`, `setboard` of two FENs that are refused and of a
-/// stalemate's, and what is shown of a game that has just begun.
+/// stalemate's, and what is shown of a game that has just begun, and of the draws that can be claimed.
 ///
 /// It refuses a result against the board's verdict that is taken, a move more than the limit, a mate or a stalemate
-/// that is not answered, and an `undo` that keeps a declared result.
+/// that is not answered, an `undo` that keeps a declared result, and a brace that stays in a comment.
 pub fn game_lines_are_answered()
-    ensures { GameLinesAreAnswered }
+    ensures answers { GameLinesAreAnswered }
+    ensures claims { ClaimsAreShown }
 {}

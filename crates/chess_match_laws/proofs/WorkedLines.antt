@@ -8,7 +8,7 @@ use Rattle.text_lines.specs.Words.{argument_of, command_number}
 use Rattle.cecp_engine.specs.EngineLines.{kind_of}
 use Rattle.cecp_engine.specs.Items.{has_word, item_of, items_of, plays_fischerandom, takes}
 use Rattle.cecp_engine.specs.Levels.{allotted, base_of, base_text, decimals_text, increment_text, level_reading, level_text, milliseconds_of, thousandths_of}
-use Rattle.chess_match_laws.specs.Worked.{EndsAreOfKinds, EndsAreWorded, FeaturesAreOn, ItemsAreRead, KingsAreBare, LevelsGive, LinesAreSent, LinesSay, LosersLose}
+use Rattle.chess_match_laws.specs.Worked.{EndsAreOfKinds, EndsAreWorded, FaultsAreReported, FeaturesAreOn, ItemsAreRead, KingsAreBare, LevelsGive, LinesAreSent, LinesSay, LosersLose}
 
 pub lines_say : LinesSay
 unfolding argument_of command_number kind_of
@@ -59,8 +59,12 @@ levels_give = record {
   forty = refl;
   twelve = refl;
   short = refl;
+  long = refl;
+  parts = refl;
+  four_digits = refl;
   seconds = refl;
   shown = refl;
+  minutes_shown = refl;
   first = refl;
   last = refl;
   second = refl;
@@ -115,6 +119,9 @@ ends_are_of_kinds = record {
   decided = λ v. refl;
   claimed = λ claim. refl;
 }
+
+pub faults_are_reported : FaultsAreReported
+faults_are_reported = record { ending = refl; both_unwritten = refl; black_unwritten = refl; written = refl }
 
 pub ends_are_worded : EndsAreWorded
 ends_are_worded = record {

@@ -11,7 +11,7 @@ use Rattle.text_lines.specs.Words.{argument_of, command_number}
 use Rattle.cecp_engine.specs.EngineLines.{kind_of}
 use Rattle.cecp_engine.specs.Items.{item_of, items_of, takes}
 use Rattle.cecp_engine.specs.Levels.{allotted}
-use Rattle.chess_match_laws.specs.WorkedTurns.{ClaimsAreJudged, IgnoredAreCounted, OffersAreJudged, RepliesAreTimed, SendsBlack, by_line, offered_by}
+use Rattle.chess_match_laws.specs.WorkedTurns.{ClaimsAreJudged, HandshakesEnd, IgnoredAreCounted, OffersAreJudged, RepliesAreTimed, SendsBlack, SilencesAreJudged, by_line, offered_by}
 
 pub claims_are_judged : ClaimsAreJudged
 unfolding allotted argument_of command_number kind_of
@@ -67,6 +67,27 @@ unfolding squares some_square each_square is_between is_of is_man is_clear could
     after is_legal same_men same_rights legal_en_passant_square is_same_position repetition_count allotted
     argument_of command_number kind_of
 ignored_are_counted = record { setup = refl; turn = refl }
+
+pub handshakes_end : HandshakesEnd
+unfolding argument_of command_number kind_of
+handshakes_end = record {
+  goes_on = refl;
+  too_many = refl;
+  both_lack = refl;
+  black_lacks = refl;
+  none_lacks = refl;
+  white_is_set_up = refl;
+}
+
+pub silences_are_judged : SilencesAreJudged
+silences_are_judged = record {
+  in_time = refl;
+  handshake = refl;
+  setup = refl;
+  moved = refl;
+  first = refl;
+  later = refl;
+}
 
 pub replies_are_timed : RepliesAreTimed
 unfolding argument_of command_number item_of items_of kind_of

@@ -20,7 +20,7 @@ use Rattle.chess_match.specs.Events.{Seat}
 use Rattle.chess_match.specs.Lines.{SentLine, bytes_of}
 use Rattle.chess_match.specs.Rules.{Rules, has_bare_king, rules_of}
 use Rattle.chess_match.specs.declared.draws.Draws.TheVariants as rules_of_draws
-use Rattle.chess_match.specs.Reasons.{comment_of, ended_by, outcome_by_reason}
+use Rattle.chess_match.specs.Reasons.{comment_of, ended_by, outcome_by_reason, reported_fault}
 use Rattle.chess_match.specs.declared.reason.MatchFault.{MatchFault}
 use Rattle.chess_match.specs.declared.reason.MatchFault.TheVariants.{Ended, Read, Write, NoDone, NoPing, NoSetboard, Flood, NoVariant, NoHandshake, NoAnswer}
 use Rattle.chess_match.specs.declared.reason.Reason.{Reason}
@@ -99,9 +99,15 @@ pub record LevelsGive : Type 0 where
   pub forty : level_of (codes "40 5 0") ≡ Some forty_in_five
   pub twelve : level_of (codes "0 2 12") ≡ Some two_and_twelve
   pub short : level_of (codes "0 0:30 0.1") ≡ Some (record { moves = 0; base = 30000; increment = 100 })
+  -- 2 hours, and 30 seconds more for each move; and parts of a second
+  pub long : level_of (codes "0 120 30") ≡ Some (record { moves = 0; base = 7200000; increment = 30000 })
+  pub parts : level_of (codes "0 0:08.25 0.125") ≡ Some (record { moves = 0; base = 8250; increment = 125 })
+  -- moves, minutes and seconds have at most three digits
+  pub four_digits : level_of (codes "0 1000 0") ≡ None
   -- seconds are below 60
   pub seconds : level_of (codes "0 0:60 0") ≡ None
   pub shown : level_text (record { moves = 0; base = 8500; increment = 100 }) ≡ codes "0 0:08.5 0.1"
+  pub minutes_shown : level_text (record { moves = 40; base = 305000; increment = 2000 }) ≡ codes "40 5:05 2"
   -- before the first move, after 39 moves, and after 40, with which the second session begins
   pub first : allotted forty_in_five 0 ≡ 300000
   pub last : allotted forty_in_five 39 ≡ 300000
@@ -128,11 +134,11 @@ e4 = record { from = 12; to = 28; promotion = None }
 abbrev pub e5 : Move
 e5 = record { from = 52; to = 36; promotion = None }
 
--- this match after 1 e4, for which White took 1,000 milliseconds; Black's engine has `usermove` on, White's has not
+-- this match after 1 e4, for which White took 1,001 milliseconds; Black's engine has `usermove` on, White's has not
 abbrev pub after_e4 : Match
 after_e4 = record {
   phase = AfterMove White;
-  seat = by_colour (seat_of "" (1000 ∷ [])) (seat_of "usermove=1" []);
+  seat = by_colour (seat_of "" (1001 ∷ [])) (seat_of "usermove=1" []);
   played = e4 ∷ [];
   count = 0;
   since = None;
@@ -142,7 +148,7 @@ after_e4 = record {
 abbrev pub after_e5 : Match
 after_e5 = record {
   phase = AfterMove Black;
-  seat = by_colour (seat_of "" (1000 ∷ [])) (seat_of "usermove=1" (2000 ∷ []));
+  seat = by_colour (seat_of "" (1001 ∷ [])) (seat_of "usermove=1" (2000 ∷ []));
   played = e4 ∷ e5 ∷ [];
   count = 0;
   since = None;
@@ -158,10 +164,11 @@ pub record LinesAreSent : Type 0 where
   pub only_white : AreSentAs (beginning.to Black) ""
   pub second_handshake : AreSentAs ((handshake_done worked_rules White beginning.after).to Black) "xboard\nprotover 2\n"
   pub first_turn : AreSentAs (opening worked_rules beginning.after White) "time 30000\notim 30000\ngo\n"
-  -- a first turn after a move: the move comes before the clocks
-  pub answer : AreSentAs (opening worked_rules after_e4 Black) "usermove e2e4\ntime 30000\notim 29900\ngo\n"
+  -- a first turn after a move: the move comes before the clocks, which are rounded down: White has
+  -- 298,999 milliseconds
+  pub answer : AreSentAs (opening worked_rules after_e4 Black) "usermove e2e4\ntime 30000\notim 29899\ngo\n"
   -- a later turn: the move comes after them
-  pub later_turn : AreSentAs (opening worked_rules after_e5 White) "time 29900\notim 29800\ne7e5\n"
+  pub later_turn : AreSentAs (opening worked_rules after_e5 White) "time 29899\notim 29800\ne7e5\n"
 
 -- ---- bare kings
 
@@ -208,6 +215,13 @@ pub record EndsAreOfKinds : Type 0 where
   pub agreed : ended_by Agreed ≡ how.Normal
   pub decided : (v : Verdict) → ended_by (over_by.Decided v) ≡ how.Normal
   pub claimed : (claim : DrawClaim) → ended_by (over_by.Claimed claim) ≡ how.Normal
+
+-- which fault is reported, and of which side, by whether writing the last lines failed
+pub record FaultsAreReported : Type 0 where
+  pub ending : reported_fault (Faulted Black Flood) (λ S. true) ≡ Some (Black, Flood)
+  pub both_unwritten : reported_fault Agreed (λ S. true) ≡ Some (White, Write)
+  pub black_unwritten : reported_fault Agreed (by_colour false true) ≡ Some (Black, Write)
+  pub written : reported_fault Agreed (λ S. false) ≡ None
 
 -- the comment on a match that ended for this reason is this
 abbrev pub IsWorded : Reason → Text → Type 0

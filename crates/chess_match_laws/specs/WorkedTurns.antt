@@ -1,12 +1,15 @@
 -- What lines of engines do in a match, worked out: who loses by claiming a result or rejecting a move, what an offer of
--- a draw does, when the count of ignored lines begins anew, and from which line on the time for a reply runs.
+-- a draw does, when the count of ignored lines begins anew, how long a handshake and a reply are awaited, and from which
+-- line on the time for a reply runs.
 use Rattle.std.specs.Prelude.{◌≡◌, ℕ, Bool, true, false, List, [], ◌∷◌, codes, Option, None, Some}
 use Prim.Native.String.{String as Text}
 use Rattle.chess_base.specs.declared.man.Colour.{Colour}
 use Rattle.chess_base.specs.declared.man.Colour.TheVariants.{White, Black}
 use Rattle.chess_base.specs.ByColour.{by_colour}
-use Rattle.chess_match.specs.Effects.{AfterMove, BeforeMove, Effect, Match, Over, Phase, Setup, beginning, effect}
-use Rattle.chess_match.specs.Events.{Line}
+use Rattle.chess_match.specs.Effects.{AfterMove, BeforeMove, Effect, Handshake, Match, Over, Phase, Setup, beginning, effect, judged, setup_done}
+use Rattle.chess_match.specs.Events.{Line, Silent}
+use Rattle.chess_match.specs.Rules.{Rules}
+use Rattle.chess_match.specs.declared.reason.MatchFault.TheVariants.{NoAnswer, NoDone, NoHandshake, NoPing, NoSetboard}
 use Rattle.chess_match.specs.declared.reason.Reason.TheVariants as over_by
 use Rattle.chess_match_laws.specs.Worked.{AreSentAs, after_e4, seat_of, worked_rules}
 
@@ -79,6 +82,46 @@ pub record OffersAreJudged : Type 0 where
 pub record IgnoredAreCounted : Type 0 where
   pub setup : (by_line (record (match_in (Setup White)) { count = 9998 }) White "pong 1").after.count ≡ 0
   pub turn : (by_line (record after_e4 { count = 9998 }) White "pong 2").after.count ≡ 0
+
+-- ---- before the game
+
+-- the phase of the match after one more line of White's handshake, without `done=1`, that comes after so many others
+abbrev pub handshake_after : ℕ → Phase
+handshake_after lines = (by_line (record (match_in (Handshake White)) { count = lines }) White "# loading").after.phase
+
+-- how handshakes end, and what follows
+pub record HandshakesEnd : Type 0 where
+  -- the 1,000th line without `done=1` ends the match
+  pub goes_on : handshake_after 998 ≡ Handshake White
+  pub too_many : handshake_after 999 ≡ Over (over_by.Faulted White NoDone)
+  -- if both engines lack something, it is White's fault
+  pub both_lack : (judged worked_rules (Some NoSetboard) (Some NoPing) beginning.after).after.phase
+      ≡ Over (over_by.Faulted White NoSetboard)
+  pub black_lacks : (judged worked_rules None (Some NoPing) beginning.after).after.phase
+      ≡ Over (over_by.Faulted Black NoPing)
+  -- if none does, White's engine is set up, and then Black's
+  pub none_lacks : (judged worked_rules None None beginning.after).after.phase ≡ Setup White
+  pub white_is_set_up : (setup_done worked_rules White beginning.after).after.phase ≡ Setup Black
+
+-- ---- silences
+
+-- the rules of the match, but that a reply is awaited for 5,000 milliseconds
+abbrev pub five_seconds : Rules
+five_seconds = record worked_rules { patience = record { flag = false; reply = Some 5000 } }
+
+-- the phase of the match, whose last line that counted came at the moment 2,000, after a silence of White at this moment
+abbrev pub after_silence : Phase → ℕ → Phase
+after_silence phase moment = (effect five_seconds (match_in phase) (Silent White moment)).after.phase
+
+-- what a silence does: the match goes on, or it ends by the fault that says what was awaited
+pub record SilencesAreJudged : Type 0 where
+  pub in_time : after_silence (Setup White) 7000 ≡ Setup White
+  pub handshake : after_silence (Handshake White) 7001 ≡ Over (over_by.Faulted White NoHandshake)
+  pub setup : after_silence (Setup White) 7001 ≡ Over (over_by.Faulted White NoAnswer)
+  pub moved : after_silence (AfterMove White) 7001 ≡ Over (over_by.Faulted White NoAnswer)
+  -- the first silence begins the time of a reply, if no line has, and no other does
+  pub first : (effect five_seconds beginning.after (Silent White 3000)).after.since ≡ Some 3000
+  pub later : (effect five_seconds (match_in (Setup White)) (Silent White 3000)).after.since ≡ Some 2000
 
 -- ---- the time for a reply
 

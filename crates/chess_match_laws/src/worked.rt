@@ -1,16 +1,18 @@
 //! Laws of lines, time controls and ends, worked out. A caller learns one by calling its function, which does nothing.
 //! What a law refuses are wrong definitions: with one of them it can't be proved.
 
-ghost use Rattle.chess_match_laws.specs.Worked.{EndsAreOfKinds, EndsAreWorded, FeaturesAreOn, ItemsAreRead, KingsAreBare, LevelsGive, LinesAreSent, LinesSay, LosersLose};
-ghost use Rattle.chess_match_laws.specs.WorkedTurns.{ClaimsAreJudged, IgnoredAreCounted, OffersAreJudged, RepliesAreTimed};
+ghost use Rattle.chess_match_laws.specs.Worked.{EndsAreOfKinds, EndsAreWorded, FaultsAreReported, FeaturesAreOn, ItemsAreRead, KingsAreBare, LevelsGive, LinesAreSent, LinesSay, LosersLose};
+ghost use Rattle.chess_match_laws.specs.WorkedTurns.{ClaimsAreJudged, HandshakesEnd, IgnoredAreCounted, OffersAreJudged, RepliesAreTimed, SilencesAreJudged};
 
 /// States a law and does nothing: what some lines of engines say, which items a `feature` line has, which features an
-/// engine has on by them, and that lines that are ignored are counted anew in each setup and each turn.
+/// engine has on by them, that lines that are ignored are counted anew in each setup and each turn, and how handshakes
+/// end.
 pub fn engine_lines_are_worked_out()
     ensures lines { LinesSay }
     ensures items { ItemsAreRead }
     ensures features { FeaturesAreOn }
     ensures counts { IgnoredAreCounted }
+    ensures handshakes { HandshakesEnd }
 {}
 
 /// States a law and does nothing: what some time controls are, and how much time they give after some moves.
@@ -21,7 +23,7 @@ pub fn levels_are_worked_out()
 /// States a law and does nothing: the lines by which handshakes and turns are opened in a match of 40 moves in 5
 /// minutes, byte by byte: in an engine's first turn the move comes before the clocks, in later turns after them.
 ///
-/// It refuses another version of the protocol, and `time` and `otim` that are exchanged.
+/// It refuses another version of the protocol, `time` and `otim` that are exchanged, and clocks that are rounded up.
 pub fn sent_lines_are_worked_out()
     ensures { LinesAreSent }
 {}
@@ -34,12 +36,13 @@ pub fn bare_kings_are_worked_out()
 
 /// States a law and does nothing: the side that resigns, forfeits on time, moves illegally or out of turn, claims
 /// falsely or rejects a legal move loses; against a bare king, and by agreement, the game is drawn; after a fault, and
-/// at the limit of half-moves, it has no outcome. And the comments on ends, word for word, and which ends are losses on
-/// time or against the rules, as PGN's tag Termination distinguishes them.
+/// at the limit of half-moves, it has no outcome. And the comments on ends, word for word, which ends are losses on time
+/// or against the rules, as PGN's tag Termination distinguishes them, and which fault is reported.
 pub fn losers_lose()
     ensures outcomes { LosersLose }
     ensures comments { EndsAreWorded }
     ensures kinds { EndsAreOfKinds }
+    ensures faults { FaultsAreReported }
 {}
 
 /// States a law and does nothing: a side that says in its turn, by `1-0` or `0-1`, that it has won loses by a false
@@ -60,9 +63,12 @@ pub fn offers_are_worked_out()
 {}
 
 /// States a law and does nothing: from which line on the time for a reply runs, in examples. In a handshake each
-/// `feature` line begins it anew, and in a setup `pong 1`; other lines don't, such as a remark.
+/// `feature` line begins it anew, and in a setup `pong 1`; other lines don't, such as a remark. And by which fault a
+/// match ends whose reply is owed for longer than the rules allow.
 ///
-/// It refuses an engine that gets more time by any line.
+/// It refuses an engine that gets more time by any line, and one whose answer to a `ping` is missing that is said to have
+/// sent no `done=1`.
 pub fn reply_times_are_worked_out()
-    ensures { RepliesAreTimed }
+    ensures times { RepliesAreTimed }
+    ensures silences { SilencesAreJudged }
 {}

@@ -1,13 +1,13 @@
--- The lines of a log are read back from its text.
+-- The lines of a log are read back from its text; and some of them by computation.
 use Rattle.std.proofs.Common.{◌≡◌, ◌∙◌, ℕ, Bool, true, false, List, [], ◌∷◌, ◌++◌, map, refl, sym, ap, append_assoc, append-nil, Some, None, arith, rules, ◌==◌, codes, decimal, flat_map, if◌then◌else◌}
 use Rattle.std.proofs.{lemmas.Bool.and_parts, lemmas.Bool.Decides.nat_tests, lemmas.List.append_cancel_left, lemmas.List.Concat.flat_map-append, lemmas.Fmt.decimal_injective, lemmas.Fmt.digits_decimal, lemmas.Str.Parse.IsNumeralModel, lemmas.Str.Parse.numerals_by_value}
-use Rattle.std.specs.{Str.Parse.digits_value, List.AllByRecursion, List.list_all}
+use Rattle.std.specs.{Fmt.digits, Str.Parse.digits_value, List.AllByRecursion, List.list_all}
 use Rattle.byte_devices.specs.Bytes.{byte, is_digit, new_line, shown_byte}
 use Rattle.chess_base.specs.{Men.same_colour, declared.man.Colour.Colour}
 use Rattle.chess_match.specs.Events.{Line, Opened, Silent, OutputEnds, FailsToRead, FailsToWrite}
 use Rattle.chess_match.specs.Notes.{Note, Happened, Gives}
 use Rattle.match_runner.specs.Log.{engine_name, lines_in, log_from, log_line, moment_after, note_text}
-use Rattle.match_runner_laws.specs.Entries.{Entry, IsShown, LogsHaveOneReading, entries_from, entries_text, is_printable, note_entries}
+use Rattle.match_runner_laws.specs.Entries.{Entry, IsShown, LogLinesLook, LogsHaveOneReading, entries_from, entries_text, is_printable, note_entries}
 
 -- how the log names an engine: that of `--white` (`is_first`) is `first`
 abbrev engine_text : Bool → List ℕ
@@ -166,3 +166,20 @@ log_is first moment (n ∷ notes) =
     (log_is first (moment_after moment n) notes)
     ∙ sym (flat_map-append (λ (e : Entry). log_line e.moment e.mark (engine_name first e.side) e.text)
     (note_entries moment n) (entries_from (moment_after moment n) notes))
+
+-- ---- lines worked out
+
+pub log_lines_look : LogLinesLook
+unfolding digits
+log_lines_look = record {
+  line = refl;
+  given = refl;
+  too_long = refl;
+  silent = refl;
+  opened = refl;
+  ended = refl;
+  unread = refl;
+  unwritten = refl;
+  shown = refl;
+  killed = refl;
+}

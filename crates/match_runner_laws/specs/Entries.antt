@@ -1,11 +1,14 @@
--- Laws of the log of a match: its text can be read in only one way.
+-- Laws of the log of a match: its text can be read in only one way, and how its lines look.
 use Rattle.std.specs.Prelude.{◌≡◌, ◌<◌, ◌^◌, ◌&&◌, ℕ, Bool, true, nat_le, List, [], ◌∷◌, ◌++◌, flat_map, map, codes, Some, None}
+use Prim.Native.String.{String as Text}
 use Rattle.std.specs.List.{AllByRecursion, list_all}
-use Rattle.byte_devices.specs.Bytes.{byte}
+use Rattle.byte_devices.specs.Bytes.{byte, tab}
 use Rattle.chess_base.specs.declared.man.Colour.{Colour}
+use Rattle.chess_base.specs.declared.man.Colour.TheVariants.{White, Black}
 use Rattle.chess_match.specs.Events.{Line, Opened, Silent, OutputEnds, FailsToRead, FailsToWrite}
 use Rattle.chess_match.specs.Notes.{Note, Happened, Gives}
-use Rattle.match_runner.specs.Log.{engine_name, lines_in, log_line, moment_after}
+use Rattle.match_runner.specs.Games.{killed_line}
+use Rattle.match_runner.specs.Log.{engine_name, lines_in, log_line, moment_after, note_text}
 
 -- ---- the lines of a log as records
 
@@ -64,3 +67,24 @@ IsShown e = (e.moment < 2 ^ 64) × (list_all is_printable e.text ≡ true)
 abbrev pub LogsHaveOneReading : Type 0
 LogsHaveOneReading = (first : Colour) (xs ys : List Entry) → AllByRecursion IsShown xs → AllByRecursion IsShown ys
     → entries_text first xs ≡ entries_text first ys → xs ≡ ys
+
+-- ---- lines worked out
+
+-- of this note the log has these lines, in a game in which the first engine has White; before it the clock showed 312
+abbrev pub IsLogged : Note → Text → Type 0
+IsLogged note text = note_text (engine_name White) 312 note ≡ codes text
+
+-- how the lines of a log look
+pub record LogLinesLook : Type 0 where
+  pub line : IsLogged (Happened (Line White (Some (codes "move e2e4")) 400)) "400 <first : move e2e4\n"
+  pub given : IsLogged (Gives Black (codes "new\nforce\n")) "312 >second: new\n312 >second: force\n"
+  pub too_long : IsLogged (Happened (Line White None 400)) "400 !first : line too long\n"
+  pub silent : IsLogged (Happened (Silent Black 400)) "400 !second: no line\n"
+  pub opened : IsLogged (Happened (Opened White 400)) ""
+  pub ended : IsLogged (Happened (OutputEnds Black)) "312 !second: output ended\n"
+  pub unread : IsLogged (Happened (FailsToRead White)) "312 !first : read failed\n"
+  pub unwritten : IsLogged (Happened (FailsToWrite White)) "312 !first : write failed\n"
+  -- a byte that is not printable ASCII
+  pub shown : IsLogged (Happened (Line White (Some (codes "a" ++ tab ∷ codes "b")) 400)) "400 <first : a?b\n"
+  -- an engine that was killed after the third game
+  pub killed : killed_line 3 Black ≡ codes "arbiter: game 3: Black did not exit, and was killed\n"

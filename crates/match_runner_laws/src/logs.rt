@@ -1,12 +1,14 @@
 //! Laws of logs.
 
-ghost use Rattle.match_runner_laws.specs.Entries.{LogsHaveOneReading};
+ghost use Rattle.match_runner_laws.specs.Entries.{LogLinesLook, LogsHaveOneReading};
 ghost use Rattle.match_runner_laws.specs.ReadBack.{LogsGiveTheGame, LogsGiveTheOutput, LogsGiveThePgn, LogsShow};
 
 /// States a law and does nothing: a log whose lines' texts are printable ASCII can be read in only one way, as these
-/// lines with their moments, marks and engines (`first`, the engine of `--white`, or `second`).
+/// lines with their moments, marks and engines (`first`, the engine of `--white`, or `second`). A line of each kind is
+/// written out, and that on an engine that was killed.
 pub fn logs_have_one_reading()
-    ensures { LogsHaveOneReading }
+    ensures reading { LogsHaveOneReading }
+    ensures lines { LogLinesLook }
 {}
 
 /// States a law and does nothing: a log gives its game back. From its lines, if their texts are printable ASCII, follow

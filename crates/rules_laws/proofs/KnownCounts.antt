@@ -7,7 +7,7 @@ use Rattle.chess_base.specs.Moves.{is_double_advance, is_en_passant, pawn_advanc
 use Rattle.chess_base.specs.Sound.{has_one_king, no_pawn_on_end_ranks, has_at_most_16, target_is_sound}
 use Rattle.chess_base.specs.Squares.{squares, some_square, each_square, is_between}
 use Rattle.chess_fen.specs.Texts.{may_name_right}
-use Rattle.rules_laws.specs.KnownCounts.{HasMoves, MovesAreAsMany, may_castle, pawn_blocked, rooks_beside, third_position, with_promotions}
+use Rattle.rules_laws.specs.KnownCounts.{HasMoves, MovesAreAsMany, castles_onto_rook, may_castle, pawn_blocked, rooks_beside, third_position, with_promotions}
 
 third : HasMoves Normal third_position 14
 unfolding squares some_square each_square is_between is_of is_man is_clear could_capture attacks is_attacked is_in_check
@@ -41,6 +41,14 @@ unfolding squares some_square each_square is_between is_of is_man is_clear could
     captured_square men_after rights_after target_after resets_clock halfmove_after after is_legal all_moves moves
 castled = refl
 
+castled_onto : HasMoves Fischerandom castles_onto_rook 13
+unfolding squares some_square each_square is_between is_of is_man is_clear could_capture attacks is_attacked is_in_check
+    king_square right_is_sound rights_are_sound has_one_king no_pawn_on_end_ranks has_at_most_16 target_is_sound
+    may_name_right is_castling_to castling castle_of castling_needs_empty castling_way_is_empty castling_way_is_safe
+    castles is_double_advance is_en_passant pawn_advances pawn_captures pawn_moves man_moves is_pseudo_legal
+    captured_square men_after rights_after target_after resets_clock halfmove_after after is_legal all_moves moves
+castled_onto = refl
+
 blocked : HasMoves Normal pawn_blocked 2
 unfolding squares some_square each_square is_between is_of is_man is_clear could_capture attacks is_attacked is_in_check
     king_square right_is_sound rights_are_sound has_one_king no_pawn_on_end_ranks has_at_most_16 target_is_sound
@@ -55,5 +63,6 @@ moves_are_as_many = record {
   promotions = promotions;
   beside = beside;
   castles = castled;
+  castles_onto = castled_onto;
   blocked = blocked;
 }

@@ -6,7 +6,13 @@ use Rattle.chess_base.specs.{Castling.king_square, Castling.right_is_sound, Faul
 use Rattle.chess_base.specs.Sound.{has_one_king, no_pawn_on_end_ranks, has_at_most_16, target_is_sound}
 use Rattle.chess_base.specs.Squares.{squares, some_square, each_square, is_between}
 use Rattle.chess_fen.specs.{Texts.may_name_right, Writing.placement_text}
-use Rattle.rules_laws.specs.KnownPositions.{FensAreRefused}
+use Rattle.rules_laws.specs.KnownPositions.{FensAreRefused, IsWrittenAs}
+
+counters_added : IsWrittenAs "4k3/8/8/8/8/8/8/4K3 w - -" "4k3/8/8/8/8/8/8/4K3 w - - 0 1"
+unfolding squares some_square each_square is_between is_of is_man is_clear could_capture attacks is_attacked
+    is_in_check king_square right_is_sound rights_are_sound has_one_king no_pawn_on_end_ranks has_at_most_16
+    target_is_sound may_name_right placement_text digits
+counters_added = refl
 
 pub fens_are_refused : FensAreRefused
 unfolding squares some_square each_square is_between is_of is_man is_clear could_capture attacks is_attacked
@@ -36,6 +42,7 @@ fens_are_refused = record {
   counter = refl;
   one_counter = refl;
   no_counters = refl;
+  counters_added = counters_added;
   two_spaces = refl;
   by_a_tab = refl;
   counters_before_kings = refl;

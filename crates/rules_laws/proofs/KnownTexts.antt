@@ -10,9 +10,9 @@ use Rattle.chess_base.specs.Squares.{squares, some_square, each_square, is_betwe
 use Rattle.chess_fen.specs.{Texts.may_name_right, Writing.placement_text}
 use Rattle.chess_game.specs.Ends.{has_bishop_on, has_insufficient_material, result_text, verdict}
 use Rattle.chess_game.specs.Same.{is_same_position, legal_en_passant_square, repetition_count, same_men, same_rights}
-use Rattle.chess_text.specs.{Parts.unmarked, Moves.denotes, Moves.denotes_described, Moves.described, San.rival_starts, San.check_mark, San.san}
+use Rattle.chess_text.specs.{Parts.unmarked, Moves.denotes, Moves.denotes_described, Moves.described, San.rival_starts, San.check_mark, San.san, San.shown_move}
 use Rattle.rules_laws.specs.KnownGames.{move_by}
-use Rattle.rules_laws.specs.KnownTexts.{IsWritten, MovesAreNumbered, MovesAreWritten, ResultsAreWorded, TagsAreInOrder, TextsDenoteMoves, tokens_from}
+use Rattle.rules_laws.specs.KnownTexts.{IsWritten, MovesAreNumbered, MovesAreShown, MovesAreWritten, ResultsAreWorded, TagsAreInOrder, TextsDenoteMoves, tokens_from}
 
 castling_check : IsWritten "5k2/8/8/8/8/8/8/4K2R w K - 0 1" (move_by "e1" "g1") "O-O+"
 unfolding squares some_square each_square is_between is_of is_man is_clear could_capture attacks is_attacked is_in_check
@@ -51,6 +51,12 @@ moves_are_written = record {
   mate = refl;
   stalemate = stalemate;
 }
+
+pub moves_are_shown : MovesAreShown
+unfolding squares some_square each_square is_between is_of is_man is_clear could_capture attacks is_attacked
+    is_in_check is_castling_to castling king_square right_is_sound rights_are_sound has_one_king no_pawn_on_end_ranks
+    has_at_most_16 target_is_sound may_name_right shown_move
+moves_are_shown = record { castling = refl; promotion = refl; king_side = refl; queen_side = refl; king = refl }
 
 pub texts_denote_moves : TextsDenoteMoves
 unfolding squares some_square each_square is_between is_of is_man is_clear could_capture attacks is_attacked

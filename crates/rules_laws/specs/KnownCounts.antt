@@ -38,17 +38,23 @@ rooks_beside = "2rkr3/8/8/8/8/8/8/2RKR3 w ECec - 0 1"
 abbrev pub may_castle : Text
 may_castle = "3rk3/8/8/8/8/8/8/RK6 w Q - 0 1"
 
+-- a position of Chess960 in which White may castle: the king on f1 goes to g1, where its rook is, and the rook to f1
+abbrev pub castles_onto_rook : Text
+castles_onto_rook = "4k3/8/8/8/8/8/8/5KR1 w K - 0 1"
+
 -- a position in which a knight blocks a pawn
 abbrev pub pawn_blocked : Text
 pawn_blocked = "4k3/8/8/8/8/4n3/4P3/4K3 w - - 0 1"
 
--- how many legal moves these five positions have: of the first two these are the published counts (perft, depth 1)
+-- how many legal moves these six positions have: of the first two these are the published counts (perft, depth 1)
 pub record MovesAreAsMany : Type 0 where
   pub third : HasMoves Normal third_position 14
   pub promotions : HasMoves Normal with_promotions 24
   pub beside : HasMoves Fischerandom rooks_beside 20
   -- seven moves of the rook, four of the king (a2, b2, c1, c2), and castling
   pub castles : HasMoves Fischerandom may_castle 12
+  -- eight moves of the rook, four of the king (e1, e2, f2, g2), and castling
+  pub castles_onto : HasMoves Fischerandom castles_onto_rook 13
   pub blocked : HasMoves Normal pawn_blocked 2
 
 -- ---- ends

@@ -139,6 +139,8 @@ pub record FensAreRefused : Type 0 where
   pub counter : IsRefused "4k3/8/8/8/8/8/8/4K3 w - - 0 x" Counters
   pub one_counter : IsRefused "4k3/8/8/8/8/8/8/4K3 w - - 0" Fields
   pub no_counters : IsTaken "4k3/8/8/8/8/8/8/4K3 w - -"
+  -- they are then 0 and 1
+  pub counters_added : IsWrittenAs "4k3/8/8/8/8/8/8/4K3 w - -" "4k3/8/8/8/8/8/8/4K3 w - - 0 1"
   -- fields are apart by one space or more, and by no tab
   pub two_spaces : IsTaken "4k3/8/8/8/8/8/8/4K3  w - - 0  1"
   pub by_a_tab : fen_reading_as Normal (codes "4k3/8/8/8/8/8/8/4K3" ++ tab ∷ codes "w - - 0 1") ≡ Err Fields

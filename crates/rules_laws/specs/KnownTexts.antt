@@ -4,6 +4,7 @@ use Prim.Native.String.{String as Text}
 use Rattle.std.specs.List.{list_all, list_any}
 use Rattle.std.specs.Result.{result_ok}
 use Rattle.chess_base.specs.declared.man.Move.{Move}
+use Rattle.chess_base.specs.declared.man.Variant.{Variant}
 use Rattle.chess_base.specs.declared.man.Variant.TheVariants.{Normal, Fischerandom}
 use Rattle.chess_base.specs.Initial.{initial_setup, initial_setup_of}
 use Rattle.chess_fen.specs.Reading.{fen_reading_as}
@@ -18,7 +19,7 @@ use Rattle.chess_game.specs.declared.verdicts.DrawClaim.TheVariants.{Threefold, 
 use Rattle.chess_game.specs.declared.verdicts.Verdict.{Verdict}
 use Rattle.chess_game.specs.declared.verdicts.Verdict.TheVariants.{WhiteMates, BlackMates, Stalemate, InsufficientMaterial, FivefoldRepetition, SeventyFiveMoves}
 use Rattle.chess_text.specs.Moves.{denotes}
-use Rattle.chess_text.specs.San.{san}
+use Rattle.chess_text.specs.San.{san, shown_move}
 use Rattle.pgn_writer.specs.GameText.{game_tokens, move_tokens, tag_lines}
 use Rattle.pgn_writer.specs.Terminations.{termination_of, termination_text}
 use Rattle.pgn_writer.specs.declared.tags.Tags.{Tags}
@@ -51,6 +52,23 @@ pub record MovesAreWritten : Type 0 where
   pub mate : IsWritten "6k1/5ppp/8/8/8/8/8/R3K3 w - - 0 1" (move_by "a1" "a8") "Ra8#"
   -- no legal move is left, but there is no check
   pub stalemate : IsWritten "7k/8/6K1/8/8/8/8/5Q2 w - - 0 1" (move_by "f1" "f7") "Qf7"
+
+-- the text of a move by its squares, in the position that a FEN of variant v denotes; `None` if the FEN is refused
+abbrev pub shown_in : Variant → Text → Move → Option (List ℕ)
+shown_in v text m = option_map (λ p. shown_move p m) (result_ok (fen_reading_as v (codes text)))
+
+-- in the position of a FEN of variant v the move is shown by its squares as `shown`
+abbrev pub IsShown : Variant → Text → Move → Text → Type 0
+IsShown v text m shown = shown_in v text m ≡ Some (codes shown)
+
+-- moves by their squares, as engines without SAN are sent them (CECP, version 2: section 8)
+pub record MovesAreShown : Type 0 where
+  pub castling : IsShown Normal "5k2/8/8/8/8/8/8/4K2R w K - 0 1" (move_by "e1" "g1") "e1g1"
+  pub promotion : IsShown Normal "4k3/P7/8/8/8/8/8/4K3 w - - 0 1" (promotes "a7" "a8") "a7a8q"
+  -- in Chess960 castling has a text of its own, and no other move of the king has
+  pub king_side : IsShown Fischerandom "5k2/8/8/8/8/8/8/4K2R w K - 0 1" (move_by "e1" "h1") "O-O"
+  pub queen_side : IsShown Fischerandom "3rk3/8/8/8/8/8/8/RK6 w Q - 0 1" (move_by "b1" "a1") "O-O-O"
+  pub king : IsShown Fischerandom "5k2/8/8/8/8/8/8/4K2R w K - 0 1" (move_by "e1" "f1") "e1f1"
 
 -- in the position of a FEN each of the first texts denotes the move, and none of the others
 abbrev pub AreItsTexts : Text → Move → List (List ℕ) → List (List ℕ) → Type 0

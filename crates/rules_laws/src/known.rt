@@ -16,7 +16,7 @@ pub fn known_lines_lead_to_these_fens()
 
 /// A law: the contract says it, and the function does nothing. FENs are refused, each for the one fault that it has,
 /// and neighbours of theirs are taken: for each condition of a sound position, and for each field. Fields are apart by
-/// spaces, not by a tab.
+/// spaces, not by a tab. Where the counters are left out they are 0 and 1.
 pub fn known_fens_are_refused()
     ensures { FensAreRefused }
 {}
@@ -28,10 +28,11 @@ pub fn known_positions_are_the_same()
     ensures { PositionsAreTheSame }
 {}
 
-/// A law: the contract says it, and the function does nothing. Known positions, one of Chess960 among them, have so
+/// A law: the contract says it, and the function does nothing. Known positions, some of Chess960 among them, have so
 /// many legal moves; of the first two these are published counts (chessprogramming.org, Perft Results).
 ///
-/// It refuses a pawn that captures straight ahead, goes past a piece or promotes to a queen alone.
+/// It refuses a pawn that captures straight ahead, goes past a piece or promotes to a queen alone, and a king of Chess960
+/// that can't castle because its own rook stands in its way.
 pub fn known_positions_have_so_many_moves()
     ensures { MovesAreAsMany }
 {}

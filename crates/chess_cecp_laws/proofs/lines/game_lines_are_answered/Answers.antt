@@ -1,6 +1,9 @@
--- The answers to some lines, by what the session's game is (GameLines).
-use Rattle.chess_cecp_laws.proofs.GameLines.{game_lines_are_answered}
+-- The answers to some lines, by what the session's game is, and how claims are shown (GameLines).
+use Rattle.chess_cecp_laws.proofs.GameLines.{claims_are_shown, game_lines_are_answered}
 use Rattle.chess_cecp_laws.proofs.lines.game_lines_are_answered.Goals as goal
 
-pub returns : goal.returns
-returns c = game_lines_are_answered
+pub returns-clause-answers : goal.returns-clause-answers
+returns-clause-answers c = game_lines_are_answered
+
+pub returns-clause-claims : goal.returns-clause-claims
+returns-clause-claims c = claims_are_shown

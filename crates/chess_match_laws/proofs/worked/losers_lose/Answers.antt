@@ -1,5 +1,5 @@
 -- Who loses for which reason, and the comments on it, by computation (WorkedLines).
-use Rattle.chess_match_laws.proofs.WorkedLines.{ends_are_of_kinds, ends_are_worded, losers_lose}
+use Rattle.chess_match_laws.proofs.WorkedLines.{ends_are_of_kinds, ends_are_worded, faults_are_reported, losers_lose}
 use Rattle.chess_match_laws.proofs.worked.losers_lose.Goals as goal
 
 pub returns-clause-outcomes : goal.returns-clause-outcomes
@@ -10,3 +10,6 @@ returns-clause-comments c = ends_are_worded
 
 pub returns-clause-kinds : goal.returns-clause-kinds
 returns-clause-kinds c = ends_are_of_kinds
+
+pub returns-clause-faults : goal.returns-clause-faults
+returns-clause-faults c = faults_are_reported

@@ -1,5 +1,8 @@
-use Rattle.chess_match_laws.proofs.WorkedTurns.{replies_are_timed}
+use Rattle.chess_match_laws.proofs.WorkedTurns.{replies_are_timed, silences_are_judged}
 use Rattle.chess_match_laws.proofs.worked.reply_times_are_worked_out.Goals as goal
 
-pub returns : goal.returns
-returns c = replies_are_timed
+pub returns-clause-times : goal.returns-clause-times
+returns-clause-times c = replies_are_timed
+
+pub returns-clause-silences : goal.returns-clause-silences
+returns-clause-silences c = silences_are_judged
