@@ -12,7 +12,7 @@ use Rattle.chess_game.specs.declared.results.Outcome.{Outcome}
 use Rattle.chess_text.specs.{declared.reading.Reading.Reading, Moves.reading}
 use Rattle.chess_text.specs.declared.reading.Reading.TheVariants as reads
 use Rattle.pgn_writer.specs.Outcomes.{outcome_of}
-use Rattle.chess_pgn.specs.{declared.read.PgnEnd.PgnEnd, declared.read.PgnFault.PgnFault, declared.read.PgnFaultKind.PgnFaultKind, GameEnds.ends_at, GameEnds.after_tags, GameEnds.game_end, GameRead.GameRead, GameRead.ending, GameRead.tagged_variant, LastTags.may_precede_tags, LastTags.tag_section, laws.Unreadable.is_unreadable, laws.Unreadable.UnreadableGamesHaveNoEnd, laws.WordKinds.word_kind, Words.is_marks}
+use Rattle.chess_pgn.specs.{declared.read.PgnEnd.PgnEnd, declared.read.PgnFault.PgnFault, declared.read.PgnFaultKind.PgnFaultKind, GameEnds.ends_at, GameEnds.game_end, GameRead.GameRead, GameRead.ending, GameRead.tagged_variant, LastTags.may_precede_tags, LastTags.tag_section, laws.Unreadable.is_unreadable, laws.Unreadable.UnreadableGamesHaveNoEnd, laws.WordKinds.word_kind, ties.TagsPassed.after_tags, Words.is_marks}
 use Rattle.chess_pgn.specs.declared.read.PgnFaultKind.TheVariants.{BadFen, BadToken, IllegalMove, AmbiguousMove, AfterEnd, TooLong, NoResult}
 use Rattle.chess_pgn.specs.declared.word_kind.WordKind.TheVariants.{End, Number, Marks, Move}
 use Rattle.chess_pgn.specs.laws.TokenByToken.{SoFar, Step, On, fails, unless_full, move_step, word_step, fen_step, tag_step, termination_after, step, read_rest_with, game_of, nothing_read, tokens_read}
