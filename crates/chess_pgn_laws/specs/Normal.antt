@@ -1,9 +1,10 @@
 -- The definitions that Chess960 widened, as they are for normal chess alone.
-use Rattle.std.specs.Prelude.{◌≡◌, ℕ, ◌-◌, Bool, not, List, [], ◌∷◌, ◌++◌, length, drop, map, slice_get, Ok, None, codes, if◌then◌else◌}
+use Rattle.std.specs.Prelude.{◌≡◌, ℕ, ◌-◌, Bool, not, List, [], ◌∷◌, ◌++◌, length, drop, map, slice_get, Result, Ok, None, codes, if◌then◌else◌}
 use Rattle.std.specs.List.{filter_map, last_or, list_all}
 use Rattle.std.specs.Option.{option_map_or, unwrap_or}
 use Rattle.std.specs.Result.{ok_prefix, result_err, result_map_both}
 use Rattle.chess_base.specs.declared.man.Variant.TheVariants.{Normal}
+use Rattle.chess_base.specs.declared.setup.Setup.{Setup}
 use Rattle.chess_base.specs.Initial.{initial_setup}
 use Rattle.chess_base.specs.Options.{list_if}
 use Rattle.chess_fen.specs.Reading.{fen_reading}
@@ -11,6 +12,7 @@ use Rattle.chess_fen.specs.Writing.{fen, is_initial}
 use Rattle.chess_game.specs.Game.{State, from_start, outcome_now}
 use Rattle.chess_game.specs.Results.{outcome_text}
 use Rattle.pgn_writer.specs.declared.tags.Tags.{Tags}
+use Rattle.chess_pgn.specs.declared.read.PgnFault.{PgnFault}
 use Rattle.chess_pgn.specs.declared.read.PgnFaultKind.TheVariants.{BadFen}
 use Rattle.chess_pgn.specs.GameRead.{GameRead, failed, read_after_tags, pgn_read}
 use Rattle.pgn_writer.specs.GameText.{tag_lines}
@@ -35,7 +37,7 @@ normal_tag_lines t s =
 abbrev pub normal_read : Bool → ℕ → ℕ → List (ℕ × Token) → GameRead
 normal_read draws limit total tokens =
     let tags = tag_section tokens in
-    let fens = map (λ tag. result_map_both (λ start. start)
+    let fens : List (Result Setup PgnFault) = map (λ tag. result_map_both (λ start. start)
     (λ fault. record { kind = BadFen fault; offset = total - tag.1 }) (fen_reading tag.0))
     (filter_map (λ t. named_tag (codes "FEN") t.1) tags) in
     let s = from_start (unwrap_or (last_or None (ok_prefix fens)) initial_setup) in
