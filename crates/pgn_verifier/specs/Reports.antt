@@ -76,17 +76,18 @@ pub data AreReports (goes_on : Bool) (strict : Strictness) (start : ℕ) (text :
       → AreReports goes_on strict start text end.offset reports
       → AreReports goes_on strict start text at (spanning (start + game_begin text at) (start + end.offset)
       (Game (length s.moves) end.outcome end.termination) ∷ reports)
-  -- the next game has a fault. The text is read on where the game ends (`next`), if `goes_on` and that is found; the
-  -- other reports are on the games after that. If it isn't found, the text from the fault's byte on isn't read
-  next_fault : {at : ℕ} {s : State} {fault : GameFault} {reports : List Placed} (reason : Option (List ℕ))
-      (next : Option ℕ) (game : IsJudged strict text at s (Err fault))
+  -- the next game has a fault. `part` is the part that is wrong. The text is read on where the game ends (`next`), if
+  -- `goes_on` and that is found; the other reports are on the games after that. If it isn't found, the text from the
+  -- fault's byte on isn't read
+  next_fault : {at : ℕ} {s : State} {fault : GameFault} {reports : List Placed} (part : ℕ × List ℕ)
+      (reason : Option (List ℕ)) (next : Option ℕ) (game : IsJudged strict text at s (Err fault))
+      → part ≡ wrong_part fault.kind text (game_begin text at) fault.offset
       → IsReason fault.kind (drop fault.offset text) (ending strict.draws_of_2014 s) reason
       → next ≡ (if goes_on then game_end (length text) game.tokens else None)
       → AreReports goes_on strict start text (unwrap_or next (length text)) reports
       → AreReports goes_on strict start text at (spanning (start + game_begin text at)
       (start + unwrap_or next (length text)) (Faulty (record fault { offset = start + fault.offset })
-      (names_of game.tokens) (start + (wrong_part fault.kind text (game_begin text at) fault.offset).0)
-      (wrong_part fault.kind text (game_begin text at) fault.offset).1 (explanation s fault.kind reason)
+      (names_of game.tokens) (start + part.0) part.1 (explanation s fault.kind reason)
       (goes_on && not (is_some next) && nat_lt fault.offset (length text))) ∷ reports)
 
 -- ---- the reports on the games of pieces

@@ -145,7 +145,7 @@ module _ (legal : ReadMovesAreLegal) (law : GamesAreOfTokens)
   has_games (none_left j) = tt
   has_games {goes_on} {strict} {start} {text} (next_game {at} {s} {end} {reports} j h) =
       (end.offset, has_game strict text at s end j, has_games h)
-  has_games {goes_on} {strict} {start} {text} (next_fault reason next j h there later) =
+  has_games {goes_on} {strict} {start} {text} (next_fault part reason next j is h there later) =
       (unwrap_or next (length text), has_games later)
 
 pub counted_games : ReadMovesAreLegal → GamesAreOfTokens → ((v : Variant) → IsSound (initial_setup_of v))

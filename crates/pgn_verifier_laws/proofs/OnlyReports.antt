@@ -46,14 +46,13 @@ only_judged strict text at s answer j =
 
 -- ---- a text
 
--- the report on a fault, whose names and reason are given
-abbrev fault_given : Bool → ℕ → List ℕ → ℕ → Option ℕ → GameFault → List ℕ → State → Option (List ℕ) → Placed
-fault_given goes_on start text at next fault names s reason =
+-- the report on a fault, whose part, names and reason are given
+abbrev fault_given : Bool → ℕ → List ℕ → ℕ → Option ℕ → ℕ × List ℕ → GameFault → List ℕ → State → Option (List ℕ)
+    → Placed
+fault_given goes_on start text at next part fault names s reason =
     spanning (start + game_begin text at) (start + unwrap_or next (length text))
-    (Faulty (record fault { offset = start + fault.offset }) names
-    (start + (wrong_part fault.kind text (game_begin text at) fault.offset).0)
-    (wrong_part fault.kind text (game_begin text at) fault.offset).1 (explanation s fault.kind reason)
-    (goes_on && not (is_some next) && nat_lt fault.offset (length text)))
+    (Faulty (record fault { offset = start + fault.offset }) names (start + part.0) part.1
+    (explanation s fault.kind reason) (goes_on && not (is_some next) && nat_lt fault.offset (length text)))
 
 -- what reports are, by how their first game was judged
 abbrev ReportsBy : Bool → Strictness → ℕ → List ℕ → ℕ → State → Result (Option PgnEnd) GameFault → List Placed → Type 0
@@ -66,16 +65,19 @@ ReportsBy goes_on strict start text at s (Err fault) reports =
     × AreReports goes_on strict start text (unwrap_or (next_at goes_on text at) (length text)) more
     × (reports ≡ fault_placed strict.draws_of_2014 goes_on start text at (next_at goes_on text at) fault s ∷ more)
 
--- the report on a fault whose names and reason are given
-fault_explained : (draws goes_on : Bool) (start : ℕ) (text : List ℕ) (at : ℕ) (next : Option ℕ) (fault : GameFault)
-    (names : List ℕ) (s : State) (reason : Option (List ℕ)) → next ≡ next_at goes_on text at
+-- it is the one that is made
+fault_explained : (draws goes_on : Bool) (start : ℕ) (text : List ℕ) (at : ℕ) (next : Option ℕ) (part : ℕ × List ℕ)
+    (fault : GameFault) (names : List ℕ) (s : State) (reason : Option (List ℕ)) → next ≡ next_at goes_on text at
+    → part ≡ wrong_part fault.kind text (game_begin text at) fault.offset
     → names ≡ names_at text at → IsReason fault.kind (drop fault.offset text) (ending draws s) reason
-    → fault_given goes_on start text at next fault names s reason
+    → fault_given goes_on start text at next part fault names s reason
     ≡ fault_placed draws goes_on start text at (next_at goes_on text at) fault s
-fault_explained draws goes_on start text at next fault names s reason there are h =
-    ap (λ o. fault_given goes_on start text at o fault names s reason) there
-    ∙ ap (λ ns. fault_given goes_on start text at (next_at goes_on text at) fault ns s reason) are
-    ∙ ap (λ r. fault_given goes_on start text at (next_at goes_on text at) fault (names_at text at) s r)
+fault_explained draws goes_on start text at next part fault names s reason there found are h =
+    let own : ℕ × List ℕ = wrong_part fault.kind text (game_begin text at) fault.offset in
+    ap (λ o. fault_given goes_on start text at o part fault names s reason) there
+    ∙ ap (λ p. fault_given goes_on start text at (next_at goes_on text at) p fault names s reason) found
+    ∙ ap (λ ns. fault_given goes_on start text at (next_at goes_on text at) own fault ns s reason) are
+    ∙ ap (λ r. fault_given goes_on start text at (next_at goes_on text at) own fault (names_at text at) s r)
     (only_reason fault.kind (drop fault.offset text) (ending draws s) reason h)
 
 module _ (goes_on : Bool) (strict : Strictness) (start : ℕ) (text : List ℕ) where
@@ -94,16 +96,16 @@ module _ (goes_on : Bool) (strict : Strictness) (start : ℕ) (text : List ℕ) 
       subst (λ r. ReportsBy goes_on strict start text at (read_at strict.draws_of_2014 text at).state r
       (game_placed start text at end s ∷ reports)) is.1
       (reports, h, ap (λ (g : State). game_placed start text at end g ∷ reports) is.0)
-  reports_at (next_fault {at} {s} {fault} {reports} reason next j h there later) =
+  reports_at (next_fault {at} {s} {fault} {reports} part reason next j found h there later) =
       let is = only_judged strict text at s (Err fault) j in
       let on : next ≡ next_at goes_on text at = there ∙ goes_on_there goes_on j in
       subst (λ r. ReportsBy goes_on strict start text at (read_at strict.draws_of_2014 text at).state r
-      (fault_given goes_on start text at next fault (names_of j.tokens) s reason ∷ reports)) is.1 (
+      (fault_given goes_on start text at next part fault (names_of j.tokens) s reason ∷ reports)) is.1 (
         reports,
         subst (λ o. AreReports goes_on strict start text (unwrap_or o (length text)) reports) on later,
         ap (λ (p : Placed). p ∷ reports)
-            (fault_explained strict.draws_of_2014 goes_on start text at next fault (names_of j.tokens) s reason on
-            (named j) h)
+            (fault_explained strict.draws_of_2014 goes_on start text at next part fault (names_of j.tokens) s reason on
+            found (named j) h)
             ∙ ap (λ (g : State). fault_placed strict.draws_of_2014 goes_on start text at
             (next_at goes_on text at) fault g ∷ reports) is.0,
       )
@@ -122,7 +124,7 @@ module _ (goes_on : Bool) (strict : Strictness) (start : ℕ) (text : List ℕ) 
       more.2
       ∙ ap (λ rs. game_placed start text at end (read_at strict.draws_of_2014 text at).state ∷ rs)
       (one_list h more.0 more.1) ∙ ap (λ (g : State). game_placed start text at end g ∷ reports) (sym is.0)
-  one_list (next_fault {at} {s} {fault} {reports} reason next j h there later) others k =
+  one_list (next_fault {at} {s} {fault} {reports} part reason next j found h there later) others k =
       let is = only_judged strict text at s (Err fault) j in
       let on : next ≡ next_at goes_on text at = there ∙ goes_on_there goes_on j in
       let more = subst (λ r. ReportsBy goes_on strict start text at
@@ -136,8 +138,8 @@ module _ (goes_on : Bool) (strict : Strictness) (start : ℕ) (text : List ℕ) 
       ∙ ap (λ (g : State). fault_placed strict.draws_of_2014 goes_on start text at
       (next_at goes_on text at) fault g ∷ reports) (sym is.0)
       ∙ ap (λ (p : Placed). p ∷ reports)
-      (sym (fault_explained strict.draws_of_2014 goes_on start text at next fault (names_of j.tokens) s reason on
-      (named j) h))
+      (sym (fault_explained strict.draws_of_2014 goes_on start text at next part fault (names_of j.tokens) s reason on
+      found (named j) h))
 
   pub only_reports_of : (reports : List Placed) → AreReports goes_on strict start text 0 reports
       → reports ≡ placed_of goes_on strict start text

@@ -26,8 +26,8 @@ use chess_text::read_moves_are_legal;
 use pgn_pieces::shards_are_cut;
 
 /// States a law and does nothing: a game is judged in one way, and a text and a collection have one list of reports. It
-/// is the one that is made by reading games one after another. Without their spans the reports are those of which the
-/// other laws speak.
+/// is the one that is made by reading games one after another. Without their spans (`Plain`) the reports are those of
+/// which the other laws speak.
 pub fn reports_are_the_only_ones()
     ensures game { (strict : Strictness) (text : List ℕ) (at : ℕ)
         → IsJudged strict text at (read_at strict.draws_of_2014 text at).state (judged_at strict text at) }

@@ -139,7 +139,8 @@ module _ (goes_on : Bool) (strict : Strictness) (start : ℕ) (text : List ℕ) 
           let more : List Placed = option_map_or (λ m. placed_from goes_on strict start n text m) next [] in
           subst (λ ns. AreReports goes_on strict start text at
           (fault_named strict.draws_of_2014 goes_on start text at next fault s ns ∷ more)) (named j)
-          (next_fault (reason fault.kind rest verdict) next j (reason_is fault.kind rest verdict)
+          (next_fault (wrong_part fault.kind text (game_begin text at) fault.offset)
+          (reason fault.kind rest verdict) next j refl (reason_is fault.kind rest verdict)
           (sym (goes_on_there goes_on j)) (after_fault next (later_there goes_on text at h) later))
 
   -- the reports on a text are those that `AreReports` asks for

@@ -53,7 +53,7 @@ next_at goes_on text at =
 
 -- ---- without their spans
 
--- a report on a game, without what depends on where its text begins, on its names, or on what follows it
+-- a report without its span, and without what depends on where its game begins, on its names and on what isn't read
 pub data Plain : Type 0 where
   PlainGame : (plies : ℕ) (outcome : Outcome) (termination : Option Termination) → Plain
   PlainFault : (fault : GameFault) (wrong_at : ℕ) (explanation : List ℕ) → Plain
@@ -63,19 +63,19 @@ abbrev pub is_at_begin : FaultKind → Bool
 is_at_begin (Pgn NoResult) = true
 is_at_begin _ = false
 
--- a report as such; a missing result is then explained at its byte, and without its game's first word
+-- such a report; a missing result is then explained at its byte, and without its game's first word
 abbrev pub plain_of : Report → Plain
 plain_of (Game plies outcome termination) = PlainGame plies outcome termination
 plain_of (Faulty fault names wrong_at part why is_unread) =
     PlainFault fault (if is_at_begin fault.kind then fault.offset else wrong_at)
     ((if is_at_begin fault.kind then [] else part) ++ why)
 
--- the reports without their spans, as such
+-- the reports without their spans (`Plain`)
 abbrev pub without_spans : List Placed → List Plain
 without_spans reports = map (λ placed. plain_of placed.report) reports
 
--- the report on a fault of the game that was read (`s`) from a text, as such. The text begins at the offset `start` of
--- the input; `draws`: whether the draws of 2014 end a game
+-- the report on a fault of a text, without its span; `s` is the game that was read. The text begins at the offset
+-- `start` of the input; `draws`: whether the draws of 2014 end a game
 abbrev pub plain_fault : Bool → ℕ → List ℕ → GameFault → State → Plain
 plain_fault draws start text fault s = PlainFault (record fault { offset = start + fault.offset })
     (start + (wrong_part fault.kind text fault.offset fault.offset).0)
