@@ -90,7 +90,7 @@ start_asked value = let v = if has_value (codes "variant") (codes "fischerandom"
     option_map_or (fen_reading_as v) (value (codes "fen")) (Ok (initial_setup_of v))
 
 -- the time controls of the engines of `--white` and `--black`: each its own, if there is one, otherwise that of
--- `--level`, which is `40 5 0` by default. The fault is that of the first invalid one, of which `--level` is the first
+-- `--level`, which is `40 5 0` by default. The fault is that of the first of the three that is invalid
 abbrev pub levels_asked : Values → Result (LevelSeen × LevelSeen) LevelFault
 levels_asked value = do
   level ← level_reading (unwrap_or (value (codes "level")) (codes "40 5 0"))
