@@ -15,7 +15,7 @@ use Rattle.pgn_verifier.specs.Reports.{Faulty, Placed, report_lines, counts_line
 use Rattle.pgn_verifier.specs.laws.Reported.{placed_of, placed_in, collection_placed, too_long_placed}
 use Rattle.pgn_verifier.specs.ties.OnTheWay.{WritesCollection, Writes, PieceStandsIf, GrowsBy, reports_seen, reports_of, counted, collection_lines}
 use Rattle.pgn_verifier.proofs.{Placed.piece_there, Verifying.collection_broke_off, Verifying.reading_stopped}
-use Rattle.pgn_verifier.proofs.LinesWritten.{took_after, broke_after, lines_after, wrote_none, counted_after}
+use Rattle.pgn_verifier.proofs.LinesWritten.{took_after, broke_after, lines_after, wrote_none, counted_after, all_counted}
 
 abbrev pub none : Tally
 none = record { games = 0; half_moves = 0; faults = 0 }
@@ -222,7 +222,7 @@ module _ (options : VerifyOptions) (r r' r'' : InputState) (w w' : OutputState) 
         text,
         next.1,
         subst (λ xs. Took w w' (report_lines options text 1 xs)) (sym all) (so.took more),
-        so.is ∙ ap (counted none) (sym all),
+        so.is ∙ ap (counted none) (sym all) ∙ all_counted (collection_placed options.strict true text),
       )
 
   pub stopped : (law : PiecesAreCut) (fault : PieceFault) → Next s s' r r'' so.text (Err fault)

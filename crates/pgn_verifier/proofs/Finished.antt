@@ -10,7 +10,7 @@ use Rattle.pgn_pieces.specs.declared.pieces.PieceFault.TheVariants as piece
 use Rattle.pgn_pieces.proofs.shared.Inputs.{nothing_read}
 use Rattle.pgn_verifier.specs.Reports.{report_lines, counts_line, counts_of, verified}
 use Rattle.pgn_verifier.specs.ties.OnTheWay.{WritesCollection, StandsIf, next_number, counted, text_lines, collection_lines}
-use Rattle.pgn_verifier.proofs.{Verifying.collection_verified, Verifying.collection_broke_off, Verifying.reading_stopped}
+use Rattle.pgn_verifier.proofs.{LinesWritten.all_counted, Verifying.collection_verified, Verifying.collection_broke_off, Verifying.reading_stopped}
 
 abbrev pub none : Tally
 none = record { games = 0; half_moves = 0; faults = 0 }
@@ -39,7 +39,8 @@ whole_lines options t text is =
 pub whole_counted : (strict : Strictness) (t u : Tally) (text : List ℕ) (v : Verified) → t ≡ none
     → u ≡ counted t (placed_on strict 0 text) → v ≡ verified u → v ≡ verified (counts_of (placed_on strict 0 text))
 whole_counted strict t u text v is h e =
-    e ∙ ap verified (h ∙ ap (λ (x : Tally). counted x (placed_on strict 0 text)) is)
+    e ∙ ap verified (h ∙ ap (λ (x : Tally). counted x (placed_on strict 0 text)) is
+    ∙ all_counted (placed_on strict 0 text))
 
 -- ---- a collection
 

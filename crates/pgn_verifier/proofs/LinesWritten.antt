@@ -1,11 +1,12 @@
 -- Reports that are written one after the other, and counted, are all of their lines in turn, up to one whose write
 -- fails.
-use Rattle.std.proofs.Common.{◌≡◌, ℕ, ◌+◌, List, [], ◌∷◌, ◌++◌, length, Result, Ok, Err, refl, sym, ap, subst, ◌∙◌, append_assoc, append-nil, arith}
+use Rattle.std.proofs.Common.{◌≡◌, ℕ, ◌+◌, cond, not, List, [], ◌∷◌, ◌++◌, length, Result, Ok, Err, refl, sym, ap, subst, ◌∙◌, append_assoc, append-nil, arith, count_by, sum_by}
+use Rattle.std.proofs.lemmas.List.Sums.{sum_by-cons}
 use Rattle.byte_devices.specs.Devices.{OutputState, Took, CutShort}
 use Rattle.byte_devices.proofs.shared.Devices.{took_none, took_more, breaks_more, breaks_longer}
 use Rattle.pgn_verifier.specs.{declared.options.VerifyOptions.VerifyOptions, declared.tally.Tally.Tally}
-use Rattle.pgn_verifier.specs.Reports.{Report, Game, Faulty, Placed, written_line, report_lines, with_report}
-use Rattle.pgn_verifier.specs.ties.OnTheWay.{next_number, Writes, counted}
+use Rattle.pgn_verifier.specs.Reports.{Report, Game, Faulty, Placed, written_line, report_lines, counts_of, is_game, plies_of}
+use Rattle.pgn_verifier.specs.ties.OnTheWay.{next_number, Writes, counted, with_report}
 
 -- ---- reports and those after them
 
@@ -29,6 +30,59 @@ lines_after options input number (x ∷ xs) ys =
 pub counted_after : (t : Tally) (xs ys : List Placed) → counted (counted t xs) ys ≡ counted t (xs ++ ys)
 counted_after t [] ys = refl
 counted_after t (x ∷ xs) ys = counted_after (with_report t x.report) xs ys
+
+games_one : (t : Tally) (r : Report) → (with_report t r).games ≡ t.games + cond (is_game r) 1 0
+games_one t (Game plies outcome termination) = omega arith
+games_one t (Faulty fault names wrong_at part why is_unread) = omega arith
+
+moves_one : (t : Tally) (r : Report) → (with_report t r).half_moves ≡ t.half_moves + plies_of r
+moves_one t (Game plies outcome termination) = refl
+moves_one t (Faulty fault names wrong_at part why is_unread) = omega arith
+
+faults_one : (t : Tally) (r : Report) → (with_report t r).faults ≡ t.faults + cond (not (is_game r)) 1 0
+faults_one t (Game plies outcome termination) = omega arith
+faults_one t (Faulty fault names wrong_at part why is_unread) = omega arith
+
+-- the counts so far and those of more reports, field by field
+record Sums (t : Tally) (rs : List Placed) : Type 0 where
+  pub games : (counted t rs).games ≡ t.games + count_by (λ (p : Placed). is_game p.report) rs
+  pub half_moves : (counted t rs).half_moves ≡ t.half_moves + sum_by (λ (p : Placed). plies_of p.report) rs
+  pub faults : (counted t rs).faults ≡ t.faults + count_by (λ (p : Placed). not (is_game p.report)) rs
+
+-- with one report more before them
+more : (t : Tally) (p : Placed) (rs : List Placed) → Sums (with_report t p.report) rs → Sums t (p ∷ rs)
+more t p rs h =
+    let a = sum_by-cons (λ (q : Placed). cond (is_game q.report) 1 0) p rs in
+    let b = sum_by-cons (λ (q : Placed). plies_of q.report) p rs in
+    let c = sum_by-cons (λ (q : Placed). cond (not (is_game q.report)) 1 0) p rs in
+    let games = games_one t p.report in
+    let half_moves = moves_one t p.report in
+    let faults = faults_one t p.report in
+    let rest_games = h.games in
+    let rest_moves = h.half_moves in
+    let rest_faults = h.faults in
+    record {
+      games = omega (arith, a, games, rest_games);
+      half_moves = omega (arith, b, half_moves, rest_moves);
+      faults = omega (arith, c, faults, rest_faults);
+    }
+
+sums_are : (t : Tally) (rs : List Placed) → Sums t rs
+sums_are t [] = record { games = omega arith; half_moves = omega arith; faults = omega arith }
+sums_are t (p ∷ rs) = more t p rs (sums_are (with_report t p.report) rs)
+
+same_counts : (t u : Tally) → t.games ≡ u.games → t.half_moves ≡ u.half_moves → t.faults ≡ u.faults → t ≡ u
+same_counts t u games half_moves faults = rw (sym games, sym half_moves, sym faults) refl
+
+-- the counts of all reports
+pub all_counted : (rs : List Placed) → counted (record { games = 0; half_moves = 0; faults = 0 }) rs ≡ counts_of rs
+all_counted rs =
+    let sums = sums_are (record { games = 0; half_moves = 0; faults = 0 }) rs in
+    let games = sums.games in
+    let half_moves = sums.half_moves in
+    let faults = sums.faults in
+    same_counts (counted (record { games = 0; half_moves = 0; faults = 0 }) rs) (counts_of rs)
+    (omega (arith, games)) (omega (arith, half_moves)) (omega (arith, faults))
 
 next_after : (t : Tally) (x : Report) → next_number (with_report t x) ≡ next_number t + 1
 next_after t (Game plies o e) = omega arith

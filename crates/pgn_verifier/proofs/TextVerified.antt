@@ -5,10 +5,10 @@ use Rattle.byte_devices.specs.Devices.{OutputState, Took, CutShort}
 use Rattle.chess_game.specs.Game.{State}
 use Rattle.chess_pgn.specs.declared.read.PgnEnd.{PgnEnd}
 use Rattle.pgn_verifier.specs.{declared.options.Strictness.Strictness, declared.game_fault.GameFault.GameFault, declared.options.VerifyOptions.VerifyOptions, declared.tally.Tally.Tally, declared.start.TextStart.TextStart}
-use Rattle.pgn_verifier.specs.Reports.{Placed, game_begin, report_lines, with_report}
+use Rattle.pgn_verifier.specs.Reports.{Placed, game_begin, report_lines}
 use Rattle.pgn_verifier.specs.laws.Reported.{read_at, judged_at, next_at, game_placed, fault_placed, placed_then, placed_from, placed_of}
 use Rattle.pgn_verifier.specs.ties.Explaining.{span_from}
-use Rattle.pgn_verifier.specs.ties.OnTheWay.{StandsIf, game_line, next_number, Writes, counted}
+use Rattle.pgn_verifier.specs.ties.OnTheWay.{StandsIf, game_line, next_number, Writes, counted, with_report}
 use Rattle.pgn_verifier.proofs.LinesWritten.{placed_line, wrote_none, took_after, broke_after, writes_after, one_line, first_broke, counted_after}
 
 -- ---- the reports that are left

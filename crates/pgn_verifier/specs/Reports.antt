@@ -1,6 +1,6 @@
 -- The reports on the games of a text and of pieces, their lines and their counts.
-use Rattle.std.specs.Prelude.{◌≡◌, ℕ, ◌+◌, ◌==◌, ◌&&◌, nat_le, nat_lt, Bool, true, not, if◌then◌else◌, List, [], ◌∷◌, ◌++◌, length, map, take, drop, codes, decimal, is_some, Option, Some, None, Ok, Err}
-use Rattle.std.specs.List.{fold, prefix_len}
+use Rattle.std.specs.Prelude.{◌≡◌, ℕ, ◌+◌, ◌==◌, ◌&&◌, nat_le, nat_lt, Bool, true, false, not, if◌then◌else◌, List, [], ◌∷◌, ◌++◌, length, map, take, drop, codes, decimal, is_some, Option, Some, None, Ok, Err}
+use Rattle.std.specs.List.{count_by, prefix_len, sum_by}
 use Rattle.std.specs.Bool.{MatchBool}
 use Rattle.std.specs.Option.{unwrap_or, option_map_or}
 use Rattle.byte_devices.specs.Bytes.{new_line, shown_byte, after_byte_order_mark}
@@ -138,15 +138,23 @@ report_lines options input number (placed ∷ rest) =
 
 -- ---- the counts
 
--- the counts `t` with one report more: it adds a game and its half-moves, or a fault
-abbrev pub with_report : Tally → Report → Tally
-with_report t (Game plies outcome termination) = record t { games = t.games + 1; half_moves = t.half_moves + plies }
-with_report t (Faulty fault names wrong_at part why is_unread) = record t { faults = t.faults + 1 }
+-- whether a report is on a game without a fault
+abbrev pub is_game : Report → Bool
+is_game (Game plies outcome termination) = true
+is_game (Faulty fault names wrong_at part why is_unread) = false
+
+-- how many half-moves a report counts
+abbrev pub plies_of : Report → ℕ
+plies_of (Game plies outcome termination) = plies
+plies_of (Faulty fault names wrong_at part why is_unread) = 0
 
 -- the counts of these reports: the games without a fault, their half-moves, and the faults
 abbrev pub counts_of : List Placed → Tally
-counts_of reports =
-    fold (λ t placed. with_report t placed.report) (record { games = 0; half_moves = 0; faults = 0 }) reports
+counts_of reports = record {
+  games = count_by (λ placed. is_game placed.report) reports;
+  half_moves = sum_by (λ placed. plies_of placed.report) reports;
+  faults = count_by (λ placed. not (is_game placed.report)) reports;
+}
 
 -- how verifying ended, from the counts of all reports
 abbrev pub verified : Tally → Verified

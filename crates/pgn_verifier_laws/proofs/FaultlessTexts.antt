@@ -7,8 +7,7 @@ use Rattle.byte_devices.specs.Bytes.{after_byte_order_mark}
 use Rattle.pgn_pieces.specs.{Pieces.cut, Places.breaks_line, Stream.with_offsets, Stream.pieces, declared.pieces.TheConstants.PIECE_LEN}
 use Rattle.pgn_pieces.proofs.shared.Cuts.{AreLines, no_texts, last_text, next_text, cut_is_all, cut_ends}
 use Rattle.pgn_verifier.specs.{declared.options.Strictness.Strictness, declared.game_fault.GameFault.GameFault, declared.tally.Verified.TheVariants.EachGame, declared.tally.Verified.TheVariants.FaultReported}
-use Rattle.pgn_verifier.specs.Reports.{Report, Game, Faulty, Placed, counts_of, verified}
-use Rattle.pgn_verifier.proofs.shared.Counts.{is_game as is_counted, faults_counted}
+use Rattle.pgn_verifier.specs.Reports.{Report, Game, Faulty, Placed, is_game as is_counted, counts_of, verified}
 use Rattle.pgn_verifier_laws.specs.NoFaults.{begins_with_mark, ends_with_return, FaultlessTextsAreReportedAlike}
 use Rattle.pgn_verifier_laws.specs.Parts.{BeginsAlike, HoldsWhole, no_more, game, AllHoldWhole, no_parts, next_part}
 use Rattle.pgn_verifier_laws.proofs.Parts.{next_begins, reported_alike, reported_alone, all_reported_alike}
@@ -37,7 +36,7 @@ faults_alike (p ∷ rs) =
 all_games : (rs : List Placed) → verified (counts_of rs) ≡ EachGame → list_all is_game (without_spans rs) ≡ true
 all_games rs h = ap (λ p. list_all p (without_spans rs)) (sym (fun_ext no_fault))
     ∙ sym (sum_by-zero (λ r. cond (not (is_game r)) 1 0) (without_spans rs))
-    ∙ ap (λ n. eqb n 0) (sym (faults_counted rs ∙ faults_alike rs)) ∙ by_test (eqb (counts_of rs).faults 0) refl h
+    ∙ ap (λ n. eqb n 0) (sym (faults_alike rs)) ∙ by_test (eqb (counts_of rs).faults 0) refl h
   where
     by_test : (b : Bool) → eqb (counts_of rs).faults 0 ≡ b → (if b then EachGame else FaultReported) ≡ EachGame
         → eqb (counts_of rs).faults 0 ≡ true

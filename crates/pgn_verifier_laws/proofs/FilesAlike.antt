@@ -7,10 +7,9 @@ use Rattle.chess_pgn.specs.{GameRead.ending, declared.read.PgnEnd.PgnEnd}
 use Rattle.pgn_pieces.specs.{Pieces.cut, Pieces.lines_of, Places.breaks_line, Stream.with_offsets, declared.pieces.TheConstants.PIECE_LEN, laws.Shards.begins_in_tag, laws.Shards.ends_in_moves, laws.Shards.ShardsAreCut}
 use Rattle.pgn_pieces.proofs.shared.Cuts.{cut_is_all, lines_joined}
 use Rattle.pgn_verifier.specs.{declared.options.Strictness.Strictness, Collection.AreCollectionReports, Explanations.explanation, Explanations.wrong_part, declared.game_fault.GameFault.GameFault, laws.Reasons.reason}
-use Rattle.pgn_verifier.specs.Reports.{Report, Game, Faulty, Placed, game_begin, counts_of}
+use Rattle.pgn_verifier.specs.Reports.{Report, Game, Faulty, Placed, game_begin, is_game, plies_of, counts_of}
 use Rattle.pgn_verifier.specs.laws.Reported.{names_at, next_at, read_at, judged_at, game_placed, fault_placed, placed_then, placed_from, placed_of, placed_in, too_long_placed}
 use Rattle.pgn_verifier_laws.specs.Files.{AreCutWherePiecesBegin, moved, one_after_another, IsSumOf, FilesAreVerifiedAlike}
-use Rattle.pgn_verifier.proofs.shared.Counts.{is_game, plies_of, games_counted, moves_counted, faults_counted}
 use Rattle.pgn_verifier_laws.proofs.OnlyReports.{only_all}
 
 -- ---- the pieces of the files
@@ -248,9 +247,9 @@ module _ (strict : Strictness) (reports : List ℕ → List Placed)
       ∙ ap (λ ps. flat_map (placed_in strict) (with_offsets 0 ps)) (pieces_of_files law files h)
       ∙ file_after_file 0 files in record {
         alike = alike;
-        games = summed as_game game_kept (λ rs. (counts_of rs).games) games_counted files alike;
-        half_moves = summed plies_of moves_kept (λ rs. (counts_of rs).half_moves) moves_counted files alike;
-        faults = summed as_fault fault_kept (λ rs. (counts_of rs).faults) faults_counted files alike;
+        games = summed as_game game_kept (λ rs. (counts_of rs).games) (λ rs. refl) files alike;
+        half_moves = summed plies_of moves_kept (λ rs. (counts_of rs).half_moves) (λ rs. refl) files alike;
+        faults = summed as_fault fault_kept (λ rs. (counts_of rs).faults) (λ rs. refl) files alike;
       }
 
 pub files_alike : ShardsAreCut → FilesAreVerifiedAlike

@@ -25,7 +25,7 @@ use Rattle.pgn_verifier.specs.declared.game_fault.GameFault.{GameFault}
 use Rattle.pgn_verifier.specs.declared.options.VerifyOptions.{VerifyOptions}
 use Rattle.pgn_verifier.specs.declared.tally.Tally.{Tally}
 use Rattle.pgn_verifier.specs.declared.tally.Verified.{Verified}
-use Rattle.pgn_verifier.specs.Reports.{Faulty, Placed, counts_of, verified, report_line, report_lines, counts_line, with_report}
+use Rattle.pgn_verifier.specs.Reports.{Report, Game, Faulty, Placed, counts_of, verified, report_line, report_lines, counts_line}
 use Rattle.pgn_verifier.specs.Collection.{VerifiesCollection}
 use Rattle.pgn_verifier.specs.declared.judged.Judged.{Judged}
 use Rattle.pgn_verifier.specs.laws.Reported.{placed_of, placed_on, collection_placed}
@@ -125,6 +125,11 @@ fault_line number fault span names =
 -- the reports on the games of these pieces, in order; `strict`: what is looked for at a game's end
 abbrev pub reports_of : Strictness → List PieceSeen → List Placed
 reports_of strict pieces = flat_map (reports_seen strict) pieces
+
+-- the counts `t` with one report more: it adds a game and its half-moves, or a fault
+abbrev pub with_report : Tally → Report → Tally
+with_report t (Game plies outcome termination) = record t { games = t.games + 1; half_moves = t.half_moves + plies }
+with_report t (Faulty fault names wrong_at part why is_unread) = record t { faults = t.faults + 1 }
 
 -- the counts `t` with these reports added: games, their half-moves, and faults
 abbrev pub counted : Tally → List Placed → Tally
