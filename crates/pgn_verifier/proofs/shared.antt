@@ -1,4 +1,3 @@
 -- Lemmas for crates above: all are about definitions, none about functions. They can cite no other module of proofs/.
-pub mod Counts
 pub mod ReportsAre
 pub mod TagReasons
