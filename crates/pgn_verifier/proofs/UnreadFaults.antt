@@ -9,7 +9,7 @@ use Rattle.pgn_verifier.specs.GameFaults.{board_says_otherwise, judged, looked_f
 use Rattle.pgn_verifier.specs.declared.game_fault.FaultKind.TheVariants.{Pgn, InVariation, UnknownVariant}
 use Rattle.pgn_verifier.specs.declared.game_fault.GameFault.{GameFault}
 use Rattle.pgn_verifier.specs.declared.options.Strictness.{Strictness}
-use Rattle.pgn_verifier.specs.laws.Reported.{judged_at, read_at}
+use Rattle.pgn_verifier.specs.laws.Reported.{read_at}
 use Rattle.pgn_verifier.specs.ties.AfterFaults.{IsFaultAt, stops_tokens}
 
 abbrev faulty : GameFault → Result (Option PgnEnd) GameFault
