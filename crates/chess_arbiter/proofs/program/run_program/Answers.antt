@@ -11,7 +11,9 @@ pub returns-in-Session : goal.returns-in-Session
 returns-in-Session g c = ([], steps_none _, search rules)
 
 pub returns-in-Verify : goal.returns-in-Verify
-returns-in-Verify g c = ([], steps_none _, search rules)
+returns-in-Verify g c =
+    let (found, is, ran) = c.verified.ensures in
+    ([], steps_none _, (Ok c.in-Ok.plan, c.in-Ok.ensures, rw c.in-Verify.is (refl, (found, is, ran))))
 
 pub returns-in-Stub : goal.returns-in-Stub
 returns-in-Stub g c = ([], steps_none _, search rules)
