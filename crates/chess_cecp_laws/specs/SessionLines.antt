@@ -97,7 +97,7 @@ SessionLinesAreAnswered = (session : SessionSeen) → LinesAreAnswered session
 
 -- ---- lines of an input
 
--- the texts of the lines of an input that has ended, and that gave these bytes
+-- the texts of the lines of an input that has ended, and that gave these bytes; no line has more than nine
 abbrev pub texts_of : List ℕ → List (List ℕ)
 texts_of bytes = map (λ (line : LineSeen). line.text) (stream_lines 9 true bytes)
 
