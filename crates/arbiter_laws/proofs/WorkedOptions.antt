@@ -2,7 +2,7 @@
 use Rattle.std.proofs.Common.{refl}
 use Rattle.cecp_engine.specs.Levels.{base_of, level_reading, milliseconds_of, thousandths_of}
 use Rattle.text_lines.specs.Words.{argument_of}
-use Rattle.arbiter_laws.specs.WorkedOptions.{LevelsAreRead, OptionsMean}
+use Rattle.arbiter_laws.specs.WorkedOptions.{LevelsAreRead, OptionsMean, StartsAreAsked}
 
 pub levels_are_read : LevelsAreRead
 unfolding argument_of base_of level_reading milliseconds_of thousandths_of
@@ -13,6 +13,15 @@ levels_are_read = record {
   own_of_black = refl;
   common_first = refl;
   white_first = refl;
+}
+
+pub starts_are_asked : StartsAreAsked
+starts_are_asked = record {
+  initial = refl;
+  normal = refl;
+  chess960 = refl;
+  fen = λ fen. refl;
+  fen_of_chess960 = λ fen. refl;
 }
 
 pub options_mean : OptionsMean

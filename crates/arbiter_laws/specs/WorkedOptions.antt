@@ -1,10 +1,15 @@
--- What options mean, worked out: the time controls of a match, how long its engines are waited for, whether draws must
--- be claimed, and what `verify` looks for and writes.
+-- What options mean, worked out: the time controls of a match, the position in which its games start, how long its
+-- engines are waited for, whether draws must be claimed, and what `verify` looks for and writes.
 use Rattle.std.specs.Prelude.{◌≡◌, true, false, List, [], ◌∷◌, codes, Some, None, Result, Ok, Err}
 use Rattle.clap.specs.Words.{Text}
-use Rattle.arbiter_cli.specs.Plans.{IsMatchPlan, levels_asked}
+use Rattle.arbiter_cli.specs.Plans.{IsMatchPlan, levels_asked, start_asked}
 use Rattle.arbiter_cli.specs.declared.plan.Plan.{Plan}
 use Rattle.arbiter_cli.specs.declared.plan.Plan.TheVariants.{Verify}
+use Rattle.chess_base.specs.Initial.{initial_setup_of}
+use Rattle.chess_base.specs.declared.fen_fault.FenFault.{FenFault}
+use Rattle.chess_base.specs.declared.man.Variant.TheVariants.{Normal, Fischerandom}
+use Rattle.chess_base.specs.declared.setup.Setup.{Setup}
+use Rattle.chess_fen.specs.Reading.{fen_reading_as}
 use Rattle.cecp_engine.specs.Levels.{LevelSeen}
 use Rattle.cecp_engine.specs.declared.level_fault.LevelFault.{LevelFault}
 use Rattle.cecp_engine.specs.declared.level_fault.LevelFault.TheVariants.{Words, Base}
@@ -51,6 +56,25 @@ pub record LevelsAreRead : Type 0 where
   pub common_first : AskForLevels
       (level_of_white (codes "0 1 0") ∷ level_of_black (codes "0 2 0") ∷ level_of_both (codes "x") ∷ []) (Err Words)
   pub white_first : AskForLevels (level_of_black (codes "x") ∷ level_of_white (codes "0 0:60 0") ∷ []) (Err Base)
+
+-- ---- the start
+
+-- these options ask for this position as the start of each game, or have this fault
+abbrev pub AskForStart : List Given → Result Setup FenFault → Type 0
+AskForStart options start = start_asked (values_in options) ≡ start
+
+-- the option that asks for Chess960
+abbrev pub chess960_asked : Given
+chess960_asked = valued (codes "variant") (codes "fischerandom")
+
+-- the start of each game, by the variant and by a FEN, which is read in that variant
+pub record StartsAreAsked : Type 0 where
+  pub initial : AskForStart [] (Ok (initial_setup_of Normal))
+  pub normal : AskForStart (valued (codes "variant") (codes "normal") ∷ []) (Ok (initial_setup_of Normal))
+  pub chess960 : AskForStart (chess960_asked ∷ []) (Ok (initial_setup_of Fischerandom))
+  pub fen : (fen : Text) → AskForStart (valued (codes "fen") fen ∷ []) (fen_reading_as Normal fen)
+  pub fen_of_chess960 : (fen : Text)
+      → AskForStart (valued (codes "fen") fen ∷ chess960_asked ∷ []) (fen_reading_as Fischerandom fen)
 
 -- ---- other options
 

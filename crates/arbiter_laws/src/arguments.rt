@@ -4,7 +4,7 @@ ghost use Rattle.std.specs.Prelude.{[], ◌∷◌, codes};
 ghost use Rattle.clap.specs.declared.error.kind.ErrorKind.TheVariants.{DisplayHelp, DisplayVersion, MissingRequiredArgument};
 ghost use Rattle.arbiter_laws.specs.Arguments.{AreRefused, AskFor, PlansAreNamed, VerifyAsBare, VerifyIsAsAsked};
 ghost use Rattle.arbiter_laws.specs.PlainArguments.{PlainArgumentsAreRead};
-ghost use Rattle.arbiter_laws.specs.WorkedOptions.{LevelsAreRead, OptionsMean};
+ghost use Rattle.arbiter_laws.specs.WorkedOptions.{LevelsAreRead, OptionsMean, StartsAreAsked};
 
 /// States a law and does nothing: plain arguments are read as what they say. These are none; `session`; `verify` and
 /// `match` with their options, in any order and each at most once; and `stub` with what it plays.
@@ -41,12 +41,14 @@ pub fn verify_is_as_asked()
 {}
 
 /// States a law and does nothing: what some options of `match` and of `verify` mean. Each engine of a match has its own
-/// level or the common one, `--reply-timeout` is in seconds, and `--strict` looks for three faults but for those that
-/// `--ignore` names.
+/// level or the common one, each game starts in the position of `--fen` or in the initial one, both in the variant of
+/// `--variant`, `--reply-timeout` is in seconds, and `--strict` looks for three faults but for those that `--ignore`
+/// names.
 ///
-/// It refuses a common level that is not looked at if each engine has its own, a level of White that is Black's, and a
-/// flag that sets another.
+/// It refuses a common level that is not looked at if each engine has its own, a level of White that is Black's, a
+/// variant that counts only with a FEN, and a flag that sets another.
 pub fn options_are_worked_out()
     ensures levels { LevelsAreRead }
+    ensures starts { StartsAreAsked }
     ensures options { OptionsMean }
 {}
