@@ -14,7 +14,7 @@ use Rattle.pgn_verifier.specs.declared.game_fault.GameFault.{GameFault}
 abbrev pub InText : ℕ → Option GameFault → Type 0
 InText len fault = IfSome fault (λ f. f.offset ≤ len)
 
-either : (P : Option GameFault → Type 0) (t : Bool) (x y : Option GameFault) → P x → P y → P (if t then x else y)
+pub either : (P : Option GameFault → Type 0) (t : Bool) (x y : Option GameFault) → P x → P y → P (if t then x else y)
 either P true x y p q = p
 either P false x y p q = q
 

@@ -12,6 +12,7 @@ use Rattle.pgn_verifier.specs.declared.options.Strictness.{Strictness}
 use Rattle.pgn_verifier.specs.laws.Reported.{read_at}
 use Rattle.pgn_verifier.specs.shared.Contradictions.{looked_for, variation_in}
 use Rattle.pgn_verifier.specs.ties.AfterFaults.{IsFaultAt, stops_tokens}
+use Rattle.pgn_verifier.proofs.FaultsInText.{either}
 
 abbrev faulty : GameFault → Result (Option PgnEnd) GameFault
 faulty fault = Err fault
@@ -30,10 +31,6 @@ never_well o f e = cc
 -- a fault, if there is one, is not at what can't be read, wherever it is
 abbrev IsReadable : List ℕ → Option GameFault → Type 0
 IsReadable text fault = IfSome fault (λ f. stops_tokens text f.offset f.kind ≡ false)
-
-either : (P : Option GameFault → Type 0) (t : Bool) (x y : Option GameFault) → P x → P y → P (if t then x else y)
-either P true x y p q = p
-either P false x y p q = q
 
 first_of : (text : List ℕ) (first second : Option GameFault) → IsReadable text first → IsReadable text second
     → IsReadable text (option_or first second)
