@@ -68,7 +68,7 @@ abbrev pub verify_options_of : Values → VerifyOptions
 verify_options_of value = let is_strict = is_set (codes "strict") value in record {
   quiet = is_set (codes "quiet") value;
   strict = record {
-    -- fivefold repetition and 75 moves end a game
+    -- fivefold repetition and 75 moves end a game, unless `--ignore` names `after-end`, with or without `--strict`
     draws_of_2014 = not (is_ignored (codes "after-end") value);
     variations = is_set (codes "variations") value;
     variant = is_strict && not (is_ignored (codes "variant") value);
@@ -89,8 +89,9 @@ abbrev pub start_asked : Values → Result Setup FenFault
 start_asked value = let v = if has_value (codes "variant") (codes "fischerandom") value then Fischerandom else Normal in
     option_map_or (fen_reading_as v) (value (codes "fen")) (Ok (initial_setup_of v))
 
--- the time controls of the engines of `--white` and `--black`: each its own, if there is one, otherwise that of
--- `--level`, which is `40 5 0` by default. The fault is that of the first of the three that is invalid
+-- the time controls of the engines of `--white` and `--black`: each its own (`--white-level`, `--black-level`), if it
+-- was given, otherwise that of `--level`, which is `40 5 0` by default. The fault is that of the first of `--level`,
+-- `--white-level` and `--black-level` that is invalid; `--level` is read even if each engine has its own
 abbrev pub levels_asked : Values → Result (LevelSeen × LevelSeen) LevelFault
 levels_asked value = do
   level ← level_reading (unwrap_or (value (codes "level")) (codes "40 5 0"))
@@ -129,7 +130,7 @@ pub record IsMatchPlan (value : Values) (plan : GamesPlan) : Type 0 where
 
 -- ---- plans
 
--- the plan is what the arguments ask for, which say `said`
+-- the plan is what arguments that say `said` ask for
 abbrev pub IsPlanOf : Said → Plan → Type 0
 IsPlanOf said Session = said.command ≡ codes "session"
 IsPlanOf said (Verify keep_going options) = (said.command ≡ codes "verify") × (ignores_kinds said.value ≡ true)
@@ -162,8 +163,8 @@ said_by names arguments = let p = unwrap_or (subcommand_of (arbiter_app names) a
     record { command = p.0; value = λ name. first_of name p.1; replies = unwrap_or (all_of (codes "words") p.1) [] }
 
 -- the result of reading these arguments, which come without the program's name, is right by the grammar of the command
--- line. `names` are references to the names that `--variant` and `--draws` take, anywhere in memory. What plain
--- arguments are read as, a law says without this (`plain_arguments_are_followed`)
+-- line. `names` are references to the names that `--variant` and `--draws` take, anywhere in memory. What the program
+-- does with plain arguments is also said without the grammar (the law `plain_arguments_are_followed`)
 abbrev pub IsReading : List Text → Result Plan WordsFault → Type 0
 IsReading arguments result =
     (names : OptionNames) × IsReadAs (fault_of (arbiter_app names) arguments) (said_by names arguments) result

@@ -29,8 +29,8 @@ pub record OptionNames : Type 0 where
   pub variants_are : map (λ n. n.now) variants.now ≡ codes "normal" ∷ codes "fischerandom" ∷ []
   pub draws_are : map (λ n. n.now) draws.now ≡ codes "claimed" ∷ codes "automatic" ∷ []
 
--- the subcommand `match` with its options, of which `--white` and `--black` are required. `Unsigned` takes both its
--- bounds
+-- the subcommand `match` with its options, of which `--white` and `--black` are required. `Unsigned a b` takes the
+-- numbers from a to b, both included
 abbrev pub match_app : OptionNames → App
 match_app names = fold with_rule (new_app (codes "match")) (
     record (option_rule (codes "white")) { required = true } ∷ record (option_rule (codes "black")) { required = true }

@@ -15,9 +15,9 @@ use crate::arguments::{
 };
 
 /// States a law and does nothing: whenever the program runs with plain arguments, it does what they say, or reports
-/// that memory ran out, or that the level, the FEN or the date of a match is invalid. Plain arguments are an empty
-/// command line; `session`; `verify` or `match` with options, in any order and each at most once; or `stub` with what
-/// it plays.
+/// that memory ran out, or that the level, the FEN or the date of a match, or a kind after `--ignore`, is invalid.
+/// Plain arguments are an empty command line; `session`; `verify` or `match` with options, in any order and each at
+/// most once; or `stub` with what it plays.
 pub fn plain_arguments_are_followed()
     ensures { PlainArgumentsAreFollowed }
 {

@@ -65,7 +65,7 @@ abbrev pub RanWithWaits : (FromInput → ToOutput → Type 0) → Devices → De
 RanWithWaits P d d' =
     (i : FromInput) × (o : ToOutput) × InputGave d.input d'.input i × OutputTook d.output d'.output o × P i o
 
--- `RanWithWaits` of a run that doesn't wait for the input: there was no silence
+-- `RanWithWaits`, but with no silence: so it is for each run that doesn't wait for the input
 abbrev pub Ran : (FromInput → ToOutput → Type 0) → Devices → Devices → Type 0
 Ran P = RanWithWaits (λ i o. (i.silences ≡ 0) × P i o)
 
@@ -85,7 +85,8 @@ nothing = record { flushed = []; left = []; any_flush = false; failed = false }
 abbrev pub all_of : List ℕ → ToOutput
 all_of text = record { flushed = text; left = []; any_flush = true; failed = false }
 
--- all of this text was written and flushed, and nothing failed; `flushes` is whether a flush succeeded
+-- all of this text was written and flushed, and nothing failed. `flushes` is whether a flush succeeded; without one the
+-- text must be empty
 abbrev pub all_flushed : Bool → List ℕ → ToOutput
 all_flushed flushes text = record { flushed = text; left = []; any_flush = flushes; failed = false }
 

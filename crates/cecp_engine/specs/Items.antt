@@ -20,8 +20,8 @@ pub record Item : Type 0 where
   pub name : List ℕ
   pub value : Value
 
--- the value in double quotes whose first quote is before this text: what comes before the next quote, maybe nothing,
--- and the text after that quote; `None` if no quote follows
+-- the value in double quotes, from the text after its first quote: what comes before the next quote, maybe nothing.
+-- With it the text after that quote; `None` if there is no other quote
 abbrev pub quoted_value : List ℕ → Option (Value × List ℕ)
 quoted_value text = let inside = take_while (λ b. not (b == byte "\"")) text in
     if nat_lt (length inside) (length text)
@@ -34,9 +34,9 @@ value_of [] = None
 value_of (c ∷ cs) = let digits = take_while is_digit (c ∷ cs) in if c == byte "\"" then quoted_value cs
     else if is_digit c then Some (record { quoted = false; text = digits }, drop (length digits) (c ∷ cs)) else None
 
--- the item that a text begins with, such as `ping=1` or `myname="Sjeng"`, and the text after it, without spaces and
--- tabs at its front: a name of letters, digits and `_`, then `=`, a value, and a space, a tab or the end. `None`
--- without one
+-- the item that a text begins with, such as `ping=1` or `myname="Sjeng"`: a name of letters, digits and `_`, then `=`
+-- and a value, after which comes a space, a tab or the end; with it the text after it, without spaces and tabs at its
+-- front. `None` if the text begins with no item
 unfoldable pub item_of : List ℕ → Option (Item × List ℕ)
 item_of text = let name = take_while is_name_byte text in let rest = drop (length name) text in
     if length name == 0 || not (bytes_eq (take 1 rest) (codes "=")) then None else do
@@ -60,8 +60,8 @@ first_items zero text = []
 first_items (suc n) text =
     option_map_or (λ p. if ends_handshake p.0 then p.0 ∷ [] else p.0 ∷ first_items n p.1) (item_of text) []
 
--- the items of a `feature` line, from the text after `feature`. A malformed item and all after it are left out, and so
--- are all after `done=1`. There are no more items than bytes, so none is cut off
+-- the items of a `feature` line with this argument (`argument_of`). A malformed item and all after it are left out, and
+-- so are all after `done=1`. There are no more items than bytes, so none is cut off
 unfoldable pub items_of : List ℕ → List Item
 items_of text = first_items (length text) text
 
@@ -71,8 +71,9 @@ items_of text = first_items (length text) text
 abbrev pub last_said : {A : Type 0} → (Value → A) → A → List ℕ → List Item → A
 last_said f default name items = fold (λ before i. if bytes_eq i.name name then f i.value else before) default items
 
--- whether an engine that sent these items has the feature `name` on: the last item of that name has the value 1.
--- Without one, `time` and `draw` are on, all others off; for the features that a match uses these are CECP's defaults
+-- whether an engine that sent these items has the feature `name` on: the last item of that name has the value 1,
+-- without quotes. With no such item, `time` and `draw` are on, all others off; for the features that a match asks for
+-- by this test these are CECP's defaults
 unfoldable pub takes : List ℕ → List Item → Bool
 takes name items = last_said is_one (bytes_eq name (codes "time") || bytes_eq name (codes "draw")) name items
 

@@ -98,7 +98,7 @@ level_text level =
 
 -- ---- time
 
--- the milliseconds that a side was given in all, after `k` moves: the base time for each session begun, and the
--- increment for each move. With 40 moves per session the second begins after 40; without sessions there is one
+-- the milliseconds that a side was given in all, after `k` moves of its own: the base time for each session begun, and
+-- the increment for each move. With 40 moves per session the second begins after 40; with 0 there is only one
 unfoldable pub allotted : LevelSeen → ℕ → ℕ
 allotted level k = level.base * (if level.moves == 0 then 1 else 1 + k / level.moves) + level.increment * k

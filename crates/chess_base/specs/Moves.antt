@@ -43,7 +43,8 @@ pawn_advances p m = is_none (man_at p.men m.to)
 unfoldable pub pawn_captures : Setup → Move → Bool
 pawn_captures p m = attacks p.men m.from m.to && (is_of (other p.side) (man_at p.men m.to) || is_at p.target m.to)
 
--- a pawn's move advances or captures, and names a promotion if and only if it ends on the last rank (3.7)
+-- a pawn's move advances or captures; it names a promotion, to a queen, rook, bishop or knight, if it ends on the last
+-- rank, and none otherwise (3.7)
 unfoldable pub pawn_moves : Setup → Move → Bool
 pawn_moves p m =
     promotion_fits (rank m.to == first_rank (other p.side)) m.promotion && (pawn_advances p m || pawn_captures p m)
@@ -53,7 +54,8 @@ pawn_moves p m =
 unfoldable pub man_moves : Setup → Move → Bool
 man_moves p m = is_none m.promotion && attacks p.men m.from m.to && not (is_of p.side (man_at p.men m.to))
 
--- move m is pseudo-legal if the last argument is what is on its start square: a piece of the side on move can make it
+-- move m, between two squares of the board, is pseudo-legal, given what is on its start square (the last argument): a
+-- piece of the side on move can make it
 abbrev pub moves_as : Setup → Move → Option Man → Bool
 moves_as p m None = false
 moves_as p m (Some x) = same_colour p.side x.colour
@@ -64,7 +66,8 @@ moves_as p m (Some x) = same_colour p.side x.colour
 unfoldable pub is_pseudo_legal : Setup → Move → Bool
 is_pseudo_legal p m = nat_lt m.from 64 && nat_lt m.to 64 && moves_as p m (man_at p.men m.from)
 
--- the piece that arrives on a move's end square: the one that left its start square, with a promotion as the new kind
+-- the moved piece as it arrives: the one that left the move's start square, after a promotion with the new kind; none
+-- if that square was empty. (In Chess960 a castling king may arrive elsewhere than on the move's end square)
 abbrev pub arriving_man : Option Man → Option Kind → Option Man
 arriving_man o k = option_map (λ (x : Man). record x { kind = unwrap_or k x.kind }) o
 
@@ -75,8 +78,8 @@ captured_square p m = if is_en_passant p m then Some (forward (other p.side) m.t
     else if is_of (other p.side) (man_at p.men m.to) then Some m.to
     else None
 
--- what is on square s after castling k, which move m is. In Chess960 one of the two may end where one started. A legal
--- castling names no promotion, so the king arrives on `king_to`
+-- what is on square s after castling k, which move m is. In Chess960 king or rook may end where one of them started, so
+-- the squares where they end come first. A legal castling names no promotion, so the king arrives on `king_to`
 abbrev pub after_castling : Setup → Move → Castle → ℕ → Option Man
 after_castling p m k s = if s == k.king_to then arriving_man (man_at p.men m.from) m.promotion
     else if s == k.rook_to then Some (record { colour = p.side; kind = Rook })

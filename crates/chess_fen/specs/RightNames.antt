@@ -39,21 +39,22 @@ abbrev pub from_edge : Colour → CastlingSide → List ℕ
 from_edge c w = map (home_square c)
     (by_side (7 ∷ 6 ∷ 5 ∷ 4 ∷ 3 ∷ 2 ∷ 1 ∷ 0 ∷ []) (0 ∷ 1 ∷ 2 ∷ 3 ∷ 4 ∷ 5 ∷ 6 ∷ 7 ∷ []) w)
 
--- square s is on that side of the square `king`, if both are on one rank: queen side is left of it (towards file a),
--- king side is all the rest, also the king's own square, and without a king (`None`) each square
+-- square s is on that side of the square `king`: on the queen side if its number is smaller, so on one rank if it is
+-- nearer to file a; otherwise on the king side, also if it is the king's own square, or if there is no king (`None`)
 abbrev pub is_towards : CastlingSide → Option ℕ → ℕ → Bool
 is_towards QueenSide king s = option_map_or (λ k. nat_lt s k) king false
 is_towards KingSide king s = not (option_map_or (λ k. nat_lt s k) king false)
 
 -- the letter names colour c's right on side w: it is c's letter of that side (K or Q, k or q), or that of a file (A to
--- H, a to h) on that side of c's king
+-- H, a to h) on that side of c's king. (Without a king on c's first rank `is_towards` still decides, but then no right
+-- of c is sound)
 abbrev pub names_right : Men → Colour → CastlingSide → ℕ → Bool
 names_right men c w letter = letter == side_letter c w
     || names_file c letter && is_towards w (king_square men c) (home_square c (letter - first_letter c))
 
 -- the rook's square that is given by a letter which names colour c's right on side w. A side's letter (K, Q, k or q)
--- gives that of c's rook on its first rank that is nearest to that edge (`None`: there is none); a file's letter gives
--- the square on that file, even without a rook
+-- gives that of the rook on c's first rank that is nearest to the edge on side w, wherever the king is (`None`: there
+-- is no rook); a file's letter gives the square of that file on c's first rank, even without a rook
 abbrev pub rook_by : Men → Colour → CastlingSide → ℕ → Option ℕ
 rook_by men c w letter = if letter == side_letter c w then find (λ s. is_man c Rook (man_at men s)) (from_edge c w)
     else Some (home_square c (letter - first_letter c))
@@ -62,9 +63,9 @@ rook_by men c w letter = if letter == side_letter c w then find (λ s. is_man c 
 pub data NamedRight : Type 0 where
   -- no letter names it: it is not there
   Absent : NamedRight
-  -- it is there, with its rook on this square
+  -- it is there, with its rook on this square; whether a rook is there is another condition (`right_is_sound`)
   At : (rook : ℕ) → NamedRight
-  -- it is named wrongly: by several letters, or by one for which there is no rook
+  -- it is named wrongly: by several letters, or by a side's letter with no rook on that colour's first rank
   Wrong : NamedRight
 
 -- a castling right of Chess960, from the rooks' squares (`rook_by`) of all letters that name it
@@ -76,7 +77,9 @@ right_by _ = Wrong
 -- ---- both
 
 -- what the letters of a castling field say of colour c's right on side w. In normal chess it is there, with the rook in
--- the corner, if the side's letter (K, Q, k or q) is among them; in Chess960 see `right_by`
+-- the corner, if the side's letter (K, Q, k or q) is among them. In Chess960 it is there if just one of them names it
+-- (`names_right`) and gives a square for its rook (`rook_by`); several letters, or one that gives no square, name it
+-- wrongly
 abbrev pub right_in : Variant → Men → List ℕ → Colour → CastlingSide → NamedRight
 right_in Normal men letters c w = if occurs (side_letter c w) letters then At (home_square c (rook_file w)) else Absent
 right_in Fischerandom men letters c w = right_by (map (rook_by men c w) (filter (names_right men c w) letters))
@@ -86,8 +89,8 @@ abbrev pub is_named_well : NamedRight → Bool
 is_named_well Wrong = false
 is_named_well _ = true
 
--- whether the letters of a castling field name no right wrongly. Wrong, in Chess960 only, are two letters for one
--- right, and a side's letter without a rook
+-- whether the letters of a castling field name no right wrongly. Wrong, in Chess960 only, are several letters for one
+-- right, and a side's letter (K, Q, k or q) of a colour with no rook on its first rank
 abbrev pub names_rights_well : Variant → Men → List ℕ → Bool
 names_rights_well v men letters = list_all (λ r. is_named_well (right_in v men letters r.0 r.1)) all_rights
 

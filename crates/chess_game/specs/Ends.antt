@@ -33,8 +33,8 @@ is_kind k o = option_map_or (λ x. same_kind k x.kind) o false
 unfoldable pub has_bishop_on : ℕ → Men → Bool
 has_bishop_on parity men = some_square (λ s. ((file s + rank s) % 2 == parity) && is_kind Bishop (man_at men s))
 
--- there is no pawn, rook or queen, and there is at most one bishop or knight in all, or else no knight, and bishops
--- only on squares of one colour: no moves lead to mate (5.2.2). Other dead positions are not found
+-- there is no pawn, rook or queen; and besides the kings there is at most one piece, or there are only bishops, all on
+-- squares of one colour: no moves lead to mate (5.2.2). Other dead positions are not found
 unfoldable pub has_insufficient_material : Men → Bool
 has_insufficient_material men = not (list_any (λ o. is_kind Pawn o || is_kind Rook o || is_kind Queen o) men)
     && (nat_le (count_by (λ o. is_kind Bishop o || is_kind Knight o) men) 1 || (not (list_any (is_kind Knight) men)
@@ -67,8 +67,8 @@ verdict_result FivefoldRepetition = record { outcome = Draw; comment = codes "Fi
 verdict_result SeventyFiveMoves = record { outcome = Draw; comment = codes "75-move rule" }
 
 -- which draws the player on move may claim after the moves ms from `start`, whether the game is over or not: by
--- threefold repetition (9.2.2), and by 50 moves of each side without a pawn move or capture (9.3.2). Claims with a move
--- yet to be made (9.2.1, 9.3.1) are not included
+-- threefold repetition (9.2.2), and by 50 moves of each side without a pawn move or capture (9.3.2). The halfmove clock
+-- counts these; it continues from that of `start`. Claims with a move yet to be made (9.2.1, 9.3.1) are not included
 abbrev pub claims : Setup → List Move → Claims
 claims start ms = record {
   threefold = nat_le 3 (repetition_count start ms);

@@ -290,7 +290,8 @@ setup_done r Black m = unless_over r m (begins_turn r r.start.side m)
 -- ---- one event
 
 -- what a line of this kind does in the phase given; it was sent by the side `S` that this phase waits for, and came at
--- `moment`. In a handshake only a `feature` line has items
+-- `moment`. A line that counts (see `since`) moves `since` to `moment` (`awaited_since`), unless the flag has fallen.
+-- In a handshake only a `feature` line has items
 abbrev pub line_row : Rules → Phase → LineKind → ℕ → Match → Effect
 line_row r (Handshake S) (Features text) moment m = handshake_row r S (items_of text) (awaited_since moment m)
 line_row r (Handshake S) kind _ m = handshake_row r S [] m
@@ -302,7 +303,7 @@ line_row r (Setup S) kind _ m = ignores r S m
 line_row r (BeforeMove S opened) kind moment m =
     if nat_lt (clock r m S) (moment - opened) then flag_row r S m
     else before_move r S (moment - opened) kind (awaited_since moment m)
--- after a move, when the `ping` is to be answered. Another move: `S` loses
+-- after a move, while `S` owes the answer to its `ping`. With another `move`, whatever it says, `S` loses
 line_row r (AfterMove S) (Moves text) _ m = ends r (MovesOutOfTurn S) m
 -- `pong N`: with the number of the latest `ping` it gives the other side its turn, with any other it is ignored
 line_row r (AfterMove S) (Answers n) _ m = if n == ping_number m S then begins_turn r (other S) m else ignores r S m

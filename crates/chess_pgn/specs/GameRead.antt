@@ -72,15 +72,15 @@ closed_by draws limit s = if is_some (ending draws s) then Some AfterEnd
 
 -- ---- after the tags
 
--- what is read of the game `s` of at most `limit` half-moves from these tokens on, which come after the tags. The text
--- has `total` bytes, and `left` are left at a token, so its offset is `total - left`; `cause` is what the tag
--- Termination names
+-- what is read of the game `s` of at most `limit` half-moves from these tokens on, which come after the tags. `draws`:
+-- whether the two draws of 2014 end a game. The text has `total` bytes, and `left` are left at a token, so its offset
+-- is `total - left`; `cause` is what the tag Termination names
 abbrev pub moves_read : Bool → ℕ → ℕ → Option Termination → State → List (ℕ × Token) → GameRead
 -- without a termination marker there is a fault at the text's end
 moves_read draws limit total cause s [] = failed s NoResult total
 moves_read draws limit total cause s ((left, Skip) ∷ ts) = moves_read draws limit total cause s ts
--- an outcome such as `1-0` ends the game after its last byte; a number (digits alone) and marks such as `!?` are passed
--- over; any other word is taken as a move
+-- an outcome such as `1-0` ends the game after its last byte; what the game then has as declared, see `declared_after`.
+-- A number (digits alone) and marks such as `!?` are passed over; any other word is taken as a move
 moves_read draws limit total cause s ((left, Word word) ∷ ts) = option_map_or (λ o. record {
   state = record s { declared = declared_after (is_some (verdict_now s)) o };
   answer = Ok (Some (record { outcome = o; termination = cause; offset = total - left + length word }));
@@ -125,8 +125,9 @@ read_after_tags draws limit total s tags rest = moves_read draws limit total
     (option_and_then (λ tag. termination_named tag.0) (last_tag (codes "Termination") tags)) s rest
 
 -- what is read of the game at the front of these tokens, of at most `limit` half-moves, in a text of `total` bytes.
--- There is no game if no token says anything of one. The last FEN gives the start; the first that denotes no position
--- is the game's fault, and the start is then that of the last FEN before it
+-- There is no game if no token says anything of one. The tag Variant gives the variant (`tagged_variant`); the last FEN
+-- gives the start, and without one it is the variant's initial position. The first FEN that denotes no position is the
+-- game's fault, and the start is then by the FENs before it alone; otherwise see `read_after_tags`
 abbrev pub read_of_split : Bool → ℕ → ℕ → List (ℕ × Token) → GameRead
 read_of_split draws limit total tokens = let tags = tag_section tokens in let v = tagged_variant tags in
     let fens = map (fen_read total v) (filter_map (λ t. named_tag (codes "FEN") t.1) tags) in

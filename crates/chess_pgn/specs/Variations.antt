@@ -1,7 +1,9 @@
 -- What is read of the variations of a game (PGN standard of 1994, section 8.2.5). A variation replaces the move just
 -- before it, so its moves begin in the position before that move; a variation in it replaces one of its own moves. A
 -- *line* is a game's own moves, or those of a variation. This project's own: which words are taken; that a result and a
--- tag are passed over in a variation; that no draw ends one; and how deep they may be nested.
+-- tag are passed over in a variation; that such a tag is read whole, so that a `)` in its string, which may end the
+-- variation for the game (`Split`), doesn't end the variation's line; that no draw ends a variation; and how deep they
+-- may be nested.
 use Rattle.std.specs.Prelude.{ℕ, zero, suc, ◌+◌, ◌-◌, Bool, false, ◌||◌, if◌then◌else◌, List, [], ◌∷◌, codes, length, take, drop, slice_index, Option, Some, None, is_some, ◌==◌}
 use Rattle.std.specs.List.{list_all, list_any}
 use Rattle.std.specs.Option.{option_map_or, option_or}
@@ -22,9 +24,10 @@ abbrev pub is_variation : List ℕ → ℕ → Token → Bool
 is_variation text at Skip = slice_index text at == byte "("
 is_variation text at _ = false
 
--- the first fault of a line of the text from these tokens on, in the position `p`. `before` is the position before the
--- line's last move, if it has one: there a variation begins, and without it the variation is a fault. `inside` gives
--- the first fault of the variation from a position, with its `(` at an offset. A token's offset is `length text - left`
+-- the first fault of a line, and of the variations in it, from these tokens of the text on, in the position `p`.
+-- `before` is the position before the line's last move so far, if it has one: a variation begins in that position, and
+-- without it is a fault. `inside` gives the first fault of the variation from a position, with its `(` at an offset. A
+-- token's offset is `length text - left`
 abbrev pub line_fault : List ℕ → (Setup → ℕ → Option PgnFault) → Option Setup → Setup → List (ℕ × Token)
     → Option PgnFault
 line_fault text inside before p [] = None
@@ -40,6 +43,7 @@ line_fault text inside before p ((left, Word word) ∷ more) =
 -- a `)`, which can't be read as a token, ends the line of a variation
 line_fault text inside before p ((left, Bad) ∷ more) = let at = length text - left in
     if bytes_eq (take 1 (drop at text)) (codes ")") then None else Some (record { kind = BadToken; offset = at })
+-- a `[` that begins no tag, or a comment or variation that isn't closed, is a bad token, too
 line_fault text inside before p ((left, _) ∷ more) = Some (record { kind = BadToken; offset = length text - left })
 
 -- the first fault of the variation whose `(` is at the offset `at` of the text, and whose moves begin in the position
@@ -51,7 +55,8 @@ variation_fault tokens (suc depth) text start at =
     line_fault text (λ p from. variation_fault tokens depth text p from) None start (tokens text (at + 1))
 
 -- the first fault in the variations of a game without another fault, whose start is `start`, and whose text goes from
--- the offset `at` to the end of `text`; it has none if no token is a variation. At most 64 variations may be open
+-- the offset `at` to the end of `text`; it has none if no token is a variation (so the moves of such a game aren't read
+-- again). At most 64 variations may be open
 abbrev pub variations_fault : (List ℕ → ℕ → List (ℕ × Token)) → List ℕ → Setup → ℕ → Option PgnFault
 variations_fault tokens text start at = if list_any (λ t. is_variation text (length text - t.0) t.1) (tokens text at)
     then line_fault text (λ p from. variation_fault tokens MOST_NESTED text p from) None start (tokens text at)

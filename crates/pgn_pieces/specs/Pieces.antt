@@ -54,8 +54,9 @@ abbrev pub after_tag : List ℕ → List ℕ
 after_tag front = let close = drop_while (λ c. not (c == byte "\"")) (drop 1 (after_name front)) in
     if bytes_eq (take 2 close) (codes "\"]") then drop_while is_blank (drop 2 close) else []
 
--- whether a line counts as one of moves, even if it is in a `{` comment: one that is neither a tag line nor empty, or a
--- tag line in which, after the first tag and any spaces and tabs, a letter, digit, `_` or `*` follows
+-- whether a line counts as one of moves: one that is neither a tag line nor empty (so also one inside a `{` comment,
+-- and a tag such as `[ Event "x" ]`); or a tag line in which, after the first tag and any spaces and tabs, a letter,
+-- digit, `_` or `*` follows (`after_tag`)
 abbrev pub is_moves_line : List ℕ → Bool
 is_moves_line line = if is_tag_line line
     then list_any (λ c. is_name_byte c || c == byte "*") (take 1 (after_tag (front_of line)))

@@ -1,5 +1,6 @@
--- What verifying a collection reads and writes. The input is cut into pieces (`pieces`), each of which is verified as a
--- text of its own; a piece that is too long is a fault. Nothing here depends on how the input is cut into reads.
+-- What verifying a collection reads and writes. The input is cut into pieces (`known_pieces`), each of which is
+-- verified as a text of its own; a piece that is too long is a fault. Nothing here depends on how the input is cut into
+-- reads.
 use Rattle.std.specs.Prelude.{◌≡◌, ◌≤◌, ◌^◌, ℕ, ◌+◌, true, false, if◌then◌else◌, List, [], ◌∷◌, ◌++◌, length, Result, Ok, Err}
 use Rattle.byte_devices.specs.Transfers.{FromInput, ToOutput, IsWhole, nothing, all_of, all_unflushed, BreaksOffIn}
 use Rattle.pgn_pieces.specs.Pieces.{known_pieces}

@@ -34,8 +34,8 @@ pub data Report : Type 0 where
   -- Termination names, if that is one of the standard's values
   Game : (plies : ℕ) (outcome : Outcome) (termination : Option Termination) → Report
   -- a fault, at its offset in the input; what names its game (`names_of`), nothing of a piece that is too long; the
-  -- offset in the input of the part that is wrong, and what is shown of it; what else explains the fault; and whether it
-  -- is to be said that nothing is read from the fault's byte on
+  -- offset in the input of the part that is wrong, and what is shown of it; what else explains the fault; and whether
+  -- it is to be said that its text isn't read from the fault's byte on
   Faulty : (fault : GameFault) (names : List ℕ) (wrong_at : ℕ) (part why : List ℕ) (is_unread : Bool) → Report
 
 -- a report with its span, the part of the input that it is on: from the byte at the offset `begin` to the last one
@@ -76,9 +76,10 @@ pub data AreReports (goes_on : Bool) (strict : Strictness) (start : ℕ) (text :
       → AreReports goes_on strict start text end.offset reports
       → AreReports goes_on strict start text at (spanning (start + game_begin text at) (start + end.offset)
       (Game (length s.moves) end.outcome end.termination) ∷ reports)
-  -- the next game has a fault. `part` is the part that is wrong. The text is read on where the game ends (`next`), if
-  -- `goes_on` and that is found; the other reports are on the games after that. If it isn't found, the text from the
-  -- fault's byte on isn't read
+  -- the next game has a fault, whose offset in the text becomes its offset in the input; so does that of `part`, the
+  -- part that is wrong. The game's span ends, and the text is read on, where the game ends (`next`), if `goes_on` and
+  -- that is found. Otherwise the span goes to the text's end, and no game follows. If `goes_on`, but the game's end
+  -- isn't found, the text from the fault's byte on isn't read, which the report says if there is such a byte
   next_fault : {at : ℕ} {s : State} {fault : GameFault} {reports : List Placed} (part : ℕ × List ℕ)
       (reason : Option (List ℕ)) (next : Option ℕ) (game : IsJudged strict text at s (Err fault))
       → part ≡ wrong_part fault.kind text (game_begin text at) fault.offset
@@ -112,16 +113,17 @@ abbrev pub span_text : VerifyOptions → Placed → List ℕ
 span_text options p =
     if options.spans then codes ", bytes " ++ (decimal p.begin ++ (codes " to " ++ decimal p.end)) else []
 
--- what is written of a report, which is that of `placed`; `input` is what was read of the input, and `number` the
--- report's number
+-- what is written of `placed`, whose report is also given by itself (the last argument), so that its cases can be
+-- distinguished; `input` is what was read of the input, and `number` the report's number
 abbrev pub written_line : VerifyOptions → List ℕ → ℕ → Placed → Report → List ℕ
--- a game's line, such as `game 3: 4 half-moves, 0-1, time forfeit`, unless `options.quiet` leaves it out
+-- a game's line, such as `game 3: 4 half-moves, 0-1, time forfeit`, unless `options.quiet` leaves it out. The span
+-- comes last
 written_line options input number placed (Game plies outcome termination) =
     if options.quiet then [] else report_line number (decimal plies ++ (codes " half-moves, " ++ (outcome_text outcome
     ++ (option_map_or (λ t. codes ", " ++ termination_text t) termination [] ++ span_text options placed))))
--- a fault's line, such as `game 2: illegal move at byte 39`, which with `options.names` also names the game; and with
--- `options.explain` one that explains the fault, and may end with the bytes that aren't read, such as
--- ` | bytes 151 to 606 not read`: those from the offset 151 on, before 606
+-- a fault's line, such as `game 2: illegal move at byte 39`, after which come the span and, with `options.names`, what
+-- names the game; and with `options.explain` a line that explains the fault, and may end with the bytes that aren't
+-- read, such as ` | bytes 151 to 606 not read`: those from the offset 151 on, before 606
 written_line options input number placed (Faulty fault names wrong_at part why is_unread) =
     report_line number (fault_name fault.kind ++ (codes " at byte " ++ (decimal fault.offset
     ++ (span_text options placed ++ (if options.names then names else [])))))
