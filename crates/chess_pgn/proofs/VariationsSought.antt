@@ -3,7 +3,7 @@ use Rattle.std.proofs.Common.{◌≡◌, ℕ, zero, suc, ◌+◌, ◌-◌, ◌<�
 use Rattle.std.specs.List.{position_or_len}
 use Rattle.std.proofs.lemmas.List.{get_or-drop, length-drop}
 use Rattle.std.proofs.lemmas.List.Sums.{fails_before_first}
-use Rattle.chess_pgn.specs.{Variations.is_variation, declared.token.TokenFault.TokenFault, ties.LineSteps.HasNone, ties.LineSteps.has_variation, ties.Seen.fault_seen}
+use Rattle.chess_pgn.specs.{Variations.has_variation, Variations.is_variation, declared.token.TokenFault.TokenFault, ties.LineSteps.HasNone, ties.Seen.fault_seen}
 use Rattle.chess_pgn.specs.Tokens.{Token, Skip, Tag, Word, Bad_tag, Unclosed_comment, Unclosed_variation, Bad, token_at, tokens_of, begins_line, tokens_from}
 use Rattle.chess_pgn.specs.declared.token.TokenFault.TheVariants as fault
 use Rattle.chess_pgn.proofs.Walk.{shorter}

@@ -54,10 +54,14 @@ variation_fault tokens zero text start at = Some (record { kind = TooLong; offse
 variation_fault tokens (suc depth) text start at =
     line_fault text (λ p from. variation_fault tokens depth text p from) None start (tokens text (at + 1))
 
+-- whether one of these tokens of the text is a variation
+abbrev pub has_variation : List ℕ → List (ℕ × Token) → Bool
+has_variation text tokens = list_any (λ t. is_variation text (length text - t.0) t.1) tokens
+
 -- the first fault in the variations of a game without another fault, whose start is `start`, and whose text goes from
 -- the offset `at` to the end of `text`; it has none if no token is a variation (so the moves of such a game aren't read
 -- again). At most 64 variations may be open
 abbrev pub variations_fault : (List ℕ → ℕ → List (ℕ × Token)) → List ℕ → Setup → ℕ → Option PgnFault
-variations_fault tokens text start at = if list_any (λ t. is_variation text (length text - t.0) t.1) (tokens text at)
+variations_fault tokens text start at = if has_variation text (tokens text at)
     then line_fault text (λ p from. variation_fault tokens MOST_NESTED text p from) None start (tokens text at)
     else None

@@ -49,4 +49,4 @@ pub use read::{PgnEnd, PgnFault, PgnFaultKind, read_pgn};
 pub use tag_list::{GameTags, PgnTag, game_tags, tag_text};
 pub use tagged_result::{ResultTag, result_tag};
 pub use unknown_variants::unknown_variant;
-pub use variations::{MOST_NESTED, read_variations};
+pub use variations::{MOST_NESTED, has_variation, read_variations};

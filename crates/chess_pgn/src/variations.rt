@@ -9,7 +9,7 @@ ghost use Rattle.chess_base.specs.Moves.{is_legal};
 ghost use Rattle.chess_pgn.specs.Tokens.{tokens_from};
 ghost use Rattle.chess_base.specs.declared.setup.Setup.{Setup};
 ghost use Rattle.chess_pgn.specs.declared.read.PgnFault.{PgnFault};
-ghost use Rattle.chess_pgn.specs.Variations.{is_variation, line_fault, variations_fault};
+ghost use Rattle.chess_pgn.specs.Variations.{has_variation, is_variation, line_fault, variations_fault};
 ghost use Rattle.chess_pgn.specs.laws.LineEnds.{is_end};
 ghost use Rattle.chess_pgn.specs.shared.LineTokens.{after_token, token_move, word_move};
 ghost use Rattle.byte_devices.specs.Bytes.{byte, is_digit};
@@ -17,7 +17,7 @@ ghost use Rattle.pgn_writer.specs.Outcomes.{outcome_of};
 ghost use Rattle.chess_pgn.specs.Words.{is_marks};
 ghost use Rattle.chess_text.specs.Moves.{reading};
 ghost use Rattle.chess_pgn.specs.ties.Seen.{fault_seen, token_seen};
-ghost use Rattle.chess_pgn.specs.ties.LineSteps.{HasNone, IsLineToken, has_variation, inside, opening, played};
+ghost use Rattle.chess_pgn.specs.ties.LineSteps.{HasNone, IsLineToken, inside, opening, played};
 
 use crate::read::{PgnFault, PgnFaultKind};
 use crate::token::{Token, TokenFault, next_token};
@@ -216,9 +216,10 @@ fn parenthesis_from(text: &[u8], at: usize, known: usize) -> usize
     }
 }
 
-// Whether a token from the offset `at` on is a variation. Tokens are read only up to the text's last `(`: mostly none,
-// as a game's text mostly has no `(`.
-fn has_variation(text: &[u8], at: usize) -> bool
+/// Whether a token from the offset `at` on is a variation. Of a game without one, whose text goes to the end of `text`,
+/// [`read_variations`] reads nothing, so no board is needed. Tokens are read only up to the text's last `(`: mostly none,
+/// as a game's text mostly has no `(`. A byte order mark at `at` is to be skipped by the caller.
+pub fn has_variation(text: &[u8], at: usize) -> bool
     requires { at ≤ length text.now }
     ensures { result ≡ has_variation text.now (tokens_from text.now at) }
 {

@@ -1,13 +1,13 @@
 -- The moves of variations as claims: without a fault each is legal where it is made (PGN standard of 1994, section
 -- 8.2.5).
 use Rattle.std.specs.Prelude.{◌≡◌, ℕ, ◌+◌, ◌-◌, Bool, true, false, ◌||◌, List, [], ◌∷◌, length, Option, Some, None, is_some, IsTrue}
-use Rattle.std.specs.List.{list_all, list_any}
+use Rattle.std.specs.List.{list_all}
 use Rattle.byte_devices.specs.Bytes.{is_digit}
 use Rattle.chess_base.specs.declared.man.Move.{Move}
 use Rattle.chess_base.specs.declared.setup.Setup.{Setup}
 use Rattle.chess_base.specs.Moves.{after, is_legal}
 use Rattle.chess_pgn.specs.Tokens.{Token, Skip, Tag, Word}
-use Rattle.chess_pgn.specs.Variations.{is_variation, variations_fault}
+use Rattle.chess_pgn.specs.Variations.{has_variation, is_variation, variations_fault}
 use Rattle.chess_pgn.specs.laws.LineEnds.{is_end}
 use Rattle.chess_pgn.specs.Words.{is_marks}
 use Rattle.chess_text.specs.declared.reading.Reading.TheVariants as reads
@@ -52,5 +52,5 @@ pub data IsLegalLine (tokens : ℕ → List (ℕ × Token)) (text : List ℕ) : 
 -- legal line
 abbrev pub VariationsAreLegal : Type 0
 VariationsAreLegal = (tokens : List ℕ → ℕ → List (ℕ × Token)) (text : List ℕ) (start : Setup) (at : ℕ)
-    → list_any (λ t. is_variation text (length text - t.0) t.1) (tokens text at) ≡ true
-    → variations_fault tokens text start at ≡ None → IsLegalLine (tokens text) text None start (tokens text at)
+    → has_variation text (tokens text at) ≡ true → variations_fault tokens text start at ≡ None
+    → IsLegalLine (tokens text) text None start (tokens text at)

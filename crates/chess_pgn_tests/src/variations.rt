@@ -3,7 +3,7 @@
 use crate::equal::is_equal_at;
 use chess_base::Position;
 use chess_moves::Plain;
-use chess_pgn::{MOST_NESTED, PgnFault, PgnFaultKind, read_variations};
+use chess_pgn::{MOST_NESTED, PgnFault, PgnFaultKind, has_variation, read_variations};
 use std::alloc::Global;
 use std::process::Abort;
 use std::test::Fail;
@@ -100,4 +100,20 @@ fn variations_may_be_nested(rt: HostRuntime) -> Result<(), Fail> {
         Some((PgnFaultKind::TooLong, offset)),
     );
     Ok(())
+}
+
+// Games, and whether one of their tokens is a variation: a `(` in a tag or a comment is none.
+const WITH_OR_WITHOUT: [(&[u8], bool); 5] = [
+    (b"1. e4 e5 *", false),
+    (b"1. e4 (1. d4) e5 *", true),
+    (b"(", false),
+    (b"[Event \"a (b)\"]\n1. e4 {(1. d4)} e5 ; (\n*", false),
+    (b"[Event \"a (b)\"]\n1. e4 {(1. d4)} e5 (1... c5) *", true),
+];
+
+#[test]
+fn variations_are_found(rt: HostRuntime) {
+    for (text, wanted) in &WITH_OR_WITHOUT {
+        is_equal_at(&rt, 0, *text, &has_variation(*text, 0), wanted);
+    }
 }

@@ -1,10 +1,10 @@
 -- The fault of a game whose end contradicts its tags or the board is in the text.
-use Rattle.std.proofs.Common.{◌≡◌, ℕ, zero, suc, ◌<◌, ◌≤◌, ◌-◌, Bool, true, false, List, [], ◌∷◌, length, take, drop, Option, Some, None, Result, Ok, Err, IfErr, ap, sym, arith, if◌then◌else◌, IfSome}
+use Rattle.std.proofs.Common.{◌≡◌, ℕ, zero, suc, ◌<◌, ◌≤◌, ◌-◌, Bool, true, false, List, [], ◌∷◌, length, take, drop, Option, Some, None, Result, Ok, Err, IfErr, ap, sym, ◌∙◌, arith, if◌then◌else◌, IfSome}
 use Rattle.std.proofs.lemmas.List.{length-append, length-drop, nil_from_length, take-append-drop}
 use Rattle.byte_devices.specs.Bytes.{after_byte_order_mark}
 use Rattle.chess_base.specs.declared.setup.Setup.{Setup}
-use Rattle.chess_pgn.specs.{Split.ended, Tokens.Token, Tokens.tokens_from, Variations.is_variation, Variations.line_fault, Variations.variation_fault, declared.variations.TheConstants.MOST_NESTED, declared.read.PgnEnd.PgnEnd, declared.read.PgnFault.PgnFault, declared.tagged_result.ResultTag.ResultTag}
-use Rattle.std.specs.{List.list_any, Option.option_eq, Option.option_or}
+use Rattle.chess_pgn.specs.{Split.ended, Tokens.Token, Tokens.tokens_from, Variations.has_variation, Variations.line_fault, Variations.variation_fault, declared.variations.TheConstants.MOST_NESTED, declared.read.PgnEnd.PgnEnd, declared.read.PgnFault.PgnFault, declared.tagged_result.ResultTag.ResultTag}
+use Rattle.std.specs.{Option.option_eq, Option.option_or}
 use Rattle.chess_pgn.proofs.shared.Tokens.{split_read}
 use Rattle.chess_game.specs.{Game.contradicts_verdict, declared.verdicts.Verdict.Verdict, Results.same_outcome}
 use Rattle.pgn_verifier.specs.GameFaults.{result_differs, board_says_otherwise}
@@ -63,6 +63,18 @@ none_without_bytes text at start end h =
     let first : ℕ = after_byte_order_mark text at in
     let none : drop first own ≡ [] =
     nil_from_length (drop first own) (omega (arith, length-drop first own, take_short end.offset text, h)) in
-    ap (λ (tokens : List (ℕ × Token)). if list_any (λ t. is_variation own (length own - t.0) t.1) tokens
+    ap (λ (tokens : List (ℕ × Token)). if has_variation own tokens
     then line_fault own (λ p from. variation_fault tokens_from MOST_NESTED own p from) None start tokens
     else None) (sym (split_read own (ended none)))
+
+-- a game of which no token is a variation has no fault in its variations
+pub none_without_variation : (text : List ℕ) (at : ℕ) (start : Setup) (end : PgnEnd) (first : ℕ)
+    → first ≡ after_byte_order_mark text at
+    → has_variation (take end.offset text) (tokens_from (take end.offset text) first) ≡ false
+    → variation_in tokens_from text at start end ≡ None
+none_without_variation text at start end first is none =
+    let own : List ℕ = take end.offset text in
+    let begin : ℕ = after_byte_order_mark text at in
+    ap (λ (b : Bool). if b then line_fault own (λ p from. variation_fault tokens_from MOST_NESTED own p from) None start
+    (tokens_from own begin) else None)
+    (ap (λ (k : ℕ). has_variation own (tokens_from own k)) (sym is) ∙ none)

@@ -17,7 +17,7 @@ use byte_devices::after_byte_order_mark;
 use chess_base::Position;
 use chess_bits::Bits;
 use chess_game::Game;
-use chess_pgn::{PgnEnd, PgnFault, read_variations, unknown_variant};
+use chess_pgn::{PgnEnd, PgnFault, has_variation, read_variations, unknown_variant};
 
 // The first fault in the variations of the game that was read from `at` on, started in the position `start` and ended
 // with `end`; of `game` only the kind of board is used.
@@ -33,13 +33,17 @@ fn found_in_variations(
     ensures fault { result_err result ≡ variation_in tokens_from text.now at start.now end }
     ensures within { IfErr result (λ fault. fault.offset ≤ length text.now) }
 {
-    let mut board = game.board().another();
     let first = after_byte_order_mark(text, at);
     // Never so: a game that was read ends after its first byte.
     if end.offset < first {
         return Ok(());
     }
-    read_variations(&text[..end.offset], first, start, &mut board)
+    let played = &text[..end.offset];
+    if !has_variation(played, first) {
+        return Ok(());
+    }
+    let mut board = game.board().another();
+    read_variations(played, first, start, &mut board)
 }
 
 // The fault of a game with a fault in its variations (`found_in_variations`).

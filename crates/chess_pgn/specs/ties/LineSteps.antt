@@ -1,6 +1,5 @@
 -- What the reader of variations answers, step by step, in the words of the definitions.
-use Rattle.std.specs.Prelude.{◌≡◌, ◌⊎◌, ℕ, zero, suc, ◌-◌, ◌<◌, ◌≤◌, Bool, true, false, ◌∷◌, [], List, length, slice_index, ◌==◌, Option, Some, None, Result, Ok, Err}
-use Rattle.std.specs.List.{list_any}
+use Rattle.std.specs.Prelude.{◌≡◌, ◌⊎◌, ℕ, zero, suc, ◌-◌, ◌<◌, ◌≤◌, true, false, ◌∷◌, [], List, length, slice_index, ◌==◌, Option, Some, None, Result, Ok, Err}
 use Rattle.byte_devices.specs.Bytes.{byte}
 use Rattle.chess_base.specs.declared.setup.Setup.{Setup}
 use Rattle.chess_pgn.specs.declared.read.PgnFault.{PgnFault}
@@ -45,10 +44,6 @@ abbrev pub opening : ℕ → Option Setup → ℕ → Result (Setup × ℕ) PgnF
 opening depth None at = Err (record { kind = BadToken; offset = at })
 opening zero (Some start) at = Err (record { kind = TooLong; offset = at })
 opening (suc depth) (Some start) at = Ok (start, depth)
-
--- whether one of these tokens of the text is a variation
-abbrev pub has_variation : List ℕ → List (ℕ × Token) → Bool
-has_variation text tokens = list_any (λ t. is_variation text (length text - t.0) t.1) tokens
 
 -- no `(` is in the text from the offset `a` to the offset `b`
 abbrev pub HasNone : List ℕ → ℕ → ℕ → Type 0

@@ -1,7 +1,7 @@
--- The fault is in the game's text, which is a beginning of the whole. Where that ends before its first byte it has no
--- variation.
-use Rattle.std.proofs.Common.{length, take, sym, arith}
-use Rattle.pgn_verifier.proofs.FaultsInText.{err_weaker, none_without_bytes, take_few}
+-- The fault is in the game's text, which is a beginning of the whole. Where that ends before its first byte, or no token
+-- is a variation, there is none.
+use Rattle.std.proofs.Common.{length, take, sym, ◌∙◌, arith}
+use Rattle.pgn_verifier.proofs.FaultsInText.{err_weaker, none_without_bytes, none_without_variation, take_few}
 use Rattle.pgn_verifier.proofs.end_faults.found_in_variations.Goals as goal
 
 pub returns-clause-within : goal.returns-clause-within
@@ -13,3 +13,9 @@ pub returns-then-end-first-clause-fault : goal.returns-then-end-first-clause-fau
 returns-then-end-first-clause-fault c =
     let first = c.after_byte_order_mark-first.ensures.offset in
     sym (none_without_bytes c.args.text.now c.args.at c.args.start.now c.args.end (omega (arith, first)))
+
+pub returns-then-not-has_variation-clause-fault : goal.returns-then-not-has_variation-clause-fault
+returns-then-not-has_variation-clause-fault c =
+    sym (none_without_variation c.args.text.now c.args.at c.args.start.now c.args.end
+    c.after_byte_order_mark-first.result c.after_byte_order_mark-first.ensures.offset
+    (sym c.has_variation.ensures ∙ c.if-not-has_variation.true))
