@@ -34,7 +34,8 @@ pub record Seen : Type 0 where
 abbrev pub current : State → Setup
 current s = position_after s.start s.moves
 
--- why the game is over by its position and its moves (`verdict`); `None` if it is not
+-- how the game's position and moves end it, such as by mate or fivefold repetition (`verdict`); `None` if they don't,
+-- even if a result was declared
 abbrev pub verdict_now : State → Option Verdict
 verdict_now s = verdict s.start s.moves
 
