@@ -127,8 +127,8 @@ AreRead r before (m ∷ ms) mine theirs =
     × (reading (position_after r.start before) text ≡ reads.Move m)
     × AreRead r (before ++ m ∷ []) ms theirs rest
 
--- the items of an engine's `feature` lines, up to and with the line that has `done=1`, which ends its handshake; `None`
--- stands for a line that was too long
+-- the items of an engine's `feature` lines, up to and with the line that has `done=1`, which ends its handshake, or of
+-- all if none has it; `None` stands for a line that was too long
 abbrev pub items_said : List (Option (List ℕ)) → List Item
 items_said [] = []
 items_said (l ∷ ls) =

@@ -158,7 +158,8 @@ after_e5 = record {
 abbrev pub AreSentAs : List SentLine → Text → Type 0
 AreSentAs lines text = bytes_of lines ≡ codes text
 
--- what engines are sent before a game, and where their turns are opened
+-- the lines that engines are sent in a match by `worked_rules`: those that begin the handshakes, first White's, and
+-- those that open three turns
 pub record LinesAreSent : Type 0 where
   pub handshake : AreSentAs (beginning.to White) "xboard\nprotover 2\n"
   pub only_white : AreSentAs (beginning.to Black) ""
