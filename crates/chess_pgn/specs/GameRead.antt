@@ -96,8 +96,9 @@ moves_read draws limit total cause s ((left, _) ∷ ts) = failed s NoResult (tot
 
 -- ---- the tags: the tokens before the first number, move, outcome or fault
 
--- the position that a tag FEN (given as in `named_tag`) denotes in the variant `v`, or the fault, at the FEN's first
--- byte; the text has `total` bytes
+-- the position that a tag FEN denotes in the variant `v`, or the fault, at the byte after the tag's first quote.
+-- `tag` is the bytes between the quotes, and how many of the whole text's `total` bytes are left after the first quote
+-- (as `named_tag` gives them)
 abbrev pub fen_read : ℕ → Variant → List ℕ × ℕ → Result Setup PgnFault
 fen_read total v tag = result_map_both (λ start. start)
     (λ fault. record { kind = BadFen fault; offset = total - tag.1 }) (fen_reading_as v tag.0)

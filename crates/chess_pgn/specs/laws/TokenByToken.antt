@@ -37,15 +37,14 @@ pub data Step : Type 0 where
   On : (game : SoFar) → Step
   Stop : (read : GameRead) → Step
 
--- stops reading with a fault at an offset: the game keeps the moves that it has so far (`g`), and has no declared
--- result
+-- stops reading with a fault at an offset; the game is left as it was read so far (`g`)
 abbrev pub fails : SoFar → PgnFaultKind → ℕ → Step
 fails g kind offset = Stop (record { state = g.state; answer = Err (record { kind = kind; offset = offset }) })
 
 -- ---- words
 
--- stops at the termination marker `o`: the game is `g` with that outcome declared, and `offset` is that of the byte
--- after the marker
+-- stops at the termination marker `o`: the game is `g`, with that outcome declared, unless it is `*` or the board has a
+-- verdict (`declared_after`); `offset` is that of the byte after the marker
 abbrev pub ends : SoFar → Outcome → ℕ → Step
 ends g o offset = Stop (record {
   state = record g.state { declared = declared_after (is_some (verdict_now g.state)) o };
@@ -53,8 +52,8 @@ ends g o offset = Stop (record {
 })
 
 -- `next`, if one more move may be played in the game so far (`g`); otherwise a fault at `offset`, that of the move's
--- word: AfterEnd if a verdict has ended the game (`draws`: whether the draws of 2014 do), TooLong if it has `limit`
--- moves
+-- word: AfterEnd if a verdict has ended the game, or else TooLong, as it has `limit` half-moves or more. `draws`, here
+-- and below: whether fivefold repetition and 75 moves, draws of the Laws since 2014, end a game
 abbrev pub unless_full : Bool → ℕ → SoFar → ℕ → Step → Step
 unless_full draws limit g offset next =
     if is_some (ending draws g.state) then fails g AfterEnd offset
@@ -90,8 +89,8 @@ fen_step g offset (Err fault) = fails g (BadFen fault) offset
 abbrev pub termination_after : Option Termination → List ℕ → List ℕ → Option Termination
 termination_after before name text = if bytes_eq name (codes "Termination") then termination_named text else before
 
--- what follows from a tag with this name and text: FEN sets the start, what Termination says is kept, any other tag
--- changes nothing; `g` is the game so far, `offset` that of the tag's string
+-- what follows from a tag with this name and text: FEN sets the start, and what Termination says is kept; of any other
+-- tag only that a tag was met (`is_met`). `g` is the game so far, `offset` that of the tag's string
 abbrev pub tag_step : SoFar → List ℕ → List ℕ → ℕ → Step
 tag_step g name text offset =
     if bytes_eq name (codes "FEN") then fen_step g offset (fen_reading_as g.state.start.variant text)
