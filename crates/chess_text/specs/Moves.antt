@@ -1,6 +1,7 @@
 -- The texts of moves: which moves a text denotes (PGN standard of 1994, section 8.2.3). This project's additions to the
 -- standard: a move by its two squares (g1f3, e1g1), castling with the digit 0, a promotion in a small letter or without
--- `=`, a capture without `x`, more of the start square than is needed, and any run of marks or none.
+-- `=`, a capture without `x`, more of the start square than is needed, and any run of marks or none. `xs · ys` is each
+-- text of xs followed by each text of ys.
 use Rattle.std.specs.Prelude.{ℕ, ◌==◌, Bool, true, false, ◌||◌, if◌then◌else◌, List, [], ◌∷◌, ◌++◌, map, flat_map, Option, Some, None, is_some, IsTrue, codes}
 use Rattle.std.specs.List.{list_any, filter}
 use Rattle.std.specs.Option.{option_map, option_map_or}

@@ -136,8 +136,10 @@ IsDenoted text d =
 abbrev pub DenotedByText : Type 0
 DenotedByText = (text : List ℕ) → (d : Described) → IsTrue (denotes_described text d) ↔ IsDenoted text d
 
--- the text has the shape of a move: it denotes castling, or it is, but for its marks, the text of parts (letter, file,
--- rank, `x`, end) in one of the forms of a move's text. Said without trying all descriptions of moves
+-- the text has the shape of a move: but for the marks (+ # ! ?) at its end it is O-O, 0-0, O-O-O or 0-0-0, or the text
+-- of parts, [letter][file][rank][x]square[[=]promotion], in a form of a move's text (`is_form`): with a letter there is
+-- no promotion; without one there is a file, or nothing comes before the square. Said without trying all descriptions
+-- of moves
 abbrev pub IsShaped : List ℕ → Type 0
 IsShaped text =
     ((w : CastlingSide) × IsTrue (is_castling_text text w))
