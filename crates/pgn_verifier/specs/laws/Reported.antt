@@ -139,7 +139,8 @@ collection_reports strict ended text = flat_map (reports_in strict) (pieces ende
 abbrev pub names_at : List ℕ → ℕ → List ℕ
 names_at text at = names_of (tokens_from text (after_byte_order_mark text at))
 
--- the report on the game of a text from its offset `at` on, with its span, if it has no fault: `end` is its end, and `s` the game that was read. The text begins at the offset `start` of the input
+-- the report on the game of a text from its offset `at` on, with its span, if it has no fault: `end` is its end, and
+-- `s` the game that was read. The text begins at the offset `start` of the input
 abbrev pub game_placed : ℕ → List ℕ → ℕ → PgnEnd → State → Placed
 game_placed start text at end s = record {
   begin = start + game_begin text at;
