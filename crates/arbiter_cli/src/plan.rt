@@ -97,8 +97,8 @@ fn levels_of(
     Ok((white_level, black_level))
 }
 
-// The plan of the match that `request` asks for, if its levels, FEN and date are valid; otherwise the fault of the first
-// of them that is not.
+// The plan of the match that `request` asks for, if its levels, FEN and date are valid; otherwise the fault of the
+// first of them that is not.
 fn validate<'a>(request: &MatchRequest<'a>) -> Result<GamesPlan<'a>, WordsFault>
     ensures plan { IfOk result (IsJudged request.now) }
     ensures fault { IfErr result (IsJudgedFault request.now) }

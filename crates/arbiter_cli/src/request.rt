@@ -104,8 +104,8 @@ fn strictness(found: &ArgMatches<'_>, ignored: Option<&str>) -> Strictness
     }
 }
 
-// What the flags of `verify` but `--keep-going`, and the list `ignored` of `--ignore`, ask for; `found` are the flags as
-// matched.
+// What the flags of `verify` but `--keep-going`, and the list `ignored` of `--ignore`, ask for; `found` are the flags
+// as matched.
 fn verify_options(found: &ArgMatches<'_>, ignored: Option<&str>) -> VerifyOptions
     requires { option_map (λ t. t.now) ignored ≡ first_of (codes "ignore") (rows_of (found_of found.now)) }
     ensures { result ≡ verify_options_of (matched (rows_of (found_of found.now))) }

@@ -1,4 +1,4 @@
--- The clocks of a game: of each side its time control, the number of its moves, and the sum of the times that they used.
+-- The clocks of a game: each side's time control, the number of its moves, and the sum of the times that they used.
 use Rattle.std.specs.Prelude.{ℕ, ◌+◌, ◌-◌}
 use Rattle.chess_base.specs.declared.man.Colour.{Colour}
 use Rattle.chess_base.specs.declared.man.Colour.TheVariants.{White, Black}

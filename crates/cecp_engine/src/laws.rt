@@ -3,8 +3,8 @@
 ghost use Rattle.std.specs.Prelude.{◌≡◌, ◌≤◌, ℕ, List, Some};
 ghost use Rattle.cecp_engine.specs.Levels.{LevelSeen, level_of, level_text};
 
-/// States a law and does nothing: what is written of a level is parsed as the same level, if it was parsed before or its
-/// numbers are within the ranges of levels.
+/// States a law and does nothing: what is written of a level is parsed as the same level, if it was parsed before or
+/// its numbers are within the ranges of levels.
 pub fn levels_are_parsed_back()
     ensures parsed { (text : List ℕ) (level : LevelSeen) → level_of text ≡ Some level
         → level_of (level_text level) ≡ Some level }

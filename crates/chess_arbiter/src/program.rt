@@ -115,8 +115,8 @@ fn verify_as<R: Input, W: Output>(
     }
 }
 
-// Verifies the input's games as the options ask, and returns the exit status: 0, or 1 if a game has a fault or something
-// failed.
+// Verifies the input's games as the options ask, and returns the exit status: 0, or 1 if a game has a fault or
+// something failed.
 fn verified<R: Input, W: Output, E: Output>(
     alloc: Global,
     keep_going: bool,
@@ -251,9 +251,9 @@ fn matched<H: Host, W: Output, E: Output>(
 ///   repetition nor 75 moves end a game; with `--variations` a fault in a variation is one, too; with `--spans` each
 ///   line says where its game is; with `--names` the line of a fault ends with the game's players, event and date; with
 ///   `--explain` a second line explains each fault.
-/// - `match` with `--white`, `--black` and perhaps `--games`, `--level`, `--fen`, `--variant`, `--draws`, `--date`,
-///   `--log`, `--flag` and `--reply-timeout`: games between two engines that the host starts, the text of each game, and
-///   then the score. The input is left untouched.
+/// - `match` with `--white`, `--black` and perhaps `--games`, `--level`, `--white-level`, `--black-level`, `--fen`,
+///   `--variant`, `--draws`, `--date`, `--log`, `--flag` and `--reply-timeout`: games between two engines that the host
+///   starts, the text of each game, and then the score. The input is left untouched.
 /// - `stub`, and arguments to play: an engine that plays these on the input and the output.
 /// - Help or the version, if `clap` asks for it: a text on the output. The input is left untouched.
 ///

@@ -296,8 +296,8 @@ fn ends_are_logged(rt: HostRuntime) -> Result<(), Fail> {
     Ok(())
 }
 
-/// A silence after the handshake: after how many further bytes White falls silent and for how many waits, what it sends,
-/// the moments, and what the log then adds.
+/// A silence after the handshake: after how many further bytes White falls silent and for how many waits, what it
+/// sends, the moments, and what the log then adds.
 struct Silence {
     after: usize,
     silences: u64,

@@ -234,8 +234,8 @@ fn ignored_kinds_are_left_out(rt: HostRuntime) {
     }
 }
 
-// Games that go on after an end by the board: what is written of them; the same with `--ignore after-end`, and the status
-// then.
+// Games that go on after an end by the board: what is written of them; the same with `--ignore after-end`, and the
+// status then.
 const AFTER_END: [(&[u8], &[u8], &[u8], u8); 6] = [
     // The draws of 2014: five times the same position, and 75 moves of each side.
     (

@@ -1,4 +1,4 @@
--- The moves of free pawns that neither promote nor take en passant, counted together: by the ways that are open to each.
+-- The moves of free pawns that neither promote nor take en passant, counted together: by the ways open to each.
 use mathlib.Core.Bool.{not-not, or-false}
 use Rattle.std.proofs.Common.{◌≡◌, ℕ, zero, suc, ◌+◌, ◌-◌, ◌/◌, ◌<◌, ◌≤◌, inl, inr, Bool, true, false, not, ◌&&◌, ◌||◌, ◌==◌, cond, Option, Some, None, is_none, List, [], ◌∷◌, length, length-append, refl, sym, ap, ◌∙◌, arith}
 use Rattle.std.specs.List.{filter, flat_map, range_with_len}

@@ -1,5 +1,5 @@
--- Lines of an interface and what every session answers to them, as texts (CECP, version 2); and how an input is cut into
--- lines.
+-- Lines of an interface and what every session answers to them, as texts (CECP, version 2); and how an input is cut
+-- into lines.
 use Rattle.std.specs.Prelude.{◌≡◌, Bool, true, false, List, [], ◌∷◌, ◌++◌, ℕ, codes, length, map}
 use Prim.Native.String.{String as Text}
 use Rattle.std.specs.List.{AllByRecursion, list_any}

@@ -14,8 +14,8 @@ pub fn undo_takes_a_move_back()
     ensures { UndoTakesAMoveBack }
 {}
 
-/// A law: `setboard` of the FEN that `showfen` wrote begins a game at the position that was shown, in the same session or
-/// in another one of the same variant.
+/// A law: `setboard` of the FEN that `showfen` wrote begins a game at the position that was shown, in the same session
+/// or in another one of the same variant.
 ///
 /// It refuses a FEN of another position, such as the start's, and a `setboard` that keeps the moves.
 pub fn shown_fens_are_set()

@@ -30,8 +30,8 @@ fault_kept p e =
 
 -- ---- the fields
 
--- the position of normal chess by what each of its fields denotes; `fits` is whether the third, `castling`, has the form
--- of one
+-- the position of normal chess by what each of its fields denotes; `fits` is whether the third, `castling`, has the
+-- form of one
 abbrev normal_steps : List ℕ → Option Men → Option Colour → Bool → Option (Option ℕ) → Option ℕ → Option ℕ
     → Result Setup FenFault
 normal_steps castling men side fits target halfmove fullmove =

@@ -1,5 +1,5 @@
--- The position that the six fields of a FEN denote, by what each of them denotes, and the reading of a list of fields as
--- that of the position, sound or not, and of its conditions: a proof goes through the cases.
+-- The position that the six fields of a FEN denote, by what each of them denotes, and the reading of a list of fields
+-- as that of the position, sound or not, and of its conditions: a proof goes through the cases.
 use Rattle.std.proofs.Common.{◌≡◌, ℕ, Bool, false, cond, ◌==◌, if◌then◌else◌, length, List, [], ◌∷◌, ◌++◌, get_or, arith, Option, Result, Ok, Err, refl, max, codes}
 use Rattle.std.proofs.lemmas.Bool.Decides.{nat_tests}
 use Rattle.std.specs.Option.{ok_or, option_map_or}

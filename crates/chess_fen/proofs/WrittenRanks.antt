@@ -27,10 +27,12 @@ runs others none same (suc n) =
     ap (λ k. (48 + k) ∷ squares_text true (replicate n None ++ others)) (run_len (suc n) others none)
     ∙ ap (λ text. (48 + suc n) ∷ text) (run_passed n others ∙ same)
 
+-- one empty square more is the same before the others as after them
 pub moved : (n : ℕ) (row : List (Option Man)) → replicate (suc n) None ++ row ≡ replicate n None ++ None ∷ row
 moved zero row = refl
 moved (suc n) row = ap (λ xs. None ∷ xs) (moved n row)
 
+-- what is written of squares after n empty ones is the rank's text of all of them
 pub row_is : (row : List (Option Man)) (n : ℕ) → row_text n row ≡ fen_rank (replicate n None ++ row)
 row_is [] n = sym (runs [] refl refl n ∙ append-nil (run_text n))
 row_is (None ∷ row) n = row_is row (suc n) ∙ ap fen_rank (moved n row)
@@ -39,7 +41,8 @@ row_is (Some man ∷ row) n =
 
 -- ---- the ranks
 
--- where another rank follows
+-- the whole text is the text so far and that of the ranks still to come; it is so too after one more rank and its
+-- slash, where another rank follows
 pub more_ranks : (left : ℕ) (men row : List (Option Man)) (old ranked new whole : List ℕ) → 0 < left - 1
     → old ++ ranks_text left men ≡ whole → row ≡ take 8 (drop (8 * (left - 1)) men) → ranked ≡ old ++ fen_rank row
     → new ≡ ranked ++ 47 ∷ []

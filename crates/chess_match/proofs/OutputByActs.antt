@@ -1,5 +1,5 @@
--- What the acts of a match read from an engine are its first lines; where its output ended or a read failed, they are
--- all.
+-- What came from an engine in the acts of a match (`SaidBy`): the lines that were read are the first lines of what it
+-- gave; they are all of them after its output ended, after a failed read, and if the last look for a line found none.
 use mathlib.Core.Bool.{or-false}
 use Rattle.std.proofs.Common.{◌≡◌, ℕ, Bool, true, false, ◌||◌, ◌⊎◌, inl, inr, List, [], ◌∷◌, ◌++◌, map, refl, ap, sym, ◌∙◌, subst, append_assoc, append-nil, Option, None, Some, MatchBool}
 use Rattle.std.specs.{List.count_by, List.flat_map, List.last_or, Io.KnownBytes.Consumes, Io.KnownBytes.IsAtEnd}
@@ -27,7 +27,8 @@ last_look last S H = last_or last (flat_map (look S) H)
 abbrev NoneHeld : Option Bool → Held → Type 0
 NoneHeld last h = last ≡ Some true → lines_held ENGINE_LINE_LEN false h [] ≡ []
 
--- these lines were read from an engine, whether its output ended, whether a read failed, and what the last look found
+-- the bytes `given` took the engine's output from `old` to `new`, and of their lines `texts` were read; `ended` and
+-- `failed`: its output ended, a read of it failed; `last` is what the last look for a line found (true: no line)
 record ReadTo (texts : List (Option (List ℕ))) (ended failed : Bool) (last : Option Bool) (old new : InputState)
     (given : List ℕ) : Type 0 where
   bytes : Consumes old.known_bytes new.known_bytes given
@@ -132,6 +133,7 @@ no_look_more last found more e = ap (λ (l : List Bool). last_or last (found ++ 
 or_none : (a b : Bool) → b ≡ false → (a || b) ≡ a
 or_none a b e = ap (λ (x : Bool). a || x) e ∙ or-false a
 
+-- after the acts `H`, if before them `texts` were read, `h` is held, and the output is at `v`
 reads_all : (S : Colour) (texts : List (Option (List ℕ))) (last : Option Bool) (H : List Act) (r v r' : InputState)
     (h h' : Held) (given : List ℕ) → reads_end H ≡ true → NoneHeld last h → OutputSoFar r v h given texts
     → ReadsOf S H v r' h h'
@@ -238,6 +240,7 @@ reads_all S texts last (Happens (FailsToRead c) ∷ H) r v r' h h' given end non
       still_read r v' k given texts last (still_none last h k o.1 none) (still r v v' h k given texts o s),
     )
 
+-- after all acts of a match, from its beginning
 pub all_read : (S : Colour) (H : List Act) (r r' : InputState) (h' : Held) → reads_end H ≡ true
     → ReadsOf S H r r' nothing_held h' → (i : FromInput) × InputGave r r' i × SaidBy S H i
 all_read S H r r' h' end p =

@@ -1,4 +1,5 @@
--- What holds of every match that is played stays so with every event.
+-- What holds of every match that is played (`IsSane`) holds at its beginning, and stays so with each event of an
+-- engine's output, which ends no match by a failed write (`IsWritten`).
 use Rattle.std.proofs.Common.{◌≡◌, ℕ, ◌+◌, ◌-◌, ◌≤◌, ◌<◌, true, false, [], ◌∷◌, ◌++◌, length, length-append, refl, ap, sym, ◌∙◌, subst, Option, None, arith}
 use Rattle.chess_base.specs.{declared.man.Colour.Colour, declared.man.Colour.TheVariants.White, declared.man.Colour.TheVariants.Black, declared.man.Move.Move, Men.other}
 use Rattle.chess_base.proofs.shared.Men.{same_colour-true}

@@ -1,6 +1,6 @@
 -- What lines of engines do in a match, worked out: who loses by claiming a result or rejecting a move, what an offer of
--- a draw does, when the count of ignored lines begins anew, how long a handshake and a reply are awaited, and from which
--- line on the time for a reply runs.
+-- a draw does, when the count of ignored lines begins anew, how long a handshake and a reply are awaited, and from
+-- which line on the time for a reply runs.
 use Rattle.std.specs.Prelude.{◌≡◌, ℕ, Bool, true, false, List, [], ◌∷◌, codes, Option, None, Some}
 use Prim.Native.String.{String as Text}
 use Rattle.chess_base.specs.declared.man.Colour.{Colour}
@@ -109,7 +109,8 @@ pub record HandshakesEnd : Type 0 where
 abbrev pub five_seconds : Rules
 five_seconds = record worked_rules { patience = record { flag = false; reply = Some 5000 } }
 
--- the phase of the match, whose last line that counted came at the moment 2,000, after a silence of White at this moment
+-- the phase of the match, whose last line that counted came at the moment 2,000, after a silence of White at this
+-- moment
 abbrev pub after_silence : Phase → ℕ → Phase
 after_silence phase moment = (effect five_seconds (match_in phase) (Silent White moment)).after.phase
 

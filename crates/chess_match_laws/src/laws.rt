@@ -68,8 +68,8 @@ pub fn games_are_lines()
     read_moves_are_legal();
 }
 
-/// States a law and does nothing: a match has no move after a verdict of the board, such as mate, and no more half-moves
-/// than its limit. Where draws are automatic, it has no move after one that may be claimed, either.
+/// States a law and does nothing: a match has no move after a verdict of the board, such as mate, and no more
+/// half-moves than its limit. Where draws are automatic, it has no move after one that may be claimed, either.
 pub fn games_end_at_verdicts()
     ensures { InEachMatch EndsAtVerdicts }
 {}
@@ -205,8 +205,8 @@ pub fn turns_are_opened_once()
     ensures so_far { AtEachMoment TurnsAreOpenedOnce }
 {}
 
-/// States a law and does nothing: in a match that ended by agreement one side offered a draw, and then the other, by the
-/// last line that was read; and in between the latter made no move, since by its move the offer would have lapsed.
+/// States a law and does nothing: in a match that ended by agreement one side offered a draw, and then the other, by
+/// the last line that was read; and in between the latter made no move, since by its move the offer would have lapsed.
 pub fn agreed_draws_are_offered()
     ensures { InEachMatch AgreedDrawsAreOffered }
 {}
@@ -220,8 +220,8 @@ pub fn offers_are_passed_on()
     ensures once { AtEachMoment DrawsAreFew }
 {}
 
-/// States a law: an engine that answers its handshake and each `ping`, makes one legal move in each of its turns, within
-/// its time, and says nothing else that counts, is never reported with a fault, and loses only by mate.
+/// States a law: an engine that answers its handshake and each `ping`, makes one legal move in each of its turns,
+/// within its time, and says nothing else that counts, is never reported with a fault, and loses only by mate.
 ///
 /// This holds whatever the other engine does. The engine may also send lines that mean nothing, such as its thinking,
 /// but fewer than 1,000 in its handshake (with all others), its setup or a turn. Its `feature` lines say `done=1`, and

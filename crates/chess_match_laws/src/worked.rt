@@ -36,8 +36,8 @@ pub fn bare_kings_are_worked_out()
 
 /// States a law and does nothing: the side that resigns, forfeits on time, moves illegally or out of turn, claims
 /// falsely or rejects a legal move loses; against a bare king, and by agreement, the game is drawn; after a fault, and
-/// at the limit of half-moves, it has no outcome. And the comments on ends, word for word, which ends are losses on time
-/// or against the rules, as PGN's tag Termination distinguishes them, and which fault is reported.
+/// at the limit of half-moves, it has no outcome. And the comments on ends, word for word, which ends are losses on
+/// time or against the rules, as PGN's tag Termination distinguishes them, and which fault is reported.
 pub fn losers_lose()
     ensures outcomes { LosersLose }
     ensures comments { EndsAreWorded }
@@ -66,8 +66,8 @@ pub fn offers_are_worked_out()
 /// `feature` line begins it anew, and in a setup `pong 1`; other lines don't, such as a remark. And by which fault a
 /// match ends whose reply is owed for longer than the rules allow.
 ///
-/// It refuses an engine that gets more time by any line, and one whose answer to a `ping` is missing that is said to have
-/// sent no `done=1`.
+/// It refuses an engine that gets more time by any line, and one whose answer to a `ping` is missing that is said to
+/// have sent no `done=1`.
 pub fn reply_times_are_worked_out()
     ensures times { RepliesAreTimed }
     ensures silences { SilencesAreJudged }

@@ -11,8 +11,8 @@ use std::cell::Cell;
 use std::process::Abort;
 use std::test::Fail;
 
-/// Gives bytes in pieces: the first `before` at once, the others when the clock shows `comes`. A wait takes the clock to
-/// that moment, or to its own end if that comes first.
+/// Gives bytes in pieces: the first `before` at once, the others when the clock shows `comes`. A wait takes the clock
+/// to that moment, or to its own end if that comes first.
 #[derive(Drop)]
 struct Late<'a> {
     input: Counted<PieceReader<'a>>,
@@ -362,9 +362,9 @@ fn begins_late(
     plays_late(rt, alloc, on, BOTH, late, came)
 }
 
-// White's first line is looked for when the clock shows 1,000,000, and has not come: by `reply_row` the time for it runs
-// from there, and not from 0. A silence ends the match if `moment - 1000000` is more than 7000, first at 1,007,001.
-// What comes by then is read in time, since no silence was beyond the limit before it.
+// White's first line is looked for when the clock shows 1,000,000, and has not come: by `reply_row` the time for it
+// runs from there, and not from 0. A silence ends the match if `moment - 1000000` is more than 7000, first at
+// 1,007,001. What comes by then is read in time, since no silence was beyond the limit before it.
 #[test]
 fn time_runs_from_the_first_silence(rt: HostRuntime) -> Result<(), Fail> {
     let hangs = Came {

@@ -14,8 +14,9 @@ use Rattle.chess_pgn.specs.laws.TokenByToken.{SoFar, Step, On, fails, ends, unle
 use Rattle.chess_pgn.specs.Tokens.{Token, Skip, Tag, Word, Bad_tag, Unclosed_comment, Unclosed_variation, Bad}
 use Rattle.chess_pgn.proofs.{ByteRuns.pick, PgnWords.are_marks, PgnWords.marks_by_kind}
 
--- a step from the game `g` on, at a token from which `left` of `total` bytes are left: it leaves the game, plays a move,
--- sets the start, stops at a fault, whose offset is not before the token, or ends the game after `len` bytes of it
+-- a step from the game `g` on, at a token from which `left` of `total` bytes are left: it leaves the game, plays a
+-- move, sets the start, stops at a fault, whose offset is not before the token, or ends the game after `len` bytes of
+-- it
 pub data StepIs (g : SoFar) (left total : ℕ) : Step → Type 0 where
   passes : StepIs g left total (On g)
   stays : (m b : Bool) (t : Option Termination)

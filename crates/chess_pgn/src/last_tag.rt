@@ -33,10 +33,13 @@ pub(crate) fn named_tag<'t>(name: &[u8], token: &Token<'t>) -> Option<Tag<'t>>
 }
 
 /// The last tag with this name among a game's tags; `None` if no tag has this name. The tags end before the game's
-/// first number, move or outcome, or before what can't be read. `at` is the offset at which the game's text begins.
-/// This function is called for `Result`; and for `Variant` from the tag on at which `read_normal_tags` stopped. That
-/// function goes over tokens in the same way, but applies them to a game. Here there is no game (`Result`), or it can't
-/// begin before its variant is known (`Variant`).
+/// first number, move or outcome, or before what can't be read. `at` is the offset from which on tags are looked at,
+/// mostly that at which the game's text begins.
+///
+/// Each call reads these tags again. It is made for one tag that a caller asks for (`tag_text`, `result_tag`,
+/// `unknown_variant`), for `Termination` when a game is read past the draws of 2014, and for `Variant` from the tag on
+/// at which `read_normal_tags` stopped. That function goes over tokens in the same way, but applies them to a game.
+/// Here there is no game, or it can't begin before its variant is known.
 pub(crate) fn last_tag<'t>(text: &'t [u8], at: usize, name: &[u8]) -> Option<Tag<'t>>
     requires { at ≤ length text.now }
     ensures tag { found_seen result ≡ last_tag name.now (tag_section (tokens_from text.now at)) }

@@ -17,8 +17,8 @@ pub fn half_moves_have_bytes()
 {}
 
 /// States a law and does nothing: if a game is read with a fault at what can't be read as a token, it has no end
-/// (`game_end` of its tokens is `None`), so none need be looked for. Such a fault is a bad tag, a comment or a variation
-/// that isn't closed, or a bad token that begins with no byte of a word.
+/// (`game_end` of its tokens is `None`), so none need be looked for. Such a fault is a bad tag, a comment or a
+/// variation that isn't closed, or a bad token that begins with no byte of a word.
 pub fn unreadable_games_have_no_end()
     ensures { UnreadableGamesHaveNoEnd }
 {}

@@ -217,8 +217,8 @@ fn parenthesis_from(text: &[u8], at: usize, known: usize) -> usize
 }
 
 /// Whether a token from the offset `at` on is a variation. Of a game without one, whose text goes to the end of `text`,
-/// [`read_variations`] reads nothing, so no board is needed. Tokens are read only up to the text's last `(`: mostly none,
-/// as a game's text mostly has no `(`. A byte order mark at `at` is to be skipped by the caller.
+/// [`read_variations`] reads nothing, so no board is needed. Tokens are read only up to the text's last `(`: mostly
+/// none, as a game's text mostly has no `(`. A byte order mark at `at` is to be skipped by the caller.
 pub fn has_variation(text: &[u8], at: usize) -> bool
     requires { at ≤ length text.now }
     ensures { result ≡ has_variation text.now (tokens_from text.now at) }

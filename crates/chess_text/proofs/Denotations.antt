@@ -1,5 +1,5 @@
--- The texts that the definition lists for a move are those of the parts that fit it. Proofs go through the lists of this
--- file, which are equal to those of the definition (`texts_alike`).
+-- The texts that the definition lists for a move are those of the parts that fit it. Proofs go through the lists of
+-- this file, which are equal to those of the definition (`texts_alike`).
 use Rattle.std.proofs.Common.{◌≡◌, ℕ, ◌<◌, ◌↔◌, IsTrue, inl, inr, Bool, true, false, not, ◌||◌, ◌==◌, Option, Some, None, List, [], ◌∷◌, ◌++◌, append_assoc, refl, sym, ap, subst, ◌∙◌, arith, if◌then◌else◌, bytes_eq, IfSome, is_some, is_none}
 use Rattle.std.specs.{List.AllByRecursion, List.list_any, List.flat_map, Option.option_map_or}
 use Rattle.std.proofs.{lemmas.Bool.Decides.nat_tests, lemmas.List.Folds.list_any-append, lemmas.Slice.Eq.bytes_eq-Decides}

@@ -1,4 +1,5 @@
-//! The examples of the crates that know no chess.
+//! The examples of the crates that know no chess. The comment above each names the crate at the top of whose lib.rt it
+//! is.
 
 use anyhow::Result;
 use byte_devices::{Counted, Input, PieceReader, put};

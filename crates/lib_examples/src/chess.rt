@@ -1,4 +1,5 @@
-//! The examples of the crates about positions, boards, games, and their texts.
+//! The examples of the crates about positions, boards, games, and their texts. The comment above each names the crate
+//! at the top of whose lib.rt it is.
 
 use anyhow::Result;
 use byte_devices::{Counted, Output, put};

@@ -1,4 +1,5 @@
-//! The examples of the crates that play, serve and verify.
+//! The examples of the crates that play, serve and verify. The comment above each names the crate at the top of whose
+//! lib.rt it is.
 
 use anyhow::Result;
 use arbiter_cli::{Plan, read_words};

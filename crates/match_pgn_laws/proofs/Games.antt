@@ -1,4 +1,5 @@
--- What is known of a game of a match: its text is that of a legal game with the outcome that was reported.
+-- What laws on a match's output need of its games: the tags of each are texts of tags, its moves are legal, its outcome
+-- is the one that was reported (`IsGame`), and what was written is their texts and the score (`Wrote`).
 use Rattle.std.proofs.Common.{◌≡◌, ℕ, ◌≤◌, ◌+◌, true, List, [], ◌∷◌, ◌++◌, length, length-append, map, take, None, Some, Option, Ok, Err, Result, sym, ap, subst, inl, inr, arith, is_ok, codes, decimal}
 use Rattle.std.specs.List.{AllByRecursion, enumerate_from}
 use Rattle.std.proofs.{lemmas.Bool.Decides.nat_tests, lemmas.List.length-map, lemmas.List.length-take}
@@ -43,8 +44,8 @@ abbrev pub rules : GamesPlan → ℕ → ℕ → Rules
 rules plan number limit =
     rules_of plan.start (of_colour (setup_of plan number).levels) plan.patience plan.draws limit
 
--- the game of this record, which has this number, as far as its text says it: a match by these rules of which this is
--- the game, the start of the plan and a line of legal moves; and its outcome is the one that was reported
+-- of the game of this record, which has this number, what its text shows: it starts as the plan says, its moves are
+-- those of a match by its rules (`is_line`: so they are legal), and its outcome is the one that was reported
 pub record IsGame (plan : GamesPlan) (number : ℕ) (played : GameRecord) : Type 0 where
   pub acts : List Act
   pub final : Match

@@ -7,8 +7,8 @@ use chess_match_laws::{games_are_lines, games_end_at_verdicts, verdicts_end_matc
 use pgn_verifier_laws::{reports_are_the_only_ones, written_texts_have_no_fault};
 
 /// States a law: the score is the sum of the tags `Result` above it. The last line of a match has for its first engine
-/// how many games it won, lost and drew by the lines `[Result ..]` above, where it has White in the first game, Black in
-/// the second, and so on. Each game has such a line, and no other line of the output begins with `[Result `.
+/// how many games it won, lost and drew by the lines `[Result ..]` above, where it has White in the first game, Black
+/// in the second, and so on. Each game has such a line, and no other line of the output begins with `[Result `.
 ///
 /// It refuses colours that never change, a draw that counts as a win, and a score of another outcome than the tag's.
 pub fn scores_are_sums()

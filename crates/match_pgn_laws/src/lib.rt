@@ -1,5 +1,5 @@
-//! Laws of the games and the score that a match writes, each the contract of a function that does nothing. They are in a
-//! crate of their own, since no other crate needs both matches and the verifier of PGN.
+//! Laws of the games and the score that a match writes, each the contract of a function that does nothing. They are in
+//! a crate of their own, since no other crate needs both matches and the verifier of PGN.
 #![tactic(auto)]
 
 mod laws;

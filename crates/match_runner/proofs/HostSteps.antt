@@ -1,4 +1,5 @@
--- The steps of a table without those at the table alone are the steps of its host.
+-- The steps of a table without those at the table alone are the steps of its host. What may come at such a table
+-- (`MarkedBy`) ends with a mark, which shows that the table holds the same reference to the host all the time.
 use Rattle.std.proofs.Common.{◌≡◌, ◌∙◌, ℕ, Bool, true, false, List, [], ◌∷◌, ◌++◌, Option, Result, Err, refl, sym, ap, subst, append_assoc, inl, inr, map}
 use Rattle.std.proofs.{lemmas.List.Concat.flat_map-append, lemmas.List.same_from_push}
 use Rattle.match_runner.specs.{declared.plan.GamesPlan.GamesPlan, declared.fault.GamesFault.GamesFault, declared.fault.GamesFault.TheVariants.NoMemory, ties.AtHost.MarkedBy}

@@ -21,8 +21,8 @@ pub struct Engines<P, R, W> {
 
 /// What starts the engines of a match, waits for their ends, and has the clock. As `Input` and `Output` stand for
 /// streams, it stands for all else that a match gets from outside: for the processes of a system
-/// ([`ProcessHost`](crate::ProcessHost)), or in tests for texts in memory ([`MemoryHost`](crate::MemoryHost)). Each call
-/// is one step, and contracts see in which order the steps come.
+/// ([`ProcessHost`](crate::ProcessHost)), or in tests for texts in memory ([`MemoryHost`](crate::MemoryHost)). Each
+/// call is one step, and contracts see in which order the steps come.
 pub trait Host {
     ghost use Rattle.std.specs.Prelude.{List};
     ghost use Rattle.chess_base.specs.declared.man.Colour.{Colour};

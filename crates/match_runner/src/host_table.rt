@@ -19,8 +19,8 @@ use chess_game::Game;
 use chess_match::{Ends, MatchEnd, Moments, Setup, run_match};
 use pgn_writer::{Tags, write_pgn};
 
-/// What the games of a match are played with, one after another: the clock, the game, and a board on which its moves are
-/// made again.
+/// What the games of a match are played with, one after another: the clock, the game, and a board on which its moves
+/// are made again.
 #[derive(Drop)]
 pub(crate) struct Seat<'t, C> {
     pub clock: C,

@@ -300,8 +300,8 @@ impl<E: Output> Log<E> {
         self.note_if_killed(number, Colour::Black, killed.black);
     }
 
-    /// Writes the line that reports why a match was not played to its end, such as `arbiter: game 3: White has no ping`,
-    /// to the log's output, also after a write or a flush of the log that failed.
+    /// Writes the line that reports why a match was not played to its end, to the log's output, also after a write or a
+    /// flush of the log that failed. Such a line is `arbiter: game 3: White has no ping`.
     pub fn report(&mut self, fault: &GamesFault<'_>)
         ensures reports { (failed : Bool) × Logged (log_seen (E.seen self.old.output) false)
             (log_seen (E.seen self.new.output) failed) (report_of (Err fault.now)) }

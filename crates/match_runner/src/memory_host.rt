@@ -62,8 +62,8 @@ impl Moments for MemoryClock<'_> {
     }
 }
 
-/// A host over memory, for tests: what its engines say and what its clock shows is given, and what the engines were sent
-/// can be asked for after the match.
+/// A host over memory, for tests: what its engines say and what its clock shows is given, and what the engines were
+/// sent can be asked for after the match.
 ///
 /// ```
 /// let engines = [
@@ -324,7 +324,7 @@ impl<'t> Host for MemoryHost<'t> {
         })
     }
 
-    // Notes what they were sent.
+    // Notes what the engines were sent. None has to be killed, so `limit` makes no difference.
     fn finish(
         &mut self,
         engines: Engines<usize, SilentAfter<&'t [u8]>, Counted<Vec<u8>>>,

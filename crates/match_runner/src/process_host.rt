@@ -140,7 +140,7 @@ fn spawn<'a, R: Processes>(
     }
 }
 
-// A copy of a command's text.
+// A copy of a command's text; the fault `NoMemory` if memory runs out.
 fn copy_of<'a>(alloc: Global, text: &'a str) -> Result<String, GamesFault<'a>>
     ensures fails { IfErr result (FailsToStart text.entry.now) }
     ensures text { IfOk result (λ s. string_bytes s ≡ text.entry.now) }

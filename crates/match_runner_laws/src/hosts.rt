@@ -5,9 +5,9 @@ ghost use Rattle.match_runner_laws.specs.OneMatch.{OneMatchOfAHost};
 
 use chess_match_laws::{match_is_the_only_one, silences_end_matches};
 
-/// States a law and does nothing: the steps that passed at a host over memory might come at it as it was before them. So
-/// the engines of a match say what that host has for them, in the order in which they were started, and the clock shows
-/// its moments.
+/// States a law and does nothing: the steps that passed at a host over memory might come at it as it was before them.
+/// So the engines of a match say what that host has for them, in the order in which they were started, and the clock
+/// shows its moments.
 pub fn steps_might_come()
     ensures { StepsMightCome }
 {}

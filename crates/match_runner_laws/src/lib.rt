@@ -1,5 +1,5 @@
-//! Laws of the games of a match, of its hosts and its log, each the contract of a function that does nothing. They are in
-//! a crate of their own so that the program's first build doesn't wait for their proofs.
+//! Laws of the games of a match, of its hosts and its log, each the contract of a function that does nothing. They are
+//! in a crate of their own so that the program's first build doesn't wait for their proofs.
 #![tactic(auto)]
 
 mod games;

@@ -1,4 +1,4 @@
--- Cutting a text into lines, and lines into pieces: each line goes on with the piece so far, or begins the next.
+-- Cutting a text into lines, and lines into pieces: each line belongs to the piece so far, or begins the next.
 use Rattle.std.proofs.Common.{◌≡◌, ◌<◌, ℕ, Bool, true, false, List, [], ◌∷◌, ◌++◌, length, map, reverse, refl, sym, ap, ◌∙◌, append_assoc, append-nil, length-append, arith, if◌then◌else◌, ◌&&◌, ◌||◌}
 use Rattle.std.specs.List.{onto_first, concat, list_any, fold}
 use Rattle.std.proofs.{lemmas.Bool.and_parts, lemmas.Bool.or_parts, lemmas.List.reverse-append}

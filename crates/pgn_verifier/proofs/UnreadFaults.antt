@@ -1,5 +1,5 @@
--- After a fault at what can't be read no end of the game is found: such a fault is one of reading, not one that is looked
--- for at a game's end.
+-- After a fault at what can't be read no end of the game is found: such a fault is one of reading, not one that is
+-- looked for at a game's end.
 use Rattle.std.proofs.Common.{◌≡◌, ℕ, Bool, true, false, List, length, Option, Some, None, IfErr, IfSome, Result, Ok, Err, refl, sym, ap, ◌∙◌, if◌then◌else◌}
 use Rattle.std.specs.Option.{option_eq, option_map, option_map_or, option_or}
 use Rattle.byte_devices.specs.Bytes.{after_byte_order_mark}

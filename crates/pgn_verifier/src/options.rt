@@ -1,7 +1,7 @@
 //! How games are verified.
 
-/// Which faults are looked for in a game, besides those that keep it from being read. All but `draws_of_2014` are looked
-/// for only if it is read to its termination marker.
+/// Which faults are looked for in a game, besides those that keep it from being read. All but `draws_of_2014` are
+/// looked for only if it is read to its termination marker.
 #[derive(Clone, Copy, Debug, PartialEq, Eq)]
 pub struct Strictness {
     /// A move after a draw by fivefold repetition or by 75 moves, which end a game since the Laws of Chess of 2014. If

@@ -49,9 +49,9 @@ pub fn reports_are_the_only_ones()
         → without_spans (collection_placed strict ended text) ≡ collection_reports strict ended text }
 {}
 
-/// States a law and does nothing: the text that `write_pgn` of chess_pgn writes of a game has no fault when it is
-/// verified from its first byte on, with `strict` neither, and is read as that game, whatever text comes before and
-/// after it. Variations aren't looked at.
+/// States a law and does nothing: the text that `write_pgn` of pgn_writer writes of a game has no fault when it is
+/// verified from its first byte on, with `--strict` or without, and is read as that game, whatever text comes before
+/// and after it. Variations aren't looked at.
 pub fn written_games_have_no_fault()
     ensures { WrittenGamesHaveNoFault }
 {
@@ -59,7 +59,7 @@ pub fn written_games_have_no_fault()
     pgn_is_read_back();
 }
 
-/// States a law and does nothing: if the texts that `write_pgn` of chess_pgn writes of some games come one after
+/// States a law and does nothing: if the texts that `write_pgn` of pgn_writer writes of some games come one after
 /// another, as a match writes its games before the line of the score, then the reports on the whole text are on just
 /// these games, and none is a fault. Variations aren't looked at.
 pub fn written_texts_have_no_fault()
@@ -106,10 +106,10 @@ pub fn spans_make_up_the_text()
 }
 
 /// States a law: a game that `verify` counts is a game. It has a sound start, and as many moves as the report says, one
-/// for each word between the tags and the termination marker that is no number and no marks. Each move is legal where it
-/// is made, and the one legal move that its word denotes. Before the last one no verdict had ended the game: neither mate,
-/// stalemate nor a dead position, nor, unless they are ignored, fivefold repetition or 75 moves. The next game begins
-/// where this one ends.
+/// for each word between the tags and the termination marker that is no number and no marks. Each move is legal where
+/// it is made, and the one legal move that its word denotes. Before the last one no verdict had ended the game: neither
+/// mate, stalemate nor a dead position, nor, unless they are ignored, fivefold repetition or 75 moves. The next game
+/// begins where this one ends.
 ///
 /// It refuses a move after mate, a word that is passed over, and a report of another number of half-moves.
 pub fn counted_games_are_games()
@@ -130,8 +130,8 @@ pub fn counted_games_are_games()
 /// `verify --keep-going` reports the same of each game, but that numbers and offsets count from the beginning of its
 /// file. The counts of the collection are the sums of those of its files.
 ///
-/// Each file but the last is to end in a line of moves, perhaps with empty lines after it, and with a `\n`; each but the
-/// first is to begin with a tag line, such as `[Event "..."]`, perhaps with a byte order mark before it.
+/// Each file but the last is to end in a line of moves, perhaps with empty lines after it, and with a `\n`; each but
+/// the first is to begin with a tag line, such as `[Event "..."]`, perhaps with a byte order mark before it.
 pub fn files_are_verified_alike()
     ensures { FilesAreVerifiedAlike }
 {

@@ -407,7 +407,8 @@ fn collections_go_on_after_a_fault(rt: HostRuntime) {
     );
 }
 
-// A game begins at its first byte that is no white space, and ends with its outcome; with a fault it ends with its text.
+// A game begins at its first byte that is no white space, and ends with its outcome; with a fault it ends with its
+// text.
 #[test]
 fn lines_end_with_spans(rt: HostRuntime) {
     check_cuts(
@@ -876,8 +877,8 @@ fn a_mark_before_a_later_piece_is_a_fault_of_the_text(rt: HostRuntime) {
     );
 }
 
-// A piece that ends with a carriage return ends a comment, which goes on in the text up to a line feed. So the law needs
-// its premise on such pieces too.
+// A piece that ends with a carriage return ends a comment, which goes on in the text up to a line feed. So the law
+// needs its premise on such pieces too.
 #[test]
 fn a_comment_goes_on_after_a_piece_that_ends_with_a_return(rt: HostRuntime) {
     let text = b"1. e4 * ; x\r[Event \"b\"]\r1. d4 *\n";

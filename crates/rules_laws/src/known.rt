@@ -31,8 +31,8 @@ pub fn known_positions_are_the_same()
 /// A law: the contract says it, and the function does nothing. Known positions, some of Chess960 among them, have so
 /// many legal moves; of the first two these are published counts (chessprogramming.org, Perft Results).
 ///
-/// It refuses a pawn that captures straight ahead, goes past a piece or promotes to a queen alone, and a king of Chess960
-/// that can't castle because its own rook stands in its way.
+/// It refuses a pawn that captures straight ahead, goes past a piece or promotes to a queen alone, and a king of
+/// Chess960 that can't castle because its own rook stands in its way.
 pub fn known_positions_have_so_many_moves()
     ensures { MovesAreAsMany }
 {}

@@ -28,8 +28,8 @@ pub fn endings_are_mirrored()
     ensures { MirrorEndsAlike }
 {}
 
-/// A law: the contract says it, and the function does nothing. A game from a sound start and the same game in the mirror
-/// have mirrored verdicts and the same draws to claim (FIDE Laws of Chess 2023, articles 5 and 9).
+/// A law: the contract says it, and the function does nothing. A game from a sound start and the same game in the
+/// mirror have mirrored verdicts and the same draws to claim (FIDE Laws of Chess 2023, articles 5 and 9).
 pub fn games_are_mirrored()
     ensures { MirrorGamesAlike }
 {}

@@ -4,8 +4,8 @@
 ghost use Rattle.rules_laws.specs.KnownTexts.{MovesAreNumbered, MovesAreShown, MovesAreWritten, ResultsAreWorded, TagsAreInOrder, TextsDenoteMoves};
 
 /// A law: the contract says it, and the function does nothing. SAN distinguishes pieces of one kind as players do, and
-/// marks check and mate (PGN standard of 1994, section 8.2.3). By its squares a move is written as `e1g1` or `a7a8q`, but
-/// castling in Chess960 is `O-O` or `O-O-O`.
+/// marks check and mate (PGN standard of 1994, section 8.2.3). By its squares a move is written as `e1g1` or `a7a8q`,
+/// but castling in Chess960 is `O-O` or `O-O-O`.
 ///
 /// It refuses a mark that is missing or another one, a rank where the file is enough, a rival that is pinned, and
 /// castling of Chess960 that is written as a move to the rook.

@@ -1,4 +1,5 @@
--- Lines are cut into pieces from the first one on.
+-- The pieces that `cut` makes, found from the first line on, as code and its proofs find them: where a piece ends, it
+-- is done with. That they are the same is `cut_is` of proofs/CutLines.
 use Rattle.std.specs.Prelude.{ℕ, if◌then◌else◌, List, [], ◌∷◌, ◌++◌}
 use Rattle.std.specs.List.{concat}
 use Rattle.pgn_pieces.specs.Pieces.{begins_piece}

@@ -1,4 +1,5 @@
--- The faults that are looked for at a game's end, by names that proofs use, also those of pgn_verifier_laws.
+-- The faults that are looked for at a game's end, as parts of `judged` and `IsJudged` of specs/GameFaults, by names
+-- that proofs use, also those of pgn_verifier_laws.
 use Rattle.std.specs.Prelude.{ℕ, Bool, if◌then◌else◌, List, take, Option, None}
 use Rattle.std.specs.Option.{option_map, option_or}
 use Rattle.byte_devices.specs.Bytes.{after_byte_order_mark}

@@ -22,8 +22,8 @@ part_on (Pgn (BadFen fault)) text =
 part_on (Pgn NoResult) text = (0, [])
 part_on _ text = (0, shown text)
 
--- the text that explains a fault of this kind, from its byte on, with its reason; `s` is the game as far as it was read,
--- and `text` is the text from the byte on; `draws`: whether the draws of 2014 end a game
+-- the text that explains a fault of this kind, from its byte on, with its reason; `s` is the game as far as it was
+-- read, and `text` is the text from the byte on; `draws`: whether the draws of 2014 end a game
 abbrev pub explanation_of : Bool → State → List ℕ → FaultKind → List ℕ
 explanation_of draws s text kind = (part_on kind text).1 ++ explanation s kind (reason kind text (ending draws s))
 

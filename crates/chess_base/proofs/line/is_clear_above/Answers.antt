@@ -1,4 +1,5 @@
--- A walk from square to square of the line: one piece on the way shuts it; past the last square it is clear (ClearLines).
+-- A walk from square to square of the line: one piece on the way shuts it; past the last square it is clear
+-- (ClearLines).
 use Rattle.std.proofs.Common.{arith, ◌≡◌, sym, true, false, is_none}
 use Rattle.std.proofs.lemmas.Grind.{common_steps}
 use Rattle.chess_base.specs.Men.{man_at}

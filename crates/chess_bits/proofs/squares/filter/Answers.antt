@@ -1,5 +1,5 @@
--- The first square that is left is of the set, and what the test says of it is whether it is chosen; nothing changes for
--- the others.
+-- The first square that is left is of the set, and what the test says of it is whether it is chosen; nothing changes
+-- for the others.
 use mathlib.Core.Bool.{and-false, and-true, or-false}
 use Rattle.std.proofs.Common.{◌≡◌, ℕ, ◌<◌, ◌==◌, ◌&&◌, ◌||◌, Bool, inl, inr, false, refl, sym, ap, subst, ◌∙◌}
 use Rattle.std.proofs.lemmas.Bool.{both_ways, cases_Bool, eq-eqb, eqb-true, false_from_ne_true, or_right}

@@ -1,5 +1,5 @@
--- A token more keeps that none before was a variation (VariationsSought.sought_on); a variation, the last `(`, the text's
--- end and what can't be read each end the search by one lemma.
+-- A token more keeps that none before was a variation (VariationsSought.sought_on); a variation, the last `(`, the
+-- text's end and what can't be read each end the search by one lemma.
 use Rattle.std.proofs.Common.{refl, sym, ◌∙◌, arith}
 use Rattle.chess_pgn.specs.ties.Seen.{token_seen}
 use Rattle.chess_pgn.proofs.VariationsSought.{none_before, none_left, none_to_end, none_readable, found, sought_on}

@@ -1,5 +1,5 @@
--- The fault is in the game's text, which is a beginning of the whole. Where that ends before its first byte, or no token
--- is a variation, there is none.
+-- The fault is in the game's text, which is a beginning of the whole. Where that ends before its first byte, or no
+-- token is a variation, there is none.
 use Rattle.std.proofs.Common.{length, take, sym, ◌∙◌, arith}
 use Rattle.pgn_verifier.proofs.FaultsInText.{err_weaker, none_without_bytes, none_without_variation, take_few}
 use Rattle.pgn_verifier.proofs.end_faults.found_in_variations.Goals as goal

@@ -1,5 +1,5 @@
--- Such a move fills its end and changes its two squares (fills_end and changes_both of Quiet), whatever the piece becomes,
--- and the king stays (king_stays of KingAfter).
+-- Such a move fills its end and changes its two squares (fills_end and changes_both of Quiet), whatever the piece
+-- becomes, and the king stays (king_stays of KingAfter).
 use Rattle.std.proofs.Common.{◌≡◌, ◌==◌, ◌||◌, ℕ, ◌<◌, ap, ◌∙◌}
 use Rattle.chess_base.specs.MoveList.{move_of}
 use Rattle.chess_base.proofs.shared.MoveKinds.{moves_from_pattern}

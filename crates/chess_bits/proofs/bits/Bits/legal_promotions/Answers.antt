@@ -1,5 +1,5 @@
--- A pawn that promotes has the four promotions there and no other move, and all or none are legal (promotions_between of
--- Listed); elsewhere a piece has one move at most (one_between).
+-- A pawn that promotes has the four promotions there and no other move, and all or none are legal (promotions_between
+-- of Listed); elsewhere a piece has one move at most (one_between).
 use Rattle.std.proofs.Common.{◌≡◌, true, false, sym, ◌∙◌, rules}
 use Rattle.chess_moves.specs.Promoting.{would_promote}
 use Rattle.chess_bits.proofs.Listed.{promotions_between, one_between, unpromoted}

@@ -1,6 +1,6 @@
--- All own pieces but the king are free at first, and no way is looked at. Each step takes a shield out of them, if
--- there is one (`add_pin`). With all ways looked at, the pieces that are left open none to the king, so they are free
--- (freed of Freely).
+-- At first all own pieces but the king are free. For each possible pinner (`aims_from`) the piece that shields the king
+-- from it is taken out of them, if there is one (`add_pin`). After the last pinner no piece that is left opens a line
+-- to the king when it leaves (`KeepsClosed`), so each is free (freed of Freely).
 use Rattle.chess_base.proofs.shared.Kings.{one_king_of}
 use Rattle.std.proofs.Common.{◌≡◌, ◌<◌, ◌==◌, ◌&&◌, ◌||◌, ℕ, inl, inr, not, false, true, sym, ap, refl, subst, ◌∙◌}
 use Rattle.std.proofs.lemmas.Bool.{and_parts, and_from, or_right, cases_Bool, both_ways, eqb-true, not-true}

@@ -1,5 +1,5 @@
--- With no piece between them the way is clear (none_hides of Pins), with one this is the shield (one_hides), and with more
--- no piece taken off clears the way (many_hide).
+-- With no piece between them the way is clear (none_hides of Pins), with one this is the shield (one_hides), and with
+-- more no piece taken off clears the way (many_hide).
 use Rattle.std.proofs.Common.{◌≡◌, ◌<◌, ◌==◌, ◌&&◌, ℕ, not, sym, ap, ◌∙◌}
 use Rattle.std.proofs.lemmas.Bool.{both_ways}
 use Rattle.chess_base.proofs.shared.Squares.{some_square-none}
