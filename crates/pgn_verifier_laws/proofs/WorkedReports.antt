@@ -7,7 +7,14 @@ use Rattle.pgn_verifier_laws.specs.WorkedReports.{GamesAreFound, PiecesBegin, Re
 
 pub reports_are_written : ReportsAreWritten
 unfolding counts_line digits report_line
-reports_are_written = record { plainly = refl; quietly = refl; spans = refl; names = refl; counts = refl }
+reports_are_written = record {
+  plainly = refl;
+  quietly = refl;
+  spans = refl;
+  names = refl;
+  after_mate = refl;
+  counts = refl;
+}
 
 pub games_are_found : GamesAreFound
 unfolding pgn_read placed_from token_at tokens_from tokens_of

@@ -2,7 +2,7 @@
 use Rattle.std.specs.Prelude.{◌≡◌, ℕ, true, false, List, [], ◌∷◌, ◌++◌, map, codes, Some, None}
 use Prim.Native.String.{String as Text}
 use Rattle.chess_game.specs.declared.results.Outcome.TheVariants.{BlackWins, Draw}
-use Rattle.chess_pgn.specs.declared.read.PgnFaultKind.TheVariants.{IllegalMove}
+use Rattle.chess_pgn.specs.declared.read.PgnFaultKind.TheVariants.{AfterEnd, IllegalMove}
 use Rattle.pgn_pieces.specs.Pieces.{cut}
 use Rattle.pgn_verifier.specs.Reports.{Report, Placed, Game, Faulty, counts_line, counts_of, report_lines, spanning}
 use Rattle.pgn_verifier.specs.declared.game_fault.FaultKind.TheVariants.{Pgn}
@@ -39,6 +39,10 @@ abbrev pub illegal : Report
 illegal =
     Faulty (record { kind = Pgn IllegalMove; offset = 39 }) (codes " | A - B, E F") 39 (codes "Ke3") [] false
 
+-- the report on a move after the end of a game between A and B
+abbrev pub after_end : Report
+after_end = Faulty (record { kind = Pgn AfterEnd; offset = 39 }) (codes " | A - B, E F") 39 (codes "O-O") [] false
+
 -- the first goes up to the byte 9, the second from the byte 10 on up to the byte 45
 abbrev pub both : List Placed
 both = spanning 0 9 lost ∷ spanning 10 45 illegal ∷ []
@@ -57,6 +61,9 @@ pub record ReportsAreWritten : Type 0 where
   -- only the line of a fault names the players
   pub names : AreWritten with_names
       "game 1: 2 half-moves, 0-1, time forfeit\ngame 2: illegal move at byte 39 | A - B, E F\n"
+  -- a move after a mate
+  pub after_mate : report_lines plain [] 1 (spanning 0 42 after_end ∷ [])
+      ≡ codes "game 1: move after the end at byte 39\n"
   -- two games, of two half-moves and of four, and a fault
   pub counts : counts_line (counts_of (both ++ spanning 46 60 (Game 4 Draw None) ∷ []))
       ≡ codes "games 2 half-moves 6 faults 1\n"
