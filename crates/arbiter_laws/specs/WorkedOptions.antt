@@ -1,5 +1,6 @@
 -- What options mean, worked out: the time controls of a match, the position in which its games start, how long its
--- engines are waited for, whether draws must be claimed, and what `verify` looks for and writes.
+-- engines are waited for, whether draws must be claimed, how many games are played, and what `verify` looks for and
+-- writes.
 use Rattle.std.specs.Prelude.{◌≡◌, true, false, List, [], ◌∷◌, codes, Some, None, Result, Ok, Err}
 use Rattle.clap.specs.Words.{Text}
 use Rattle.arbiter_cli.specs.Plans.{IsMatchPlan, levels_asked, start_asked}
@@ -88,6 +89,13 @@ thirty_seconds = valued (codes "reply-timeout") (codes "30") ∷ []
 abbrev pub automatic_draws : List Given
 automatic_draws = valued (codes "draws") (codes "automatic") ∷ []
 
+-- the options `--games 10` and `--log`
+abbrev pub ten_games : List Given
+ten_games = valued (codes "games") (codes "10") ∷ []
+
+abbrev pub log_given : List Given
+log_given = flag (codes "log") ∷ []
+
 -- each plan of a match by two engines and these options is such
 abbrev pub PlansAre : List Given → (GamesPlan → Type 0) → Type 0
 PlansAre options Is = (white black : Text) (plan : GamesPlan)
@@ -118,6 +126,11 @@ pub record OptionsMean : Type 0 where
   pub stays : PlansAre thirty_seconds (λ plan. plan.patience.flag ≡ false)
   pub automatic : PlansAre automatic_draws (λ plan. plan.draws ≡ Automatic)
   pub claimed : PlansAre thirty_seconds (λ plan. plan.draws ≡ Claimed)
+  -- without options one game is played, and no log is written
+  pub games : PlansAre ten_games (λ plan. plan.games ≡ 10)
+  pub one_game : PlansAre log_given (λ plan. plan.games ≡ 1)
+  pub logs : PlansAre log_given (λ plan. plan.log ≡ true)
+  pub no_log : PlansAre ten_games (λ plan. plan.log ≡ false)
   -- the flags of `verify`, one by one
   pub keep_going : AskForPlan (flag (codes "keep-going") ∷ []) (Verify true bare_options)
   pub quiet : AskForOptions (flag (codes "quiet") ∷ []) (record bare_options { quiet = true })

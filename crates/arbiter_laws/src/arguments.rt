@@ -42,11 +42,11 @@ pub fn verify_is_as_asked()
 
 /// States a law and does nothing: what some options of `match` and of `verify` mean. Each engine of a match has its own
 /// level or the common one, each game starts in the position of `--fen` or in the initial one, both in the variant of
-/// `--variant`, `--reply-timeout` is in seconds, and `--strict` looks for three faults but for those that `--ignore`
-/// names.
+/// `--variant`, `--reply-timeout` is in seconds, one game is played without `--games`, and `--strict` looks for three
+/// faults but for those that `--ignore` names.
 ///
 /// It refuses a common level that is not looked at if each engine has its own, a level of White that is Black's, a
-/// variant that counts only with a FEN, and a flag that sets another.
+/// variant that counts only with a FEN, two games by default, and a flag that sets another.
 pub fn options_are_worked_out()
     ensures levels { LevelsAreRead }
     ensures starts { StartsAreAsked }

@@ -216,6 +216,12 @@ unfolding argument_of command_of named_command is_ignored read_result result_com
 no_result session =
     answered session "result 2-0" "Error (bad result): result 2-0\n" Declare refl refl refl refl
 
+no_braces : (session : SessionSeen)
+    → IsAnswered session "result 1-0 Black resigns" "Error (bad result): result 1-0 Black resigns\n"
+unfolding argument_of command_of named_command is_ignored read_result result_comment
+no_braces session = answered session "result 1-0 Black resigns" "Error (bad result): result 1-0 Black resigns\n"
+    Declare refl refl refl refl
+
 no_variant : (session : SessionSeen)
     → IsAnswered session "variant suicide" "Error (unsupported variant): variant suicide\n"
 unfolding argument_of command_of named_command is_ignored
@@ -289,6 +295,7 @@ session_lines_are_answered session = record {
   features = features session;
   go = goes session;
   no_result = no_result session;
+  no_braces = no_braces session;
   no_variant = no_variant session;
   new = begins session;
   chess960 = chess960 session;

@@ -80,6 +80,8 @@ pub record LinesAreAnswered (session : SessionSeen) : Type 0 where
       "feature ping=1 setboard=1 playother=0 san=0 usermove=1 time=1 draw=1 sigint=0 sigterm=0 reuse=1 analyze=0 colors=0 debug=1 myname=\"CECP arbiter\" variants=\"normal,fischerandom\" done=1\n"
   pub go : IsAnswered session "go" "Error (the arbiter plays no side): go\n"
   pub no_result : IsAnswered session "result 2-0" "Error (bad result): result 2-0\n"
+  -- a comment on a result has braces
+  pub no_braces : IsAnswered session "result 1-0 Black resigns" "Error (bad result): result 1-0 Black resigns\n"
   pub no_variant : IsAnswered session "variant suicide" "Error (unsupported variant): variant suicide\n"
   pub new : Becomes session "new" (from_start initial_setup)
   pub chess960 : Becomes session "variant fischerandom" (from_start (initial_setup_of Fischerandom))

@@ -1,5 +1,6 @@
--- Texts of games without a move, in which a number, a comment or a variation could be taken for moves or for a result,
--- and what tags and a result say without one (PGN standard of 1994, sections 5, 6, 8.1, 8.2 and 9.8.1).
+-- Texts of games without a move, in which a number, a comment or a variation could be taken for moves or for a result;
+-- what tags and a result say without one (PGN standard of 1994, sections 5, 6, 8.1, 8.2 and 9.8.1); and what a word is
+-- where the game has ended before a move.
 use Rattle.std.specs.Prelude.{◌≡◌, ℕ, true, [], codes, Some, None, Ok, Err}
 use Prim.Native.String.{String as Text}
 use Rattle.chess_base.specs.Initial.{initial_setup_of}
@@ -7,7 +8,7 @@ use Rattle.chess_base.specs.declared.man.Variant.TheVariants.{Fischerandom}
 use Rattle.chess_game.specs.declared.results.Outcome.TheVariants.{WhiteWins, Unfinished}
 use Rattle.chess_pgn.specs.GameRead.{GameRead, pgn_read}
 use Rattle.chess_pgn.specs.declared.read.PgnEnd.{PgnEnd}
-use Rattle.chess_pgn.specs.declared.read.PgnFaultKind.TheVariants.{NoResult}
+use Rattle.chess_pgn.specs.declared.read.PgnFaultKind.TheVariants.{AfterEnd, NoResult}
 use Rattle.pgn_writer.specs.declared.termination.Termination.TheVariants.{TimeForfeit}
 
 -- what is read of a text from its first byte on, as a game of at most one half-move
@@ -47,3 +48,6 @@ pub record EmptyGamesAreRead : Type 0 where
   pub variant : (read_of "[Variant \"Chess960\"] *").state.start ≡ initial_setup_of Fischerandom
   pub termination : (read_of "[Termination \"Time forfeit\"] *").answer
       ≡ Ok (Some (record { outcome = Unfinished; termination = Some TimeForfeit; offset = 30 }))
+  -- a word where a mate has ended the game: no move is legal there, but this is a move after the end, no illegal one
+  pub after_mate : (read_of "[FEN \"7k/6Q1/6K1/8/8/8/8/8 b - - 0 1\"] O-O").answer
+      ≡ Err (record { kind = AfterEnd; offset = 39 })

@@ -22,7 +22,7 @@ ghost use Rattle.chess_pgn.specs.Split.{IsSplit};
 
 use chess_base::{Position, Variant, after_is_sound};
 use chess_fen::written_is_denoted;
-use chess_text::read_moves_are_legal;
+use chess_text::{read_moves_are_legal, texts_have_parts};
 
 /// States a law and does nothing: if a game is written without a prefix, and its text is read where it begins, the
 /// start, the moves, the outcome and the termination that are read are the written ones, whatever text comes before and
@@ -119,10 +119,13 @@ pub fn texts_are_worked_out()
 
 /// States a law and does nothing: some texts are games without moves, though a number, a comment or a variation in them
 /// could be taken for moves or for a result. `*` declares nothing, `1-0` does. The tags Variant and Termination name in
-/// capital or small letters what they name.
+/// capital or small letters what they name. A word in a mate is a move after the end.
 ///
-/// It refuses a number that is compared with the moves, moves of a comment that count, and a variation that ends in a
-/// comment.
+/// It refuses a number that is compared with the moves, moves of a comment that count, a variation that ends in a
+/// comment, and a word after a mate that is called an illegal move.
 pub fn empty_games_are_read()
     ensures { EmptyGamesAreRead }
-{}
+{
+    // The prover wants this law: which texts have the shape of a move.
+    texts_have_parts();
+}

@@ -11,4 +11,5 @@ faults_are_in_order = record {
   unless_lenient = refl;
   no_outcome = refl;
   unfinished = refl;
+  after_end = refl;
 }

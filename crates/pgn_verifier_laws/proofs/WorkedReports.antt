@@ -1,17 +1,38 @@
--- Lines of reports, spans of games, and pieces of collections, by computation.
+-- Lines of reports, spans of games, where texts are read on, and pieces of collections, by computation.
 use Rattle.std.proofs.Common.{refl}
 use Rattle.std.specs.Fmt.{digits}
 use Rattle.chess_pgn.specs.{GameRead.pgn_read, Tokens.token_at, Tokens.tokens_from, Tokens.tokens_of}
-use Rattle.pgn_verifier.specs.{Reports.counts_line, Reports.report_line, laws.Reported.placed_from}
-use Rattle.pgn_verifier_laws.specs.WorkedReports.{GamesAreFound, PiecesBegin, ReportsAreWritten}
+use Rattle.pgn_verifier.specs.{Explanations.explanation_line, Reports.counts_line, Reports.report_line, laws.Reported.placed_from}
+use Rattle.pgn_verifier_laws.specs.WorkedReports.{GamesAreFound, PiecesBegin, ReportsAreWritten, TextsAreReadOn}
 
 pub reports_are_written : ReportsAreWritten
-unfolding counts_line digits report_line
-reports_are_written = record { plainly = refl; quietly = refl; spans = refl; names = refl; counts = refl }
+unfolding counts_line digits explanation_line report_line
+reports_are_written = record {
+  plainly = refl;
+  quietly = refl;
+  spans = refl;
+  names = refl;
+  players = refl;
+  nobody = refl;
+  explained = refl;
+  after_mate = refl;
+  counts = refl;
+}
 
 pub games_are_found : GamesAreFound
 unfolding pgn_read placed_from token_at tokens_from tokens_of
 games_are_found = refl
 
+pub texts_are_read_on : TextsAreReadOn
+unfolding token_at tokens_from tokens_of
+texts_are_read_on = record { marker = refl; later = refl; tags = refl; end = refl; unreadable = refl }
+
 pub pieces_begin : PiecesBegin
-pieces_begin = record { events = refl; event_later = refl; white_later = refl; no_moves = refl; moves = refl }
+pieces_begin = record {
+  events = refl;
+  event_later = refl;
+  white_later = refl;
+  no_moves = refl;
+  moves = refl;
+  moves_after_tag = refl;
+}

@@ -3,10 +3,10 @@ use Rattle.std.specs.Prelude.{◌≡◌, ℕ, Bool, true, false, Option, Some, N
 use Rattle.chess_game.specs.declared.results.Outcome.TheVariants.{WhiteWins, Draw, Unfinished}
 use Rattle.chess_game.specs.declared.verdicts.Verdict.TheVariants.{BlackMates}
 use Rattle.chess_pgn.specs.declared.read.PgnEnd.{PgnEnd}
-use Rattle.chess_pgn.specs.declared.read.PgnFaultKind.TheVariants.{IllegalMove}
+use Rattle.chess_pgn.specs.declared.read.PgnFaultKind.TheVariants.{AfterEnd, IllegalMove}
 use Rattle.pgn_verifier.specs.GameFaults.{judged}
 use Rattle.pgn_verifier.specs.declared.game_fault.FaultKind.{FaultKind}
-use Rattle.pgn_verifier.specs.declared.game_fault.FaultKind.TheVariants.{InVariation, UnknownVariant, ResultDiffers, BoardSaysOtherwise}
+use Rattle.pgn_verifier.specs.declared.game_fault.FaultKind.TheVariants.{Pgn, InVariation, UnknownVariant, ResultDiffers, BoardSaysOtherwise}
 use Rattle.pgn_verifier.specs.declared.game_fault.GameFault.{GameFault}
 use Rattle.pgn_verifier.specs.declared.options.Strictness.{Strictness}
 
@@ -57,3 +57,6 @@ pub record FaultsAreInOrder : Type 0 where
   -- the marker `*` at the byte 90 contradicts a mate too
   pub unfinished : judged only_board (λ end. None) None None (Some BlackMates) (Ok (Some unfinished_at_90))
       ≡ fault_at BoardSaysOtherwise 90
+  -- a fault of reading is reported as it is, such as a move after a mate, and nothing else is looked for
+  pub after_end : judged only_board (λ end. None) None None (Some BlackMates)
+      (Err (record { kind = AfterEnd; offset = 39 })) ≡ fault_at (Pgn AfterEnd) 39

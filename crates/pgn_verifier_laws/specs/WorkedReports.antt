@@ -1,10 +1,14 @@
--- What is written of reports, where games begin and end, and into which pieces a collection is cut, worked out.
-use Rattle.std.specs.Prelude.{◌≡◌, ℕ, true, false, List, [], ◌∷◌, ◌++◌, map, codes, Some, None}
+-- What is written of reports, where games begin and end, where a text is read on after a fault, and into which pieces a
+-- collection is cut, worked out.
+use Rattle.std.specs.Prelude.{◌≡◌, ℕ, true, false, List, [], ◌∷◌, ◌++◌, length, map, codes, Option, Some, None}
 use Prim.Native.String.{String as Text}
 use Rattle.chess_game.specs.declared.results.Outcome.TheVariants.{BlackWins, Draw}
-use Rattle.chess_pgn.specs.declared.read.PgnFaultKind.TheVariants.{IllegalMove}
+use Rattle.chess_pgn.specs.declared.read.PgnFaultKind.TheVariants.{AfterEnd, IllegalMove}
+use Rattle.chess_pgn.specs.GameEnds.{game_end}
+use Rattle.chess_pgn.specs.Tokens.{Token, Tag, tokens_from}
 use Rattle.pgn_pieces.specs.Pieces.{cut}
-use Rattle.pgn_verifier.specs.Reports.{Report, Placed, Game, Faulty, counts_line, counts_of, report_lines, spanning}
+use Rattle.pgn_verifier.specs.Explanations.{explanation_line}
+use Rattle.pgn_verifier.specs.Reports.{Report, Placed, Game, Faulty, counts_line, counts_of, names_of, report_lines, spanning}
 use Rattle.pgn_verifier.specs.declared.game_fault.FaultKind.TheVariants.{Pgn}
 use Rattle.pgn_verifier.specs.declared.options.Strictness.{Strictness}
 use Rattle.pgn_verifier.specs.declared.options.VerifyOptions.{VerifyOptions}
@@ -39,9 +43,18 @@ abbrev pub illegal : Report
 illegal =
     Faulty (record { kind = Pgn IllegalMove; offset = 39 }) (codes " | A - B, E F") 39 (codes "Ke3") [] false
 
+-- the report on a move after the end of a game between A and B
+abbrev pub after_end : Report
+after_end = Faulty (record { kind = Pgn AfterEnd; offset = 39 }) (codes " | A - B, E F") 39 (codes "O-O") [] false
+
 -- the first goes up to the byte 9, the second from the byte 10 on up to the byte 45
 abbrev pub both : List Placed
 both = spanning 0 9 lost ∷ spanning 10 45 illegal ∷ []
+
+-- the tags of a game between A and B, as tokens, each with how many bytes are left where it begins
+abbrev pub four_tags : List (ℕ × Token)
+four_tags = (46, Tag (codes "Event") (codes "E") 38) ∷ (34, Tag (codes "Date") (codes "F") 27)
+    ∷ (23, Tag (codes "White") (codes "A") 15) ∷ (11, Tag (codes "Black") (codes "B") 3) ∷ []
 
 -- the lines of these two reports, with these options, are this text
 abbrev pub AreWritten : VerifyOptions → Text → Type 0
@@ -57,6 +70,14 @@ pub record ReportsAreWritten : Type 0 where
   -- only the line of a fault names the players
   pub names : AreWritten with_names
       "game 1: 2 half-moves, 0-1, time forfeit\ngame 2: illegal move at byte 39 | A - B, E F\n"
+  -- who the players are: White first, and then the event and the date; `?` for each tag that is missing
+  pub players : names_of four_tags ≡ codes " | A - B, E F"
+  pub nobody : names_of [] ≡ codes " | ? - ?, ? ?"
+  -- the fourth byte of the third line is explained
+  pub explained : explanation_line (codes "a\nb\ncdef") 7 (codes "f") ≡ codes "# line 3 column 4 f\n"
+  -- a move after a mate
+  pub after_mate : report_lines plain [] 1 (spanning 0 42 after_end ∷ [])
+      ≡ codes "game 1: move after the end at byte 39\n"
   -- two games, of two half-moves and of four, and a fault
   pub counts : counts_line (counts_of (both ++ spanning 46 60 (Game 4 Draw None) ∷ []))
       ≡ codes "games 2 half-moves 6 faults 1\n"
@@ -70,6 +91,23 @@ span p = (p.begin, p.end)
 -- two games of a text, the only ones, begin after the white space before them, and end with their markers
 abbrev pub GamesAreFound : Type 0
 GamesAreFound = map span (placed_on lenient 0 (codes " *\n *")) ≡ (1, 2) ∷ (4, 5) ∷ []
+
+-- ---- after a fault
+
+-- the first game of this text ends at this offset, where the text is read on if the game has a fault; `None`: nowhere
+abbrev pub IsReadOnAt : Text → Option ℕ → Type 0
+IsReadOnAt text at = game_end (length (codes text)) (tokens_from (codes text) 0) ≡ at
+
+-- where a text is read on, in games whose first word is no move
+pub record TextsAreReadOn : Type 0 where
+  -- after the game's marker, whatever comes before that
+  pub marker : IsReadOnAt "e9 1-0 *" (Some 6)
+  pub later : IsReadOnAt "e9 e4 (1-0) {*} e5 1-0 *" (Some 22)
+  -- without one at the tags of the next game
+  pub tags : IsReadOnAt "e9 [A \"b\"] *" (Some 3)
+  -- nowhere, if the text ends before that, or can't be read up to there
+  pub end : IsReadOnAt "e9 e4" None
+  pub unreadable : IsReadOnAt "e9 {1-0 *" None
 
 -- ---- pieces
 
@@ -88,3 +126,6 @@ pub record PiecesBegin : Type 0 where
   pub no_moves : AreItsPieces "%a\n;b\n \n[Event \"c\"]\n" (codes "%a\n;b\n \n[Event \"c\"]\n" ∷ [])
   -- at any tag line after a line of moves
   pub moves : AreItsPieces "1. e4 *\n[White \"b\"]\n" (codes "1. e4 *\n" ∷ codes "[White \"b\"]\n" ∷ [])
+  -- also if these moves are in the line of a tag
+  pub moves_after_tag : AreItsPieces "[Event \"a\"] e4 *\n[White \"b\"]\n"
+      (codes "[Event \"a\"] e4 *\n" ∷ codes "[White \"b\"]\n" ∷ [])

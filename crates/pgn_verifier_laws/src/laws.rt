@@ -17,7 +17,7 @@ ghost use Rattle.pgn_verifier_laws.specs.Files.{FilesAreVerifiedAlike};
 ghost use Rattle.pgn_verifier_laws.specs.NoFaults.{FaultlessTextsAreReportedAlike};
 ghost use Rattle.pgn_verifier_laws.specs.Parts.{GamesAreInParts, WholeGamesAreReportedAlike, PiecesAreReportedAlike, TextsAreReportedInParts};
 ghost use Rattle.pgn_verifier_laws.specs.Spans.{SpansMakeUpTheText, SpansMakeUpTheCollection};
-ghost use Rattle.pgn_verifier_laws.specs.WorkedReports.{GamesAreFound, PiecesBegin, ReportsAreWritten};
+ghost use Rattle.pgn_verifier_laws.specs.WorkedReports.{GamesAreFound, PiecesBegin, ReportsAreWritten, TextsAreReadOn};
 ghost use Rattle.pgn_verifier_laws.specs.WrittenGames.{WrittenGamesHaveNoFault, WrittenTextsHaveNoFault};
 
 use chess_base::{Position, Variant};
@@ -148,13 +148,16 @@ pub fn faults_are_in_order()
     ensures { FaultsAreInOrder }
 {}
 
-/// States a law and does nothing: the lines of two reports and of their counts, byte by byte, with some options of
-/// `verify`; where two games of a text begin and end; and into which pieces some texts are cut.
+/// States a law and does nothing: the lines of some reports, of their counts and of an explanation, byte by byte, with
+/// some options of `verify`; where two games of a text begin and end; where some texts are read on after a fault; and
+/// into which pieces some texts are cut.
 ///
-/// It refuses a game that is numbered only if it is shown, white space that belongs to the game after it, and an Event
-/// line that begins no piece, or begins one after any other tag line.
+/// It refuses a game that is numbered only if it is shown, Black's name before White's, white space that belongs to the
+/// game after it, a result that is read again after a fault, and an Event line that begins no piece, or begins one after
+/// any other tag line.
 pub fn reports_are_worked_out()
     ensures lines { ReportsAreWritten }
     ensures spans { GamesAreFound }
+    ensures read_on { TextsAreReadOn }
     ensures pieces { PiecesBegin }
 {}
