@@ -1,4 +1,4 @@
-"""Contracts as the lists of claims show them: clauses as they are in the source, with links by line."""
+"""What clauses name, as the lists of claims have it, and the table of reading paths, with links by line."""
 
 import re
 
@@ -13,40 +13,22 @@ def link(name, path, line):
     return f"[`{name}`]({UP}{path}#L{line})"
 
 
-def clause_lines(function, wanted):
-    """The lines of a function's clauses `requires`, of the wanted ones of its clauses `ensures`, and of what its impl
-    promises of these."""
-    lines = [f"ghost {name} = {{{text}}};" for name, text in function.gives if name in wanted]
-    for kind, name, text in function.clauses:
-        if kind == "requires" or kind == "ensures" and name in wanted:
-            first, *others = text.rstrip().removesuffix(";").split("\n")
-            lines.append(f"{kind}{' ' * bool(name)}{name} {{{first}")
-            lines += [line[min(function.margin, len(line) - len(line.lstrip())) :] for line in others]
-    return lines
-
-
-def top_definitions(reached, function, wanted):
-    """The definitions that wanted clauses name and that no other one there reaches, in the clauses' order."""
-    names, aliases = reached.sources.imports[function.path]
+def texts_of(function, wanted):
+    """The texts of the wanted ones of a function's clauses `ensures`, and of what its impl promises of these."""
     texts = [text for name, text in function.gives if name in wanted]
-    texts += [text for kind, name, text in function.clauses if kind == "ensures" and name in wanted]
-    tops = {}
-    for text in texts:
-        places = named(text, names, aliases, None, reached.sources.bound_in_clause(function, text))
-        keys = dict.fromkeys(key for place in places if (key := reached.specs.find(*place)))
-        beneath = {key: reached.specs.reached([key]) - {key} for key in keys}
-        tops |= {key: None for key in keys if not any(key in others for others in beneath.values())}
-    return [reached.specs.definitions[key] for key in tops]
+    return texts + [text for kind, name, text in function.clauses if kind == "ensures" and name in wanted]
 
 
-def contract(reached, function, wanted):
-    """The lines that show a function's contract: links to it and to its top definitions, and its clauses."""
-    tops = ", ".join(link(top.key.name, top.key.path, top.line) for top in top_definitions(reached, function, wanted))
-    head = link(function.full_name, function.path, function.line) + (f" in terms of {tops}" if tops else "")
-    lines = clause_lines(function, wanted)
-    if not lines:
-        return [head, ""]
-    return [f"{head}:", "", *(f"    {line}".rstrip() for line in lines), ""]
+def top_definitions(reached, theorems):
+    """The definitions that wanted clauses of functions name and that no other one there reaches, in the clauses' order."""
+    keys = {}
+    for function, wanted in theorems:
+        names, aliases = reached.sources.imports[function.path]
+        for text in texts_of(function, wanted):
+            places = named(text, names, aliases, None, reached.sources.bound_in_clause(function, text))
+            keys |= dict.fromkeys(key for place in places if (key := reached.specs.find(*place)))
+    beneath = [reached.specs.reached([key]) - {key} for key in keys]
+    return [key for key in keys if not any(key in others for others in beneath)]
 
 
 # ---- reading paths: a row for each claim of README, with its theorems and the definitions to read

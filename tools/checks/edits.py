@@ -42,10 +42,9 @@ PAGE = """# Wrong definitions
 
 Where a definition and the code are wrong alike, every contract still holds: only a law that says the same in other words \
 can notice. Each edit here makes a definition wrong, and names the law whose proof is to refuse it, also if the code is \
-changed alike, since a law rests only on definitions. `tools/checks/mutations --definitions` tries them, and prints what \
-refuses each; not all have been tried yet ([which](README.md#held-only-by-the-definition-and-by-tests)). In brackets is \
-the file of specs/ (`CRATE/FILE`), or *the law* where its own words were made wrong. \
-What no law refuses is [listed](README.md#held-only-by-the-definition-and-by-tests).
+changed alike, since a law rests only on definitions. In brackets is the file of specs/ that they are in (`CRATE/FILE`), \
+or *the law* where its own words were made wrong. `tools/checks/mutations --definitions` tries them, and prints what \
+refuses each. [Which were tried, and what no law refuses](README.md#held-only-by-the-definition-and-by-tests)
 
 The rows *a proof of the crate* show less. If they don't name *the law*, only one definition was made wrong, and the code \
 was left as it is. So the code's proof refuses it, or a second definition of the same: a text's tokens are defined by \
@@ -71,11 +70,11 @@ def page(folder):
     for crate in sorted({path.parts[-3] for path in Path(folder).glob("crates/*/definition-edits/*.edit")}):
         by_law = {}
         for edit in read_edits(Path(folder) / "crates" / crate):
-            text = f"{edit.name.removeprefix('twin_').replace('_', ' ')} ({where(edit, crate)})"
-            by_law.setdefault(edit.law.split("::")[-1], []).append(text)
+            text = edit.name.removeprefix("twin_").replace("_", " ")
+            by_law.setdefault(edit.law.split("::")[-1], {}).setdefault(where(edit, crate), []).append(text)
         lines += [f"## {crate}", "| refused by | what is wrong |", "|---|---|"]
-        lines += [
-            f"| {f'`{law}`' if law else 'a proof of the crate'} | {'; '.join(texts)} |" for law, texts in sorted(by_law.items())
-        ]
+        for law, by_file in sorted(by_law.items()):
+            texts = "; ".join(f"{', '.join(texts)} ({files})" for files, texts in by_file.items())
+            lines.append(f"| {f'`{law}`' if law else 'a proof of the crate'} | {texts} |")
         lines.append("")
     return "\n".join(lines)

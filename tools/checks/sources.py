@@ -93,7 +93,6 @@ class Function:
     crate: str
     path: str
     line: int  # in its file, from 1 on
-    margin: int  # of its clauses
     owner: str
     name: str
     is_pub: bool
@@ -439,8 +438,7 @@ class Sources:
             if m := re.match(r"^\s*(pub )?(?:pub\(\w+\) )?(?:const )?fn (\w+)", line):
                 is_pub = bool(m.group(1)) or is_trait or of_trait
                 signature, clauses, last = contract_at(lines, i)
-                margin = len(line) - len(line.lstrip()) + 4
-                f = Function(crate, path, i + 1, margin, owner, m.group(2), is_pub, signature, clauses)
+                f = Function(crate, path, i + 1, owner, m.group(2), is_pub, signature, clauses)
                 f.body_is_empty, f.gives = lines[last].strip() == "{}", gives if of_trait else []
                 self.functions.append(f)
                 i = last
