@@ -1,5 +1,5 @@
 -- A line of moves by the kinds of its tokens is one by what each token does.
-use Rattle.std.proofs.Common.{◌≡◌, ℕ, ◌-◌, Bool, true, false, cond, List, ◌∷◌, length, Option, Some, None, is_some, Ok, refl, ◌||◌}
+use Rattle.std.proofs.Common.{◌≡◌, ℕ, ◌-◌, Bool, true, false, cond, List, ◌∷◌, length, Option, Some, None, is_some, Ok, Err, refl, ◌||◌}
 use Rattle.std.specs.{List.list_all, Option.option_map_or, Option.option_or}
 use Rattle.byte_devices.specs.Bytes.{is_digit}
 use Rattle.chess_base.specs.{declared.man.Move.Move, declared.setup.Setup.Setup, Moves.after}
@@ -11,13 +11,13 @@ use Rattle.chess_pgn.specs.Tokens.{Token, Skip, Tag, Word, Bad_tag, Unclosed_com
 use Rattle.chess_pgn.specs.Variations.{is_variation, line_fault}
 use Rattle.chess_pgn.specs.shared.LineTokens.{after_token, token_move, word_move}
 
-module _ (text : List ℕ) (inside : Setup → ℕ → Option PgnFault) (before : Option Setup) (p : Setup) (left : ℕ)
-    (more : List (ℕ × Token)) where
+module _ (tags : Bool) (text : List ℕ) (inside : Setup → ℕ → Option PgnFault) (before : Option Setup) (p : Setup)
+    (left : ℕ) (more : List (ℕ × Token)) where
   abbrev at : ℕ
   at = length text - left
 
   abbrev later : Option Setup → Setup → Option PgnFault
-  later b q = line_fault text inside b q more
+  later b q = line_fault tags text inside b q more
 
   abbrev faulty : PgnFaultKind → Option PgnFault
   faulty kind = Some (record { kind = kind; offset = at })
@@ -29,7 +29,7 @@ module _ (text : List ℕ) (inside : Setup → ℕ → Option PgnFault) (before 
   -- what a token gives, by whether it is a variation, and whether it is a `)`
   abbrev by_kind : Token → Bool → Bool → Option PgnFault
   by_kind token opens closes = cond opens (option_or opened (later before p))
-      (cond closes None (after_token at before p (token_move p token) later))
+      (cond closes None (after_token at before p (token_move tags p token) later))
 
   skipped : (opens : Bool) → option_or (cond opens opened None) (later before p) ≡ by_kind Skip opens false
   skipped true = refl
@@ -50,10 +50,15 @@ module _ (text : List ℕ) (inside : Setup → ℕ → Option PgnFault) (before 
   by_word word true = refl
   by_word word false = by_reading (reading p word)
 
-  pub line_by_kind : (token : Token) → line_fault text inside before p ((left, token) ∷ more)
+  by_tag : (is_passed : Bool) → cond is_passed (later before p) (faulty BadToken)
+      ≡ after_token at before p (cond is_passed (Ok None) (Err BadToken)) later
+  by_tag true = refl
+  by_tag false = refl
+
+  pub line_by_kind : (token : Token) → line_fault tags text inside before p ((left, token) ∷ more)
       ≡ by_kind token (is_variation text at token) (is_end text at token)
   line_by_kind Skip = skipped (is_variation text at Skip)
-  line_by_kind (Tag name string at_string) = refl
+  line_by_kind (Tag name string at_string) = by_tag tags
   line_by_kind (Word word) = by_word word (is_some (outcome_of word) || (list_all is_digit word || is_marks word))
   line_by_kind Bad_tag = refl
   line_by_kind (Unclosed_comment brace) = refl

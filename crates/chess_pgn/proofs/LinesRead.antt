@@ -12,18 +12,18 @@ use Rattle.chess_pgn.specs.ties.LineSteps.{EndsLine, IsUnread, inside, opening, 
 use Rattle.chess_pgn.proofs.LineKinds.{line_by_kind}
 
 -- a line was read up to `here`, where its position is `p`, and `before` the one before its last move: what is read from
--- there on is what is read of the whole line
-pub record LineReads (depth : ℕ) (text : List ℕ) (start : Setup) (at : ℕ) (before : Option Setup) (p : Setup)
-    (here : ℕ) : Type 0 where
+-- there on is what is read of the whole line. `tags`: whether tags are passed over in it
+pub record LineReads (tags : Bool) (depth : ℕ) (text : List ℕ) (start : Setup) (at : ℕ) (before : Option Setup)
+    (p : Setup) (here : ℕ) : Type 0 where
   pub offset : here ≤ length text
-  pub whole : line_fault text (inside depth text) before p (tokens_from text here)
-      ≡ line_fault text (inside depth text) None start (tokens_from text at)
+  pub whole : line_fault tags text (inside depth text) before p (tokens_from text here)
+      ≡ line_fault tags text (inside depth text) None start (tokens_from text at)
 
-pub begun : (depth : ℕ) (text : List ℕ) (start p : Setup) (at : ℕ) → at ≤ length text → p ≡ start
-    → LineReads depth text start at None p at
-begun depth text start p at h is = record {
+pub begun : (tags : Bool) (depth : ℕ) (text : List ℕ) (start p : Setup) (at : ℕ) → at ≤ length text → p ≡ start
+    → LineReads tags depth text start at None p at
+begun tags depth text start p at h is = record {
   offset = h;
-  whole = ap (λ q. line_fault text (inside depth text) None q (tokens_from text at)) is;
+  whole = ap (λ q. line_fault tags text (inside depth text) None q (tokens_from text at)) is;
 }
 
 -- ---- one token
@@ -42,133 +42,133 @@ fault_alike : (fault other : PgnFault) → not_begun fault ≡ not_begun other �
 fault_alike fault other e = cc
 
 -- what a token gives, by its offset, whether it is a variation, and whether it is a `)`
-abbrev by_kind : List ℕ → (Setup → ℕ → Option PgnFault) → Option Setup → Setup → Token → List (ℕ × Token) → ℕ
+abbrev by_kind : Bool → List ℕ → (Setup → ℕ → Option PgnFault) → Option Setup → Setup → Token → List (ℕ × Token) → ℕ
     → Bool → Bool → Option PgnFault
-by_kind text inner before p token more at opens closes = cond opens
+by_kind tags text inner before p token more at opens closes = cond opens
     (option_or (option_map_or (λ first. inner first at) before (Some (record { kind = BadToken; offset = at })))
-    (line_fault text inner before p more))
-    (cond closes None (after_token at before p (token_move p token) (λ c q. line_fault text inner c q more)))
+    (line_fault tags text inner before p more))
+    (cond closes None (after_token at before p (token_move tags p token) (λ c q. line_fault tags text inner c q more)))
 
-of_token : (text : List ℕ) (inner : Setup → ℕ → Option PgnFault) (before : Option Setup) (p : Setup)
+of_token : (tags : Bool) (text : List ℕ) (inner : Setup → ℕ → Option PgnFault) (before : Option Setup) (p : Setup)
     (token : Token) (more : List (ℕ × Token)) (at : ℕ) (opens closes : Bool) → at ≤ length text
     → is_variation text at token ≡ opens → is_end text at token ≡ closes
-    → line_fault text inner before p ((length text - at, token) ∷ more)
-    ≡ by_kind text inner before p token more at opens closes
-of_token text inner before p token more at opens closes h is ends =
+    → line_fault tags text inner before p ((length text - at, token) ∷ more)
+    ≡ by_kind tags text inner before p token more at opens closes
+of_token tags text inner before p token more at opens closes h is ends =
     let back : length text - (length text - at) ≡ at = omega (arith, h) in
-    line_by_kind text inner before p (length text - at) more token
-    ∙ ap (λ k. by_kind text inner before p token more k (is_variation text k token) (is_end text k token)) back
-    ∙ ap (λ b. by_kind text inner before p token more at b (is_end text at token)) is
-    ∙ ap (by_kind text inner before p token more at opens) ends
+    line_by_kind tags text inner before p (length text - at) more token
+    ∙ ap (λ k. by_kind tags text inner before p token more k (is_variation text k token) (is_end text k token)) back
+    ∙ ap (λ b. by_kind tags text inner before p token more at b (is_end text at token)) is
+    ∙ ap (by_kind tags text inner before p token more at opens) ends
 
-module _ (depth : ℕ) (text : List ℕ) (start : Setup) (at : ℕ) (before : Option Setup) (p : Setup) (here tail : ℕ)
-    (token : Token) (r : LineReads depth text start at before p here) (k : tail ≤ length text)
+module _ (tags : Bool) (depth : ℕ) (text : List ℕ) (start : Setup) (at : ℕ) (before : Option Setup) (p : Setup)
+    (here tail : ℕ) (token : Token) (r : LineReads tags depth text start at before p here) (k : tail ≤ length text)
     (is : tokens_from text here ≡ (length text - here, token) ∷ tokens_from text tail) where
   -- what the token gives is what is left
   left : (opens closes : Bool) → is_variation text here token ≡ opens → is_end text here token ≡ closes
-      → by_kind text (inside depth text) before p token (tokens_from text tail) here opens closes
-      ≡ line_fault text (inside depth text) None start (tokens_from text at)
+      → by_kind tags text (inside depth text) before p token (tokens_from text tail) here opens closes
+      ≡ line_fault tags text (inside depth text) None start (tokens_from text at)
   left opens closes v e =
-      sym (of_token text (inside depth text) before p token (tokens_from text tail) here opens closes r.offset v e)
-      ∙ ap (line_fault text (inside depth text) before p) (sym is) ∙ r.whole
+      sym (of_token tags text (inside depth text) before p token (tokens_from text tail) here opens closes r.offset v e)
+      ∙ ap (line_fault tags text (inside depth text) before p) (sym is) ∙ r.whole
 
   abbrev Plays : Result (Option Setup) PgnFault → Setup → Type 0
   Plays result q = (c : Option Setup) (later : Option Setup → Setup → Option PgnFault)
-      → after_token here c p (token_move p token) later ≡ played c result q later
+      → after_token here c p (token_move tags p token) later ≡ played c result q later
 
   -- a token that is no variation and no `)`
   taken : (result : Result (Option Setup) PgnFault) (q : Setup) → is_variation text here token ≡ false
       → is_end text here token ≡ false → Plays result q
-      → played before result q (λ c s. line_fault text (inside depth text) c s (tokens_from text tail))
-      ≡ line_fault text (inside depth text) None start (tokens_from text at)
+      → played before result q (λ c s. line_fault tags text (inside depth text) c s (tokens_from text tail))
+      ≡ line_fault tags text (inside depth text) None start (tokens_from text at)
   taken result q v e plays =
-      sym (plays before (λ c s. line_fault text (inside depth text) c s (tokens_from text tail)))
+      sym (plays before (λ c s. line_fault tags text (inside depth text) c s (tokens_from text tail)))
       ∙ left false false v e
 
   -- one that is passed over
   pub passed_over : (q : Setup) → is_variation text here token ≡ false → is_end text here token ≡ false
-      → Plays (Ok None) q → LineReads depth text start at before q tail
+      → Plays (Ok None) q → LineReads tags depth text start at before q tail
   passed_over q v e plays = record { offset = k; whole = taken (Ok None) q v e plays }
 
   -- a move
   pub moved_on : (first q : Setup) → is_variation text here token ≡ false → is_end text here token ≡ false
-      → Plays (Ok (Some first)) q → LineReads depth text start at (Some first) q tail
+      → Plays (Ok (Some first)) q → LineReads tags depth text start at (Some first) q tail
   moved_on first q v e plays = record { offset = k; whole = taken (Ok (Some first)) q v e plays }
 
   -- a fault
   pub faulty : (fault : PgnFault) (q : Setup) → is_variation text here token ≡ false
       → is_end text here token ≡ false → Plays (Err fault) q
-      → Some fault ≡ line_fault text (inside depth text) None start (tokens_from text at)
+      → Some fault ≡ line_fault tags text (inside depth text) None start (tokens_from text at)
   faulty fault q v e plays = taken (Err fault) q v e plays
 
   -- what a variation gives, from where it begins
   abbrev within : Option Setup → Option PgnFault
   within o = option_or (option_map_or (λ first. inside depth text first here) o
       (Some (record { kind = BadToken; offset = here })))
-      (line_fault text (inside depth text) before p (tokens_from text tail))
+      (line_fault tags text (inside depth text) before p (tokens_from text tail))
 
   of_variation : is_variation text here token ≡ true → within before
-      ≡ line_fault text (inside depth text) None start (tokens_from text at)
+      ≡ line_fault tags text (inside depth text) None start (tokens_from text at)
   of_variation v = left true (is_end text here token) v refl
 
   -- a variation that can't begin
   pub not_opened : (fault : PgnFault) → is_variation text here token ≡ true → Err fault ≡ opening depth before here
-      → Some fault ≡ line_fault text (inside depth text) None start (tokens_from text at)
+      → Some fault ≡ line_fault tags text (inside depth text) None start (tokens_from text at)
   unfolding variation_fault
   not_opened fault v h = by_opening depth before h refl refl
     where
       by_opening : (n : ℕ) (o : Option Setup) → Err fault ≡ opening n o here → n ≡ depth → o ≡ before
-          → Some fault ≡ line_fault text (inside depth text) None start (tokens_from text at)
+          → Some fault ≡ line_fault tags text (inside depth text) None start (tokens_from text at)
       by_opening n None e m same =
           let is_bad = fault_alike fault (record { kind = BadToken; offset = here }) e in
           ap Some is_bad ∙ ap within same ∙ of_variation v
       by_opening zero (Some first) e m same =
           let is_long = fault_alike fault (record { kind = TooLong; offset = here }) e in
           ap Some is_long
-          ∙ ap (λ d. option_or (inside d text first here) (line_fault text (inside depth text) before p
+          ∙ ap (λ d. option_or (inside d text first here) (line_fault tags text (inside depth text) before p
           (tokens_from text tail))) m ∙ ap within same ∙ of_variation v
       by_opening (suc n) (Some first) e m same = absurd (cc)
 
   -- the line in a variation, of which these are the start and the depth
   inner_is : (first : Setup) (n : ℕ) → Ok (first, n) ≡ opening depth before here
-      → (inside depth text first here ≡ line_fault text (inside n text) None first (tokens_from text (here + 1)))
+      → (inside depth text first here ≡ line_fault false text (inside n text) None first (tokens_from text (here + 1)))
       × (before ≡ Some first)
   unfolding variation_fault
   inner_is first n h = by_opening depth before h refl refl
     where
       by_opening : (m : ℕ) (o : Option Setup) → Ok (first, n) ≡ opening m o here → m ≡ depth → o ≡ before
-          → (inside depth text first here ≡ line_fault text (inside n text) None first (tokens_from text (here + 1)))
-          × (before ≡ Some first)
+          → (inside depth text first here
+          ≡ line_fault false text (inside n text) None first (tokens_from text (here + 1))) × (before ≡ Some first)
       by_opening m None e is_depth same = absurd (cc)
       by_opening zero (Some other) e is_depth same = absurd (cc)
       by_opening (suc m) (Some other) e is_depth same =
           let alike = opened_alike (first, n) (other, m) e in (
             ap (λ d. inside d text first here) (sym is_depth)
-                ∙ ap (λ (r : Setup × ℕ). line_fault text (inside r.1 text) None first (tokens_from text (here + 1)))
-                (sym alike),
+                ∙ ap (λ (r : Setup × ℕ). line_fault false text (inside r.1 text) None first
+                (tokens_from text (here + 1))) (sym alike),
             sym same ∙ ap Some (ap (λ (r : Setup × ℕ). r.0) (sym alike)),
           )
 
   -- a variation with a fault
   pub faulty_inside : (first : Setup) (n : ℕ) (fault : PgnFault) → is_variation text here token ≡ true
       → Ok (first, n) ≡ opening depth before here
-      → Some fault ≡ line_fault text (inside n text) None first (tokens_from text (here + 1))
-      → Some fault ≡ line_fault text (inside depth text) None start (tokens_from text at)
+      → Some fault ≡ line_fault false text (inside n text) None first (tokens_from text (here + 1))
+      → Some fault ≡ line_fault tags text (inside depth text) None start (tokens_from text at)
   faulty_inside first n fault v h f =
       let inner = inner_is first n h in
-      ap (λ o. option_or o (line_fault text (inside depth text) before p (tokens_from text tail)))
+      ap (λ o. option_or o (line_fault tags text (inside depth text) before p (tokens_from text tail)))
       (f ∙ sym inner.0) ∙ ap within (sym inner.1) ∙ of_variation v
 
   -- a variation without one: the line continues in the same position
   pub went_inside : (first : Setup) (n : ℕ) (q : Setup) → is_variation text here token ≡ true
       → Ok (first, n) ≡ opening depth before here
-      → None ≡ line_fault text (inside n text) None first (tokens_from text (here + 1)) → q ≡ p
-      → LineReads depth text start at before q tail
+      → None ≡ line_fault false text (inside n text) None first (tokens_from text (here + 1)) → q ≡ p
+      → LineReads tags depth text start at before q tail
   went_inside first n q v h none same =
       let inner = inner_is first n h in record {
         offset = k;
-        whole = ap (λ s. line_fault text (inside depth text) before s (tokens_from text tail)) same
-            ∙ ap (λ o. option_or o (line_fault text (inside depth text) before p (tokens_from text tail)))
+        whole = ap (λ s. line_fault tags text (inside depth text) before s (tokens_from text tail)) same
+            ∙ ap (λ o. option_or o (line_fault tags text (inside depth text) before p (tokens_from text tail)))
             (none ∙ sym inner.0) ∙ ap within (sym inner.1) ∙ of_variation v;
       }
 
@@ -181,39 +181,40 @@ goes_on text at (seen.Word word) = refl
 -- ---- the end
 
 -- what can't be read is no variation, and a bad token
-unread_is : (text : List ℕ) (at : ℕ) (p : Setup) (token : Token) → IsUnread token
-    → (is_variation text at token ≡ false) × (token_move p token ≡ Err BadToken)
-unread_is text at p Skip h = absurd h
-unread_is text at p (Tag name string left) h = absurd h
-unread_is text at p (Word word) h = absurd h
-unread_is text at p Bad_tag h = (refl, refl)
-unread_is text at p (Unclosed_comment left) h = (refl, refl)
-unread_is text at p Unclosed_variation h = (refl, refl)
-unread_is text at p Bad h = (refl, refl)
+unread_is : (tags : Bool) (text : List ℕ) (at : ℕ) (p : Setup) (token : Token) → IsUnread token
+    → (is_variation text at token ≡ false) × (token_move tags p token ≡ Err BadToken)
+unread_is tags text at p Skip h = absurd h
+unread_is tags text at p (Tag name string left) h = absurd h
+unread_is tags text at p (Word word) h = absurd h
+unread_is tags text at p Bad_tag h = (refl, refl)
+unread_is tags text at p (Unclosed_comment left) h = (refl, refl)
+unread_is tags text at p Unclosed_variation h = (refl, refl)
+unread_is tags text at p Bad h = (refl, refl)
 
 -- the line ends
-pub ended : (depth : ℕ) (text : List ℕ) (start : Setup) (at : ℕ) (before : Option Setup) (p : Setup) (here : ℕ)
-    → LineReads depth text start at before p here → EndsLine text here
-    → None ≡ line_fault text (inside depth text) None start (tokens_from text at)
-ended depth text start at before p here r (inl none) =
-    ap (line_fault text (inside depth text) before p) (sym none) ∙ r.whole
-ended depth text start at before p here r (inr (token, is, h, closes)) =
-    sym (of_token text (inside depth text) before p token [] here false true r.offset (unread_is text here p token h).0
-    closes) ∙ ap (line_fault text (inside depth text) before p) (sym is) ∙ r.whole
+pub ended : (tags : Bool) (depth : ℕ) (text : List ℕ) (start : Setup) (at : ℕ) (before : Option Setup) (p : Setup)
+    (here : ℕ)
+    → LineReads tags depth text start at before p here → EndsLine text here
+    → None ≡ line_fault tags text (inside depth text) None start (tokens_from text at)
+ended tags depth text start at before p here r (inl none) =
+    ap (line_fault tags text (inside depth text) before p) (sym none) ∙ r.whole
+ended tags depth text start at before p here r (inr (token, is, h, closes)) =
+    sym (of_token tags text (inside depth text) before p token [] here false true r.offset
+    (unread_is tags text here p token h).0 closes) ∙ ap (line_fault tags text (inside depth text) before p) (sym is) ∙ r.whole
 
 -- what can't be read, and is no `)`
-pub unread : (depth : ℕ) (text : List ℕ) (start : Setup) (at : ℕ) (before : Option Setup) (p : Setup) (here : ℕ)
-    (fault : PgnFault) → LineReads depth text start at before p here
+pub unread : (tags : Bool) (depth : ℕ) (text : List ℕ) (start : Setup) (at : ℕ) (before : Option Setup) (p : Setup)
+    (here : ℕ) (fault : PgnFault) → LineReads tags depth text start at before p here
     → fault ≡ record { kind = BadToken; offset = here }
     → (t : Token) × (tokens_from text here ≡ (length text - here, t) ∷ []) × IsUnread t
     × (is_end text here t ≡ false)
-    → Some fault ≡ line_fault text (inside depth text) None start (tokens_from text at)
-unread depth text start at before p here fault r bad (token, is, h, opens) =
-    let both = unread_is text here p token h in
+    → Some fault ≡ line_fault tags text (inside depth text) None start (tokens_from text at)
+unread tags depth text start at before p here fault r bad (token, is, h, opens) =
+    let both = unread_is tags text here p token h in
     ap Some bad
-    ∙ ap (λ m. after_token here before p m (λ c q. line_fault text (inside depth text) c q [])) (sym both.1)
-    ∙ sym (of_token text (inside depth text) before p token [] here false false r.offset both.0 opens)
-    ∙ ap (line_fault text (inside depth text) before p) (sym is) ∙ r.whole
+    ∙ ap (λ m. after_token here before p m (λ c q. line_fault tags text (inside depth text) c q [])) (sym both.1)
+    ∙ sym (of_token tags text (inside depth text) before p token [] here false false r.offset both.0 opens)
+    ∙ ap (line_fault tags text (inside depth text) before p) (sym is) ∙ r.whole
 
 -- ---- faults are in the text
 
@@ -225,14 +226,14 @@ first_within : (len : ℕ) (first second : Option PgnFault) → InText len first
 first_within len (Some fault) second h k = h
 first_within len None second h k = k
 
-line_within : (text : List ℕ) (inner : Setup → ℕ → Option PgnFault)
+line_within : (tags : Bool) (text : List ℕ) (inner : Setup → ℕ → Option PgnFault)
     → ((p : Setup) (from : ℕ) → from ≤ length text → InText (length text) (inner p from))
     → (tokens : List (ℕ × Token)) (before : Option Setup) (p : Setup)
-    → InText (length text) (line_fault text inner before p tokens)
-line_within text inner h [] before p = tt
-line_within text inner h ((n, token) ∷ more) before p =
-    subst (InText (length text)) (sym (line_by_kind text inner before p n more token))
-    (by_kinds (λ c q. line_within text inner h more c q) (is_variation text (length text - n) token)
+    → InText (length text) (line_fault tags text inner before p tokens)
+line_within tags text inner h [] before p = tt
+line_within tags text inner h ((n, token) ∷ more) before p =
+    subst (InText (length text)) (sym (line_by_kind tags text inner before p n more token))
+    (by_kinds (λ c q. line_within tags text inner h more c q) (is_variation text (length text - n) token)
     (is_end text (length text - n) token))
   where
     by_before : (o : Option Setup) → InText (length text) (option_map_or
@@ -240,32 +241,33 @@ line_within text inner h ((n, token) ∷ more) before p =
     by_before None = omega arith
     by_before (Some first) = h first (length text - n) (omega arith)
 
-    by_move : ((c : Option Setup) (q : Setup) → InText (length text) (line_fault text inner c q more))
+    by_move : ((c : Option Setup) (q : Setup) → InText (length text) (line_fault tags text inner c q more))
         → (m : Result (Option Move) PgnFaultKind)
-        → InText (length text) (after_token (length text - n) before p m (λ c q. line_fault text inner c q more))
+        → InText (length text) (after_token (length text - n) before p m (λ c q. line_fault tags text inner c q more))
     by_move rest (Ok None) = rest before p
     by_move rest (Ok (Some m)) = rest (Some p) (after p m)
     by_move rest (Err kind) = omega arith
 
-    by_kinds : ((c : Option Setup) (q : Setup) → InText (length text) (line_fault text inner c q more))
+    by_kinds : ((c : Option Setup) (q : Setup) → InText (length text) (line_fault tags text inner c q more))
         → (opens closes : Bool)
-        → InText (length text) (by_kind text inner before p token more (length text - n) opens closes)
+        → InText (length text) (by_kind tags text inner before p token more (length text - n) opens closes)
     by_kinds rest true closes =
-        first_within (length text) _ (line_fault text inner before p more) (by_before before) (rest before p)
+        first_within (length text) _ (line_fault tags text inner before p more) (by_before before) (rest before p)
     by_kinds rest false true = tt
-    by_kinds rest false false = by_move rest (token_move p token)
+    by_kinds rest false false = by_move rest (token_move tags p token)
 
 variation_within : (depth : ℕ) (text : List ℕ) (p : Setup) (from : ℕ) → from ≤ length text
     → InText (length text) (inside depth text p from)
 unfolding variation_fault
 variation_within zero text p from h = h
 variation_within (suc depth) text p from h =
-    line_within text (inside depth text) (λ q i k. variation_within depth text q i k) (tokens_from text (from + 1)) None p
+    line_within false text (inside depth text) (λ q i k. variation_within depth text q i k)
+    (tokens_from text (from + 1)) None p
 
-pub fault_within : (depth : ℕ) (text : List ℕ) (start : Setup) (at : ℕ)
-    → InText (length text) (line_fault text (inside depth text) None start (tokens_from text at))
-fault_within depth text start at =
-    line_within text (inside depth text) (variation_within depth text) (tokens_from text at) None start
+pub fault_within : (tags : Bool) (depth : ℕ) (text : List ℕ) (start : Setup) (at : ℕ)
+    → InText (length text) (line_fault tags text (inside depth text) None start (tokens_from text at))
+fault_within tags depth text start at =
+    line_within tags text (inside depth text) (variation_within depth text) (tokens_from text at) None start
 
 -- the fault of what was returned
 pub of_error : (len : ℕ) (r : Result (Unit {0}) PgnFault) → InText len (result_err r)

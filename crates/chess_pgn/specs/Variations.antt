@@ -1,10 +1,9 @@
 -- What is read of the variations of a game (PGN standard of 1994, section 8.2.5). A variation replaces the move just
 -- before it, so its moves begin in the position before that move; a variation in it replaces one of its own moves. A
--- *line* is a game's own moves, or those of a variation. This project's own: which words are taken; that a result and a
--- tag are passed over in a variation; that such a tag is read whole, so that a `)` in its string, which may end the
--- variation for the game (`Split`), doesn't end the variation's line; that no draw ends a variation; and how deep they
--- may be nested.
-use Rattle.std.specs.Prelude.{ℕ, zero, suc, ◌+◌, ◌-◌, Bool, false, ◌||◌, if◌then◌else◌, List, [], ◌∷◌, codes, length, take, drop, slice_index, Option, Some, None, is_some, ◌==◌}
+-- *line* is a game's own moves, or those of a variation. This project's own: which words are taken; that a result is
+-- passed over in a variation, and a tag there is a fault, since a `)` in its string may end the variation for the game
+-- (`Split`); that no draw ends a variation; and how deep they may be nested.
+use Rattle.std.specs.Prelude.{ℕ, zero, suc, ◌+◌, ◌-◌, Bool, true, false, ◌||◌, if◌then◌else◌, List, [], ◌∷◌, codes, length, take, drop, slice_index, Option, Some, None, is_some, ◌==◌}
 use Rattle.std.specs.List.{list_all, list_any}
 use Rattle.std.specs.Option.{option_map_or, option_or}
 use Rattle.std.specs.Str.{bytes_eq}
@@ -25,26 +24,30 @@ is_variation text at Skip = slice_index text at == byte "("
 is_variation text at _ = false
 
 -- the first fault of a line, and of the variations in it, from these tokens of the text on, in the position `p`.
--- `before` is the position before the line's last move so far, if it has one: a variation begins in that position, and
--- without it is a fault. `inside` gives the first fault of the variation from a position, with its `(` at an offset. A
--- token's offset is `length text - left`
-abbrev pub line_fault : List ℕ → (Setup → ℕ → Option PgnFault) → Option Setup → Setup → List (ℕ × Token)
+-- `tags`: whether tags are passed over, as a game's own are; in a variation each is a bad token. `before` is the
+-- position before the line's last move so far, if it has one: a variation begins in that position, and without it is a
+-- fault. `inside` gives the first fault of the variation from a position, with its `(` at an offset. A token's offset is
+-- `length text - left`
+abbrev pub line_fault : Bool → List ℕ → (Setup → ℕ → Option PgnFault) → Option Setup → Setup → List (ℕ × Token)
     → Option PgnFault
-line_fault text inside before p [] = None
-line_fault text inside before p ((left, Skip) ∷ more) = let at = length text - left in
+line_fault tags text inside before p [] = None
+line_fault tags text inside before p ((left, Skip) ∷ more) = let at = length text - left in
     let found = option_map_or (λ start. inside start at) before (Some (record { kind = BadToken; offset = at })) in
-    option_or (if is_variation text at Skip then found else None) (line_fault text inside before p more)
-line_fault text inside before p ((left, Tag name string to_end) ∷ more) = line_fault text inside before p more
+    option_or (if is_variation text at Skip then found else None) (line_fault tags text inside before p more)
+line_fault tags text inside before p ((left, Tag name string to_end) ∷ more) =
+    if tags then line_fault tags text inside before p more
+    else Some (record { kind = BadToken; offset = length text - left })
 -- a result, a number, and marks such as `!?` are passed over; any other word is taken as a move
-line_fault text inside before p ((left, Word word) ∷ more) =
-    if is_some (outcome_of word) || (list_all is_digit word || is_marks word) then line_fault text inside before p more
-    else word_gives None (λ m. line_fault text inside (Some p) (after p m) more)
+line_fault tags text inside before p ((left, Word word) ∷ more) =
+    if is_some (outcome_of word) || (list_all is_digit word || is_marks word)
+    then line_fault tags text inside before p more
+    else word_gives None (λ m. line_fault tags text inside (Some p) (after p m) more)
     (λ kind. Some (record { kind = kind; offset = length text - left })) (reading p word)
 -- a `)`, which can't be read as a token, ends the line of a variation
-line_fault text inside before p ((left, Bad) ∷ more) = let at = length text - left in
+line_fault tags text inside before p ((left, Bad) ∷ more) = let at = length text - left in
     if bytes_eq (take 1 (drop at text)) (codes ")") then None else Some (record { kind = BadToken; offset = at })
 -- a `[` that begins no tag, or a comment or variation that isn't closed, is a bad token, too
-line_fault text inside before p ((left, _) ∷ more) = Some (record { kind = BadToken; offset = length text - left })
+line_fault tags text inside before p ((left, _) ∷ more) = Some (record { kind = BadToken; offset = length text - left })
 
 -- the first fault of the variation whose `(` is at the offset `at` of the text, and whose moves begin in the position
 -- `start`. It and those in it may be nested at most so deep (the second argument); one deeper is a fault, too long.
@@ -52,7 +55,7 @@ line_fault text inside before p ((left, _) ∷ more) = Some (record { kind = Bad
 unfoldable pub variation_fault : (List ℕ → ℕ → List (ℕ × Token)) → ℕ → List ℕ → Setup → ℕ → Option PgnFault
 variation_fault tokens zero text start at = Some (record { kind = TooLong; offset = at })
 variation_fault tokens (suc depth) text start at =
-    line_fault text (λ p from. variation_fault tokens depth text p from) None start (tokens text (at + 1))
+    line_fault false text (λ p from. variation_fault tokens depth text p from) None start (tokens text (at + 1))
 
 -- whether one of these tokens of the text is a variation
 abbrev pub has_variation : List ℕ → List (ℕ × Token) → Bool
@@ -63,5 +66,5 @@ has_variation text tokens = list_any (λ t. is_variation text (length text - t.0
 -- again). At most 64 variations may be open
 abbrev pub variations_fault : (List ℕ → ℕ → List (ℕ × Token)) → List ℕ → Setup → ℕ → Option PgnFault
 variations_fault tokens text start at = if has_variation text (tokens text at)
-    then line_fault text (λ p from. variation_fault tokens MOST_NESTED text p from) None start (tokens text at)
+    then line_fault true text (λ p from. variation_fault tokens MOST_NESTED text p from) None start (tokens text at)
     else None

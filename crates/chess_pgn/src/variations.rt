@@ -57,18 +57,33 @@ fn is_passed(word: &[u8]) -> bool
 }
 
 // The legal move that a token of a line denotes in the board's position; `None` if the token is passed over; or its
-// fault, if it is a word that denotes no legal move or several.
-fn token_move<B: Board>(board: &B, token: &Token<'_>) -> Result<Option<Move>, PgnFaultKind>
-    ensures value { result ≡ token_move (B.position board.now) (token_seen token.now) }
+// fault, if it is a word that denotes no legal move or several, or a tag that is not passed over. `tags`: whether tags
+// are, as in a game.
+fn token_move<B: Board>(
+    tags: bool,
+    board: &B,
+    token: &Token<'_>,
+) -> Result<Option<Move>, PgnFaultKind>
+    ensures value { result ≡ token_move tags (B.position board.now) (token_seen token.now) }
     ensures legal { IfOk result (λ o. IfSome o (λ m. IsTrue (is_legal (B.position board.now) m))) }
 {
-    let Token::Word(word) = token else {
-        return Ok(None);
-    };
-    if is_passed(word) {
-        return Ok(None);
+    match token {
+        Token::Skip => Ok(None),
+        Token::Tag(_) => {
+            if tags {
+                Ok(None)
+            } else {
+                Err(PgnFaultKind::BadToken)
+            }
+        }
+        Token::Word(word) => {
+            if is_passed(word) {
+                Ok(None)
+            } else {
+                word_move(board, word)
+            }
+        }
     }
-    word_move(board, word)
 }
 
 // Whether a token, which begins at the offset `at`, is a variation.
@@ -115,17 +130,18 @@ fn token_at(text: &[u8], at: usize) -> Result<Option<(Token<'_>, usize)>, PgnFau
 }
 
 // Makes the move that a token at the offset `at` denotes in the board's position, and returns the position before it;
-// `None` if the token is passed over; or the fault, if no move can be made.
+// `None` if the token is passed over, as tags are if `tags` says so; or the fault, if no move can be made.
 fn play_token<B: Board>(
+    tags: bool,
     board: &mut B,
     at: usize,
     token: &Token<'_>,
 ) -> Result<Option<Position>, PgnFault>
     ensures { (before : Option Setup) (later : Option Setup → Setup → Option PgnFault)
-        → after_token at before (B.position board.old) (token_move (B.position board.old) (token_seen token.now)) later
-        ≡ played before result (B.position board.new) later }
+        → after_token at before (B.position board.old) (token_move tags (B.position board.old) (token_seen token.now))
+        later ≡ played before result (B.position board.new) later }
 {
-    let kind = match token_move(board, token) {
+    let kind = match token_move(tags, board, token) {
         Ok(None) => return Ok(None),
         Ok(Some(m)) => {
             let before = board.position();
@@ -164,8 +180,10 @@ fn opening(
 
 // Reads a line (a game's own moves, or those of a variation) from the offset `at` on, whose moves begin in the position
 // `start`: to the text's end, or to the variation's `)`. The board may be at any position before and after. At most
-// `depth` variations may be open in the line. Returns the first fault of the line or of a variation in it.
+// `depth` variations may be open in the line. `tags`: whether tags are passed over, as those of a game are; in a
+// variation each is a fault. Returns the first fault of the line or of a variation in it.
 fn read_line<B: Board>(
+    tags: bool,
     depth: usize,
     text: &[u8],
     at: usize,
@@ -173,7 +191,8 @@ fn read_line<B: Board>(
     board: &mut B,
 ) -> Result<(), PgnFault>
     requires { at ≤ length text.now }
-    ensures { result_err result ≡ line_fault text.now (inside depth text.now) None start.now (tokens_from text.now at) }
+    ensures { result_err result
+        ≡ line_fault tags text.now (inside depth text.now) None start.now (tokens_from text.now at) }
 {
     board.set(start);
     // The position before the line's last move.
@@ -186,9 +205,9 @@ fn read_line<B: Board>(
         if is_variation(text, offset, &token) {
             let (first, inner_depth) = opening(depth, &before, offset)?;
             let here = board.position();
-            read_line(inner_depth, text, offset + 1, &first, board)?;
+            read_line(false, inner_depth, text, offset + 1, &first, board)?;
             board.set(&here);
-        } else if let Some(left) = play_token(board, offset, &token)? {
+        } else if let Some(left) = play_token(tags, board, offset, &token)? {
             before = Some(left);
         }
         offset = token_end;
@@ -252,8 +271,8 @@ pub fn has_variation(text: &[u8], at: usize) -> bool
 /// first in the variations.
 ///
 /// # Errors
-/// The first fault. A variation with no move before it is one (`BadToken`), and so is one in [`MOST_NESTED`] others
-/// (`TooLong`).
+/// The first fault. A variation with no move before it is one (`BadToken`), and so are a tag in a variation, and a
+/// variation in [`MOST_NESTED`] others (`TooLong`).
 pub fn read_variations<B: Board>(
     text: &[u8],
     at: usize,
@@ -267,5 +286,5 @@ pub fn read_variations<B: Board>(
     if !has_variation(text, at) {
         return Ok(());
     }
-    read_line(MOST_NESTED, text, at, start, board)
+    read_line(true, MOST_NESTED, text, at, start, board)
 }

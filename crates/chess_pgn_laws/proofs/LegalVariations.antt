@@ -36,102 +36,109 @@ never_none reads.Ambiguous h = cc
 never_none reads.NoSuch h = cc
 
 -- a token that makes no move is passed over
-over : (p : Setup) (token : Token) → token_move p token ≡ none_found → is_passed token ≡ true
-over p Skip h = refl
-over p (Tag name text left) h = refl
-over p (Word word) h = by_kind (is_some (outcome_of word) || (list_all is_digit word || is_marks word)) h
+over : (tags : Bool) (p : Setup) (token : Token) → token_move tags p token ≡ none_found → is_passed token ≡ true
+over tags p Skip h = refl
+over tags p (Tag name text left) h = refl
+over tags p (Word word) h = by_kind (is_some (outcome_of word) || (list_all is_digit word || is_marks word)) h
   where
     by_kind : (b : Bool) → cond b none_found (word_move (reading p word)) ≡ none_found → b ≡ true
     by_kind true e = refl
     by_kind false e = absurd (never_none (reading p word) e)
-over p Bad_tag h = absurd (cc)
-over p (Unclosed_comment left) h = absurd (cc)
-over p Unclosed_variation h = absurd (cc)
-over p Bad h = absurd (cc)
+over tags p Bad_tag h = absurd (cc)
+over tags p (Unclosed_comment left) h = absurd (cc)
+over tags p Unclosed_variation h = absurd (cc)
+over tags p Bad h = absurd (cc)
 
 -- a token that makes a move is a word that denotes it
 data Moves (p : Setup) (m : Move) : Token → Type 0 where
   by_word : (word : List ℕ) → reading p word ≡ reads.Move m → Moves p m (Word word)
 
-moves : (p : Setup) (token : Token) (m : Move) → token_move p token ≡ found m → Moves p m token
-moves p Skip m h = absurd (cc)
-moves p (Tag name text left) m h = absurd (cc)
-moves p (Word word) m h = by_kind (is_some (outcome_of word) || (list_all is_digit word || is_marks word)) h
+moves : (tags : Bool) (p : Setup) (token : Token) (m : Move) → token_move tags p token ≡ found m → Moves p m token
+moves tags p Skip m h = absurd (cc)
+moves tags p (Tag name text left) m h = by_tags tags h
+  where
+    by_tags : (b : Bool) → cond b none_found (Err BadToken) ≡ found m → Moves p m (Tag name text left)
+    by_tags true e = absurd (cc)
+    by_tags false e = absurd (cc)
+moves tags p (Word word) m h = by_kind (is_some (outcome_of word) || (list_all is_digit word || is_marks word)) h
   where
     by_kind : (b : Bool) → cond b none_found (word_move (reading p word)) ≡ found m → Moves p m (Word word)
     by_kind true e = absurd (cc)
     by_kind false e = by_word word (read_as (reading p word) m e)
-moves p Bad_tag m h = absurd (cc)
-moves p (Unclosed_comment left) m h = absurd (cc)
-moves p Unclosed_variation m h = absurd (cc)
-moves p Bad m h = absurd (cc)
+moves tags p Bad_tag m h = absurd (cc)
+moves tags p (Unclosed_comment left) m h = absurd (cc)
+moves tags p Unclosed_variation m h = absurd (cc)
+moves tags p Bad m h = absurd (cc)
 
 module _ (law : ReadMovesAreLegal) (tokens : List ℕ → ℕ → List (ℕ × Token)) (text : List ℕ) where
-  line_legal : (inner : Setup → ℕ → Option PgnFault)
+  line_legal : (tags : Bool) (inner : Setup → ℕ → Option PgnFault)
       → ((p : Setup) (from : ℕ) → inner p from ≡ None → IsLegalLine (tokens text) text None p (tokens text (from + 1)))
-      → (all : List (ℕ × Token)) (before : Option Setup) (p : Setup) → line_fault text inner before p all ≡ None
+      → (all : List (ℕ × Token)) (before : Option Setup) (p : Setup) → line_fault tags text inner before p all ≡ None
       → IsLegalLine (tokens text) text before p all
-  line_legal inner h [] before p e = no_more
-  line_legal inner h ((left, token) ∷ more) before p e =
-      by_kind (λ b q k. line_legal inner h more b q k) (is_variation text (length text - left) token)
-      (is_end text (length text - left) token) refl refl (sym (line_by_kind text inner before p left more token) ∙ e)
+  line_legal tags inner h [] before p e = no_more
+  line_legal tags inner h ((left, token) ∷ more) before p e =
+      by_kind (λ b q k. line_legal tags inner h more b q k) (is_variation text (length text - left) token)
+      (is_end text (length text - left) token) refl refl
+      (sym (line_by_kind tags text inner before p left more token) ∙ e)
     where
-      by_before : ((b : Option Setup) (q : Setup) → line_fault text inner b q more ≡ None
+      by_before : ((b : Option Setup) (q : Setup) → line_fault tags text inner b q more ≡ None
           → IsLegalLine (tokens text) text b q more)
           → (o : Option Setup) → is_variation text (length text - left) token ≡ true
           → option_or (option_map_or (λ start. inner start (length text - left)) o
-          (Some (record { kind = BadToken; offset = length text - left }))) (line_fault text inner o p more) ≡ None
+          (Some (record { kind = BadToken; offset = length text - left }))) (line_fault tags text inner o p more) ≡ None
           → IsLegalLine (tokens text) text o p ((left, token) ∷ more)
       by_before rest None v k = absurd (cc)
       by_before rest (Some start) v k =
-          let both = none_of_two (inner start (length text - left)) (line_fault text inner (Some start) p more) k in
+          let rest_of = line_fault tags text inner (Some start) p more in
+          let both = none_of_two (inner start (length text - left)) rest_of k in
           variation v (h start (length text - left) both.0) (rest (Some start) p both.1)
 
-      by_word_of : ((b : Option Setup) (q : Setup) → line_fault text inner b q more ≡ None
+      by_word_of : ((b : Option Setup) (q : Setup) → line_fault tags text inner b q more ≡ None
           → IsLegalLine (tokens text) text b q more)
-          → (m : Move) (t : Token) → Moves p m t → line_fault text inner (Some p) (after p m) more ≡ None
+          → (m : Move) (t : Token) → Moves p m t → line_fault tags text inner (Some p) (after p m) more ≡ None
           → IsLegalLine (tokens text) text before p ((left, t) ∷ more)
       by_word_of rest m t (by_word word denoted) k = move m denoted (law p word m denoted) (rest (Some p) (after p m) k)
 
-      by_move : ((b : Option Setup) (q : Setup) → line_fault text inner b q more ≡ None
+      by_move : ((b : Option Setup) (q : Setup) → line_fault tags text inner b q more ≡ None
           → IsLegalLine (tokens text) text b q more)
-          → (r : Result (Option Move) PgnFaultKind) → token_move p token ≡ r
+          → (r : Result (Option Move) PgnFaultKind) → token_move tags p token ≡ r
           → is_variation text (length text - left) token ≡ false
-          → after_token (length text - left) before p r (λ b q. line_fault text inner b q more) ≡ None
+          → after_token (length text - left) before p r (λ b q. line_fault tags text inner b q more) ≡ None
           → IsLegalLine (tokens text) text before p ((left, token) ∷ more)
-      by_move rest (Ok None) is v k = passed v (over p token is) (rest before p k)
-      by_move rest (Ok (Some m)) is v k = by_word_of rest m token (moves p token m is) k
+      by_move rest (Ok None) is v k = passed v (over tags p token is) (rest before p k)
+      by_move rest (Ok (Some m)) is v k = by_word_of rest m token (moves tags p token m is) k
       by_move rest (Err kind) is v k = absurd (cc)
 
-      by_kind : ((b : Option Setup) (q : Setup) → line_fault text inner b q more ≡ None
+      by_kind : ((b : Option Setup) (q : Setup) → line_fault tags text inner b q more ≡ None
           → IsLegalLine (tokens text) text b q more)
           → (opens ends : Bool) → is_variation text (length text - left) token ≡ opens
           → is_end text (length text - left) token ≡ ends
           → cond opens (option_or (option_map_or (λ start. inner start (length text - left)) before
-          (Some (record { kind = BadToken; offset = length text - left }))) (line_fault text inner before p more))
-          (cond ends None (after_token (length text - left) before p (token_move p token)
-          (λ b q. line_fault text inner b q more))) ≡ None
+          (Some (record { kind = BadToken; offset = length text - left }))) (line_fault tags text inner before p more))
+          (cond ends None (after_token (length text - left) before p (token_move tags p token)
+          (λ b q. line_fault tags text inner b q more))) ≡ None
           → IsLegalLine (tokens text) text before p ((left, token) ∷ more)
       by_kind rest true ends v w k = by_before rest before v k
       by_kind rest false true v w k = closed w
-      by_kind rest false false v w k = by_move rest (token_move p token) refl v k
+      by_kind rest false false v w k = by_move rest (token_move tags p token) refl v k
 
   variation_legal : (depth : ℕ) (p : Setup) (from : ℕ) → variation_fault tokens depth text p from ≡ None
       → IsLegalLine (tokens text) text None p (tokens text (from + 1))
   unfolding variation_fault
   variation_legal zero p from h = absurd (cc)
   variation_legal (suc depth) p from h =
-      line_legal (λ q i. variation_fault tokens depth text q i) (λ q i k. variation_legal depth q i k)
+      line_legal false (λ q i. variation_fault tokens depth text q i) (λ q i k. variation_legal depth q i k)
       (tokens text (from + 1)) None p h
 
 pub variations_legal : ReadMovesAreLegal → VariationsAreLegal
 variations_legal law tokens text start at some h =
-    line_legal law tokens text (λ p from. variation_fault tokens MOST_NESTED text p from)
+    line_legal law tokens text true (λ p from. variation_fault tokens MOST_NESTED text p from)
     (variation_legal law tokens text MOST_NESTED) (tokens text at) None start
     (by_test (list_any (λ (t : ℕ × Token). is_variation text (length text - t.0) t.1) (tokens text at)) some h)
   where
-    by_test : (b : Bool) → b ≡ true → cond b (line_fault text
+    by_test : (b : Bool) → b ≡ true → cond b (line_fault true text
         (λ p from. variation_fault tokens MOST_NESTED text p from) None start (tokens text at)) None ≡ None
-        → line_fault text (λ p from. variation_fault tokens MOST_NESTED text p from) None start (tokens text at) ≡ None
+        → line_fault true text (λ p from. variation_fault tokens MOST_NESTED text p from) None start (tokens text at)
+        ≡ None
     by_test true e k = k
     by_test false e k = absurd (cc)

@@ -9,7 +9,7 @@ use std::process::Abort;
 use std::test::Fail;
 
 // Texts of a game with no fault of its own, where it begins, and the first fault in its variations.
-const VARIATIONS: [(&[u8], usize, Option<(PgnFaultKind, usize)>); 16] = [
+const VARIATIONS: [(&[u8], usize, Option<(PgnFaultKind, usize)>); 17] = [
     (b"1. e4 *", 0, None),
     (b"1. e4 {(} e5 *", 0, None),
     (b"[White \"a (b)\"] 1. e4 *", 0, None),
@@ -35,6 +35,11 @@ const VARIATIONS: [(&[u8], usize, Option<(PgnFaultKind, usize)>); 16] = [
         Some((PgnFaultKind::BadToken, 13)),
     ),
     (b"1. e4 (1. d4 ^) *", 0, Some((PgnFaultKind::BadToken, 13))),
+    (
+        b"[a \"\"] 1. e4 (1. d4 [a \"\"]) *",
+        0,
+        Some((PgnFaultKind::BadToken, 20)),
+    ),
     (b"(1. d4) 1. e4 *", 0, Some((PgnFaultKind::BadToken, 0))),
     (
         b"1. e4 (1. d4 (1. d5)) *",

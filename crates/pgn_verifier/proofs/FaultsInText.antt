@@ -64,7 +64,7 @@ none_without_bytes text at start end h =
     let none : drop first own ≡ [] =
     nil_from_length (drop first own) (omega (arith, length-drop first own, take_short end.offset text, h)) in
     ap (λ (tokens : List (ℕ × Token)). if has_variation own tokens
-    then line_fault own (λ p from. variation_fault tokens_from MOST_NESTED own p from) None start tokens
+    then line_fault true own (λ p from. variation_fault tokens_from MOST_NESTED own p from) None start tokens
     else None) (sym (split_read own (ended none)))
 
 -- a game of which no token is a variation has no fault in its variations
@@ -75,6 +75,6 @@ pub none_without_variation : (text : List ℕ) (at : ℕ) (start : Setup) (end :
 none_without_variation text at start end first is none =
     let own : List ℕ = take end.offset text in
     let begin : ℕ = after_byte_order_mark text at in
-    ap (λ (b : Bool). if b then line_fault own (λ p from. variation_fault tokens_from MOST_NESTED own p from) None start
-    (tokens_from own begin) else None)
+    ap (λ (b : Bool). if b then line_fault true own (λ p from. variation_fault tokens_from MOST_NESTED own p from) None
+    start (tokens_from own begin) else None)
     (ap (λ (k : ℕ). has_variation own (tokens_from own k)) (sym is) ∙ none)

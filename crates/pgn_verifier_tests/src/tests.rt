@@ -189,7 +189,7 @@ fn unknown_variants_are_faults(rt: HostRuntime) {
 }
 
 // Games with variations, and what is written of them. A variation replaces the move just before it.
-const VARIATION_TEXTS: [(&[u8], Verified, &[u8]); 22] = [
+const VARIATION_TEXTS: [(&[u8], Verified, &[u8]); 24] = [
     (
         b"1. e4 (1. d4 d5) e5 *",
         Verified::EachGame,
@@ -261,11 +261,22 @@ const VARIATION_TEXTS: [(&[u8], Verified, &[u8]); 22] = [
         Verified::FaultReported,
         b"game 1: bad token in a variation at byte 15\n# line 1 column 16 Z0) | a null move, which chess does not have\n",
     ),
-    // Comments, `%` lines, glyphs, marks, numbers, results and tags are passed over, and what is in them isn't read.
+    // Comments, `%` lines, glyphs, marks, numbers and results are passed over, and what is in them isn't read.
     (
-        b"1. e4 (1. d4 {Ke9 (} $1 !? ; Ke9 (\n% Ke9 (\n d5 1-0 [a \"Ke9\"] 2. c4) e5 *",
+        b"1. e4 (1. d4 {Ke9 (} $1 !? ; Ke9 (\n% Ke9 (\n d5 1-0 2. c4) e5 *",
         Verified::EachGame,
         b"game 1: 2 half-moves, *\n",
+    ),
+    // A tag is a fault, also one whose string has the `)` that ends the variation for the game.
+    (
+        b"1. e4 (1. d4 [a \"x\"] d5) e5 *",
+        Verified::FaultReported,
+        b"game 1: bad token in a variation at byte 13\n# line 1 column 14 [a | begins no token\n",
+    ),
+    (
+        b"1. e4 (1. e4 [a \");\"]\n1... e5 (1... e5 [a \");\"]\n*",
+        Verified::FaultReported,
+        b"game 1: bad token in a variation at byte 13\n# line 1 column 14 [a | begins no token\n",
     ),
     (
         b"1. e4 (1. d4 & d5) e5 *",

@@ -1,5 +1,5 @@
 -- What a token does in a line of moves: `line_fault` says the same by the kinds of tokens (`line_by_kind`).
-use Rattle.std.specs.Prelude.{ℕ, ◌||◌, if◌then◌else◌, Option, Some, None, is_some, Result, Ok, Err}
+use Rattle.std.specs.Prelude.{ℕ, Bool, ◌||◌, if◌then◌else◌, Option, Some, None, is_some, Result, Ok, Err}
 use Rattle.std.specs.List.{list_all}
 use Rattle.byte_devices.specs.Bytes.{is_digit}
 use Rattle.chess_base.specs.declared.man.Move.{Move}
@@ -23,14 +23,14 @@ word_move reads.NotAMove = Err BadToken
 word_move reads.Ambiguous = Err AmbiguousMove
 word_move reads.NoSuch = Err IllegalMove
 
--- what a token does in a line whose position is `p`: the move to be made, if it is one. What is skipped, a tag, a
--- result, a number, and marks such as `!?` are passed over; any other token is a fault
-abbrev pub token_move : Setup → Token → Result (Option Move) PgnFaultKind
-token_move p Skip = Ok None
-token_move p (Tag name text to_end) = Ok None
-token_move p (Word word) = if is_some (outcome_of word) || (list_all is_digit word || is_marks word) then Ok None
+-- what a token does in a line whose position is `p`: the move to be made, if it is one. What is skipped, a tag if
+-- `tags` says so, a result, a number, and marks such as `!?` are passed over; any other token is a fault
+abbrev pub token_move : Bool → Setup → Token → Result (Option Move) PgnFaultKind
+token_move tags p Skip = Ok None
+token_move tags p (Tag name text to_end) = if tags then Ok None else Err BadToken
+token_move tags p (Word word) = if is_some (outcome_of word) || (list_all is_digit word || is_marks word) then Ok None
     else word_move (reading p word)
-token_move p _ = Err BadToken
+token_move tags p _ = Err BadToken
 
 -- the first fault of a line from a token at the offset `at` on, by what that token does in the position `p`: its own
 -- fault, or what `later` gives for the position before the last move (`before` if no move is made) and that after it

@@ -6,7 +6,7 @@ use Rattle.chess_pgn.proofs.variations.+read_line.Given as goal
 
 -- what is left of the line gives the whole (LinesRead.LineReads)
 abbrev pub invariant-loop-token : goal.invariant-loop-token
-invariant-loop-token g l = LineReads l.depth l.text l.start l.at l.before (g.B.Board.position l.board) l.offset
+invariant-loop-token g l = LineReads l.tags l.depth l.text l.start l.at l.before (g.B.Board.position l.board) l.offset
 
 abbrev pub decreases-loop-token : goal.decreases-loop-token
 decreases-loop-token g l = length l.text - l.offset
