@@ -1,4 +1,4 @@
--- What the program's arguments say, and which plan they ask for.
+-- What the program's arguments say, and which plan they ask for. `x ← r` in a `do` is `let x = r?` in Rust.
 use Rattle.std.specs.Prelude.{◌≡◌, ◌≤◌, ◌*◌, ◌==◌, ◌&&◌, ℕ, Bool, not, true, false, List, [], ◌∷◌, codes, length, map, nat_le, if◌then◌else◌, Option, Some, Result, Ok, Err, unwrap_or, option_map, ⊤}
 use Rattle.std.specs.List.{list_all, list_any, slice_split}
 use Rattle.std.specs.Option.{option_map_or}
@@ -103,8 +103,8 @@ levels_asked value = do
 abbrev pub is_date : Text → Bool
 is_date text = nat_le (length text) 60 && list_all (λ b. nat_le 32 b && nat_le b 126) text
 
--- the time controls of a match's engines, the position in which its games start, and their date as a text; or the fault
--- of the first that is invalid
+-- the time controls of a match's engines, the position in which its games start, and their date as a text, `????.??.??`
+-- without `--date`; or the first fault: of a level (`BadLevel`), the FEN (`BadFen`), or the date (`BadDate`)
 abbrev pub levels_start_and_date : Values → Result ((LevelSeen × LevelSeen) × Setup × Text) WordsFault
 levels_start_and_date value = let date = unwrap_or (value (codes "date")) (codes "????.??.??") in do
   levels ← result_map_both (λ levels. levels) BadLevel (levels_asked value)

@@ -1,4 +1,5 @@
--- The items of a `feature` line (CECP, version 2: section 9), and what an engine says by them.
+-- The items of a `feature` line (CECP, version 2: section 9), and what an engine says by them. `x ← o` in a `do` is
+-- `let x = o?` in Rust.
 use Rattle.std.specs.Prelude.{ℕ, zero, suc, ◌+◌, ◌==◌, ◌&&◌, ◌||◌, nat_lt, Bool, true, false, not, if◌then◌else◌, List, [], ◌∷◌, length, take, drop, codes, Option, None, Some}
 use Rattle.std.specs.List.{fold, list_all, list_any, slice_split, take_while}
 use Rattle.std.specs.Option.{option_map_or}
@@ -20,8 +21,8 @@ pub record Item : Type 0 where
   pub name : List ℕ
   pub value : Value
 
--- the value in double quotes, from the text after its first quote: what comes before the next quote, maybe nothing.
--- With it the text after that quote; `None` if there is no other quote
+-- the value in double quotes, from the text after its first quote: what comes before the next quote, maybe nothing;
+-- with it the text after that quote. From `a b" done=1` they are `a b` and ` done=1`. `None` if there is no other quote
 abbrev pub quoted_value : List ℕ → Option (Value × List ℕ)
 quoted_value text = let inside = take_while (λ b. not (b == byte "\"")) text in
     if nat_lt (length inside) (length text)
@@ -34,9 +35,9 @@ value_of [] = None
 value_of (c ∷ cs) = let digits = take_while is_digit (c ∷ cs) in if c == byte "\"" then quoted_value cs
     else if is_digit c then Some (record { quoted = false; text = digits }, drop (length digits) (c ∷ cs)) else None
 
--- the item that a text begins with, such as `ping=1` or `myname="Sjeng"`: a name of letters, digits and `_`, then `=`
--- and a value, after which comes a space, a tab or the end; with it the text after it, without spaces and tabs at its
--- front. `None` if the text begins with no item
+-- the item that a text begins with, such as `ping=1` or `myname="Sjeng"`, and the text after it, without spaces and
+-- tabs at its front. An item is a name of letters, digits and `_`, then `=` and a value, after which comes a space, a
+-- tab or the end. `None` if the text begins with no item
 unfoldable pub item_of : List ℕ → Option (Item × List ℕ)
 item_of text = let name = take_while is_name_byte text in let rest = drop (length name) text in
     if length name == 0 || not (bytes_eq (take 1 rest) (codes "=")) then None else do

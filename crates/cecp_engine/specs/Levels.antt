@@ -1,5 +1,5 @@
 -- Levels of time, their denotation, and the time that a level gives (CECP, version 2: command `level`). Decimals are an
--- addition to CECP, whose seconds are whole.
+-- addition to CECP, whose seconds are whole. `x ← o` in a `do` is `let x = o?` in Rust.
 use Rattle.std.specs.Prelude.{ℕ, ◌+◌, ◌-◌, ◌*◌, ◌/◌, ◌%◌, ◌^◌, ◌==◌, ◌||◌, nat_lt, if◌then◌else◌, List, [], ◌∷◌, ◌++◌, length, take, drop, codes, decimal, Option, None, Some, Result, Ok, Err, option_map}
 use Rattle.std.specs.List.{position_or_len}
 use Rattle.std.specs.Result.{result_ok}
@@ -41,7 +41,7 @@ base_of text = let colon = position_or_len (λ c. c == byte ":") text in do
   milliseconds ← if colon == length text then Some 0 else milliseconds_of 2 (drop (colon + 1) text)
   if nat_lt milliseconds 60000 then Some (60000 * minutes + milliseconds) else None
 
--- the time control with these parts; if any is `None`, the first that is, as the fault
+-- the time control with this number of moves, base and increment; if any is `None`, the fault is the first that is
 abbrev pub level_with : Option ℕ → Option ℕ → Option ℕ → Result LevelSeen LevelFault
 level_with None base increment = Err Moves
 level_with (Some moves) None increment = Err Base
@@ -75,19 +75,20 @@ level_fault_name Increment = codes "increment"
 abbrev pub two_digits : ℕ → List ℕ
 two_digits n = (byte "0" + n / 10) ∷ (byte "0" + n % 10) ∷ []
 
--- a part of a second, given in milliseconds, as it is written after whole seconds: nothing, `.5`, `.08` or `.125`
+-- a part of a second, given in milliseconds, as it is written after whole seconds: nothing for 0, `.5` for 500, `.08`
+-- for 80, `.125` for 125
 unfoldable pub decimals_text : ℕ → List ℕ
 decimals_text n = if n == 0 then []
     else if n % 100 == 0 then byte "." ∷ (byte "0" + n / 100) ∷ []
     else if n % 10 == 0 then byte "." ∷ two_digits (n / 10)
     else byte "." ∷ (byte "0" + n / 100) ∷ two_digits (n % 100)
 
--- a base time, given in milliseconds, as it is written: `5`, `0:30` or `0:08.5`
+-- a base time, given in milliseconds, as it is written: `5` for 300,000, `0:30` for 30,000, `0:08.5` for 8,500
 unfoldable pub base_text : ℕ → List ℕ
 base_text base = decimal (base / 60000) ++ (if base % 60000 == 0 then [] else byte ":" ∷
     (two_digits (base % 60000 / 1000) ++ decimals_text (base % 1000)))
 
--- an increment, given in milliseconds, as it is written in seconds: `2` or `0.1`
+-- an increment, given in milliseconds, as it is written in seconds: `2` for 2,000, `0.1` for 100
 unfoldable pub increment_text : ℕ → List ℕ
 increment_text increment = decimal (increment / 1000) ++ decimals_text (increment % 1000)
 
@@ -99,6 +100,7 @@ level_text level =
 -- ---- time
 
 -- the milliseconds that a side was given in all, after `k` moves of its own: the base time for each session begun, and
--- the increment for each move. With 40 moves per session the second begins after 40; with 0 there is only one
+-- the increment for each move. By `level 40 5 0` it is 300,000 after 39 moves and 600,000 after 40; with 0 moves per
+-- session there is only one session
 unfoldable pub allotted : LevelSeen → ℕ → ℕ
 allotted level k = level.base * (if level.moves == 0 then 1 else 1 + k / level.moves) + level.increment * k

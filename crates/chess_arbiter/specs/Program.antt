@@ -69,8 +69,8 @@ ReportsArguments faults.NoMemory w w' status = (w' ≡ w) × (status ≡ 1)
 -- an invalid level, FEN or date of a match, or an invalid kind to ignore
 ReportsArguments _ w w' status = (w' ≡ w) × (status ≡ 2)
 
--- from the state `l` of a log to `l'` this text was written where the log goes, even if the log was broken; a write of
--- it may have failed (`Logged`)
+-- from the state `l` of a log to `l'` this text was written where the log goes, even if the log was broken; it is
+-- broken then just if it was before. A write of the text may have failed (`Logged`)
 abbrev pub Reports : List ℕ → LogSeen → LogSeen → Type 0
 Reports text l l' = (l'.broken ≡ l.broken)
     × ((failed : Bool) × Logged (record l { broken = false }) (record l' { broken = failed }) text)

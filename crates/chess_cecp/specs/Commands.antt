@@ -42,6 +42,6 @@ named_command word argument = if bytes_eq word [] || is_ignored word then Some S
     else option_map (λ c. c.1) (find (λ c. bytes_eq word c.0) (commands argument))
 
 -- the command of a line with this text, by its first word; if that is no command's name, a move (`BareMove`) if the
--- whole text has the shape of one, otherwise `Unknown`
+-- whole text has the shape of one, such as `e2e4` or `Nf3`, otherwise `Unknown`
 unfoldable pub command_of : List ℕ → Command
 command_of text = unwrap_or (named_command (word_of text) (argument_of text)) (if shape text then BareMove else Unknown)

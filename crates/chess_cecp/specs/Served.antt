@@ -10,27 +10,27 @@ use Rattle.chess_cecp.specs.declared.run.Fault.{Fault}
 use Rattle.chess_cecp.specs.declared.run.Fault.TheVariants.{Read, Write}
 use Rattle.chess_cecp.specs.declared.session.TheConstants.{COMMAND_LEN}
 
--- the lines that were read. The bytes after the last `\n`, if there are any, are a line only if the input's end was
--- reported. A line of more than `COMMAND_LEN` (1,024) bytes is too long
+-- the lines in what was read (`i`). The bytes after the last `\n`, if there are any, are a line only if the input's end
+-- was reported. A line of more than `COMMAND_LEN` (1,024) bytes is too long
 abbrev pub lines_read : FromInput → List LineSeen
 lines_read i = stream_lines COMMAND_LEN i.ended i.text
 
--- the lines that were complete before the last successful read. As a server reads on only when it has answered all
--- lines that it has, it ends or fails with none of these
+-- the lines in what was read (`i`) whose `\n` came before the last successful read. A server answers them before that
+-- read; so it ends or fails with none of these
 abbrev pub lines_before_last_read : FromInput → List LineSeen
 lines_before_last_read i = stream_lines COMMAND_LEN false i.early
 
--- the server `respond` answered the lines that were read: all if it ends with none (`ends` is false), otherwise the
--- first with which it ends and those before it. Just their answers were written and flushed, and no write or flush
--- failed; a flush succeeded just if a line was read, even with empty answers. `s` and `s'` are the states before and
--- after
+-- the server `respond` answered the lines that were read (`i`): all if it ends with none (`ends` is false), otherwise
+-- the first with which it ends and those before it. Just their answers were written and flushed (`o`), and no write or
+-- flush failed; a flush succeeded just if a line was read, even with empty answers. `s` and `s'` are the states before
+-- and after
 abbrev pub AnswersAll : {S : Type 0} → Server S → S → S → Bool → FromInput → ToOutput → Type 0
 AnswersAll respond s s' ends i o = let due = responses respond s (lines_read i) in
     (o ≡ all_flushed (nat_lt 0 (length (lines_read i))) due.text) × (s' ≡ due.state) × (due.ends ≡ ends)
 
 -- the server `respond` answered the lines `before`, with none of which it ends, and their answers were flushed. Then a
 -- write or a flush failed in the answer to `line`: a beginning of it was written and not flushed, maybe nothing or all.
--- `s` is the state before all this, and `s'` the one after `line`
+-- `o` is what was written; `s` is the state before all this, and `s'` the one after `line`
 abbrev pub BreaksOffAt : {S : Type 0} → Server S → S → S → List LineSeen → LineSeen → ToOutput → Type 0
 BreaksOffAt respond s s' before line o = let due = responses respond s before in let last = respond due.state line in
     (due.ends ≡ false) × BreaksOffIn (all_flushed (nat_lt 0 (length before)) due.text) last.text o × (s' ≡ last.state)

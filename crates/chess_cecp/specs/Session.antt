@@ -38,7 +38,8 @@ use Rattle.chess_cecp.specs.declared.command.Command.TheVariants.{New, SetBoard,
 abbrev pub answers : State → List ℕ → List ℕ → Response State
 answers s front text = says s (front ++ (text ++ new_line ∷ []))
 
--- the game becomes `s`, and the answer is the line of the board's verdict on it, if there is one
+-- the game becomes `s`, and the answer is the line of the board's verdict on it, if there is one, such as
+-- `1-0 {White mates}`
 abbrev pub becomes_judged : State → Response State
 becomes_judged s = says s (option_map_or (λ v. result_text (verdict_result v) ++ new_line ∷ []) (verdict_now s) [])
 
@@ -73,8 +74,8 @@ move_row limit s text = if is_over s then answers s (codes "Illegal move (game o
     else if nat_le limit (length s.moves) then answers s (codes "Error (game too long): ") text
     else reading_row s text (reading (current s) text)
 
--- the answer to `undo` (`n` is 1) or `remove` (`n` is 2), which is `name`, in the game `s`: the last `n` half-moves are
--- taken back and a declared result is cleared; refused if there are fewer half-moves
+-- the answer to the command `name` in the game `s`, which is `undo` (`n` is 1) or `remove` (`n` is 2): the last `n`
+-- half-moves are taken back and a declared result is cleared; refused if there are fewer half-moves
 abbrev pub take_back_row : ℕ → List ℕ → State → Response State
 take_back_row n name s = if nat_le n (length s.moves) then becomes (taken_back s n)
     else answers s (codes "Error (command not legal now): ") name
@@ -87,7 +88,7 @@ result_row s text (Some d) =
     if contradicts_verdict (verdict_now s) d.outcome then answers s (codes "Error (the board says otherwise): ") text
     else becomes (record s { declared = Some d })
 
--- the result `d` is declared in the game `s`, and the answer is its line
+-- the result `d` is declared in the game `s`, and the answer is its line, such as `1/2-1/2 {50-move rule}`
 abbrev pub declares : State → Declared → Response State
 declares s d = says (record s { declared = Some d }) (result_text d ++ new_line ∷ [])
 
@@ -133,8 +134,8 @@ row tags limit s text argument Silent = becomes s
 row tags limit s text argument BadNumber = answers s (codes "Error (bad number): ") text
 row tags limit s text argument Unknown = answers s (codes "Error (unknown command): ") text
 
--- how a session (`seen`) responds to a line: it refuses one that is too long, and shows its first bytes; for any other
--- the table of commands says what it does
+-- how the session `seen` responds to a line: it refuses one that is too long, and shows its first bytes; for any other
+-- the table of commands (`row`) says what it does
 unfoldable pub session_response : SessionSeen → LineSeen → Response SessionSeen
 session_response seen line =
     let r = if line.too_long then answers seen.state (codes "Error (line too long): ") line.text

@@ -94,8 +94,8 @@ due_after (Line S text moment) done = blocks_from (if is_over done.after.phase t
 due_after event done = blocks_from White done.to
 
 -- the state and the blocks due after a block for this side could not be sent; `m` is the state before, and `due` are
--- the other blocks due. If the match was over, these are still sent. Otherwise the failure ends it; the effect of that
--- has no lines for this side, so only the other side's last lines are due
+-- the other blocks due then. If the match was over, nothing changes, and these are still sent. Otherwise the failure
+-- ends the match, and in place of `due` only the last lines for the other side are due
 abbrev pub after_failed_send : Rules → Match → List Block → Colour → Match × List Block
 after_failed_send r m due side = let done = effect r m (FailsToWrite side) in
     if is_over m.phase then (m, due) else (done.after, blocks_from White done.to)

@@ -1,5 +1,5 @@
 -- What each event of a match does: the match after it, and the lines that each side is then sent. A definition with the
--- name `.._row` is the effect of a line, or of one kind of line.
+-- name `.._row` is the effect of a line or a silence, or of one kind of them.
 use Rattle.std.specs.Prelude.{ℕ, ◌+◌, ◌-◌, ◌/◌, ◌==◌, ◌&&◌, nat_le, nat_lt, Bool, true, false, not, if◌then◌else◌, List, [], ◌∷◌, ◌++◌, length, codes, sum, Option, None, Some, is_some, option_map, unwrap_or, map}
 use Rattle.std.specs.List.{list_any}
 use Rattle.std.specs.Option.{option_map_or, option_or}
@@ -58,7 +58,7 @@ pub record Match : Type 0 where
   -- how many lines came so far in this handshake, or were ignored so far in this setup or turn; meaningless at the end
   pub count : ℕ
   -- the moment from which the time for a reply runs: that of the last line that counted (`feature` in a handshake,
-  -- `pong 1` in a setup, any before a move), until one counts that of the first silence; `None` before both
+  -- `pong 1` in a setup, any before a move); before any counted, that of the first silence; `None` before both
   pub since : Option ℕ
 
 -- what an event does: the match after it, and the lines that each side is then sent (`to`)
@@ -151,8 +151,8 @@ abbrev pub ignores : Rules → Colour → Match → Effect
 ignores r S m = if nat_le 10000 (m.count + 1) then ends r (Faulted S Flood) m
     else sends_nothing (record m { count = m.count + 1 })
 
--- the turn of the side `S` is opened. Its time runs from the moment that the clock shows once these lines are sent;
--- until that is read, the phase is `Opening`
+-- the turn of the side `S` is opened: it is sent the lines of `opening`. Its time runs from the moment that the clock
+-- shows once these are sent; until that is read, the phase is `Opening`
 abbrev pub begins_turn : Rules → Colour → Match → Effect
 begins_turn r S m = sends_to S (opening r m S) (record m { phase = Opening S; count = 0 })
 
@@ -171,8 +171,8 @@ offer_row r S m = if (m.seat (other S)).offers then ends r Agreed m
     else sends_to (other S) (list_if (takes (codes "draw") (m.seat (other S)).items) (Says (codes "draw") ∷ []))
     (with_seat S (λ s. record s { offers = true }) m)
 
--- what a line of this kind of the side `S` does in the turn of `S`, before its move or after it, but for `move`, and
--- for `pong` after the move
+-- what a line of this kind of the side `S` does in its turn, before or after its move. A `move`, and after the move a
+-- `pong`, never come here (see `before_move` and `line_row`)
 abbrev pub turn_row : Rules → Colour → LineKind → Match → Effect
 -- `resign`: `S` loses
 turn_row r S Resigns m = ends r (over_by.Resigns S) m
@@ -290,8 +290,8 @@ setup_done r Black m = unless_over r m (begins_turn r r.start.side m)
 -- ---- one event
 
 -- what a line of this kind does in the phase given; it was sent by the side `S` that this phase waits for, and came at
--- `moment`. A line that counts (see `since`) moves `since` to `moment` (`awaited_since`), unless the flag has fallen.
--- In a handshake only a `feature` line has items
+-- `moment`. A line that counts (see `since` in `Match`) moves `since` to `moment` (`awaited_since`), unless the flag
+-- has fallen. In a handshake only a `feature` line has items
 abbrev pub line_row : Rules → Phase → LineKind → ℕ → Match → Effect
 line_row r (Handshake S) (Features text) moment m = handshake_row r S (items_of text) (awaited_since moment m)
 line_row r (Handshake S) kind _ m = handshake_row r S [] m

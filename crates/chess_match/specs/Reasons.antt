@@ -71,14 +71,15 @@ result_of reason = record { outcome = (reported reason).0; comment = comment_of 
 abbrev pub ended_by : Reason → HowEnded
 ended_by reason = (reported reason).2
 
--- the reason that is reported of a match that ended for this reason: if the board has a verdict (the first argument),
--- that, even where a fault ended the match
+-- what is reported as the reason of a match that ended for `reason`: the board's verdict (the first argument), if it
+-- has one, even where a fault ended the match; otherwise `reason`
 abbrev pub reported_reason : Option Verdict → Reason → Reason
 reported_reason (Some v) _ = Decided v
 reported_reason None reason = reason
 
--- the fault that is reported of a match that ended for this reason, and its side: the reason itself, or otherwise
--- `Write` of a side to which writing the last lines failed (`failed`), White before Black. `None` without a fault
+-- the fault that is reported of a match that ended for this reason, and its side: that of the reason; if it has none,
+-- `Write` of a side to which writing the last lines failed (`failed`), White before Black; `None` if there is none
+-- either
 abbrev pub reported_fault : Reason → (Colour → Bool) → Option (Colour × MatchFault)
 reported_fault (Faulted c f) failed = Some (c, f)
 reported_fault _ failed = option_map (λ side. (side, Write)) (find failed (White ∷ Black ∷ []))

@@ -57,7 +57,8 @@ setup_of plan number = record {
   draws = plan.draws;
 }
 
--- an engine's name in the tags: `name`, which it gave itself by `myname`, or its command if `name` is empty
+-- an engine's name in the tags: `name`, which it gave itself by `myname`, or its command if `name` is empty; cut to 60
+-- bytes (`cut_tag`)
 abbrev pub player_name : List ℕ → List ℕ → List ℕ
 player_name name command = cut_tag (if length name == 0 then command else name)
 
@@ -75,7 +76,7 @@ tags_of plan number end = record default_tags {
 
 -- ---- what is reported
 
--- why a match was not played to its end, in words such as `can not start ./engine`
+-- the fault of a match in words, such as `can not start ./engine` or `game 3: White has no ping`
 abbrev pub fault_text : GamesFault → List ℕ
 fault_text WriteFailed = codes "write failed"
 fault_text NoMemory = codes "no memory"
@@ -170,7 +171,8 @@ game_log plan number played = list_if plan.log (log_from (first_side number) 0 p
 abbrev pub LogsGames : GamesPlan → LogSeen → LogSeen → List GameRecord → Type 0
 LogsGames plan l l' games = Logged l l' (game_by_game (game_log plan) games)
 
--- how many of these games, numbered from 1, have the outcome that `wanted` gives for their number
+-- how many of these games, numbered from 1, have the outcome that `wanted` gives for their number, such as the first
+-- engine's win: `1-0` in odd games, `0-1` in even ones
 abbrev pub count_of : (ℕ → Outcome) → List GameRecord → ℕ
 count_of wanted games = count_by (λ g. same_outcome g.1.end.outcome (wanted g.0)) (enumerate_from 1 games)
 
@@ -205,7 +207,8 @@ abbrev pub WritesGames : GamesPlan → Result (Unit {0}) GamesFault → List Gam
 -- all planned games were played without a fault; their PGN and the score were written and flushed
 WritesGames plan (Ok _) games None o =
     AreAllGames plan games None × (o ≡ all_of (game_texts plan games ++ score_line games))
--- in the last game, which has this number, an engine had the fault that `text` names; the output is as above
+-- in the last game, which has this number, an engine had the fault that `text` names; the PGN of all games, also of
+-- this one, and the score were written and flushed
 WritesGames plan (Err (Game number text)) games None o = (side : Colour) × (fault : MatchFault)
     × AreAllGames plan games (Some (number, side, fault)) × (text.now ≡ comment_of (Faulted side fault))
     × (o ≡ all_of (game_texts plan games ++ score_line games))

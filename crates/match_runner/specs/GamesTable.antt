@@ -19,12 +19,12 @@ pub data HostStep : Type 0 where
   -- a clock was opened; `coming n` is the moment of its reading n (0 is the first), as far as it is known
   OpensClock : (coming : ℕ → Option ℕ) → HostStep
   -- the engines with these commands, White's and Black's, were started, and `engines` are their pipes. A write to them
-  -- waits for at most so many milliseconds, if there is a limit
+  -- waits for at most `limit` milliseconds (`None`: as long as it takes)
   Starts : (white : List ℕ) → (black : List ℕ) → (limit : Option ℕ) → (engines : Colour → Devices) → HostStep
-  -- one of them could not be started (`fault` says why), and neither runs
+  -- the start of the engines with these commands failed (`fault` says why), and neither runs
   StartFails : (white : List ℕ) → (black : List ℕ) → (limit : Option ℕ) → (fault : GamesFault) → HostStep
   -- the inputs of the engines with these pipes were closed, and their ends were waited for. Those that had not ended
-  -- after so many milliseconds were killed, if there is a limit
+  -- after `limit` milliseconds were killed; with `None` none was
   Finishes : (engines : Colour → Devices) → (limit : Option ℕ) → (killed : ByColour Bool) → HostStep
 
 -- the step of starting the engines with these commands, by its result; `engines` gives the pipes of two engines
@@ -72,15 +72,15 @@ anything steps = ⊤
 abbrev pub GamesFuture : Type 1
 GamesFuture = List GamesStep → Type 0
 
--- from the state `old` of a host or a table to `new` these steps passed: whatever may come from `new` on, might come
--- after them from `old` on
+-- from `old` to `new` these steps passed at a host or a table. Both claim of a list of steps that just these may come
+-- from then on (`HostFuture`, `GamesFuture`). What may come from `new` on, might come after `steps` from `old` on
 pub record StepsPass {S : Type 0} (old new : List S → Type 0) (steps : List S) : Type 0 where
   pub extends : (after : List S) → new after → old (steps ++ after)
 
 -- ---- the steps of a match
 
--- the steps of the game `played`, which has this number; `write` is that of writing its text. The plan's limit for
--- replies is also that of writes, and of waiting for the engines' ends
+-- the steps of the game `played`, which has this number; `write` is `Writes` or `WriteFails`, by whether its PGN could
+-- be written. The plan's limit for replies is also that of writes, and of waiting for the engines' ends
 abbrev pub steps_by : (List ℕ → GamesStep) → GamesPlan → ℕ → GameRecord → List GamesStep
 steps_by write plan number played =
     AtHost (Starts (engine_command plan number White) (engine_command plan number Black) plan.patience.reply
@@ -98,8 +98,8 @@ unstarted_steps plan number fault =
 abbrev pub games_steps : GamesPlan → List GameRecord → List GamesStep
 games_steps plan games = game_by_game (steps_by Writes plan) games
 
--- the steps after those of all games that were written, by a match's result. `number` is that of the next game. Writing
--- the score is no step at the table
+-- the steps after those of all games that were written, by a match's result. `number` is that of the next game, and the
+-- last argument this game, if it was played but could not be written. Writing the score is no step at the table
 abbrev pub last_steps : GamesPlan → ℕ → Result (Unit {0}) GamesFault → Option GameRecord → List GamesStep
 -- the next game was played, but its PGN could not be written
 last_steps plan number result (Some unwritten) = steps_by WriteFails plan number unwritten

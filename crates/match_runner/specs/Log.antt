@@ -44,7 +44,8 @@ note_text engine moment (Happened (FailsToRead c)) = log_line moment (byte "!") 
 note_text engine moment (Happened (FailsToWrite c)) = log_line moment (byte "!") (engine c) (codes "write failed")
 note_text engine moment (Gives c bytes) = flat_map (log_line moment (byte ">") (engine c)) (lines_in bytes)
 
--- the clock's reading at the last `Line`, `Silent` or `Opened` up to this note; `moment` is that before it
+-- the clock's last reading up to and with this note: its own, if it is a `Line`, `Silent` or `Opened`; otherwise
+-- `moment`, that before it
 abbrev pub moment_after : ℕ → Note → ℕ
 moment_after moment (Happened (Line c text now)) = now
 moment_after moment (Happened (Opened c now)) = now
@@ -52,7 +53,8 @@ moment_after moment (Happened (Silent c now)) = now
 moment_after moment _ = moment
 
 -- what the log has for these notes, one after another, in a game in which the first engine has the side `first_side`.
--- `moment` is as for the first of the notes. With 0 and all notes of a game it is its whole log but for `killed_lines`
+-- `moment` is the clock's last reading before them, or 0. With 0 and all notes of a game it is the whole log of the
+-- game but for `killed_lines`
 abbrev pub log_from : Colour → ℕ → List Note → List ℕ
 log_from first_side moment [] = []
 log_from first_side moment (n ∷ notes) =
