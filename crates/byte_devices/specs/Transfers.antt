@@ -8,7 +8,8 @@ use Rattle.byte_devices.specs.Devices.{InputState, OutputState, saturating_incre
 pub record FromInput : Type 0 where
   -- all bytes that were read
   pub text : List ℕ
-  -- the bytes of `text` that the reads before the last successful one gave: all of `text` if that one reported the end
+  -- `text` without the bytes that the last successful read gave: `e4` after reads of `e4` and `\nd`, and all of `text`
+  -- if that read reported the end
   pub early : List ℕ
   -- whether the end of the input was reported after `text`
   pub ended : Bool
@@ -59,13 +60,13 @@ pub record OutputTook (w w' : OutputState) (o : ToOutput) : Type 0 where
   -- a failure is counted
   pub failures : w'.failure_count ≡ (if o.failed then saturating_increment w.failure_count else w.failure_count)
 
--- there was a run, in which the devices went from the states `d` to `d'`: the input gave some `i`, the output took some
--- `o`, and the claim `P i o` holds. It may have waited for the input, as a match does
+-- there was a run in which the devices went from the states `d` to `d'`: the input gave some `i`, the output took some
+-- `o`, and the claim `P i o` holds. There may have been waits in which nothing came, as in a match
 abbrev pub RanWithWaits : (FromInput → ToOutput → Type 0) → Devices → Devices → Type 0
 RanWithWaits P d d' =
     (i : FromInput) × (o : ToOutput) × InputGave d.input d'.input i × OutputTook d.output d'.output o × P i o
 
--- `RanWithWaits`, but with no silence: so it is for each run that doesn't wait for the input
+-- as `RanWithWaits`, and there was no wait in which nothing came: so it is with each run that never waits for its input
 abbrev pub Ran : (FromInput → ToOutput → Type 0) → Devices → Devices → Type 0
 Ran P = RanWithWaits (λ i o. (i.silences ≡ 0) × P i o)
 
@@ -86,7 +87,7 @@ abbrev pub all_of : List ℕ → ToOutput
 all_of text = record { flushed = text; left = []; any_flush = true; failed = false }
 
 -- all of this text was written and flushed, and nothing failed. `flushes` is whether a flush succeeded; without one the
--- text must be empty
+-- text must be empty (`OutputTook`)
 abbrev pub all_flushed : Bool → List ℕ → ToOutput
 all_flushed flushes text = record { flushed = text; left = []; any_flush = flushes; failed = false }
 

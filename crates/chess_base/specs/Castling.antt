@@ -64,7 +64,7 @@ rights_by f = record {
 unfoldable pub king_square : Men → Colour → Option ℕ
 king_square men c = position (λ o. is_man c King o) men
 
--- of two squares of one rank, s lies on the given side of the king's: towards file h (king side) or a (queen side)
+-- s lies on the given side of the square `king` of its rank: towards file h (king side) or a (queen side), not on it
 abbrev pub is_to_side : CastlingSide → ℕ → ℕ → Bool
 is_to_side w king s = by_side (nat_lt king s) (nat_lt s king) w
 
@@ -138,8 +138,9 @@ unfoldable pub castling_way_is_safe : Men → Colour → Castle → Bool
 castling_way_is_safe men c k = each_square
     (λ x. not (is_on_way k.king_from k.king_to x) || not (is_attacked men x (other c)))
 
--- castling k, which move m is, is pseudo-legal: m names no promotion, the ways are empty, and the king's is not
--- attacked. Whether the king is in check after it is not asked: in Chess960 its rook may uncover an attack
+-- castling k, as which move m is written, is pseudo-legal: m names no promotion, the squares that king and rook need
+-- empty are so, and none on the king's way, both ends included, is attacked. Whether the king is in check after it is
+-- not asked here: in Chess960 its rook may uncover an attack
 unfoldable pub castles : Setup → Move → Castle → Bool
 castles p m k = is_none m.promotion && castling_way_is_empty p.men k && castling_way_is_safe p.men p.side k
 

@@ -9,8 +9,8 @@ use Rattle.chess_base.specs.declared.man.Man.{Man}
 use Rattle.chess_base.specs.ByColour.{by_colour}
 use Rattle.chess_base.specs.Squares.{file, rank}
 
--- the code of a text's first character, 0 for the empty text; it is used for one ASCII character: `byte "A"` is 65.
--- (The same as `byte` of byte_devices, which this crate doesn't use.)
+-- the code of a text's first character, 0 for the empty text: `byte "A"` is 65. (As `byte` of byte_devices, which this
+-- crate doesn't use)
 abbrev pub byte : Text → ℕ
 byte text = slice_index_or (codes text) 0 0
 
@@ -48,7 +48,7 @@ kind_with_letter c = find (λ k. white_letter k == c) kinds
 abbrev pub kind_with_small_letter : ℕ → Option Kind
 kind_with_small_letter c = find (λ k. letter_by Black k == c) kinds
 
--- the piece whose letter in FEN is the byte c, if there is one
+-- the piece whose letter in FEN is the byte c, as a black knight by `n`; `None` for any other byte
 abbrev pub man_with_letter : ℕ → Option Man
 man_with_letter c = find (λ m. letter m == c) all_men
 

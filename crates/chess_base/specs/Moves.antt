@@ -17,8 +17,8 @@ use Rattle.chess_base.specs.Men.{Men, man_at, is_of, is_man, same_colour, same_k
 use Rattle.chess_base.specs.Attacks.{attacks, is_in_check}
 use Rattle.chess_base.specs.Castling.{right_of, rights_by, castle_of, castling_rook_to, castles, mover_end}
 
--- the promotion that a pawn's move names is allowed: a queen, rook, bishop or knight on its last rank (`last`), and
--- none elsewhere (3.7.3.3)
+-- a pawn's move names the promotion that it must: to a queen, rook, bishop or knight if it ends on the last rank
+-- (`last`), and none otherwise (3.7.3.3)
 abbrev pub promotion_fits : Bool → Option Kind → Bool
 promotion_fits last None = not last
 promotion_fits last (Some k) = not (same_kind k King) && not (same_kind k Pawn) && last
@@ -55,7 +55,7 @@ unfoldable pub man_moves : Setup → Move → Bool
 man_moves p m = is_none m.promotion && attacks p.men m.from m.to && not (is_of p.side (man_at p.men m.to))
 
 -- move m, between two squares of the board, is pseudo-legal, given what is on its start square (the last argument): a
--- piece of the side on move can make it
+-- piece of the side on move, which can make it as a pawn, by castling or as another piece; false if there is none
 abbrev pub moves_as : Setup → Move → Option Man → Bool
 moves_as p m None = false
 moves_as p m (Some x) = same_colour p.side x.colour
@@ -66,8 +66,8 @@ moves_as p m (Some x) = same_colour p.side x.colour
 unfoldable pub is_pseudo_legal : Setup → Move → Bool
 is_pseudo_legal p m = nat_lt m.from 64 && nat_lt m.to 64 && moves_as p m (man_at p.men m.from)
 
--- the moved piece as it arrives: the one that left the move's start square, after a promotion with the new kind; none
--- if that square was empty. (In Chess960 a castling king may arrive elsewhere than on the move's end square)
+-- the moved piece as it arrives: what was on the move's start square (`o`), as a piece of kind k if the move promotes
+-- to k; none if that square was empty. (In Chess960 a castling king may arrive elsewhere than on m.to)
 abbrev pub arriving_man : Option Man → Option Kind → Option Man
 arriving_man o k = option_map (λ (x : Man). record x { kind = unwrap_or k x.kind }) o
 
@@ -78,15 +78,16 @@ captured_square p m = if is_en_passant p m then Some (forward (other p.side) m.t
     else if is_of (other p.side) (man_at p.men m.to) then Some m.to
     else None
 
--- what is on square s after castling k, which move m is. In Chess960 king or rook may end where one of them started, so
--- the squares where they end come first. A legal castling names no promotion, so the king arrives on `king_to`
+-- what is on square s after castling k, as which m is written: the king on `king_to` (a legal castling names no
+-- promotion), the rook on `rook_to`; unless one ends there (Chess960), nothing where they started; others as before
 abbrev pub after_castling : Setup → Move → Castle → ℕ → Option Man
 after_castling p m k s = if s == k.king_to then arriving_man (man_at p.men m.from) m.promotion
     else if s == k.rook_to then Some (record { colour = p.side; kind = Rook })
     else if (s == k.king_from) || (s == k.rook_from) then None
     else man_at p.men s
 
--- what is on square s after move m, if m is not castling. En passant the captured pawn was on a square of its own
+-- what is on square s after move m, if m is not castling: the moved piece on m's end square; nothing on its start
+-- square and on that of a pawn captured en passant; elsewhere what was there
 abbrev pub after_moving : Setup → Move → ℕ → Option Man
 after_moving p m s = if s == m.to then arriving_man (man_at p.men m.from) m.promotion
     else if (s == m.from) || is_at (captured_square p m) s then None

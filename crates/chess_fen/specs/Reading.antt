@@ -17,7 +17,8 @@ use Rattle.chess_fen.specs.RightNames.{names_rights_well, rights_in}
 use Rattle.chess_fen.specs.Texts.{placement_of, is_castling_field, target_of, fields_of}
 
 infixl 10 ◌>>=◌
--- goes on with f from a step's value, or stops with its error: so a chain of steps gives the first error
+-- f of a result's value, or the error if it is one. In a `do`, a line `x ← r` and those below it are `r >>= (λ x. ..)`,
+-- so the first error is the result of all
 abbrev pub ◌>>=◌ : {A B E : Type 0} → Result A E → (A → Result B E) → Result B E
 (Ok x) >>= f = f x
 (Err e) >>= f = Err e
@@ -27,12 +28,14 @@ abbrev pub side_of : List ℕ → Option Colour
 side_of (c ∷ []) = if c == byte "w" then Some White else (if c == byte "b" then Some Black else None)
 side_of _ = None
 
--- the conditions that a position must meet where `letters` are the castling field of its FEN, each with its fault
+-- the conditions that position p must meet, in their order and each with its fault (`conditions_if`), if `letters` are
+-- the castling field of its FEN
 abbrev pub conditions_of : List ℕ → Setup → List (FenFault × Bool)
 conditions_of letters p = conditions_if (names_rights_well p.variant p.men letters) p
 
 -- the sound position that the six fields of a FEN denote; or the fault of the first field that denotes nothing, or else
--- of the first condition that fails (`conditions_of`). Any other number of fields is a fault
+-- of the first condition that fails (`conditions_of`). A line `x ← r` gives r's value the name x; if r is an error,
+-- this is the result. Any other number of fields is the fault `Fields`
 abbrev pub reading_in : Variant → List (List ℕ) → Result Setup FenFault
 reading_in v (placement ∷ side ∷ castling ∷ target ∷ halfmove ∷ fullmove ∷ []) = do
   pieces ← ok_or (placement_of placement) faults.Placement

@@ -39,8 +39,8 @@ abbrev pub from_edge : Colour → CastlingSide → List ℕ
 from_edge c w = map (home_square c)
     (by_side (7 ∷ 6 ∷ 5 ∷ 4 ∷ 3 ∷ 2 ∷ 1 ∷ 0 ∷ []) (0 ∷ 1 ∷ 2 ∷ 3 ∷ 4 ∷ 5 ∷ 6 ∷ 7 ∷ []) w)
 
--- square s is on that side of the square `king`: on the queen side if its number is smaller, so on one rank if it is
--- nearer to file a; otherwise on the king side, also if it is the king's own square, or if there is no king (`None`)
+-- square s is on that side of the king's square `king`: on the queen side if its number is smaller than the king's (on
+-- one rank: nearer to file a), otherwise on the king side; so also if s is the king's square, or if `king` is `None`
 abbrev pub is_towards : CastlingSide → Option ℕ → ℕ → Bool
 is_towards QueenSide king s = option_map_or (λ k. nat_lt s k) king false
 is_towards KingSide king s = not (option_map_or (λ k. nat_lt s k) king false)
@@ -68,7 +68,8 @@ pub data NamedRight : Type 0 where
   -- it is named wrongly: by several letters, or by a side's letter with no rook on that colour's first rank
   Wrong : NamedRight
 
--- a castling right of Chess960, from the rooks' squares (`rook_by`) of all letters that name it
+-- a castling right of Chess960, from what each letter that names it gives: the square of its rook, or `None`
+-- (`rook_by`). It is absent without a letter, there by one letter with a square, otherwise named wrongly
 abbrev pub right_by : List (Option ℕ) → NamedRight
 right_by [] = Absent
 right_by (Some s ∷ []) = At s
@@ -94,7 +95,7 @@ is_named_well _ = true
 abbrev pub names_rights_well : Variant → Men → List ℕ → Bool
 names_rights_well v men letters = list_all (λ r. is_named_well (right_in v men letters r.0 r.1)) all_rights
 
--- the square of a right's rook, if the right is there
+-- the square of a right's rook; `None` if the right is not there or is named wrongly
 abbrev pub rook_of : NamedRight → Option ℕ
 rook_of (At s) = Some s
 rook_of _ = None

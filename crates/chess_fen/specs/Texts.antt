@@ -17,7 +17,7 @@ use Rattle.byte_devices.specs.Bytes.{byte, space}
 -- ---- ranks
 
 -- the squares that one byte of a rank's text denotes: n empty ones by a digit n from 1 to 8, one with a piece by the
--- piece's letter; none for any other byte
+-- piece's letter; `None` for any other byte
 abbrev pub squares_of : ℕ → Option (List (Option Man))
 squares_of c = if nat_le (byte "1") c && nat_le c (byte "8") then Some (replicate (c - byte "0") None) else option_map
     (λ m. Some m ∷ []) (man_with_letter c)
@@ -28,7 +28,7 @@ all_there [] = Some []
 all_there (o ∷ os) = option_and_then (λ x. option_map (λ xs. x ∷ xs) (all_there os)) o
 
 -- the eight squares that a rank's text denotes, from file a to file h, as by "4P3": those of its bytes, one after
--- another; none if a byte denotes nothing, or if they are not eight
+-- another; `None` if a byte denotes nothing, or if they are not eight
 abbrev pub rank_of : List ℕ → Option (List (Option Man))
 rank_of text = option_and_then (λ row. if length row == 8 then Some row else None)
     (option_map (λ parts. flat_map (λ squares. squares) parts) (all_there (map squares_of text)))

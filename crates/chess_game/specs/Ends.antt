@@ -1,5 +1,5 @@
--- How a game ends by its position and by its line (Laws of Chess 2023, articles 5.1.1, 5.2.1, 5.2.2, 9.6),
--- and what a player may claim (articles 9.2 and 9.3).
+-- How a game ends by its position and by its line (Laws of Chess 2023, articles 5 and 9.6), and what a player may claim
+-- (articles 9.2 and 9.3).
 use Rattle.std.specs.Prelude.{ℕ, ◌+◌, ◌%◌, ◌++◌, ◌==◌, nat_le, Bool, false, not, ◌&&◌, ◌||◌, if◌then◌else◌, List, length, count_by, codes, Option, None, Some}
 use Rattle.std.specs.List.{list_any}
 use Rattle.std.specs.Option.{option_map_or}
@@ -40,9 +40,9 @@ has_insufficient_material men = not (list_any (λ o. is_kind Pawn o || is_kind R
     && (nat_le (count_by (λ o. is_kind Bishop o || is_kind Knight o) men) 1 || (not (list_any (is_kind Knight) men)
     && not (has_bishop_on 0 men && has_bishop_on 1 men)))
 
--- why the game from `start` by the moves ms is over without a declared result: the first that holds of mate or
--- stalemate, insufficient material, fivefold repetition, and 75 moves of each side without a pawn move or capture, by
--- the halfmove clock, which continues from that of `start`; `None` if none holds
+-- why the game from `start` by the moves ms is over without a declared result: the first that holds of mate (5.1.1) or
+-- stalemate (5.2.1), insufficient material (5.2.2), fivefold repetition (9.6.1), and 75 moves of each side without a
+-- pawn move or capture (9.6.2), by the halfmove clock, which continues from that of `start`; `None` if none holds
 unfoldable pub verdict : Setup → List Move → Option Verdict
 verdict start ms = let p = position_after start ms in
     if length (moves p) == 0

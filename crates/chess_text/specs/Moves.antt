@@ -27,7 +27,8 @@ use Rattle.chess_text.specs.Parts.{unmarked, kind_text, file_text, rank_text, �
 
 -- ---- what a text can say of a move
 
--- move m of position p, legal or not, as far as a text can describe it; none if no piece is on its start square
+-- what a text can say of move m of position p, legal or not: its piece's kind, both squares, promotion, whether it
+-- captures, and to which side it castles; `None` if no piece is on its start square
 unfoldable pub described : Setup → Move → Option Described
 described p m =
     option_map (λ x. record {
@@ -41,7 +42,8 @@ described p m =
 
 -- ---- the texts of a move
 
--- what may be written of the start square `from` after a piece's letter: nothing, its file, its rank, or both
+-- what may be written of the start square `from` after a piece's letter: nothing, its file, its rank, or both, as in
+-- Nf3, Ngf3, N1f3 and Ng1f3
 abbrev pub start_texts : ℕ → List (List ℕ)
 start_texts from = [] ∷ file_text (file from) ∷ rank_text (rank from) ∷ square_text from ∷ []
 
@@ -49,7 +51,8 @@ start_texts from = [] ∷ file_text (file from) ∷ rank_text (rank from) ∷ sq
 abbrev pub capture_texts : Bool → List (List ℕ)
 capture_texts captures = [] ∷ list_if captures (codes "x" ∷ [])
 
--- the texts of a promotion: one of `signs` ("" or "=") and its letter, capital or small; without a promotion no byte
+-- the texts of a promotion: each of `signs` (nothing, or nothing and `=`) with its letter, capital or small, as Q, q,
+-- =Q and =q; without a promotion only the empty text
 abbrev pub promotion_texts : List (List ℕ) → Option Kind → List (List ℕ)
 promotion_texts signs None = [] ∷ []
 promotion_texts signs (Some k) = signs · (kind_text k ∷ small_letter_text k ∷ [])

@@ -26,6 +26,6 @@ abbrev pub rank_text : ℕ → List ℕ
 rank_text r = (byte "1" + r) ∷ []
 
 infixr 66 ◌·◌
--- each text of xs followed by each text of ys
+-- each text of xs followed by each text of ys: of `a`, `b` and `1`, `2` it is `a1`, `a2`, `b1`, `b2`
 abbrev pub ◌·◌ : List (List ℕ) → List (List ℕ) → List (List ℕ)
 xs · ys = flat_map (λ x. map (λ y. x ++ y) ys) xs

@@ -26,8 +26,9 @@ use Rattle.chess_text.specs.Moves.{described}
 abbrev pub castling_text : CastlingSide → List ℕ
 castling_text = by_side (codes "O-O") (codes "O-O-O")
 
--- the start squares of the moves from which SAN must distinguish the described move d: those of `ms`, for SAN all legal
--- moves of position p, that go to d's end square with a piece of d's kind from another square
+-- the start squares of the moves from which SAN must distinguish the described move d (8.2.3.4): those of `ms`, for SAN
+-- all legal moves of position p, that go to d's end square with a piece of d's kind from another square, as f3 for Nbd2
+-- if the knight on f3 can go there too
 unfoldable pub rival_starts : Setup → List Move → Described → List ℕ
 rival_starts p ms d = map (λ m. m.from) (filter (λ m. (m.to == d.to) && not (m.from == d.from)
     && option_map_or (λ e. same_kind e.man d.man) (described p m) false) ms)

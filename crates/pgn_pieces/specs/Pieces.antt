@@ -12,7 +12,7 @@ use Rattle.pgn_pieces.specs.declared.pieces.PieceFault.TheVariants.{ReadFailed, 
 -- ---- the lines of a text
 
 -- the lines of a text, each with the `\n` or `\r` that ends it, if one does. The `\n` of `\r\n` is a line of its own,
--- which counts as empty
+-- which counts as empty: `a\r\nb` has the lines `a\r`, `\n` and `b`
 abbrev pub lines_of : List ℕ → List (List ℕ)
 lines_of [] = []
 lines_of (c ∷ cs) = if breaks_line c then (c ∷ []) ∷ lines_of cs else onto_first c (lines_of cs)
@@ -21,16 +21,16 @@ lines_of (c ∷ cs) = if breaks_line c then (c ∷ []) ∷ lines_of cs else onto
 abbrev pub drop_while : (ℕ → Bool) → List ℕ → List ℕ
 drop_while test text = drop (prefix_len test text) text
 
--- the front of a line, which decides the line's kind: its first 256 bytes, without a byte order mark (EF BB BF) and
--- then spaces and tabs at their beginning
+-- the front of a line, which decides the line's kind: its first 256 bytes, less a byte order mark (EF BB BF) at the
+-- beginning, and then less the spaces and tabs at the beginning
 abbrev pub front_of : List ℕ → List ℕ
 front_of line = let first = take 256 line in drop_while is_blank (drop (after_byte_order_mark first 0) first)
 
--- the name after the `[` with which the front of a tag line begins
+-- the name after the `[` with which the front of a tag line begins: `Event` in `[Event "x"]`
 abbrev pub tag_name : List ℕ → List ℕ
 tag_name front = take_while is_name_byte (drop 1 front)
 
--- what comes after the tag's name and any spaces and tabs in the front of a tag line
+-- what comes after the tag's name and any spaces and tabs in the front of a tag line: `"x"]` in `[Event "x"]`
 abbrev pub after_name : List ℕ → List ℕ
 after_name front = drop_while is_blank (drop (length (tag_name front)) (drop 1 front))
 
@@ -48,8 +48,9 @@ abbrev pub is_empty_line : List ℕ → Bool
 is_empty_line line = bytes_eq (take 1 (front_of line)) (codes "%") || bytes_eq (take 1 (front_of line)) (codes ";")
     || list_all (λ c. is_blank c || (c == 13) || (c == 10)) (front_of line)
 
--- what comes after the first tag in the front of a tag line and any spaces and tabs; nothing if no `"]` ends the tag.
--- Its value goes to the next quote, even one after a backslash
+-- what comes after the first tag in the front of a tag line and any spaces and tabs: `1. e4` in `[Event "x"] 1. e4`.
+-- The tag's value ends at the next quote, even one after a backslash; if no `]` follows that at once, the result is
+-- empty
 abbrev pub after_tag : List ℕ → List ℕ
 after_tag front = let close = drop_while (λ c. not (c == byte "\"")) (drop 1 (after_name front)) in
     if bytes_eq (take 2 close) (codes "\"]") then drop_while is_blank (drop 2 close) else []
@@ -70,8 +71,8 @@ abbrev pub begins_piece : List (List ℕ) → List ℕ → Bool
 begins_piece piece line = is_tag_line line
     && (list_any is_moves_line piece || (is_event_line line && list_any is_event_line piece))
 
--- these pieces, each as its lines and the last one first, with one line more: it begins a piece, or it goes to the last
--- one
+-- these pieces (each the list of its lines, the last piece first) with one line more: it begins a piece if it is the
+-- first line or `begins_piece` holds; otherwise it goes to the end of the last piece
 abbrev pub with_line : List (List (List ℕ)) → List ℕ → List (List (List ℕ))
 with_line [] line = (line ∷ []) ∷ []
 with_line (last ∷ before) line =
@@ -82,8 +83,8 @@ with_line (last ∷ before) line =
 abbrev pub cut : List ℕ → List (List ℕ)
 cut text = reverse (map concat (fold with_line [] (lines_of text)))
 
--- the pieces that are known of an input that gave this text: if it ended, all; otherwise all but the last, which may go
--- on
+-- the pieces that are known of an input that has given this text: all if it has `ended`; otherwise all but the last,
+-- which may continue
 abbrev pub known_pieces : Bool → List ℕ → List (List ℕ)
 known_pieces ended text = let all = cut text in if ended then all else take (length all - 1) all
 

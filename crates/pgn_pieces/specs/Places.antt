@@ -1,4 +1,4 @@
--- Where a byte of a text is: its line and its column, both counted from 1. A column counts bytes.
+-- Where a byte of a text is: its line and its column, both counted from 1. A column counts bytes; offsets begin at 0.
 use Rattle.std.specs.Prelude.{ℕ, ◌+◌, ◌==◌, Bool, ◌||◌, not, List, take}
 use Rattle.std.specs.List.{count_by, suffix_len}
 
