@@ -34,15 +34,15 @@ use Rattle.chess_pgn.specs.Words.{is_marks, word_gives}
 
 -- ---- what is read in the end
 
--- what is read of a game's text. `state`: the game as far as it was read, after a bad FEN the start by the FENs before
--- it, and without a game the initial position. `answer`: `Ok (Some end)` with the game's end, `Ok None` if the text has
--- no more games, or `Err` with the first fault
+-- what is read of a game's text. `state`: the game as far as it was read; if a tag is at fault, its start; if there is
+-- no game, the initial position. `answer`: `Ok (Some end)` with the game's end, `Ok None` if the text has no more
+-- games, or `Err` with the first fault
 pub record GameRead : Type 0 where
   pub state : State
   pub answer : Result (Option PgnEnd) PgnFault
 
--- what a game's termination marker declares: its outcome; but nothing if that is `*`, or if the board has a verdict
--- (`is_decided`), since the outcome is then the verdict's
+-- what a game's termination marker with the outcome `o` (section 8.2.6) declares: `o`; but nothing if that is `*`, or
+-- if the board has a verdict (`is_decided`), whose outcome is then the game's
 abbrev pub declared_after : Bool → Outcome → Option Declared
 declared_after is_decided o =
     if is_decided || same_outcome o Unfinished then None else Some (record { outcome = o; comment = [] })
@@ -53,34 +53,35 @@ failed s kind at = record { state = s; answer = Err (record { kind = kind; offse
 
 -- ---- the end by the board
 
--- a verdict, unless it is one of the two draws that the Laws of Chess have had only since 2014 (9.6.1, 9.6.2)
+-- a verdict, but `None` for the *draws of 2014*, which the Laws of Chess have had only since then: fivefold repetition
+-- (9.6.1) and 75 moves (9.6.2)
 abbrev pub not_of_2014 : Verdict → Option Verdict
 not_of_2014 FivefoldRepetition = None
 not_of_2014 SeventyFiveMoves = None
 not_of_2014 v = Some v
 
--- the verdict that ends the game `s` for its reader, after which no move may come. `draws`, here and below: whether the
--- two draws of 2014 end a game
+-- the verdict that ends the game `s` for its reader, after which no move may come; `None` if none does. `draws`:
+-- whether the draws of 2014 (see `not_of_2014`) end a game
 abbrev pub ending : Bool → State → Option Verdict
 ending draws s = if draws then verdict_now s else option_and_then not_of_2014 (verdict_now s)
 
--- the fault of any move in the game `s` of at most `limit` half-moves, if there is one: a verdict has ended the game,
--- or it is full
+-- the fault of any move after those of the game `s`: a verdict has ended it (`ending`, with `draws`), or else it has no
+-- fewer than `limit` half-moves; `None` if a move may come
 abbrev pub closed_by : Bool → ℕ → State → Option PgnFaultKind
 closed_by draws limit s = if is_some (ending draws s) then Some AfterEnd
     else if nat_lt (length s.moves) limit then None else Some TooLong
 
 -- ---- after the tags
 
--- what is read of the game `s` of at most `limit` half-moves from these tokens on, which come after the tags. `draws`:
--- whether the two draws of 2014 end a game. The text has `total` bytes, and `left` are left at a token, so its offset
--- is `total - left`; `cause` is what the tag Termination names
+-- what is read of a game from these tokens on, which come after its tags and the moves read so far, those of `s`.
+-- `draws`: whether the draws of 2014 end it (`ending`); it may have `limit` half-moves. The text has `total` bytes, and
+-- `left` are left at a token, so its offset is `total - left`; `cause` is what the tag Termination names, if anything
 abbrev pub moves_read : Bool → ℕ → ℕ → Option Termination → State → List (ℕ × Token) → GameRead
 -- without a termination marker there is a fault at the text's end
 moves_read draws limit total cause s [] = failed s NoResult total
 moves_read draws limit total cause s ((left, Skip) ∷ ts) = moves_read draws limit total cause s ts
--- an outcome such as `1-0` ends the game after its last byte; what the game then has as declared, see `declared_after`.
--- A number (digits alone) and marks such as `!?` are passed over; any other word is taken as a move
+-- an outcome such as `1-0` ends the game after its last byte, and is declared as `declared_after` says. A number
+-- (digits alone) and marks such as `!?` are passed over; any other word is taken as a move
 moves_read draws limit total cause s ((left, Word word) ∷ ts) = option_map_or (λ o. record {
   state = record s { declared = declared_after (is_some (verdict_now s)) o };
   answer = Ok (Some (record { outcome = o; termination = cause; offset = total - left + length word }));
@@ -94,7 +95,7 @@ moves_read draws limit total cause s ((left, Bad) ∷ ts) = failed s BadToken (t
 -- a tag, even a bad one, is the next game's, so this game has no outcome, which is a fault
 moves_read draws limit total cause s ((left, _) ∷ ts) = failed s NoResult (total - left)
 
--- ---- the tags: the tokens before the first number, move, outcome or fault
+-- ---- the tags
 
 -- the position that a tag FEN denotes in the variant `v`, or the fault, at the byte after the tag's first quote.
 -- `tag` is the bytes between the quotes, and how many of the whole text's `total` bytes are left after the first quote
@@ -119,16 +120,18 @@ tagged_variant tags = option_map_or (λ t. unwrap_or (known_variant t.0) Normal)
 -- ---- the game
 
 -- what is read of the game `s`, which is at its start, from the tokens after its tag section `tags`: if they begin with
--- a bad tag, its fault; otherwise the moves. The last tag Termination counts, even if it names no value of the standard
+-- a bad tag, its fault; otherwise the moves, with the same first arguments (`moves_read`). The last tag Termination
+-- counts, even if it names no value of the standard
 abbrev pub read_after_tags : Bool → ℕ → ℕ → State → List (ℕ × Token) → List (ℕ × Token) → GameRead
 read_after_tags draws limit total s tags ((to_end, Bad_tag) ∷ rest) = failed s BadTag (total - to_end)
 read_after_tags draws limit total s tags rest = moves_read draws limit total
     (option_and_then (λ tag. termination_named tag.0) (last_tag (codes "Termination") tags)) s rest
 
--- what is read of the game at the front of these tokens, of at most `limit` half-moves, in a text of `total` bytes.
--- There is no game if no token says anything of one. The tag Variant gives the variant (`tagged_variant`); the last FEN
--- gives the start, and without one it is the variant's initial position. The first FEN that denotes no position is the
--- game's fault, and the start is then by the FENs before it alone; otherwise see `read_after_tags`
+-- what is read of the game at the front of these tokens, of at most `limit` half-moves, in a text of `total` bytes;
+-- `draws`: whether the draws of 2014 end it (`ending`). There is no game if no token says anything of one. The tag
+-- Variant gives the variant (`tagged_variant`); the last FEN gives the start, and without one it is the variant's
+-- initial position. The first FEN that denotes no position is the game's fault, and the start is then by the FENs
+-- before it alone; otherwise see `read_after_tags`
 abbrev pub read_of_split : Bool → ℕ → ℕ → List (ℕ × Token) → GameRead
 read_of_split draws limit total tokens = let tags = tag_section tokens in let v = tagged_variant tags in
     let fens = map (fen_read total v) (filter_map (λ t. named_tag (codes "FEN") t.1) tags) in

@@ -21,7 +21,8 @@ skips_line line_begins c = line_begins && c == byte "%" || c == byte ";"
 
 -- ---- variations (section 8.2.5): `(`, what is inside, `)`
 
--- what is inside a variation, as parts one after another; `b`: whether its first byte begins a line
+-- the text may be between a variation's `(` and its `)`, as `4. Ng5 d5 (4... Bc5)`: it has only the parts below, one
+-- after another. `b`: whether its first byte begins a line
 pub data IsInside : Bool → List ℕ → Type 0 where
   -- no parts
   nothing : {b : Bool} → IsInside b []
@@ -40,7 +41,8 @@ pub data IsInside : Bool → List ℕ → Type 0 where
 
 -- ---- tags (section 8.1), as `[Event "a"]`: an opening (`[Event "`), the string (`a`), and a closing (`"]`)
 
--- white space and `%` lines; `b`: whether the first byte begins a line
+-- the text may be between two parts of a tag: white space and `%` lines, or nothing. `b`: whether its first byte begins
+-- a line
 pub data IsGap : Bool → List ℕ → Type 0 where
   nothing : {b : Bool} → IsGap b []
   -- a byte of white space, and then more
@@ -54,8 +56,8 @@ pub data OpensTag (name : List ℕ) : List ℕ → Type 0 where
   opens : {before after : List ℕ} → IsGap false before → 0 < length name → list_all is_name_byte name ≡ true
       → IsGap false after → OpensTag name (byte "[" ∷ (before ++ (name ++ (after ++ codes "\""))))
 
--- the bytes between a string's quotes (section 7): any but `\n`, and each quote and backslash after a backslash, which
--- keeps it from ending the string
+-- the text may be between a string's quotes (section 7), as `a\"b`: bytes other than quotes, backslashes and `\n`; and
+-- pairs of a backslash and the byte that it keeps from ending the string, any but `\n`
 pub data IsString : List ℕ → Type 0 where
   nothing : IsString []
   -- a backslash and the byte that it keeps
@@ -65,7 +67,8 @@ pub data IsString : List ℕ → Type 0 where
 
 -- ---- tokens
 
--- the text is this token (see `Token`), and `left` bytes come after it; `b`: whether its first byte begins a line
+-- the text as a whole is this token (see `Token`). `b`: whether its first byte begins a line; `left`: how many bytes of
+-- the game's text come after it
 pub data IsToken (b : Bool) (left : ℕ) : List ℕ → Token → Type 0 where
   -- a byte of white space, or a dot
   blank : {c : ℕ} → (is_white_space c || c == byte ".") ≡ true → IsToken b left (c ∷ []) Skip
@@ -86,15 +89,15 @@ pub data IsToken (b : Bool) (left : ℕ) : List ℕ → Token → Type 0 where
   -- a word (a symbol): bytes of words, at least one
   word : {text : List ℕ} → 0 < length text → list_all is_word_byte text ≡ true → IsToken b left text (Word text)
 
--- from the offset `at` on the text begins with `front`, and this is the token `t`
+-- the text has `front` at the offset `at`, and `front` is the token `t`
 abbrev pub IsTokenAt : List ℕ → ℕ → List ℕ → Token → Type 0
 IsTokenAt text at front t =
     (rest : List ℕ) × (drop at text ≡ front ++ rest) × IsToken (begins_line text at) (length rest) front t
 
 -- ---- what can't be read
 
--- the text, which begins right after the `(` of a variation, has a comment that isn't closed: after whole parts comes
--- its `{`, where so many bytes are left, or the `(` of a variation in which it is
+-- the text, which begins right after the `(` of a variation, has a comment that isn't closed, and the number is how
+-- many bytes are left at its `{`: 2 in `e4 (d4 {a`. Before it are only whole parts (see `IsInside`) and more `(`
 pub data HasOpenComment : List ℕ → ℕ → Type 0 where
   -- the comment, after whole parts
   here : {parts : List ℕ} (text : List ℕ) → IsInside false parts → lacks (byte "}") text ≡ true
@@ -103,8 +106,8 @@ pub data HasOpenComment : List ℕ → ℕ → Type 0 where
   deeper : {parts inner : List ℕ} {to_end : ℕ} → IsInside false parts → HasOpenComment inner to_end
       → HasOpenComment (parts ++ byte "(" ∷ inner) to_end
 
--- this token is the fault of a text that begins with no token (`IsSplit` says that), by its first byte and, after `(`,
--- by whether a comment inside isn't closed
+-- this token is the fault at the front of the text, if no token can be read there (which `IsSplit` claims): by the
+-- first byte, and after `(` by whether a comment inside isn't closed
 pub data IsFaultOf : List ℕ → Token → Type 0 where
   -- a comment isn't closed; the number is how many bytes are left at its `{`
   comment : {text : List ℕ} → IsFaultOf (byte "{" ∷ text) (Unclosed_comment (length (byte "{" ∷ text)))
@@ -120,7 +123,7 @@ pub data IsFaultOf : List ℕ → Token → Type 0 where
 -- ---- the split
 
 -- the text from the offset `at` on is split into these tokens, each paired with the number of bytes left where it
--- begins
+-- begins: `e4 *` from 0 on into `(4, Word e4)`, `(2, Skip)`, `(1, Word *)`
 pub data IsSplit (text : List ℕ) : ℕ → List (ℕ × Token) → Type 0 where
   -- at the text's end
   ended : {at : ℕ} → drop at text ≡ [] → IsSplit text at []

@@ -23,11 +23,11 @@ abbrev pub is_variation : List ℕ → ℕ → Token → Bool
 is_variation text at Skip = slice_index text at == byte "("
 is_variation text at _ = false
 
--- the first fault of a line, and of the variations in it, from these tokens of the text on, in the position `p`.
--- `tags`: whether tags are passed over, as a game's own are; in a variation each is a bad token. `before` is the
--- position before the line's last move so far, if it has one: a variation begins in that position, and without it is a
--- fault. `inside` gives the first fault of the variation from a position, with its `(` at an offset. A token's offset is
--- `length text - left`
+-- the first fault of a line (see the head) and of the variations in it, from these tokens of the text on; `None` if it
+-- has none. `tags`: whether tags are passed over, as a game's own are; in a variation each is a bad token. `p` is the
+-- position here, `before` the one before the line's last move, where a variation here begins; `None` if there is no
+-- move yet, so that a variation is a fault. `inside start at` gives the first fault of the variation whose `(` is at
+-- the offset `at`, and whose moves begin in `start`. A token's offset is `length text - left`
 abbrev pub line_fault : Bool → List ℕ → (Setup → ℕ → Option PgnFault) → Option Setup → Setup → List (ℕ × Token)
     → Option PgnFault
 line_fault tags text inside before p [] = None
@@ -50,8 +50,8 @@ line_fault tags text inside before p ((left, Bad) ∷ more) = let at = length te
 line_fault tags text inside before p ((left, _) ∷ more) = Some (record { kind = BadToken; offset = length text - left })
 
 -- the first fault of the variation whose `(` is at the offset `at` of the text, and whose moves begin in the position
--- `start`. It and those in it may be nested at most so deep (the second argument); one deeper is a fault, too long.
--- `tokens` gives the tokens of a text from an offset on
+-- `start`; `None` if it has none. The second argument is how deep variations may be nested, this one included; one
+-- deeper is a fault, too long. `tokens` gives the tokens of a text from an offset on
 unfoldable pub variation_fault : (List ℕ → ℕ → List (ℕ × Token)) → ℕ → List ℕ → Setup → ℕ → Option PgnFault
 variation_fault tokens zero text start at = Some (record { kind = TooLong; offset = at })
 variation_fault tokens (suc depth) text start at =
@@ -62,8 +62,8 @@ abbrev pub has_variation : List ℕ → List (ℕ × Token) → Bool
 has_variation text tokens = list_any (λ t. is_variation text (length text - t.0) t.1) tokens
 
 -- the first fault in the variations of a game without another fault, whose start is `start`, and whose text goes from
--- the offset `at` to the end of `text`; it has none if no token is a variation (so the moves of such a game aren't read
--- again). At most 64 variations may be open
+-- the offset `at` to the end of `text`; `None` if there is none, so also if no token is a variation. At most 64
+-- variations may be open. `tokens` gives the tokens of a text from an offset on
 abbrev pub variations_fault : (List ℕ → ℕ → List (ℕ × Token)) → List ℕ → Setup → ℕ → Option PgnFault
 variations_fault tokens text start at = if has_variation text (tokens text at)
     then line_fault true text (λ p from. variation_fault tokens MOST_NESTED text p from) None start (tokens text at)

@@ -14,9 +14,10 @@ use Rattle.chess_pgn.specs.declared.read.PgnFaultKind.TheVariants.{BadToken, Ill
 abbrev pub is_marks : List ℕ → Bool
 is_marks word = not (length word == 0) && list_all (λ c. c == byte "!" || c == byte "?") word
 
--- what a word gives that is taken as a move, by what it denotes: `made` of a legal move, unless `closed`, the fault of
--- any move here, is given; otherwise `failed` of the fault, which is `closed` if that is given. But a word without a
--- move's shape is always a bad token
+-- what a word gives that is taken as a move, by how it is read (the last argument). Without a move's shape, as `Nf9`,
+-- it gives `failed BadToken`. Otherwise, if no move may come here, as after mate, `closed` is the fault of that, and it
+-- gives `failed` of this fault. If `closed` is `None`, a legal move m gives `made m`, any other word `failed` of its
+-- fault
 abbrev pub word_gives : {A : Type 0} → Option PgnFaultKind → (Move → A) → (PgnFaultKind → A) → Reading → A
 word_gives closed made failed reads.NotAMove = failed BadToken
 word_gives closed made failed (reads.Move m) = option_map_or failed closed (made m)

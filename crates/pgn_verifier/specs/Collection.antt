@@ -19,16 +19,16 @@ pub data AreCollectionReports (strict : Strictness) : ℕ → List (List ℕ) �
       → AreReportsIn strict offset piece reports → AreCollectionReports strict (offset + length piece) pieces more
       → AreCollectionReports strict offset (piece ∷ pieces) (reports ++ more)
 
--- what was read of the input (`i`) and written (`o`) in the end, by the result; `text` is all that is to be written for
--- what was read, and `expected` the summary that the reports give
+-- what was read of the input (`i`) and written (`o`) in the end, by the result (the third argument); `text` is all that
+-- is to be written for what was read, and `expected` the summary that the reports give
 abbrev pub CollectionEnds : List ℕ → Verified → Result Verified VerifyFault → FromInput → ToOutput → Type 0
 -- the whole input was read; all of `text` was written and flushed; the summary is `expected`
 CollectionEnds text expected (Ok summary) i o = IsWhole i × (o ≡ all_of text) × (summary ≡ expected)
 -- no read failed; a beginning of `text`, maybe nothing or all, was written, nothing was flushed, and then a write or
 -- the flush failed
 CollectionEnds text expected (Err WriteFailed) i o = (i.failed ≡ false) × BreaksOffIn nothing text o
--- a read failed before the input's end was reported. Here and below, all of `text` was written, nothing was flushed,
--- and no write or flush failed
+-- a read failed before the input's end was reported. In this case and those below, all of `text` was written, nothing
+-- was flushed, and no write or flush failed
 CollectionEnds text expected (Err ReadFailed) i o = (i.ended ≡ false) × (i.failed ≡ true) × (o ≡ all_unflushed text)
 -- memory ran out before the input's end was reported; no read failed
 CollectionEnds text expected (Err NoMemory) i o = (i.ended ≡ false) × (i.failed ≡ false) × (o ≡ all_unflushed text)
@@ -36,9 +36,9 @@ CollectionEnds text expected (Err NoMemory) i o = (i.ended ≡ false) × (i.fail
 CollectionEnds text expected (Err InputTooLong) i o =
     (i.ended ≡ false) × (i.failed ≡ false) × (2 ^ 63 ≤ length i.text + 2 ^ 16) × (o ≡ all_unflushed text)
 
--- what verifying a collection reads (`i`) and writes (`o`), by its result: the reports on its pieces, also after
--- faults, are numbered from 1, and after the input's end comes the line of counts. Before that the last piece read is
--- left out, since it may go on (`known_pieces`)
+-- what verifying a collection reads (`i`) and writes (`o`), by its result: the lines of the reports on its pieces,
+-- numbered from 1, and after the input's end the line of counts. If the end was not reported, the last piece is left
+-- out, since it may go on (`known_pieces`)
 abbrev pub VerifiesCollection : VerifyOptions → Result Verified VerifyFault → FromInput → ToOutput → Type 0
 VerifiesCollection options result i o = (reports : List Placed)
     × AreCollectionReports options.strict 0 (known_pieces i.ended i.text) reports

@@ -28,7 +28,7 @@ shown text = shown_word (take_while (λ c. not (is_white_space c)) (take 40 text
 -- ---- the part that is wrong
 
 -- the part of a text that is wrong: the offset at which it begins, and what is shown of it. The fault is at the offset
--- `at`, and its game begins at the offset `begin`
+-- `at` of the text, and its game begins at `begin`
 abbrev pub wrong_part : FaultKind → List ℕ → (begin at : ℕ) → ℕ × List ℕ
 -- of a bad FEN it is a field, at most 80 bytes of it; the FEN is looked at only up to its next quote, even one after a
 -- backslash
@@ -42,7 +42,7 @@ wrong_part _ text begin at = (at, shown (drop at text))
 
 -- ---- the reason
 
--- `reason` is the reason for a fault, or `None` if none is given. `text` is the text from the fault's byte on, and
+-- `reason` is the reason that is given for a fault, `None` for none. `text` is the text from the fault's byte on, and
 -- `verdict` is the one that ended the game where reading stopped, if any
 abbrev pub IsReason : FaultKind → List ℕ → Option Verdict → Option (List ℕ) → Type 0
 -- what a bad tag lacks, and what is wrong with a bad FEN or token

@@ -24,25 +24,25 @@ use Rattle.pgn_verifier.specs.declared.game_fault.GameFault.{GameFault}
 
 -- ---- at a game's end
 
--- the fault of a game whose last tag Result (`tag`) names no outcome, or another than its termination marker (`end`).
--- Its offset is that of the tag's string
+-- the fault of a game whose last tag Result (`tag`) names no outcome, or another than its termination marker (`end`),
+-- at the first byte between the tag's quotes; `None` if they agree, or if there is no such tag
 abbrev pub result_differs : Option ResultTag → PgnEnd → Option GameFault
 result_differs None end = None
 result_differs (Some tag) end = if option_eq same_outcome tag.outcome (Some end.outcome) then None
     else Some (record { kind = ResultDiffers tag.len end.outcome; offset = tag.offset })
 
 -- the fault of a game whose termination marker (`end`) differs from the outcome of the board's verdict, as `*` always
--- does. Its offset is that of the marker
+-- does, at the marker's first byte; `None` if they agree, or without a verdict
 abbrev pub board_says_otherwise : Option Verdict → PgnEnd → Option GameFault
 board_says_otherwise verdict end = if contradicts_verdict verdict end.outcome
     then Some (record { kind = BoardSaysOtherwise; offset = end.offset - length (outcome_text end.outcome) }) else None
 
 -- ---- a game
 
--- what is reported of a game, from how its text was read (the last argument). In a game without a fault these are
--- looked for as `strict` says, and the first is reported: a fault in its variations (`variation`, by the game's end); a
--- tag Variant that names none that is known (`unknown`, the offset of its text); an end that contradicts the last tag
--- Result (`tag`); one that contradicts the board's verdict
+-- what is reported of a game, from how its text was read (the last argument): that there is none, the fault of reading,
+-- or its end. In place of its end comes the first of these faults that it has and that `strict` asks for: one in its
+-- variations (`variation end`); a tag Variant that names none that is known (`unknown`, the offset of its text); a
+-- marker that contradicts the last tag Result (`tag`); one that contradicts the board's `verdict`
 abbrev pub judged : Strictness → (PgnEnd → Option PgnFault) → Option ℕ → Option ResultTag → Option Verdict
     → Result (Option PgnEnd) PgnFault → Result (Option PgnEnd) GameFault
 judged strict variation unknown tag verdict (Ok None) = Ok None
@@ -54,10 +54,10 @@ judged strict variation unknown tag verdict (Ok (Some end)) = option_map_or Err
     (if strict.board then board_says_otherwise verdict end else None)))) (Ok (Some end))
 judged strict variation unknown tag verdict (Err fault) = Err (record { kind = Pgn fault.kind; offset = fault.offset })
 
--- `answer` is what is reported (`judged`) of the first game from the offset `at` of the text on, and `s` is this game
--- as far as it was read, at most 20,000 half-moves. It is read by the only split of the text into tokens, and its
--- variations by the only splits (`split_of`) of the text that ends where the game does (`end.offset`): nothing from
--- there on is looked at. `strict.draws_of_2014` says whether the draws of 2014 end it
+-- `answer` is what is reported (`judged`) of the first game from the offset `at` of the text on: its end, `None` if
+-- there is no game, or a fault. `s` is this game as far as it was read, at most 20,000 half-moves. It is read by the
+-- only split of the text into tokens, and its variations by the only splits (`split_of`) of the text that ends where
+-- the game does (`end.offset`). `strict.draws_of_2014`: whether fivefold repetition and 75 moves end it
 pub record IsJudged (strict : Strictness) (text : List ℕ) (at : ℕ) (s : State)
     (answer : Result (Option PgnEnd) GameFault) : Type 0 where
   pub tokens : List (ℕ × Token)
@@ -74,7 +74,7 @@ pub record IsJudged (strict : Strictness) (text : List ℕ) (at : ℕ) (s : Stat
 
 -- ---- names
 
--- the words for a fault of reading
+-- the words for a fault of reading, as in `game 1: no result at byte 21`
 abbrev pub pgn_fault_name : PgnFaultKind → List ℕ
 pgn_fault_name BadTag = codes "bad tag"
 pgn_fault_name (BadFen fault) = codes "bad FEN"

@@ -33,9 +33,9 @@ pub data Report : Type 0 where
   -- a game without a fault: how many half-moves it has, the outcome of its termination marker, and what its last tag
   -- Termination names, if that is one of the standard's values
   Game : (plies : ℕ) (outcome : Outcome) (termination : Option Termination) → Report
-  -- a fault, at its offset in the input; what names its game (`names_of`), nothing of a piece that is too long; the
-  -- offset in the input of the part that is wrong, and what is shown of it; what else explains the fault; and whether
-  -- it is to be said that its text isn't read from the fault's byte on
+  -- a fault, at its offset in the input. `names`: what names its game (`names_of`), nothing of a piece that is too
+  -- long; `wrong_at`, `part`: the offset in the input of the part that is wrong, and what is shown of it; `why`: what
+  -- else explains the fault; `is_unread`: whether to say that its text isn't read from the fault's byte on
   Faulty : (fault : GameFault) (names : List ℕ) (wrong_at : ℕ) (part why : List ℕ) (is_unread : Bool) → Report
 
 -- a report with its span, the part of the input that it is on: from the byte at the offset `begin` to the last one
@@ -66,8 +66,8 @@ names_of tokens = codes " | " ++ (shown_tag tokens (codes "White") ++ (codes " -
 
 -- ---- the reports on the games of a text
 
--- these are the reports on the games of `text`, which begins at the offset `start` of the input: on those from the
--- text's offset `at` on (the last argument but one). `goes_on`: whether the text is read on after a fault
+-- these are the reports on the games of `text` from its offset `at` on (the number before the reports). The text begins
+-- at the offset `start` of the input, by which reports count. `goes_on`: whether the text is read on after a fault
 pub data AreReports (goes_on : Bool) (strict : Strictness) (start : ℕ) (text : List ℕ) : ℕ → List Placed → Type 0 where
   -- no game comes from `at` on
   none_left : {at : ℕ} {s : State} → IsJudged strict text at s (Ok None) → AreReports goes_on strict start text at []
@@ -76,9 +76,9 @@ pub data AreReports (goes_on : Bool) (strict : Strictness) (start : ℕ) (text :
       → AreReports goes_on strict start text end.offset reports
       → AreReports goes_on strict start text at (spanning (start + game_begin text at) (start + end.offset)
       (Game (length s.moves) end.outcome end.termination) ∷ reports)
-  -- the next game has a fault, whose offset in the text becomes its offset in the input; so does that of `part`, the
-  -- part that is wrong. The game's span ends, and the text is read on, where the game ends (`next`), if `goes_on` and
-  -- that is found. Otherwise the span goes to the text's end, and no game follows. If `goes_on`, but the game's end
+  -- the next game has a fault. Its offset in the text becomes one in the input, and so does that of `part`, the part
+  -- that is wrong. If `goes_on` and the game's end is found (`next`), the game's span ends there, and the text is read
+  -- on from there. Otherwise the span goes to the text's end, and no game follows. If `goes_on`, but the game's end
   -- isn't found, the text from the fault's byte on isn't read, which the report says if there is such a byte
   next_fault : {at : ℕ} {s : State} {fault : GameFault} {reports : List Placed} (part : ℕ × List ℕ)
       (reason : Option (List ℕ)) (next : Option ℕ) (game : IsJudged strict text at s (Err fault))
@@ -93,8 +93,9 @@ pub data AreReports (goes_on : Bool) (strict : Strictness) (start : ℕ) (text :
 
 -- ---- the reports on the games of pieces
 
--- these are the reports on a piece that begins at this offset of the input, as a text of its own, also after faults;
--- or, if it has more than 16,777,216 bytes, the one report that it is too long, which is a fault at its first byte
+-- these are the reports on a piece that begins at this offset of the input, read as a text of its own, also after
+-- faults; or, if it has more than 16,777,216 bytes (`PIECE_LEN`), the one report that it is too long, a fault at its
+-- first byte
 abbrev pub AreReportsIn : Strictness → ℕ → List ℕ → List Placed → Type 0
 AreReportsIn strict offset piece reports =
     MatchBool (nat_le (length piece) PIECE_LEN) (AreReports true strict offset piece 0 reports)
@@ -158,7 +159,7 @@ counts_of reports = record {
   faults = count_by (λ placed. not (is_game placed.report)) reports;
 }
 
--- how verifying ended, from the counts of all reports
+-- how verifying ended, by the counts of all reports: with a fault or without
 abbrev pub verified : Tally → Verified
 verified t = if t.faults == 0 then EachGame else FaultReported
 

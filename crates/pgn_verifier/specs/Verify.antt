@@ -8,17 +8,17 @@ use Rattle.pgn_verifier.specs.declared.options.VerifyOptions.{VerifyOptions}
 use Rattle.pgn_verifier.specs.declared.tally.Verified.{Verified}
 use Rattle.pgn_verifier.specs.Reports.{Placed, AreReports, report_lines, counts_of, verified}
 
--- what verifying a text reads (`i`) and writes (`o`), by its result. `PIECE_LEN` is 16,777,216. What is given to
--- `AreReports`: it isn't read on after a fault, the text begins at offset 0 of the input, and its games are read from
--- there on
+-- what verifying a text reads (`i`) and writes (`o`), by its result. `PIECE_LEN` is 16,777,216. `AreReports` gets
+-- `false` since the text isn't read on after a fault, and 0 twice: the text begins at offset 0 of the input, and is
+-- read from its offset 0 on
 abbrev pub Verifies : VerifyOptions → Result Verified VerifyFault → FromInput → ToOutput → Type 0
 -- the whole input was read, and has at most `PIECE_LEN` bytes; the lines of its games up to the first fault were
 -- written and flushed (flushed also if there are none)
 Verifies options (Ok summary) i o = IsWhole i × (length i.text ≤ PIECE_LEN)
     × ((reports : List Placed) × AreReports false options.strict 0 i.text 0 reports
     × (o ≡ all_of (report_lines options i.text 1 reports)) × (summary ≡ verified (counts_of reports)))
--- the same was read; a beginning of the lines, maybe nothing or all, was written, nothing was flushed, and then a write
--- or the flush failed
+-- the whole input was read, and has at most `PIECE_LEN` bytes; a beginning of these lines, maybe nothing or all, was
+-- written, nothing was flushed, and then a write or the flush failed
 Verifies options (Err WriteFailed) i o = IsWhole i × (length i.text ≤ PIECE_LEN)
     × ((reports : List Placed) × AreReports false options.strict 0 i.text 0 reports
     × BreaksOffIn nothing (report_lines options i.text 1 reports) o)

@@ -15,7 +15,7 @@ use Rattle.pgn_pieces.specs.Pieces.{drop_while}
 -- ---- the fields of a FEN
 
 -- a FEN from its field with this number on, 0 for the first; one or more spaces separate fields. Empty if it has no
--- such field
+-- such field. From field 4 of `8/8 w - - 0 1` on it is `0 1`
 unfoldable pub from_field : ℕ → List ℕ → List ℕ
 from_field zero fen = drop_while (λ c. c == space) fen
 from_field (suc number) fen = from_field number (drop_while (λ c. not (c == space)) (drop_while (λ c. c == space) fen))
@@ -56,8 +56,8 @@ HasOpening text rest = (name opening : List ℕ) × OpensTag name opening × (te
 abbrev pub HasString : List ℕ → Type 0
 HasString text = (string rest : List ℕ) × IsString string × (text ≡ string ++ byte "\"" ∷ rest)
 
--- the reason for a bad tag; `text` is the text from its `[` on. It is the first part that is missing: a name, a quote
--- after the name, a quote that ends the value, or else `]`, since no tag can be read there (`IsJudged`)
+-- this is the reason for a bad tag: the first part that is missing of a name, a quote after the name, a quote that ends
+-- the value, and `]`. `text` is the text from its `[` on, where no tag can be read (so the fault is a bad tag)
 pub data IsTagReason (text : List ℕ) : Option (List ℕ) → Type 0 where
   no_name : (HasName text → ⊥) → IsTagReason text (Some (codes "no name"))
   no_value : HasName text → ((rest : List ℕ) → HasOpening text rest → ⊥) → IsTagReason text (Some (codes "no value"))

@@ -16,9 +16,9 @@ use Rattle.pgn_writer.specs.Written.{tag_line, ended, lines_of}
 
 -- ---- tags
 
--- the lines of the tags of the game `s`; `t` says what the game itself doesn't. First the seven that each game has
--- (section 8.1.1); then, sorted by name: FEN and SetUp (section 9.7), but not for normal chess from the initial
--- position; Termination; and Variant, but only for Chess960
+-- the lines of the tags of the game `s`; `t` says what the game itself doesn't, such as the players. First the seven
+-- that each game has (section 8.1.1); then, sorted by name: FEN and SetUp (section 9.7), but not for normal chess from
+-- the initial position; Termination; and Variant, but only for Chess960
 abbrev pub tag_lines : Tags → State → List (List ℕ)
 tag_lines t s = tag_line (codes "Event") t.event ∷ tag_line (codes "Site") t.site ∷ tag_line (codes "Date") t.date
     ∷ tag_line (codes "Round") t.round ∷ tag_line (codes "White") t.white ∷ tag_line (codes "Black") t.black
@@ -44,9 +44,10 @@ game_tokens s = list_if (same_colour s.start.side Black && not (length s.moves =
     ((decimal s.start.fullmove ++ codes "...") ∷ [])
     ++ (move_tokens s.start s.moves ++ outcome_text (outcome_now s) ∷ [])
 
--- ---- the whole text: tags, an empty line, the moves in filled lines, an empty line; each line after a prefix
+-- ---- the whole text
 
--- a game's text as it is written: tags, an empty line, the moves, an empty line; each line after `prefix` (`# ` in a
--- session). By the law `games_are_laid_out` no other text is the game's
+-- the text of the game `s` as it is written: its tags (see `tag_lines` for `t`), an empty line, the moves and the
+-- outcome, an empty line; each line, even an empty one, after `prefix` (`# ` in a session, nothing in a match). By the
+-- law `games_are_laid_out` no other text is the game's
 unfoldable pub pgn : List ℕ → Tags → State → List ℕ
 pgn prefix t s = ended prefix (tag_lines t s ++ [] ∷ lines_of (game_tokens s) ++ [] ∷ [])

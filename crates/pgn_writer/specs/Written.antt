@@ -6,21 +6,21 @@ use Rattle.std.specs.List.{flat_map, fold}
 
 -- ---- tokens in lines
 
--- these lines, the last one first, with one token more: the last line takes it, after a space, if the line then has at
--- most 79 characters; otherwise it is a new line
+-- these lines, of which the list has the last one first, with one token more: at the last line's end, after a space, if
+-- that line then has at most 79 characters (section 4.3); otherwise the token is a new line
 abbrev pub with_token : List (List ℕ) → List ℕ → List (List ℕ)
 with_token [] token = token ∷ []
 with_token (line ∷ earlier) token =
     if nat_le (length (line ++ space ∷ token)) 79 then (line ++ space ∷ token) ∷ earlier else token ∷ line ∷ earlier
 
--- these tokens, none of more than 79 characters, one after another with a space between, in lines of at most 79
--- characters, each as full as it can be (the law `lines_are_filled`)
+-- the lines of these tokens, in order and with a space between two of a line. If no token has more than 79 characters,
+-- no line does, and each is as full as it can be (the law `lines_are_filled`)
 abbrev pub lines_of : List (List ℕ) → List (List ℕ)
 lines_of tokens = reverse (fold with_token [] tokens)
 
 -- ---- tags
 
--- a text with a backslash before each quote and backslash, as strings are written (section 7)
+-- a text with a backslash before each quote and backslash, as strings are written (section 7): `a\"b` for `a"b`
 abbrev pub escaped : List ℕ → List ℕ
 escaped text = flat_map (λ c. if c == byte "\"" || c == byte "\\" then byte "\\" ∷ c ∷ [] else c ∷ []) text
 
