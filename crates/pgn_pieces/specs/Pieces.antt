@@ -1,5 +1,5 @@
 -- A collection of games is cut into pieces: each is read as a text of its own.
-use Rattle.std.specs.Prelude.{◌≡◌, ◌≤◌, ◌^◌, ℕ, ◌+◌, ◌-◌, Bool, true, false, ◌&&◌, ◌||◌, not, ◌==◌, nat_lt, if◌then◌else◌, List, [], ◌∷◌, ◌++◌, length, map, reverse, take, drop, codes}
+use Rattle.std.specs.Prelude.{◌≡◌, ◌≤◌, ◌^◌, ℕ, zero, suc, ◌+◌, ◌-◌, Bool, true, false, ◌&&◌, ◌||◌, not, ◌==◌, nat_lt, if◌then◌else◌, List, [], ◌∷◌, ◌++◌, length, map, reverse, take, drop, codes}
 use Rattle.std.specs.Io.KnownBytes.{Consumes, IsAtEnd}
 use Rattle.std.specs.List.{onto_first, take_while, prefix_len, list_any, list_all, concat, fold}
 use Rattle.std.specs.Str.{bytes_eq}
@@ -34,10 +34,14 @@ tag_name front = take_while is_name_byte (drop 1 front)
 abbrev pub after_name : List ℕ → List ℕ
 after_name front = drop_while is_blank (drop (length (tag_name front)) (drop 1 front))
 
--- whether a line is a tag line: its front begins with `[`, a name of one byte or more, any spaces and tabs, and `"`
+-- whether a front begins with a tag: `[`, a name of one byte or more, any spaces and tabs, and `"`
+abbrev pub begins_tag : List ℕ → Bool
+begins_tag front = bytes_eq (take 1 front) (codes "[") && nat_lt 0 (length (tag_name front))
+    && bytes_eq (take 1 (after_name front)) (codes "\"")
+
+-- whether a line is a tag line, such as `[Event "Oslo"]`
 abbrev pub is_tag_line : List ℕ → Bool
-is_tag_line line = bytes_eq (take 1 (front_of line)) (codes "[") && nat_lt 0 (length (tag_name (front_of line)))
-    && bytes_eq (take 1 (after_name (front_of line))) (codes "\"")
+is_tag_line line = begins_tag (front_of line)
 
 -- whether a line is a tag line of the tag Event
 abbrev pub is_event_line : List ℕ → Bool
@@ -55,12 +59,18 @@ abbrev pub after_tag : List ℕ → List ℕ
 after_tag front = let close = drop_while (λ c. not (c == byte "\"")) (drop 1 (after_name front)) in
     if bytes_eq (take 2 close) (codes "\"]") then drop_while is_blank (drop 2 close) else []
 
+-- what comes after the tags with which a text begins, at most so many of them, and after any spaces and tabs between
+-- them (`after_tag`)
+unfoldable pub after_tags : ℕ → List ℕ → List ℕ
+after_tags zero text = text
+after_tags (suc more) text = if begins_tag text then after_tags more (after_tag text) else text
+
 -- whether a line counts as one of moves: one that is neither a tag line nor empty (so also one inside a `{` comment,
--- and a tag such as `[ Event "x" ]`); or a tag line in which, after the first tag and any spaces and tabs, a letter,
--- digit, `_` or `*` follows (`after_tag`)
+-- and a tag such as `[ Event "x" ]`); or a tag line in which, after its tags and any spaces and tabs, a letter, digit,
+-- `_` or `*` follows: `[White "a"] [Black "b"] 1. e4`
 abbrev pub is_moves_line : List ℕ → Bool
 is_moves_line line = if is_tag_line line
-    then list_any (λ c. is_name_byte c || c == byte "*") (take 1 (after_tag (front_of line)))
+    then list_any (λ c. is_name_byte c || c == byte "*") (take 1 (after_tags 256 (after_tag (front_of line))))
     else not (is_empty_line line)
 
 -- ---- the pieces of a text

@@ -4,8 +4,8 @@
 //! - a tag line begins with `[`, a name, perhaps spaces and tabs, and `"`: `[White "Carlsen"]`
 //! - an Event line is a tag line of the tag Event: `[Event "Oslo"]`
 //! - an empty line has only white space, or begins with `%` or `;`
-//! - a line of moves is any other line: `1. e4 e5`, but also `{a comment}`; and a tag line with moves after its first
-//!   tag: `[Result "1-0"] 1. e4 1-0`
+//! - a line of moves is any other line: `1. e4 e5`, but also `{a comment}`; and a tag line with moves after its tags:
+//!   `[White "a"] [Result "1-0"] 1. e4 1-0`
 //!
 //! The functions that `kind_of` calls are inlined, since `verify --keep-going` calls it for every line of a collection
 //! (the workloads collections and puzzles). What that gains was not measured apart.
@@ -13,7 +13,7 @@
 ghost use Rattle.std.specs.Prelude.{◌≡◌, ◌≤◌, nat_lt, true, false, ◌&&◌, ◌||◌, ◌==◌, length, take, drop, codes};
 ghost use Rattle.std.specs.Str.{bytes_eq};
 ghost use Rattle.std.specs.List.{list_all, list_any};
-ghost use Rattle.pgn_pieces.specs.Pieces.{front_of, after_name, tag_name, is_tag_line, is_event_line, is_moves_line};
+ghost use Rattle.pgn_pieces.specs.Pieces.{front_of, after_name, after_tag, after_tags, begins_tag, tag_name, is_tag_line, is_event_line, is_moves_line};
 ghost use Rattle.byte_devices.specs.Bytes.{after_byte_order_mark, byte, is_blank, is_name_byte};
 ghost use Rattle.pgn_pieces.specs.Places.{line_ends};
 ghost use Rattle.pgn_pieces.specs.ties.Fronts.{after_value, is_empty_front, without_blanks};
@@ -55,7 +55,7 @@ pub(crate) fn kind_of(line: &[u8], moves: bool) -> Kind
     }
     let name = tag_name(front);
     let after_name = after_name(front, name);
-    let is_tag = begins_tag(name, after_name);
+    let is_tag = has_tag(name, after_name);
     Kind {
         is_tag,
         is_event: is_tag && name == b"Event".as_slice(),
@@ -68,13 +68,14 @@ pub(crate) fn kind_of(line: &[u8], moves: bool) -> Kind
     }
 }
 
-// Whether moves come after the first tag of a tag line: a letter, a digit, `_` or `*`, after any spaces and tabs. The
-// argument is the part of its front after the tag's name.
+// Whether moves come after the tags of a tag line: a letter, a digit, `_` or `*`, after any spaces and tabs. The
+// argument is the part of its front after the first tag's name.
 #[inline(always)]
 fn has_moves(after_name: &[u8]) -> bool
-    ensures { result ≡ list_any (λ c. is_name_byte c || c == byte "*") (take 1 (after_value after_name.now)) }
+    ensures { result
+        ≡ list_any (λ c. is_name_byte c || c == byte "*") (take 1 (after_tags 256 (after_value after_name.now))) }
 {
-    match after_value(after_name) {
+    match after_tags(after_value(after_name)) {
         [first, ..] => is_name_byte(*first) || *first == b'*',
         [] => false,
     }
@@ -92,6 +93,39 @@ fn after_value(after_name: &[u8]) -> &[u8]
         [b'"', b']', rest @ ..] => without_blanks(rest),
         _ => &after_name[..0], // nothing
     }
+}
+
+// Whether a text begins with a tag, as the front of a tag line does.
+fn begins_tag(text: &[u8]) -> bool
+    ensures { result ≡ begins_tag text.now }
+{
+    if !text.starts_with(b"[") {
+        return false;
+    }
+    let name = tag_name(text);
+    has_tag(name, after_name(text, name))
+}
+
+// What comes after the tag with which a text begins, and any spaces and tabs; empty if no `"]` ends the tag.
+fn after_tag(text: &[u8]) -> &[u8]
+    ensures { result.now ≡ after_tag text.now }
+{
+    after_value(after_name(text, tag_name(text)))
+}
+
+// What comes after the tags with which a part of a line's front begins, and any spaces and tabs; mostly none is there.
+// A front has no more than 256 tags.
+fn after_tags(text: &[u8]) -> &[u8]
+    ensures { result.now ≡ after_tags 256 text.now }
+{
+    let mut rest = text;
+    for passed in 0..FRONT_LEN {
+        if !begins_tag(rest) {
+            return rest;
+        }
+        rest = after_tag(rest);
+    }
+    rest
 }
 
 // The text after the byte order mark (the bytes EF BB BF of UTF-8) at its front; all of the text, if it has none. Each
@@ -162,7 +196,7 @@ fn after_name<'t>(front: &'t [u8], name: &[u8]) -> &'t [u8]
 // Whether a line whose front begins with `[`, this name and then, after any spaces and tabs, these bytes is a tag line:
 // the name has one byte or more, and `"` follows.
 #[inline(always)]
-fn begins_tag(name: &[u8], after_name: &[u8]) -> bool
+fn has_tag(name: &[u8], after_name: &[u8]) -> bool
     ensures { result ≡ (nat_lt 0 (length name.now) && bytes_eq (take 1 after_name.now) (codes "\"")) }
 {
     !name.is_empty() && after_name.starts_with(b"\"")

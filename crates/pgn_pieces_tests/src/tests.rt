@@ -61,7 +61,7 @@ fn check_cut(
 }
 
 // Texts, and the lengths of their pieces.
-const CUTS: [(&[u8], &[usize]); 24] = [
+const CUTS: [(&[u8], &[usize]); 25] = [
     (b"", &[]),
     (b"1. e4 *", &[7]),
     (b"[Event \"a\"]\n1. e4 *\n\n[Event \"b\"]\n*", &[21, 13]),
@@ -102,10 +102,11 @@ const CUTS: [(&[u8], &[usize]); 24] = [
         b"[Event \"a\"] 1. e4 *\n[Event \"b\"] *\n[Site \"c\"] *\n",
         &[20, 14, 13],
     ),
-    // Moves after the first tag, and what is none.
+    // Moves after a line's tags, and what is none.
     (b"[Result \"1-0\"] e4 {\n[Result \"1-0\"] e5 *\n", &[20, 20]),
     (b"[Event \"a\"] {c}\n[Site \"b\"] ; x\n*\n", &[33]),
-    (b"[a \"b\"] [c \"d\"] e4 *\n[e \"f\"]\n", &[29]),
+    (b"[a \"b\"] [c \"d\"] e4 *\n[e \"f\"]\n", &[21, 8]),
+    (b"[a \"b\"][c\"d\"]\t[e \"\"] *\n[e \"f\"]\n", &[25, 8]),
     (b"*\n[A_1 \t\"x\"]\n\xef\xbb\xbf% y\n[b\"", &[2, 21]),
     (
         b"\xef\xbb\xbf*\n\xef\xbb[a \"b\"]\n\xef\xbb\xbf\xef\xbb\xbf[a \"b\"]\n",

@@ -2,6 +2,7 @@
 use Rattle.std.proofs.Common.{refl}
 use Rattle.std.specs.Fmt.{digits}
 use Rattle.chess_pgn.specs.{GameRead.pgn_read, Tokens.token_at, Tokens.tokens_from, Tokens.tokens_of}
+use Rattle.pgn_pieces.specs.Pieces.{after_tags}
 use Rattle.pgn_verifier.specs.{Explanations.explanation_line, Reports.counts_line, Reports.report_line, laws.Reported.placed_from}
 use Rattle.pgn_verifier_laws.specs.WorkedReports.{GamesAreFound, PiecesBegin, ReportsAreWritten, TextsAreReadOn}
 
@@ -28,6 +29,7 @@ unfolding token_at tokens_from tokens_of
 texts_are_read_on = record { marker = refl; later = refl; tags = refl; end = refl; unreadable = refl }
 
 pub pieces_begin : PiecesBegin
+unfolding after_tags
 pieces_begin = record {
   events = refl;
   event_later = refl;
@@ -35,4 +37,5 @@ pieces_begin = record {
   no_moves = refl;
   moves = refl;
   moves_after_tag = refl;
+  moves_after_tags = refl;
 }

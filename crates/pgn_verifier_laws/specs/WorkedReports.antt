@@ -129,3 +129,6 @@ pub record PiecesBegin : Type 0 where
   -- also if these moves are in the line of a tag
   pub moves_after_tag : AreItsPieces "[Event \"a\"] e4 *\n[White \"b\"]\n"
       (codes "[Event \"a\"] e4 *\n" ∷ codes "[White \"b\"]\n" ∷ [])
+  -- and after several tags
+  pub moves_after_tags : AreItsPieces "[Event \"a\"] [Site \"b\"] e4 *\n[White \"c\"]\n"
+      (codes "[Event \"a\"] [Site \"b\"] e4 *\n" ∷ codes "[White \"c\"]\n" ∷ [])

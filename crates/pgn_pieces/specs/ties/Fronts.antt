@@ -1,18 +1,13 @@
--- The kind of a line, by its front: what `is_tag_line`, `after_tag` and `is_empty_line` say of a line with this front.
-use Rattle.std.specs.Prelude.{ℕ, Bool, not, ◌&&◌, ◌||◌, ◌==◌, nat_lt, if◌then◌else◌, List, [], length, take, drop, codes}
+-- The kind of a line, by its front: what `after_tag` and `is_empty_line` say of a line with this front.
+use Rattle.std.specs.Prelude.{ℕ, Bool, not, ◌||◌, ◌==◌, if◌then◌else◌, List, [], take, drop, codes}
 use Rattle.std.specs.List.{list_all, prefix_len}
 use Rattle.std.specs.Str.{bytes_eq}
-use Rattle.pgn_pieces.specs.Pieces.{drop_while, tag_name, after_name}
+use Rattle.pgn_pieces.specs.Pieces.{drop_while}
 use Rattle.byte_devices.specs.Bytes.{byte, is_blank}
 
 -- a text without the spaces and tabs at its beginning
 abbrev pub without_blanks : List ℕ → List ℕ
 without_blanks text = drop_while is_blank text
-
--- whether a line with this front is a tag line
-abbrev pub begins_tag : List ℕ → Bool
-begins_tag front = bytes_eq (take 1 front) (codes "[") && nat_lt 0 (length (tag_name front))
-    && bytes_eq (take 1 (after_name front)) (codes "\"")
 
 -- what comes after the first tag in the front of a tag line (`after_tag`), by what comes after the tag's name
 abbrev pub after_value : List ℕ → List ℕ
