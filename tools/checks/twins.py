@@ -2,10 +2,10 @@
 need no new proof.
 
 A law rests only on definitions. So those that are edited, and all modules of specs/ and proofs/ between them and the law,
-are copied into the law's crate, as `of_CRATE`, and what names them there names the copies; and so are the proofs that only
-their own crate can name. If the law calls laws of other crates whose clauses name what is copied, these are copied too, as
-functions of src/of_CRATE_FILE.rt (called_laws.py). The crate's line of crates.txt gets the crates that the copies name. Types and
-constants of the code stay where they are. Found by the names of modules; no prover is asked."""
+are copied into the law's crate, as `of_CRATE`, and what names them there names the copies, as far as it concerns this law; and
+so are the proofs that only their own crate can name. If the law calls laws of other crates whose clauses name what is copied,
+these are copied too, as functions of src/of_CRATE_FILE.rt (called_laws.py). The crate's line of crates.txt gets the crates that the
+copies name. Types and constants of the code stay where they are. Found by the names of modules; no prover is asked."""
 
 import re
 from functools import cache
