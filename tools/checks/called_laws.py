@@ -26,7 +26,7 @@ def imported(text):
             yield there, crate
 
 
-def names(name, text):
+def is_named(name, text):
     """Whether a text uses a name."""
     return bool(re.search(rf"\b{name}\b", text)) if re.fullmatch(WORD, name) else is_written(name, text)
 
@@ -35,10 +35,10 @@ def imports_for(source, text):
     """The imports of a file of src/ that a part of it needs."""
     found = []
     for path, items, alias in GHOST.findall(source):
-        here = [it.strip() for it in items.split(",") if names(list(imported_names(it))[0][1], text)] if items else []
+        here = [it.strip() for it in items.split(",") if is_named(list(imported_names(it))[0][1], text)] if items else []
         found += [f"ghost use {path}.{{{', '.join(here)}}};\n"] if here else []
-        found += [f"ghost use {path} as {alias};\n"] if alias and names(alias, text) else []
-    return "".join(found) + "".join(f"use {crate}::{there};\n" for there, crate in imported(source) if names(there, text))
+        found += [f"ghost use {path} as {alias};\n"] if alias and is_named(alias, text) else []
+    return "".join(found) + "".join(f"use {crate}::{there};\n" for there, crate in imported(source) if is_named(there, text))
 
 
 class Law:

@@ -179,6 +179,8 @@ class Twins:
 
     def texts(self):
         """The text of each file that differs from what is in the folder."""
+        if not self.copied:
+            return {}
         found = {path: self.redirected(self.renamed(read(path))) for path in self.files}
         found |= {self.modules.path_of(self.twin(name)): self.renamed(read(self.modules.paths[name])) for name in self.copied}
         found |= self.called_texts()
