@@ -114,9 +114,9 @@ def crates():
     return sorted(p.parent.name for p in TOP.glob("crates/*/src"))
 
 
-def used_crates():
-    """The libraries that each crate names in crates.txt."""
-    lines = [l.split("#")[0] for l in read("crates.txt").split("\n")]
+def used_crates(text=None):
+    """The libraries that each crate names in crates.txt, or in another text of that form."""
+    lines = [l.split("#")[0] for l in (read("crates.txt") if text is None else text).split("\n")]
     return {name.strip(): used.split() for name, _, used in (l.partition(":") for l in lines) if name.strip()}
 
 
@@ -534,8 +534,8 @@ def beneath(crate, own):
     return own[crate].union(*(beneath(used, own) for used in own[crate]))
 
 
-def direct_uses():
+def direct_uses(text=None):
     """The crates of this repository that each crate uses directly, by crates.txt: not those below another of them."""
-    uses = used_crates()
+    uses = used_crates(text)
     own = {crate: {used for used in all_used if used in uses} for crate, all_used in uses.items()}
     return {crate: used - set().union(*(beneath(it, own) for it in used)) for crate, used in own.items()}
