@@ -2,8 +2,8 @@
 use Rattle.std.proofs.Common.{◌≡◌, ℕ, eqb, Bool, true, false, List, [], ◌∷◌, ◌++◌, length, take, refl, sym, ap, ap₂, ◌∙◌, arith, bytes_eq, if◌then◌else◌, ◌&&◌, ◌||◌, nat_lt, codes}
 use Rattle.std.specs.List.{onto_first, concat, list_any, list_all}
 use Rattle.std.proofs.{lemmas.Bool.and_left, lemmas.Bool.or_left, lemmas.Bool.eqb-true, lemmas.List.Folds.list_any-append}
-use Rattle.pgn_pieces.specs.Pieces.{lines_of, front_of, tag_name, after_name, is_tag_line, is_event_line, is_empty_line, is_moves_line, begins_piece}
-use Rattle.pgn_pieces.specs.{Places.breaks_line, ties.Cutting.cut_lines, ties.Cutting.piece_of, ties.Fronts.begins_tag, ties.Fronts.is_empty_front, laws.Shards.ends_in_moves, laws.Shards.begins_in_tag, laws.Shards.ShardsAreCut}
+use Rattle.pgn_pieces.specs.Pieces.{lines_of, front_of, tag_name, after_name, begins_tag, is_tag_line, is_event_line, is_empty_line, is_moves_line, begins_piece}
+use Rattle.pgn_pieces.specs.{Places.breaks_line, ties.Cutting.cut_lines, ties.Cutting.piece_of, ties.Fronts.is_empty_front, laws.Shards.ends_in_moves, laws.Shards.begins_in_tag, laws.Shards.ShardsAreCut}
 use Rattle.pgn_pieces.proofs.CutLines.{some_line, ends_here, begun, some_bytes, piece_of_some, cut_is}
 
 -- ---- no line is of two kinds
