@@ -79,7 +79,7 @@ Reports text l l' = (l'.broken ≡ l.broken)
 pub record Surroundings : Type 0 where
   -- its input and its output
   pub devices : Devices
-  -- its error output, as the log of a match
+  -- its error output, seen as a log (an output, and whether it is broken), since a match writes its log there
   pub errors : LogSeen
 
 -- the program did what its plan says, or there is no plan (`Err`). `s` and `s'` are what it works with before and

@@ -113,7 +113,8 @@ known_variant text = let is_any = list_any (λ name. str_eq_ignore_ascii_case te
     else if is_any (codes "normal" ∷ codes "standard" ∷ codes "chess" ∷ codes "classical" ∷ codes "from position" ∷ [])
     then Some Normal else None
 
--- the variant that the last tag Variant names; normal chess if it names none, or if there is no such tag
+-- the variant that the last tag Variant names; normal chess if its text is no known name (`known_variant`), such as
+-- `Atomic`, or if there is no such tag
 abbrev pub tagged_variant : List (ℕ × Token) → Variant
 tagged_variant tags = option_map_or (λ t. unwrap_or (known_variant t.0) Normal) (last_tag (codes "Variant") tags) Normal
 

@@ -110,8 +110,8 @@ abbrev pub none_killed : ByColour Bool
 none_killed = record { white = false; black = false }
 
 -- `played` is the record of the game of this number, which was played as `setup_of` says, with at most 20,000
--- half-moves (`MOST_MOVES`): there are acts `H` and a reason by which it was (`PlayedBy`), and its notes are those of
--- `H`. No engine was killed if replies have no limit. Which engines played it is said by the steps of a match
+-- half-moves (`MOST_MOVES`): it was played by some acts `H` and ended for some reason (`PlayedBy`), and its notes are
+-- those of `H`. No engine was killed if replies have no limit. Which engines played it is said by the steps of a match
 -- (`steps_by` in GamesTable)
 abbrev pub IsOfPlan : GamesPlan → ℕ → GameRecord → Type 0
 IsOfPlan plan number played = (played.before.game.limit ≡ MOST_MOVES)
@@ -160,8 +160,8 @@ abbrev pub killed_lines : ℕ → ByColour Bool → List ℕ
 killed_lines number killed =
     list_if killed.white (killed_line number White) ++ list_if killed.black (killed_line number Black)
 
--- what is logged of the game `played`, which has this number: its notes, if the plan asks for a log, and in any case a
--- line for each engine that was killed
+-- what is logged of the game `played`, which has this number: the lines of its notes (0 is their moment before the
+-- clock's first reading), if the plan asks for a log, and in any case a line for each engine that was killed
 abbrev pub game_log : GamesPlan → ℕ → GameRecord → List ℕ
 game_log plan number played = list_if plan.log (log_from (first_side number) 0 played.notes)
     ++ killed_lines number played.killed

@@ -122,8 +122,9 @@ pub record AreFresh (pipes : Devices) : Type 0 where
 abbrev pub BeginsAt : (ℕ → Option ℕ) → GameRecord → Type 0
 BeginsAt coming played = ((S : Colour) → AreFresh (played.before.engines S)) × (played.before.coming ≡ coming)
 
--- these games came one after another, each with engines that were just started, and all with one clock, which from the
--- first game on would show the moments `coming`
+-- these games came one after another, each with engines that were just started, and all with one clock: its readings
+-- in a game come after those in the game before. `coming n` is the moment of its reading n, where 0 is the first in
+-- these games; `None` if it is not known
 abbrev pub ComeInTurn : (ℕ → Option ℕ) → List GameRecord → Type 0
 ComeInTurn coming [] = ⊤
 ComeInTurn coming (played ∷ games) = BeginsAt coming played × ComeInTurn played.after.coming games

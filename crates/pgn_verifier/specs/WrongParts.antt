@@ -43,7 +43,8 @@ fen_reason fault = fen_fault_name fault
 
 -- ---- tags
 
--- the text begins with `[`, a gap (white space and `%` lines), and a name's first byte
+-- the text begins with `[`, a gap (white space and `%` lines, or nothing), and a name's first byte. The gap begins
+-- inside a line (`false`), so a `%` right after the `[` is not skipped
 abbrev pub HasName : List ℕ → Type 0
 HasName text = (gap : List ℕ) × (c : ℕ) × (rest : List ℕ) × IsGap false gap × (is_name_byte c ≡ true)
     × (text ≡ byte "[" ∷ (gap ++ c ∷ rest))
