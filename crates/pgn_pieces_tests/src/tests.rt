@@ -106,7 +106,7 @@ const CUTS: [(&[u8], &[usize]); 25] = [
     (b"[Result \"1-0\"] e4 {\n[Result \"1-0\"] e5 *\n", &[20, 20]),
     (b"[Event \"a\"] {c}\n[Site \"b\"] ; x\n*\n", &[33]),
     (b"[a \"b\"] [c \"d\"] e4 *\n[e \"f\"]\n", &[21, 8]),
-    (b"[a \"b\"][c\"d\"]\t[e \"\"] *\n[e \"f\"]\n", &[25, 8]),
+    (b"[a \"b\"][c\"d\"]\t[e \"\"] *\n[e \"f\"]\n", &[23, 8]),
     (b"*\n[A_1 \t\"x\"]\n\xef\xbb\xbf% y\n[b\"", &[2, 21]),
     (
         b"\xef\xbb\xbf*\n\xef\xbb[a \"b\"]\n\xef\xbb\xbf\xef\xbb\xbf[a \"b\"]\n",
