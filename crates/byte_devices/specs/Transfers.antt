@@ -36,7 +36,7 @@ pub record Devices : Type 0 where
 
 -- from its state `r` to `r'` the input gave just what `i` says
 pub record InputGave (r r' : InputState) (i : FromInput) : Type 0 where
-  -- if the bytes to come are known: they are `i.text`, and then those to come in `r'`
+  -- if the bytes to come are known: in `r` they are `i.text` and then those of `r'`
   pub bytes : Consumes r.known_bytes r'.known_bytes i.text
   -- `i.early` is `i.text` without the bytes that the last successful read gave
   pub early : i.early ≡ take (length i.text - r'.last_len) i.text
@@ -66,7 +66,8 @@ abbrev pub RanWithWaits : (FromInput → ToOutput → Type 0) → Devices → De
 RanWithWaits P d d' =
     (i : FromInput) × (o : ToOutput) × InputGave d.input d'.input i × OutputTook d.output d'.output o × P i o
 
--- as `RanWithWaits`, and there was no wait in which nothing came: so it is with each run that never waits for its input
+-- there was a run without a wait in which nothing came; the claim `P` holds of what came from the input and what went
+-- to the output. The arguments after `P` are the devices' states before and after (`RanWithWaits`)
 abbrev pub Ran : (FromInput → ToOutput → Type 0) → Devices → Devices → Type 0
 Ran P = RanWithWaits (λ i o. (i.silences ≡ 0) × P i o)
 

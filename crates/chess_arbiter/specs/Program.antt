@@ -39,8 +39,9 @@ abbrev pub fault_status : ProgramFault → ℕ
 fault_status InvalidArguments = 2
 fault_status _ = 1
 
--- from the devices' states `d` to `d'` the server `respond`, which began in the state `s`, answered the lines of the
--- input on the output (`Served`). The exit status is 1 if a read, a write or a flush failed, otherwise 0
+-- the server `respond`, which began in the state `s`, answered the lines of the input on the output (`Served`), and the
+-- devices went from the states `d` to `d'`. `result` is how the run ended, `s'` the server's state then. The exit
+-- status is 1 if a read, a write or a flush failed, otherwise 0
 abbrev pub Serves : {S : Type 0} → Server S → S → Devices → Devices → ℕ → Type 0
 Serves {S} respond s d d' status =
     (result : Result End Fault) × (s' : S) × Ran (Served respond s s' result) d d' × (status ≡ status_of result)
@@ -50,17 +51,18 @@ abbrev pub verify_status : Result Verified VerifyFault → ℕ
 verify_status (Ok EachGame) = 0
 verify_status _ = 1
 
--- from the output's state `w` to `w'` some text was written, such as the help (which text, is not said here): all of
--- it, with the status 0. Or the output stays as it is, as when memory ran out, or a beginning of a text was written
--- before a call failed; then the status is 1
+-- some text, such as the help, was written to the output, which went from the state `w` to `w'` (which text, is not
+-- said). With the exit status 0 all of it was written and flushed. With 1 the output is as before, as when memory ran
+-- out, or a beginning of the text, maybe nothing or all, was written before a write or a flush failed
 abbrev pub WritesHelp : OutputState → OutputState → ℕ → Type 0
 WritesHelp w w' status = ((status ≡ 0) × (text : List ℕ) × OutputTook w w' (all_of text))
     ⊎ ((status ≡ 1) × ((w' ≡ w) ⊎ ((text : List ℕ) × (o : ToOutput) × OutputTook w w' o × BreaksOffIn nothing text o)))
 
--- what is done with arguments for which there is no plan, by the fault that says why: the output goes from `w` to `w'`,
--- and `status` is the exit status. What is written to the error output is not said here
+-- what is done with arguments for which there is no plan, by the fault that says why: the output goes from the state
+-- `w` to `w'`, and `status` is the exit status. What is written to the error output is not said
 abbrev pub ReportsArguments : WordsFault → OutputState → OutputState → ℕ → Type 0
--- an error of `clap`, the parser of arguments, which counts requests for help and for the version among the errors
+-- an error of `clap`, the parser of arguments: a request for help or for the version, which counts as one; or any
+-- other, with which nothing is written and the status is 2
 ReportsArguments (faults.Words e) w w' status =
     (((kind_of e ≡ DisplayHelp) ⊎ (kind_of e ≡ DisplayVersion)) × WritesHelp w w' status)
     ⊎ ((kind_of e ≢ DisplayHelp) × (kind_of e ≢ DisplayVersion) × (w' ≡ w) × (status ≡ 2))
@@ -69,22 +71,23 @@ ReportsArguments faults.NoMemory w w' status = (w' ≡ w) × (status ≡ 1)
 -- an invalid level, FEN or date of a match, or an invalid kind to ignore
 ReportsArguments _ w w' status = (w' ≡ w) × (status ≡ 2)
 
--- from the state `l` of a log to `l'` this text was written where the log goes, even if the log was broken; it is
--- broken then just if it was before. A write of the text may have failed (`Logged`)
+-- this text was written to the output of a log, even if the log was broken, and the log went from the state `l` to
+-- `l'`; it is broken in `l'` just if it is in `l`. `failed` is whether a write or a flush of the text failed
 abbrev pub Reports : List ℕ → LogSeen → LogSeen → Type 0
 Reports text l l' = (l'.broken ≡ l.broken)
     × ((failed : Bool) × Logged (record l { broken = false }) (record l' { broken = failed }) text)
 
--- what contracts see of what the program works with, but for its host
+-- what contracts see of the program's input, output and error output
 pub record Surroundings : Type 0 where
   -- its input and its output
   pub devices : Devices
   -- its error output, seen as a log (an output, and whether it is broken), since a match writes its log there
   pub errors : LogSeen
 
--- the program did what its plan says, or there is no plan (`Err`). `s` and `s'` are what it works with before and
--- after, `steps` are the steps that passed at its host, and `status` is its exit status. Only the host starts engines
--- and has a clock, and only a match has steps there. What happens to the error output is said only for a match
+-- the program did what its plan says, or what the fault calls for if there is no plan (`Err`). `s` and `s'` are its
+-- surroundings before and after, `steps` the steps that passed at its host, `status` its exit status. Only the host
+-- starts engines and has a clock, and only a match has steps there. What happens to the error output is said only for a
+-- match
 abbrev pub Does : Result Plan WordsFault → Surroundings → Surroundings → List HostStep → ℕ → Type 0
 -- a session ran on input and output, from the initial position of normal chess, with the tags of a game of which
 -- nothing is known and at most 20,000 half-moves. Or nothing was read or written, as when memory ran out
@@ -97,9 +100,9 @@ Does (Ok (Verify keep_going options)) s s' steps status = (steps ≡ [])
 -- a stub engine ran on input and output
 Does (Ok (Stub arguments)) s s' steps status =
     (steps ≡ []) × Serves stub_response (waiting arguments.items) s.devices s'.devices status
--- nothing of the input was read, and the games of the match were played, written and logged (`PlaysGamesWith`). The
--- status is 0 if all were played without a fault and were written, and the score too. `logged` is the error output, to
--- which the log goes, after the games; then a fault is reported on it
+-- nothing of the input was read. The games of the match were played, written, and logged on the error output
+-- (`PlaysGamesWith`), whose state was `logged` then; after that a fault, if any, was reported on it. The status is 1 if
+-- `result` is a fault, otherwise 0
 Does (Ok (Match plan)) s s' steps status = (s'.devices.input ≡ s.devices.input)
     × ((result : Result (Unit {0}) GamesFault) × (logged : LogSeen) × PlaysGamesWith plan result steps
     (record { output = s.devices.output; log = s.errors }) (record { output = s'.devices.output; log = logged })
@@ -108,8 +111,9 @@ Does (Ok (Match plan)) s s' steps status = (s'.devices.input ≡ s.devices.input
 Does (Err fault) s s' steps status = (steps ≡ [])
     × (s'.devices.input ≡ s.devices.input) × ReportsArguments fault s.devices.output s'.devices.output status
 
--- the program ran with these arguments: there is a right reading of them (`IsReading`), a plan or a fault, for which
--- the program did what `Does` says
+-- the program ran with these arguments: there is a right reading of them (`IsReading`), a plan or a fault, by which it
+-- did what `Does` says. `s` and `s'` are its surroundings before and after, `steps` the steps at its host, `status` its
+-- exit status
 abbrev pub RanProgram : List Text → Surroundings → Surroundings → List HostStep → ℕ → Type 0
 RanProgram arguments s s' steps status =
     (read : Result Plan WordsFault) × IsReading arguments read × Does read s s' steps status

@@ -16,8 +16,7 @@ pub record Block : Type 0 where
   pub to : Colour
   pub lines : List SentLine
 
--- one act of the arbiter: it sends an engine a block, or fails to send it, or reads: from an engine's output, from the
--- clock, or from both
+-- one act of the arbiter: it sends an engine a block, or fails to, or reads from an engine, the clock or both
 pub data Act : Type 0 where
   -- a block was written and flushed
   Sends : (block : Block) → Act
@@ -34,7 +33,8 @@ abbrev pub block_of : Colour → List SentLine → List Block
 block_of S [] = []
 block_of S (l ∷ ls) = record { to = S; lines = l ∷ ls } ∷ []
 
--- the blocks by which each side `S` is sent the lines `lines S`, first that for the side `first`
+-- the blocks by which each side `S` is sent the lines `lines S`, if there are any; the block for the side `first` comes
+-- first
 abbrev pub blocks_from : Colour → (Colour → List SentLine) → List Block
 blocks_from first lines = block_of first (lines first) ++ block_of (other first) (lines (other first))
 

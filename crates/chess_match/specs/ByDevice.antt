@@ -12,8 +12,8 @@ use Rattle.chess_match.specs.declared.reason.Reason.{Reason}
 
 -- ---- what was read
 
--- the line that this act read from the engine of the side `S` (`None`: it was too long), as a list of one; empty if it
--- read none
+-- the text of the line that this act read from the engine of the side `S` (`None`: it was too long), as a list of one;
+-- empty if the act read no such line
 abbrev pub line_read : Colour → Act → List (Option (List ℕ))
 line_read S (Happens (Line side text moment)) = list_if (same_colour side S) (text ∷ [])
 line_read S _ = []
@@ -33,8 +33,8 @@ abbrev pub is_silence_of : Colour → Act → Bool
 is_silence_of S (Happens (Silent side moment)) = same_colour side S
 is_silence_of S _ = false
 
--- whether the look for a line of the side `S` by this act is a silence, as a list of one: true if no line had come yet,
--- false if it found a line, the end or a failure; empty if the act is no such look
+-- whether a look for a line of the side `S` by this act found none yet, as a list of one: false if it found a line, the
+-- end of the output or a failure. Empty if this act is no such look
 abbrev pub look : Colour → Act → List Bool
 look S (Happens (Silent side moment)) = list_if (same_colour side S) (true ∷ [])
 look S (Happens (Line side text moment)) = list_if (same_colour side S) (false ∷ [])
@@ -51,7 +51,7 @@ moment_shown _ = []
 
 -- ---- what was written
 
--- the lines that the side `S` was sent by this act
+-- the lines that this act sent to the side `S`, if any
 abbrev pub lines_to : Colour → Act → List SentLine
 lines_to S (Sends block) = list_if (same_colour block.to S) block.lines
 lines_to S _ = []

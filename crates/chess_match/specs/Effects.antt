@@ -68,7 +68,8 @@ pub record Effect : Type 0 where
 
 -- ---- what is asked of a match
 
--- the milliseconds that the side `S` has left after the moves that it has made, at least 0
+-- the milliseconds that the side `S` has left, at least 0, after the moves that it has made; a turn that has begun is
+-- not counted
 abbrev pub clock : Rules → Match → Colour → ℕ
 clock r m S = allotted (r.level S) (length (m.seat S).used) - sum (m.seat S).used
 
@@ -78,14 +79,14 @@ abbrev pub ping_number : Match → Colour → ℕ
 ping_number m S = length (m.seat S).used + 1
 
 -- what an engine that sent these items lacks for the match, the first of: `ping=1`; `setboard=1`, if the start's FEN is
--- to be sent; for Chess960, `fischerandom` among its `variants`, if it sent any. `None` if it lacks nothing
+-- to be sent; for Chess960, `fischerandom` in its item `variants`, if it sent one. `None` if it lacks nothing
 abbrev pub missing : Rules → List Item → Option MatchFault
 missing r items = if not (takes (codes "ping") items) then Some NoPing
     else if is_some (start_fen r.start) && not (takes (codes "setboard") items) then Some NoSetboard
     else if is_fischerandom r.start.variant && not (plays_fischerandom items) then Some NoVariant
     else None
 
--- the draw that may be claimed (`claim`), if it ends the match without a claim (`Automatic`); otherwise `None`
+-- `claim`, the draw that may be claimed, if it ends the match without being claimed (`Automatic`); otherwise `None`
 abbrev pub if_automatic : Draws → Option DrawClaim → Option DrawClaim
 if_automatic Automatic claim = claim
 if_automatic _ claim = None
@@ -131,7 +132,7 @@ sends_nothing m = record { after = m; to = λ S. [] }
 abbrev pub sends_to : Colour → List SentLine → Match → Effect
 sends_to side lines m = record { after = m; to = λ S. list_if (same_colour side S) lines }
 
--- the match `m` with this change of what is known of the engine of the side `S`
+-- the match `m`, with `change` applied to what is known of the engine of the side `S`
 abbrev pub with_seat : Colour → (Seat → Seat) → Match → Match
 with_seat S change m = record m { seat = λ side. if same_colour side S then change (m.seat side) else m.seat side }
 
@@ -226,9 +227,9 @@ flag_row r S m = let bare = has_bare_king (other S) (position_after r.start m.pl
 abbrev pub awaited_since : ℕ → Match → Match
 awaited_since moment m = record m { since = Some moment }
 
--- a silence at this moment of the side `S`, which owes a reply that is no move. If it has owed it for longer than the
--- rules allow, the match ends by this fault. Otherwise nothing changes, except that the time for the reply, if it
--- doesn't run yet, runs from this moment
+-- what a silence of the side `S` at this moment does, if `S` owes a reply that is no move. If `S` has owed it for
+-- longer than `r.patience.reply` allows, the match ends by this fault. Otherwise nothing changes, except that the time
+-- for the reply, if it doesn't run yet, runs from this moment
 abbrev pub reply_row : Rules → Colour → MatchFault → ℕ → Match → Effect
 reply_row r S fault moment m = let since = unwrap_or m.since moment in
     if option_map_or (λ limit. nat_lt limit (moment - since)) r.patience.reply false then ends r (Faulted S fault) m
@@ -247,8 +248,8 @@ silence_row r _ _ _ m = sends_nothing m
 
 -- ---- a line before the game
 
--- what follows once both handshakes are done; the options are what White's engine lacks, and what Black's lacks. The
--- count of lines is 0 again
+-- what follows once both handshakes are done. The options are what White's engine lacks, and what Black's lacks
+-- (`None`: nothing). The count of lines is 0 again
 abbrev pub judged : Rules → Option MatchFault → Option MatchFault → Match → Effect
 -- White's engine lacks something: the match ends, whatever Black's lacks
 judged r (Some fault) _ m = ends r (Faulted White fault) (record m { count = 0 })

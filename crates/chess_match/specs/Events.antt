@@ -3,8 +3,8 @@ use Rattle.std.specs.Prelude.{ℕ, Bool, List, Option}
 use Rattle.chess_base.specs.declared.man.Colour.{Colour}
 use Rattle.cecp_engine.specs.Items.{Item}
 
--- an event of a match, which is one game between two engines. `moment` is what the clock, read right after it, showed,
--- in milliseconds counted from any beginning
+-- an event of a match, which is one game between two engines. `moment` is what the clock showed when it was read right
+-- after the event, in milliseconds counted from any beginning
 pub data Event : Type 0 where
   -- a line of that side's engine was read: this text, or `None` if the line was too long
   Line : (side : Colour) → (text : Option (List ℕ)) → (moment : ℕ) → Event

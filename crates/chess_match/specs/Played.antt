@@ -22,8 +22,7 @@ use Rattle.chess_match.specs.declared.run.MatchEnd.{MatchEnd}
 use Rattle.chess_match.specs.declared.run.Setup.{Setup}
 use Rattle.chess_game.specs.Ends.{verdict}
 
--- what contracts see, at one time, of the devices of a match and of its game. The witness of the match, such as the
--- log, is not among the devices; it is given notes (see Notes)
+-- what contracts see, at one time, of the devices of a match and of its game; the log is not among them
 pub record World : Type 0 where
   -- each engine's devices: `input` is the engine's output, which is read, and `output` is its input, which is written
   pub engines : Colour → Devices
@@ -32,9 +31,8 @@ pub record World : Type 0 where
   -- the game in which the match is played, whose state the match replaces
   pub game : game.Seen
 
--- `i` is what came from the engine of the side `S` in the acts `H`. Its bytes may contain more lines than were read,
--- but not after an end or a failed read (`all`), nor if the last look for a line found none (`all_if_silent`). What
--- follows the last `\n` is no line
+-- `i` is what came from the engine of the side `S` in the acts `H`. Its bytes may contain more lines than were read.
+-- What follows the last `\n` is no line
 pub record SaidBy (S : Colour) (H : List Act) (i : FromInput) : Type 0 where
   -- the lines that were read are the first lines of these bytes; `rest` are the others
   pub lines : (rest : List (Option (List ℕ))) × (engine_lines i.text ≡ flat_map (line_read S) H ++ rest)
@@ -48,8 +46,8 @@ pub record SaidBy (S : Colour) (H : List Act) (i : FromInput) : Type 0 where
   -- if the last look for a line of `S` found none: the same
   pub all_if_silent : last_or None (flat_map (look S) H) ≡ Some true → engine_lines i.text ≡ flat_map (line_read S) H
 
--- `o` is what went to an engine's input, if the lines in the first list were sent to it, and then the blocks in the
--- second list could not be sent
+-- `o` is what went to an engine's input, if the lines `sent` were sent to it, and then the blocks in the second list
+-- could not be sent
 abbrev pub WasSent : List SentLine → List (List SentLine) → ToOutput → Type 0
 -- no block failed: all lines were written and flushed, and no call failed
 WasSent sent [] o = o ≡ all_flushed (nat_lt 0 (length sent)) (bytes_of sent)
@@ -83,9 +81,10 @@ pub record ReportedAs (r : Rules) (H : List Act) (final : Match) (reason : Reaso
   -- the fault that ended the match; otherwise a failed write after the end, White's first
   pub fault : end.fault ≡ reported_fault reason (λ S. nat_lt 0 (length (flat_map (broken_block S) H)))
 
--- a match of the acts `H` was played from the world `w` to `w'`, as `setup` says, for at most as many half-moves as the
--- game's limit. It ended for this reason, and was reported as `end`. In `w'` the game has the match's start and moves,
--- and the reason's result is declared in it, unless the board has a verdict; of the game before, only the limit stays
+-- a match of the acts `H`, which ended for this reason, was played as `setup` says, was reported as `end`, and led from
+-- the world `w` to `w'`; it had at most as many half-moves as the game's limit. In `w'` the game has the match's start
+-- and moves, and the reason's result is declared in it, unless the board has a verdict; of the game in `w` only the
+-- limit stays
 abbrev pub PlayedBy : List Act → Reason → Setup → MatchEnd → World → World → Type 0
 PlayedBy H reason setup end w w' =
     let r = rules_of setup.start (of_colour setup.levels) setup.patience setup.draws w.game.limit in
@@ -96,22 +95,21 @@ PlayedBy H reason setup end w w' =
       declared = declared_at (verdict r.start final.played) reason;
     }))
 
--- a match was played as `setup` says, from the world `w` to `w'`, and reported as `end`: there are acts and a reason by
--- which `PlayedBy` holds, so the devices, the report and the game agree with one and the same match
+-- a match was played as `setup` says, from the world `w` to `w'`, and reported as `end`: there are acts and a reason
+-- for which `PlayedBy` holds, so the devices, the report and the game agree with one match
 abbrev pub Played : Setup → MatchEnd → World → World → Type 0
 Played setup end w w' = (H : List Act) × (reason : Reason) × PlayedBy H reason setup end w w'
 
 -- a match was played as `setup` says, from the world `w` to `w'`, and reported as `end`: `PlayedBy` holds for some acts
--- and reason, and the claim `noted` for the notes that a witness is given of these acts (`notes_of`). The claim may
--- be, for example, that the log was given exactly these notes
+-- and reason, and the claim `noted` for the notes that a witness, such as the log, is given of these acts (`notes_of`)
 abbrev pub PlayedNoting : (List Note → Type 0) → Setup → MatchEnd → World → World → Type 0
 PlayedNoting noted setup end w w' =
     (H : List Act) × (reason : Reason) × noted (flat_map (notes_of reason) H) × PlayedBy H reason setup end w w'
 
--- a match was played at a table as `setup` says, and reported as `end`. From the state `old` of the table to `new`
--- just the steps of the match's acts passed, in order, with its notes; each line was waited for as long as the rules
--- say (`watched`). The game was `g` before. It is `g'` after: it has this start, the moves of the match, and the result
--- as in `PlayedBy`
+-- a match was played at a table as `setup` says, and reported as `end`. From the state `old` of the table to `new` just
+-- the steps of the match's acts passed, in order, with its notes; each line was waited for as long as the rules say
+-- (`watched`). The game went from `g` to `g'`, which has this start, the moves of the match, and the result as in
+-- `PlayedBy`
 abbrev pub PlayedAt : Setup → MatchEnd → Passing → Passing → game.Seen → game.Seen → Type 0
 PlayedAt setup end old new g g' =
     let r = rules_of setup.start (of_colour setup.levels) setup.patience setup.draws g.limit in

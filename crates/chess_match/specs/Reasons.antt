@@ -24,7 +24,7 @@ colour_name c = by_colour (codes "White") (codes "Black") c
 abbrev pub win_of : Colour → Outcome
 win_of c = by_colour WhiteWins BlackWins c
 
--- what the comment says of an engine with this fault, after the name of its side
+-- what the comment says of an engine with this fault after the name of its side, as in `White has no ping`
 abbrev pub fault_comment : MatchFault → List ℕ
 fault_comment Ended = codes " ended its output"
 fault_comment Read = codes " can not be read"
@@ -38,9 +38,9 @@ fault_comment NoHandshake = codes " sent no done=1 (a UCI engine needs polyglot)
 fault_comment NoAnswer = codes " did not answer"
 
 -- how a match that ended for this reason is reported: its outcome; its comment, without braces; and how it ended, for
--- the tag Termination. The side `c` that a reason names loses, except by a fault of its engine or a device (`Faulted`):
--- then, and if the game is too long, the outcome is `*`. With `*` the third part says nothing: the tag is
--- `unterminated`, whatever it is (`termination_of` of pgn_writer)
+-- the tag Termination. `c` is the side that loses; but in `Faulted` it is the side whose engine or device failed. Then,
+-- and if the game is too long, the outcome is `*`, and the tag is `unterminated`, whatever the third part is
+-- (`termination_of` of pgn_writer)
 abbrev pub reported : Reason → Outcome × List ℕ × HowEnded
 reported (Decided v) = ((verdict_result v).outcome, (verdict_result v).comment, Normal)
 reported (Claimed claim) = (Draw, claim_comment claim, Normal)
@@ -71,20 +71,20 @@ result_of reason = record { outcome = (reported reason).0; comment = comment_of 
 abbrev pub ended_by : Reason → HowEnded
 ended_by reason = (reported reason).2
 
--- what is reported as the reason of a match that ended for `reason`: the board's verdict (the first argument), if it
--- has one, even where a fault ended the match; otherwise `reason`
+-- the reason that is reported of a match that ended for `reason`: `Decided` with the board's verdict (the first
+-- argument), if it has one, even where a fault ended the match; otherwise `reason`
 abbrev pub reported_reason : Option Verdict → Reason → Reason
 reported_reason (Some v) _ = Decided v
 reported_reason None reason = reason
 
--- the fault that is reported of a match that ended for this reason, and its side: that of the reason; if it has none,
--- `Write` of a side to which writing the last lines failed (`failed`), White before Black; `None` if there is none
--- either
+-- the side and the fault that are reported of a match that ended for this reason. With `Faulted` they are those of the
+-- reason. Otherwise they are the first side, White before Black, to which writing the last lines failed (`failed`), and
+-- `Write`; `None` if there is no such side
 abbrev pub reported_fault : Reason → (Colour → Bool) → Option (Colour × MatchFault)
 reported_fault (Faulted c f) failed = Some (c, f)
 reported_fault _ failed = option_map (λ side. (side, Write)) (find failed (White ∷ Black ∷ []))
 
--- the result that is declared in the game when the match ends for this reason; none if the board has a verdict (the
+-- the result that is declared in the game when the match ends for this reason; `None` if the board has a verdict (the
 -- first argument)
 abbrev pub declared_at : Option Verdict → Reason → Option Declared
 declared_at (Some v) reason = None

@@ -38,8 +38,8 @@ rules_of start level patience draws limit =
 unfoldable pub start_fen : Setup → Option (List ℕ)
 start_fen start = if is_initial start && not (is_fischerandom start.variant) then None else Some (fen start)
 
--- the text of the last of these moves of a game from `start`: in SAN if `as_san`, otherwise as `shown_move` writes it,
--- by its squares or as castling of Chess960 (`O-O` or `O-O-O`). Empty if there is no move
+-- the text of the last of the moves `played` from `start`; empty if there is none. In SAN if `as_san`, such as `Nf3`;
+-- otherwise as `shown_move` writes it, by its squares (`g1f3`), or as `O-O` or `O-O-O` for castling of Chess960
 abbrev pub text_of_last : Bool → Setup → List Move → List ℕ
 text_of_last as_san start played = let before = position_after start (take (length played - 1) played) in
     option_map_or (λ move. if as_san then san before move else shown_move before move) (last_or None played) []

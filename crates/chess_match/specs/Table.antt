@@ -1,7 +1,6 @@
 -- What passes at the table of a match, step by step: what is sent, read and noted. A table has both engines, the clock
 -- and a witness, such as the log, which is given the notes; each call of the table is one step, but a look for a line
--- is two: how long it waits, and what it finds. One act of the match can be three steps: these two, and right after a
--- line, or after none was found, the clock is read.
+-- is two: how long it waits, and what it finds.
 use Rattle.std.specs.Prelude.{ℕ, Bool, true, false, if◌then◌else◌, List, [], ◌∷◌, ◌++◌, Option, None, Some, Result, Ok, Err}
 use Rattle.byte_devices.specs.Transfers.{Devices}
 use Rattle.chess_base.specs.declared.man.Colour.{Colour}

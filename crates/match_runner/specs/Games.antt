@@ -34,21 +34,22 @@ use Rattle.match_runner.specs.declared.fault.GamesFault.TheVariants.{WriteFailed
 use Rattle.pgn_writer.specs.declared.tags.Tags.{Tags}
 use Rattle.chess_game.specs.declared.game.TheConstants.{MOST_MOVES}
 
--- the side that the first engine, that of `--white`, has in the game of this number: White in odd games, Black in even
--- ones
+-- the side that the engine of `--white` has in the game of this number: White in odd games, Black in even ones
 abbrev pub first_side : ℕ → Colour
 first_side number = if number % 2 == 1 then White else Black
 
--- the command of the engine that has this side in the game of this number; `plan.white` is that of the first engine
+-- the command of the engine that has the side `side` in the game of this number: `plan.white` if that is the engine of
+-- `--white` (`first_side`), otherwise `plan.black`
 abbrev pub engine_command : GamesPlan → ℕ → Colour → List ℕ
 engine_command plan number side = if same_colour side (first_side number) then plan.white.now else plan.black.now
 
--- the time control of the engine that has this side in the game of this number; `plan.white_level` is that of the first
--- engine
+-- the time control of the engine that has the side `side` in the game of this number: `plan.white_level` if that is the
+-- engine of `--white` (`first_side`), otherwise `plan.black_level`
 abbrev pub engine_level : GamesPlan → ℕ → Colour → LevelSeen
 engine_level plan number side = if same_colour side (first_side number) then plan.white_level else plan.black_level
 
--- what the game of this number begins from: each side has the time control of its engine
+-- what the game of this number begins from: start, patience and draws are the plan's for all games; each side has the
+-- time control of its engine in this game
 abbrev pub setup_of : GamesPlan → ℕ → Setup
 setup_of plan number = record {
   start = plan.start;
@@ -57,13 +58,13 @@ setup_of plan number = record {
   draws = plan.draws;
 }
 
--- an engine's name in the tags: `name`, which it gave itself by `myname`, or its command if `name` is empty; cut to 60
--- bytes (`cut_tag`)
+-- an engine's name in the tag White or Black: `name`, which it gave itself by the feature `myname`, or its command if
+-- `name` is empty; cut to 60 bytes, with `?` for each that is not printable ASCII
 abbrev pub player_name : List ℕ → List ℕ → List ℕ
 player_name name command = cut_tag (if length name == 0 then command else name)
 
--- the PGN tags of the game of this number, which ended as `end` says; `pgn` adds those that depend on the start and the
--- outcome, such as FEN and Result
+-- the PGN tags of the game of this number, which ended as `end` says; texts are cut to 60 bytes (`cut_tag`). `pgn` adds
+-- the tags that depend on the start and the outcome, such as FEN and Result
 abbrev pub tags_of : GamesPlan → ℕ → MatchEnd → Tags
 tags_of plan number end = record default_tags {
   event = codes "CECP match";
@@ -83,7 +84,8 @@ fault_text NoMemory = codes "no memory"
 fault_text (CanNotStart command) = codes "can not start " ++ command.now
 fault_text (Game number text) = codes "game " ++ decimal number ++ codes ": " ++ text.now
 
--- what is reported of a match with this result: nothing, or a line such as `arbiter: game 3: White has no ping`
+-- what is reported of a match with this result: nothing for `Ok`, otherwise a line such as
+-- `arbiter: game 3: White has no ping`
 abbrev pub report_of : Result (Unit {0}) GamesFault → List ℕ
 report_of (Ok _) = []
 report_of (Err fault) = codes "arbiter: " ++ fault_text fault ++ new_line ∷ []
@@ -92,38 +94,36 @@ report_of (Err fault) = codes "arbiter: " ++ fault_text fault ++ new_line ∷ []
 
 -- a game that was played
 pub record GameRecord : Type 0 where
-  -- before it was played: the engines' pipes, the coming readings of the clock, and a game of which only the limit
-  -- counts
+  -- before it was played: the engines' pipes, the clock's readings to come, and a game of which only the limit counts
   pub before : World
-  -- the same after it was played: the game then has this game's start, moves and result
+  -- the same after it was played; now the game has this game's start, moves and result
   pub after : World
   -- how it ended
   pub end : MatchEnd
-  -- the events, and the bytes of each block for an engine, even if sending it failed (`notes_of`); the log is made from
-  -- them
+  -- what the log is made from: each event, and the bytes of each block for an engine, even if it could not be sent
   pub notes : List Note
-  -- which engines were killed, as they had not ended in time after their inputs were closed
+  -- for each side, whether its engine was killed, as it had not ended in time after its input was closed
   pub killed : ByColour Bool
 
 -- no engine was killed
 abbrev pub none_killed : ByColour Bool
 none_killed = record { white = false; black = false }
 
--- `played` is the record of the game of this number, which was played as `setup_of` says, with at most 20,000
--- half-moves (`MOST_MOVES`): it was played by some acts `H` and ended for some reason (`PlayedBy`), and its notes are
--- those of `H`. No engine was killed if replies have no limit. Which engines played it is said by the steps of a match
--- (`steps_by` in GamesTable)
+-- `played` is the record of a game that was played as the plan says for the game of this number, with at most 20,000
+-- half-moves (`MOST_MOVES`). If the plan has no limit for replies (`None`), no engine was killed. The record agrees
+-- with some acts `H` and some reason for the end: its notes are those of `H`, and the acts led from `before` to `after`
+-- and ended as `end` says (`PlayedBy`). `steps_by` says which engines played
 abbrev pub IsOfPlan : GamesPlan → ℕ → GameRecord → Type 0
 IsOfPlan plan number played = (played.before.game.limit ≡ MOST_MOVES)
     × (plan.patience.reply ≡ None → played.killed ≡ none_killed)
     × ((H : List Act) × (reason : Reason) × (flat_map (notes_of reason) H ≡ played.notes)
     × PlayedBy H reason (setup_of plan number) played.end played.before played.after)
 
--- the PGN of the game `played`, which has this number. `[]`: no line has a prefix
+-- the PGN of the game `played`, which has this number. `pgn` puts its argument `[]`, so nothing, before each line
 abbrev pub game_text : GamesPlan → ℕ → GameRecord → List ℕ
 game_text plan number played = pgn [] (tags_of plan number played.end) played.after.game.state
 
--- the fault is that an engine with one of these commands could not be started, or that there was no memory
+-- the fault is that an engine could not be started whose command is `first` or `second`, or that memory ran out
 abbrev pub IsStartFault : List ℕ → List ℕ → GamesFault → Type 0
 IsStartFault first second (CanNotStart command) = (command.now ≡ first) ⊎ (command.now ≡ second)
 IsStartFault first second fault = fault ≡ NoMemory
@@ -136,16 +136,17 @@ LogsGame (Some first) l l' notes = Logged l l' (log_from first 0 notes)
 
 -- ---- the games
 
--- each of these games, which are numbered from 1, was played as the plan says, and no engine had a fault in it
+-- each of these games was played as the plan says for its number, from 1 on, and no engine had a fault in it
 abbrev pub FaultlessGames : GamesPlan → List GameRecord → Type 0
 FaultlessGames plan games =
     AllByRecursion (λ g. IsOfPlan plan g.0 g.1 × (g.1.end.fault ≡ None)) (enumerate_from 1 games)
 
--- what `f` gives for each of these games and its number, one after another; they are numbered from 1
+-- what `f` gives for each of these games, one after another. The arguments of `f` are the game's number, from 1 on, and
+-- its record
 abbrev pub game_by_game : {A : Type 0} → (ℕ → GameRecord → List A) → List GameRecord → List A
 game_by_game f games = flat_map (λ g. f g.0 g.1) (enumerate_from 1 games)
 
--- the PGN of these games
+-- the PGN of these games, numbered from 1, one after another
 abbrev pub game_texts : GamesPlan → List GameRecord → List ℕ
 game_texts plan games = game_by_game (game_text plan) games
 
@@ -155,28 +156,30 @@ abbrev pub killed_line : ℕ → Colour → List ℕ
 killed_line number side = codes "arbiter: game " ++ decimal number ++ codes ": " ++ colour_name side
     ++ codes " did not exit, and was killed" ++ new_line ∷ []
 
--- the lines of the engines that were killed after the game of this number, White's first
+-- the lines on the engines that were killed (`killed`) after the game of this number, White's first
 abbrev pub killed_lines : ℕ → ByColour Bool → List ℕ
 killed_lines number killed =
     list_if killed.white (killed_line number White) ++ list_if killed.black (killed_line number Black)
 
--- what is logged of the game `played`, which has this number: the lines of its notes (0 is their moment before the
--- clock's first reading), if the plan asks for a log, and in any case a line for each engine that was killed
+-- what is logged of the game `played`, which has this number: the lines of its notes, if the plan asks for a log, and
+-- in any case a line for each engine that was killed. The first note comes before any reading of the clock, so
+-- `log_from` is given the moment 0
 abbrev pub game_log : GamesPlan → ℕ → GameRecord → List ℕ
 game_log plan number played = list_if plan.log (log_from (first_side number) 0 played.notes)
     ++ killed_lines number played.killed
 
--- from the log's state `l` to `l'` what the log has of these games (`game_log`) was given to it to write; a write may
--- have failed (`Logged`). If that is nothing, the log is as it was
+-- what is logged of these games (`game_log`), numbered from 1, was given to the log as one text, and the log went from
+-- the state `l` to `l'`. A write may have failed; if the text is empty, nothing changed (`Logged`)
 abbrev pub LogsGames : GamesPlan → LogSeen → LogSeen → List GameRecord → Type 0
 LogsGames plan l l' games = Logged l l' (game_by_game (game_log plan) games)
 
--- how many of these games, numbered from 1, have the outcome that `wanted` gives for their number, such as the first
--- engine's win: `1-0` in odd games, `0-1` in even ones
+-- how many of these games have the outcome that `wanted` gives for their number, from 1 on, such as the win of the
+-- engine of `--white`: `1-0` in odd games, `0-1` in even ones
 abbrev pub count_of : (ℕ → Outcome) → List GameRecord → ℕ
 count_of wanted games = count_by (λ g. same_outcome g.1.end.outcome (wanted g.0)) (enumerate_from 1 games)
 
--- the last line that a match of these games writes to the output, such as `score first 1 second 0 drawn 2 unfinished 0`
+-- the last line that a match of these games writes to the output, such as
+-- `score first 1 second 0 drawn 2 unfinished 0`. The engine of `--white` is the first
 abbrev pub score_line : List GameRecord → List ℕ
 score_line games = codes "score first " ++ decimal (count_of (λ number. win_of (first_side number)) games)
     ++ codes " second " ++ decimal (count_of (λ number. win_of (other (first_side number))) games)
@@ -188,20 +191,21 @@ score_line games = codes "score first " ++ decimal (count_of (λ number. win_of 
 abbrev pub AreAllGames : GamesPlan → List GameRecord → Option (ℕ × Colour × MatchFault) → Type 0
 -- all planned games, without a fault
 AreAllGames plan games None = FaultlessGames plan games × (length games ≡ plan.games)
--- in the last game, which has this number, the engine of `side` had this fault
+-- in the last game, which has this number, the engine of `side` had this fault; in those before it there was none
 AreAllGames plan games (Some (number, side, fault)) =
     (before : List GameRecord) × (last : GameRecord) × (games ≡ before ++ last ∷ []) × FaultlessGames plan before
     × IsOfPlan plan number last × (last.end.fault ≡ Some (side, fault)) × (number ≡ length games) × (number ≤ plan.games)
 
 -- ---- what a match writes
 
--- the PGN of these games was written and flushed, and nothing failed; with no games there was no flush
+-- what goes to an output if the PGN of these games is written and flushed without a failure; with no games there is no
+-- flush
 abbrev pub games_flushed : GamesPlan → List GameRecord → ToOutput
 games_flushed plan games = all_flushed (nat_lt 0 (length games)) (game_texts plan games)
 
--- what playing a match writes to the output (`o`), by its result. The PGN of `games` was written and flushed;
--- `unwritten` is a game that was played after them, if its PGN could not be written. All were played as the plan says
--- (`IsOfPlan`)
+-- `o` is what a match by this plan writes to the output, by its result. The PGN of `games` was written and flushed.
+-- `unwritten` is the game after them, if it was played, but its PGN could not be written; otherwise `None`. All were
+-- played as the plan says (`IsOfPlan`)
 abbrev pub WritesGames : GamesPlan → Result (Unit {0}) GamesFault → List GameRecord → Option GameRecord → ToOutput
     → Type 0
 -- all planned games were played without a fault; their PGN and the score were written and flushed
@@ -212,26 +216,25 @@ WritesGames plan (Ok _) games None o =
 WritesGames plan (Err (Game number text)) games None o = (side : Colour) × (fault : MatchFault)
     × AreAllGames plan games (Some (number, side, fault)) × (text.now ≡ comment_of (Faulted side fault))
     × (o ≡ all_of (game_texts plan games ++ score_line games))
--- a write or flush failed in the PGN of `unwritten`: a beginning of it, maybe nothing or all, was written. In `games`
--- there was no fault
+-- a write or flush failed in the PGN of `unwritten`, which has the next number: a beginning of it, maybe nothing or
+-- all, was written. In `games` there was no fault
 WritesGames plan (Err WriteFailed) games (Some unwritten) o =
     FaultlessGames plan games × (length games < plan.games) × IsOfPlan plan (length games + 1) unwritten
     × BreaksOffIn (games_flushed plan games) (game_text plan (length games + 1) unwritten) o
 -- a write or flush failed in the score, after all games, the last of which may have a fault
 WritesGames plan (Err WriteFailed) games None o = (fault : Option (ℕ × Colour × MatchFault))
     × AreAllGames plan games fault × BreaksOffIn (games_flushed plan games) (score_line games) o
--- `CanNotStart` or `NoMemory`: the engines of the game after `games`, in which there was no fault, could not be
--- started; no score was written
+-- `CanNotStart` or `NoMemory`: in `games` there was no fault; the engines of the next game could not be started, and no
+-- score was written
 WritesGames plan (Err fault) games None o = FaultlessGames plan games × (length games < plan.games)
     × IsStartFault plan.white.now plan.black.now fault × (o ≡ games_flushed plan games)
 -- no other result comes with a game that was played and could not be written
 WritesGames plan _ games (Some unwritten) o = ⊥
 
--- what playing a match does, by its result. Either games were played, maybe none: the PGN of `games` was written;
--- `unwritten` was played after them, but its PGN could not be written (`None`: there is no such game); the output,
--- which was `w` and is now `w'`, was written to as `WritesGames` says; and all these games were logged, `unwritten`
--- too, as `LogsGames` says (the log was `l` and is now `l'`). Or memory ran out before the first game, and nothing was
--- written or logged
+-- what playing a match does, by its result; the output goes from the state `w` to `w'`, the log from `l` to `l'`.
+-- Either `games`, maybe none, were played and written, and maybe one more, `unwritten`, was played but could not be
+-- written (`WritesGames`); all of them were logged (`LogsGames`). Or memory ran out before the first game, and nothing
+-- was written or logged
 abbrev pub PlaysGames : GamesPlan → Result (Unit {0}) GamesFault → OutputState → OutputState → LogSeen → LogSeen
     → Type 0
 PlaysGames plan result w w' l l' =

@@ -16,15 +16,15 @@ use Rattle.match_runner.specs.Log.{LogSeen}
 
 -- one step of a host: one call of a method of the trait `Host`. A host starts and ends engines, and has the clock
 pub data HostStep : Type 0 where
-  -- a clock was opened; `coming n` is the moment of its reading n (0 is the first), as far as it is known
+  -- a clock was opened; `coming n` is the moment that its reading n will show (0 is the first), or `None` if not known
   OpensClock : (coming : ℕ → Option ℕ) → HostStep
   -- the engines with these commands, White's and Black's, were started, and `engines` are their pipes. A write to them
   -- waits for at most `limit` milliseconds (`None`: as long as it takes)
   Starts : (white : List ℕ) → (black : List ℕ) → (limit : Option ℕ) → (engines : Colour → Devices) → HostStep
-  -- the start of the engines with these commands failed (`fault` says why), and neither runs
+  -- starting the engines with these commands failed, and neither runs; `fault` says why, and `limit` is as in `Starts`
   StartFails : (white : List ℕ) → (black : List ℕ) → (limit : Option ℕ) → (fault : GamesFault) → HostStep
   -- the inputs of the engines with these pipes were closed, and their ends were waited for. Those that had not ended
-  -- after `limit` milliseconds were killed; with `None` none was
+  -- after `limit` milliseconds (`None`: there is no limit) were killed; `killed` says which
   Finishes : (engines : Colour → Devices) → (limit : Option ℕ) → (killed : ByColour Bool) → HostStep
 
 -- the step of starting the engines with these commands, by its result; `engines` gives the pipes of two engines
@@ -37,7 +37,7 @@ starting engines white black limit (Err fault) = StartFails white black limit fa
 pub data GamesStep : Type 0 where
   -- a step of the host
   AtHost : (step : HostStep) → GamesStep
-  -- the engines that were started played this game; its record says of no engine yet that it was killed
+  -- the engines that were started played this game; in its record none is killed yet
   Plays : (played : GameRecord) → GamesStep
   -- this text was written and flushed
   Writes : (text : List ℕ) → GamesStep
@@ -48,7 +48,7 @@ pub data GamesStep : Type 0 where
 abbrev pub writing : Bool → List ℕ → GamesStep
 writing failed text = if failed then WriteFails text else Writes text
 
--- the step of the host that this step at a table is, as a list of one; empty if it is none
+-- the host's step in a step at a table, as a list of one; empty if the step at the table is not `AtHost`
 abbrev pub of_host : GamesStep → List HostStep
 of_host (AtHost step) = step ∷ []
 of_host _ = []
@@ -72,15 +72,17 @@ anything steps = ⊤
 abbrev pub GamesFuture : Type 1
 GamesFuture = List GamesStep → Type 0
 
--- from `old` to `new` these steps passed at a host or a table. Both claim of a list of steps that just these may come
--- from then on (`HostFuture`, `GamesFuture`). What may come from `new` on, might come after `steps` from `old` on
+-- these steps passed at a host or a table, in order. `old` claims, of a list of steps, that just these may come there
+-- from before `steps` on, and `new` claims it from after `steps` on (`HostFuture`, `GamesFuture`). What may come from
+-- `new` on may come, after `steps`, from `old` on
 pub record StepsPass {S : Type 0} (old new : List S → Type 0) (steps : List S) : Type 0 where
   pub extends : (after : List S) → new after → old (steps ++ after)
 
 -- ---- the steps of a match
 
--- the steps of the game `played`, which has this number; `write` is `Writes` or `WriteFails`, by whether its PGN could
--- be written. The plan's limit for replies is also that of writes, and of waiting for the engines' ends
+-- the steps of the game `played`, which has this number. `write` is `Writes` or, if its PGN could not be written,
+-- `WriteFails`. The plan's limit for replies (`None`: there is none) is also that of writes to engines, and of waiting
+-- for their ends
 abbrev pub steps_by : (List ℕ → GamesStep) → GamesPlan → ℕ → GameRecord → List GamesStep
 steps_by write plan number played =
     AtHost (Starts (engine_command plan number White) (engine_command plan number Black) plan.patience.reply
@@ -88,18 +90,19 @@ steps_by write plan number played =
     ∷ Plays (record played { killed = none_killed }) ∷ write (game_text plan number played)
     ∷ AtHost (Finishes played.after.engines plan.patience.reply played.killed) ∷ []
 
--- the step of a game with this number whose engines can't be started for this reason
+-- the step of the game of this number if its engines can't be started, as a list of one; `fault` says why
 abbrev pub unstarted_steps : GamesPlan → ℕ → GamesFault → List GamesStep
 unstarted_steps plan number fault =
     AtHost (StartFails (engine_command plan number White) (engine_command plan number Black) plan.patience.reply fault)
     ∷ []
 
--- the steps of these games, each of which was written and flushed
+-- the steps of these games, numbered from 1, each of which was written and flushed
 abbrev pub games_steps : GamesPlan → List GameRecord → List GamesStep
 games_steps plan games = game_by_game (steps_by Writes plan) games
 
--- the steps after those of all games that were written, by a match's result. `number` is that of the next game, and the
--- last argument this game, if it was played but could not be written. Writing the score is no step at the table
+-- the steps of a match after those of the games that were written, by the match's result. `number` is that of the next
+-- game, and the last argument its record, if it was played but could not be written, otherwise `None`. Writing the
+-- score is no step
 abbrev pub last_steps : GamesPlan → ℕ → Result (Unit {0}) GamesFault → Option GameRecord → List GamesStep
 -- the next game was played, but its PGN could not be written
 last_steps plan number result (Some unwritten) = steps_by WriteFails plan number unwritten
@@ -110,7 +113,7 @@ last_steps plan number (Err (CanNotStart command)) None = unstarted_steps plan n
 last_steps plan number _ None = []
 
 -- these pipes have counted no failure, end, silence or unflushed byte, as those of an engine that was just started.
--- That nothing was read or sent yet is said only of engines in memory (`fresh_pipes`)
+-- That nothing was read or sent yet is said only of engines in memory
 pub record AreFresh (pipes : Devices) : Type 0 where
   pub reads : pipes.input.failure_count ≡ 0
   pub ends : pipes.input.end_count ≡ 0
@@ -118,13 +121,14 @@ pub record AreFresh (pipes : Devices) : Type 0 where
   pub writes : pipes.output.failure_count ≡ 0
   pub flushed : pipes.output.unflushed ≡ 0
 
--- the game `played` began with engines that were just started, and with a clock that would show the moments `coming`
+-- the game `played` began with engines that were just started, and with a clock whose reading n, from 0 on, would show
+-- the moment `coming n` (`None`: not known)
 abbrev pub BeginsAt : (ℕ → Option ℕ) → GameRecord → Type 0
 BeginsAt coming played = ((S : Colour) → AreFresh (played.before.engines S)) × (played.before.coming ≡ coming)
 
--- these games came one after another, each with engines that were just started, and all with one clock: its readings
--- in a game come after those in the game before. `coming n` is the moment of its reading n, where 0 is the first in
--- these games; `None` if it is not known
+-- these games came one after another, each with engines that were just started, and all with one clock: its readings in
+-- a game come after those in the game before. Its reading n, from 0 in the first of these games on, would show the
+-- moment `coming n` (`None`: not known)
 abbrev pub ComeInTurn : (ℕ → Option ℕ) → List GameRecord → Type 0
 ComeInTurn coming [] = ⊤
 ComeInTurn coming (played ∷ games) = BeginsAt coming played × ComeInTurn played.after.coming games
@@ -136,28 +140,30 @@ pub record Outputs : Type 0 where
   pub output : OutputState
   pub log : LogSeen
 
--- a match by this plan ended with `result`, and its output and log went from `d` to `d'`. There are `games`, maybe
--- none, that were played and written, and maybe one more (`unwritten`) that was played but could not be written
+-- a match by this plan ended with `result`. Reading n of its clock, from 0 on, would show the moment `coming n`
+-- (`None`: not known); the claim `passes` holds of its steps at the table; and its output and log went from `d` to
+-- `d'`. `games`, maybe none, were played and written; `unwritten` was played after them but could not be written
+-- (`None`: there is no such game)
 abbrev pub PlaysBy : GamesPlan → Result (Unit {0}) GamesFault → (ℕ → Option ℕ) → (List GamesStep → Type 0) → Outputs
     → Outputs → Type 0
 PlaysBy plan result coming passes d d' = (games : List GameRecord) × (unwritten : Option GameRecord)
-    -- the output took the games, and what else `WritesGames` says; the log got all of them, the unwritten one too
+    -- the output took the games, and what else `WritesGames` says; all games were logged, the unwritten one too
     × ((o : ToOutput) × WritesGames plan result games unwritten o × OutputTook d.output d'.output o
     × LogsGames plan d.log d'.log (games ++ option_to_list unwritten))
-    -- each game had engines that were just started; all had one clock, whose reading n shows `coming n`
+    -- each game had engines that were just started, and all had one clock
     × ComeInTurn coming (games ++ option_to_list unwritten)
-    -- the steps of the games, and then those after the last one written, satisfy `passes`
+    -- the steps of `games`, and then those of the game with the next number, if it was begun, satisfy `passes`
     × passes (games_steps plan games ++ last_steps plan (length games + 1) result unwritten)
 
--- what playing a match at a table does, by its result, to its output and its log, from `d` to `d'`. The table's clock
--- would show the moments `coming`; `p` is what may come there from before the match on, and `p'` from after it on
+-- what playing a match at a table does, by its result, to its output and log, from `d` to `d'`. The table's clock would
+-- show the moments `coming`; `p` is what may come there from before the match on, and `p'` from after it on
 abbrev pub PlaysGamesAt : GamesPlan → Result (Unit {0}) GamesFault → (ℕ → Option ℕ) → GamesFuture → GamesFuture
     → Outputs → Outputs → Type 0
 PlaysGamesAt plan result coming p p' d d' = PlaysBy plan result coming (StepsPass p p') d d'
 
--- what playing a match with a host does, by its result, to its output and its log, from `d` to `d'`. Just these steps
--- passed at the host: a clock was opened, and then came the steps of the match. Or memory ran out before, and nothing
--- was done
+-- a match by this plan with a host ended with `result`, and its output and log went from `d` to `d'` (`PlaysBy`). Just
+-- `steps` passed at the host: a clock was opened, which would show the moments `c`, and then came the host's steps
+-- among those at the table. Or memory ran out before, and nothing was done
 abbrev pub PlaysGamesWith : GamesPlan → Result (Unit {0}) GamesFault → List HostStep → Outputs → Outputs → Type 0
 PlaysGamesWith plan result steps d d' =
     ((c : ℕ → Option ℕ) × PlaysBy plan result c (λ at_table. steps ≡ OpensClock c ∷ at_host at_table) d d')
