@@ -24,18 +24,19 @@ use Rattle.cecp_engine.specs.declared.level_fault.LevelFault.{LevelFault}
 
 -- ---- what arguments say
 
--- the values of options by their names, without `--`; `None` if not given. A flag that was given has the value `true`;
--- one that was not has `false`, or none
+-- the values of options by their names, without `--`; `None` if an option was not given. A flag that was given has the
+-- value `true`; one that was not has `false` or `None`
 abbrev pub Values : Type 0
 Values = Text → Option Text
 
--- what arguments say: the subcommand's name, the values of its options, and as `replies` the positional arguments
+-- what arguments say: the subcommand's name, the values of its options, and as `replies` the positional arguments,
+-- which only `stub` has
 pub record Said : Type 0 where
   pub command : Text
   pub value : Values
   pub replies : List Text
 
--- whether the option with this name was given this value
+-- whether the option with this name was given with the value `text`
 abbrev pub has_value : Text → Text → Values → Bool
 has_value name text value = option_map_or (λ given. bytes_eq given text) (value name) false
 
@@ -49,16 +50,17 @@ number_of text = digits_value 10 (without_leading_plus text)
 
 -- ---- of `verify`
 
--- the names in the value of `--ignore`, between its commas (byte 44), empty ones too; none without the option
+-- the names in the value of `--ignore`, such as `result,board`, between its commas (byte 44), empty ones too; none
+-- without the option
 abbrev pub ignored_in : Values → List Text
 ignored_in value = option_map_or (slice_split (λ b. b == 44)) (value (codes "ignore")) []
 
--- whether each name in the value of `--ignore` is that of a kind that `verify` may ignore
+-- whether each name in the value of `--ignore` is that of a kind that `verify` may ignore; true without the option
 abbrev pub ignores_kinds : Values → Bool
 ignores_kinds value = let kinds = codes "variant" ∷ codes "result" ∷ codes "board" ∷ codes "after-end" ∷ [] in
     list_all (λ name. list_any (bytes_eq name) kinds) (ignored_in value)
 
--- whether `--ignore` names this kind
+-- whether `--ignore` was given and names this kind
 abbrev pub is_ignored : Text → Values → Bool
 is_ignored kind value = list_any (bytes_eq kind) (ignored_in value)
 
@@ -103,7 +105,7 @@ levels_asked value = do
 abbrev pub is_date : Text → Bool
 is_date text = nat_le (length text) 60 && list_all (λ b. nat_le 32 b && nat_le b 126) text
 
--- the time controls of a match's engines, the position in which its games start, and their date as a text, `????.??.??`
+-- the time controls of a match's engines (first that of `--white`), its games' start, and their date, `????.??.??`
 -- without `--date`; or the first fault: of a level (`BadLevel`), the FEN (`BadFen`), or the date (`BadDate`)
 abbrev pub levels_start_and_date : Values → Result ((LevelSeen × LevelSeen) × Setup × Text) WordsFault
 levels_start_and_date value = let date = unwrap_or (value (codes "date")) (codes "????.??.??") in do
@@ -123,7 +125,7 @@ pub record IsMatchPlan (value : Values) (plan : GamesPlan) : Type 0 where
   pub games_range : (1 ≤ plan.games) × (plan.games ≤ 1000)
   pub log : plan.log ≡ is_set (codes "log") value
   pub flag : plan.patience.flag ≡ is_set (codes "flag") value
-  -- in milliseconds, but `--reply-timeout` is in seconds
+  -- the limit for replies, in milliseconds, but `--reply-timeout` is in seconds; `None` without the option
   pub reply : plan.patience.reply ≡ option_map (λ text. number_of text * 1000) (value (codes "reply-timeout"))
   -- `claimed`, the other name that `--draws` takes, is its default
   pub draws : plan.draws ≡ (if has_value (codes "draws") (codes "automatic") value then Automatic else Claimed)
@@ -139,8 +141,9 @@ IsPlanOf said (Verify keep_going options) = (said.command ≡ codes "verify") ×
 IsPlanOf said (Stub arguments) = (said.command ≡ codes "stub") × (map (λ w. w.now) arguments.items ≡ said.replies)
 IsPlanOf said (Match plan) = (said.command ≡ codes "match") × IsMatchPlan said.value plan
 
--- the result of reading arguments is right. `kinds` are the kinds of fault, apart from out of memory, that `clap`, the
--- parser of arguments, may report for them (a request for help or for the version is one); `said` is what they say
+-- the result of reading arguments is right. `kinds`: the kinds of fault, apart from out of memory, that `clap`, the
+-- parser of arguments, may report for them (a request for help or for the version is one), empty if it accepts them;
+-- `said`: what they say
 abbrev pub IsReadAs : Kinds → Said → Result Plan WordsFault → Type 0
 -- the plan that they ask for; `clap` accepts them
 IsReadAs kinds said (Ok plan) = (kinds ≡ []) × IsPlanOf said plan
@@ -157,7 +160,7 @@ IsReadAs kinds said (Err f) = (kinds ≡ []) × (said.command ≡ codes "match")
 
 -- what the arguments say if they have no fault, by the subcommand's name and its options as `clap` matches them (`p`):
 -- `session` without options if there is no subcommand. The first value of an option counts. `clap` knows the positional
--- arguments, which only `stub` has, as `words`
+-- arguments, which only `stub` has, as `words`. `names`: those that `--variant` and `--draws` take
 abbrev pub said_by : OptionNames → List Text → Said
 said_by names arguments = let p = unwrap_or (subcommand_of (arbiter_app names) arguments) (codes "session", []) in
     record { command = p.0; value = λ name. first_of name p.1; replies = unwrap_or (all_of (codes "words") p.1) [] }

@@ -41,7 +41,8 @@ base_of text = let colon = position_or_len (λ c. c == byte ":") text in do
   milliseconds ← if colon == length text then Some 0 else milliseconds_of 2 (drop (colon + 1) text)
   if nat_lt milliseconds 60000 then Some (60000 * minutes + milliseconds) else None
 
--- the time control with this number of moves, base and increment; if any is `None`, the fault is the first that is
+-- the time control with these moves, base and increment. Each is `None` if its text denotes none; then the fault names
+-- the first such one
 abbrev pub level_with : Option ℕ → Option ℕ → Option ℕ → Result LevelSeen LevelFault
 level_with None base increment = Err Moves
 level_with (Some moves) None increment = Err Base
@@ -75,8 +76,8 @@ level_fault_name Increment = codes "increment"
 abbrev pub two_digits : ℕ → List ℕ
 two_digits n = (byte "0" + n / 10) ∷ (byte "0" + n % 10) ∷ []
 
--- a part of a second, given in milliseconds, as it is written after whole seconds: nothing for 0, `.5` for 500, `.08`
--- for 80, `.125` for 125
+-- a part of a second, given in milliseconds (below 1,000), as it is written after whole seconds: nothing for 0, `.5`
+-- for 500, `.08` for 80, `.125` for 125
 unfoldable pub decimals_text : ℕ → List ℕ
 decimals_text n = if n == 0 then []
     else if n % 100 == 0 then byte "." ∷ (byte "0" + n / 100) ∷ []

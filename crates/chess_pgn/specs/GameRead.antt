@@ -1,6 +1,7 @@
 -- What is read of a game's text (PGN standard of 1994, sections 7 to 9; which words are taken is this project's own): a
 -- game's tokens are its tags, and then its moves. The tags give the start, and each move's word denotes a move in the
--- position reached by then. The first token that can't be taken is the fault.
+-- position reached by then. The first token that can't be taken is the fault. Each token is paired with how many bytes
+-- of the text are left at it (`left`).
 use Rattle.std.specs.Prelude.{◌≡◌, ℕ, ◌+◌, ◌-◌, nat_lt, Bool, ◌||◌, if◌then◌else◌, List, [], ◌∷◌, length, drop, map, codes, slice_get, Option, Some, None, is_some, Result, Ok, Err, option_and_then}
 use Rattle.std.specs.List.{list_all, list_any, filter_map, last_or}
 use Rattle.std.specs.Option.{option_map_or, unwrap_or}
@@ -34,20 +35,20 @@ use Rattle.chess_pgn.specs.Words.{is_marks, word_gives}
 
 -- ---- what is read in the end
 
--- what is read of a game's text. `state`: the game as far as it was read; if a tag is at fault, its start; if there is
--- no game, the initial position. `answer`: `Ok (Some end)` with the game's end, `Ok None` if the text has no more
--- games, or `Err` with the first fault
+-- what is read of a game's text. `state`: the game as far as it was read; if a tag is at fault, the game's start; if
+-- there is no game, the initial position. `answer`: `Ok (Some end)` with the game's end, `Ok None` if the text has no
+-- more games, or `Err` with the first fault
 pub record GameRead : Type 0 where
   pub state : State
   pub answer : Result (Option PgnEnd) PgnFault
 
--- what a game's termination marker with the outcome `o` (section 8.2.6) declares: `o`; but nothing if that is `*`, or
--- if the board has a verdict (`is_decided`), whose outcome is then the game's
+-- what a game's termination marker declares (section 8.2.6): the outcome `o` that it names, with an empty comment; but
+-- `None` if `o` is `*`, or if the board has a verdict (`is_decided`), whose outcome is then the game's
 abbrev pub declared_after : Bool → Outcome → Option Declared
 declared_after is_decided o =
     if is_decided || same_outcome o Unfinished then None else Some (record { outcome = o; comment = [] })
 
--- the game `s` was read, and then there was a fault of this kind at this offset
+-- the game `s` was read, and then there was a fault of this kind at the offset `at` of the text
 abbrev pub failed : State → PgnFaultKind → ℕ → GameRead
 failed s kind at = record { state = s; answer = Err (record { kind = kind; offset = at }) }
 
@@ -61,34 +62,34 @@ not_of_2014 SeventyFiveMoves = None
 not_of_2014 v = Some v
 
 -- the verdict that ends the game `s` for its reader, after which no move may come; `None` if none does. `draws`:
--- whether the draws of 2014 (see `not_of_2014`) end a game
+-- whether the draws of 2014 (fivefold repetition, 75 moves) end a game
 abbrev pub ending : Bool → State → Option Verdict
 ending draws s = if draws then verdict_now s else option_and_then not_of_2014 (verdict_now s)
 
--- the fault of any move after those of the game `s`: a verdict has ended it (`ending`, with `draws`), or else it has no
--- fewer than `limit` half-moves; `None` if a move may come
+-- the fault of a further move of the game `s`: `AfterEnd` if a verdict has ended it; otherwise `TooLong` if it has
+-- `limit` half-moves or more; `None` if a move may come. `draws`: whether fivefold repetition and 75 moves end it
 abbrev pub closed_by : Bool → ℕ → State → Option PgnFaultKind
 closed_by draws limit s = if is_some (ending draws s) then Some AfterEnd
     else if nat_lt (length s.moves) limit then None else Some TooLong
 
 -- ---- after the tags
 
--- what is read of a game from these tokens on, which come after its tags and the moves read so far, those of `s`.
--- `draws`: whether the draws of 2014 end it (`ending`); it may have `limit` half-moves. The text has `total` bytes, and
--- `left` are left at a token, so its offset is `total - left`; `cause` is what the tag Termination names, if anything
+-- what is read of the game `s`, whose tags and first moves (maybe none) were read, from the tokens after them. `draws`:
+-- whether fivefold repetition and 75 moves end it; `limit`: how many half-moves it may have; `total`: the text's
+-- length, so a token is at the offset `total - left`; `cause`: what the tag Termination names, `None` for nothing
 abbrev pub moves_read : Bool → ℕ → ℕ → Option Termination → State → List (ℕ × Token) → GameRead
 -- without a termination marker there is a fault at the text's end
 moves_read draws limit total cause s [] = failed s NoResult total
 moves_read draws limit total cause s ((left, Skip) ∷ ts) = moves_read draws limit total cause s ts
--- an outcome such as `1-0` ends the game after its last byte, and is declared as `declared_after` says. A number
--- (digits alone) and marks such as `!?` are passed over; any other word is taken as a move
+-- an outcome such as `1-0` ends the game, right after its last byte, and is declared as `declared_after` says. A number
+-- (only digits) and marks such as `!?` are passed over; any other word is taken as a move (`word_gives`)
 moves_read draws limit total cause s ((left, Word word) ∷ ts) = option_map_or (λ o. record {
   state = record s { declared = declared_after (is_some (verdict_now s)) o };
   answer = Ok (Some (record { outcome = o; termination = cause; offset = total - left + length word }));
 }) (outcome_of word) (if list_all is_digit word || is_marks word then moves_read draws limit total cause s ts
     else word_gives (closed_by draws limit s) (λ m. moves_read draws limit total cause (played s m) ts)
     (λ kind. failed s kind (total - left)) (reading (current s) word))
--- the fault is at the comment's `{`, which may be inside a variation
+-- the fault is at the comment's `{`, `brace` bytes before the text's end; it may be inside a variation
 moves_read draws limit total cause s ((left, Unclosed_comment brace) ∷ ts) = failed s UnclosedComment (total - brace)
 moves_read draws limit total cause s ((left, Unclosed_variation) ∷ ts) = failed s UnclosedVariation (total - left)
 moves_read draws limit total cause s ((left, Bad) ∷ ts) = failed s BadToken (total - left)
@@ -97,9 +98,8 @@ moves_read draws limit total cause s ((left, _) ∷ ts) = failed s NoResult (tot
 
 -- ---- the tags
 
--- the position that a tag FEN denotes in the variant `v`, or the fault, at the byte after the tag's first quote.
--- `tag` is the bytes between the quotes, and how many of the whole text's `total` bytes are left after the first quote
--- (as `named_tag` gives them)
+-- the position that a tag FEN denotes in the variant `v`, or its fault, at the byte after the tag's first quote. `tag`:
+-- the bytes between its quotes, and how many of the text's `total` bytes come after its first quote
 abbrev pub fen_read : ℕ → Variant → List ℕ × ℕ → Result Setup PgnFault
 fen_read total v tag = result_map_both (λ start. start)
     (λ fault. record { kind = BadFen fault; offset = total - tag.1 }) (fen_reading_as v tag.0)
@@ -113,26 +113,27 @@ known_variant text = let is_any = list_any (λ name. str_eq_ignore_ascii_case te
     else if is_any (codes "normal" ∷ codes "standard" ∷ codes "chess" ∷ codes "classical" ∷ codes "from position" ∷ [])
     then Some Normal else None
 
--- the variant that the last tag Variant names; normal chess if its text is no known name (`known_variant`), such as
+-- the variant that the last tag Variant of these tokens names; normal chess if its text is no known name, such as
 -- `Atomic`, or if there is no such tag
 abbrev pub tagged_variant : List (ℕ × Token) → Variant
 tagged_variant tags = option_map_or (λ t. unwrap_or (known_variant t.0) Normal) (last_tag (codes "Variant") tags) Normal
 
 -- ---- the game
 
--- what is read of the game `s`, which is at its start, from the tokens after its tag section `tags`: if they begin with
--- a bad tag, its fault; otherwise the moves, with the same first arguments (`moves_read`). The last tag Termination
--- counts, even if it names no value of the standard
+-- what is read of the game `s`, which is at its start, from the tokens after its tag section `tags`: a bad tag at their
+-- front is the fault; otherwise they are its moves (`moves_read`). `draws`: whether fivefold repetition and 75 moves
+-- end it; `limit`: how many half-moves it may have; `total`: the text's length. Of the tags Termination the last
+-- counts, even if it names no value of the standard (`None`)
 abbrev pub read_after_tags : Bool → ℕ → ℕ → State → List (ℕ × Token) → List (ℕ × Token) → GameRead
 read_after_tags draws limit total s tags ((to_end, Bad_tag) ∷ rest) = failed s BadTag (total - to_end)
 read_after_tags draws limit total s tags rest = moves_read draws limit total
     (option_and_then (λ tag. termination_named tag.0) (last_tag (codes "Termination") tags)) s rest
 
--- what is read of the game at the front of these tokens, of at most `limit` half-moves, in a text of `total` bytes;
--- `draws`: whether the draws of 2014 end it (`ending`). There is no game if no token says anything of one. The tag
--- Variant gives the variant (`tagged_variant`); the last FEN gives the start, and without one it is the variant's
--- initial position. The first FEN that denotes no position is the game's fault, and the start is then by the FENs
--- before it alone; otherwise see `read_after_tags`
+-- what is read of the game at the front of these tokens, in a text of `total` bytes. `draws`: whether fivefold
+-- repetition and 75 moves end it; `limit`: how many half-moves it may have. There is no game (`Ok None`) if no token
+-- says anything of one. The last tag Variant gives the variant; the last FEN gives the start, without a FEN it is the
+-- variant's initial position. The first FEN that denotes no position is the fault, and the start is then by the FENs
+-- before it. Otherwise see `read_after_tags`
 abbrev pub read_of_split : Bool → ℕ → ℕ → List (ℕ × Token) → GameRead
 read_of_split draws limit total tokens = let tags = tag_section tokens in let v = tagged_variant tags in
     let fens = map (fen_read total v) (filter_map (λ t. named_tag (codes "FEN") t.1) tags) in

@@ -1,4 +1,5 @@
--- The last tag of a name among a game's tags (PGN standard of 1994, section 8.1), and its tag Result.
+-- The last tag of a name among a game's tags (PGN standard of 1994, section 8.1), and its tag Result. Each token is
+-- paired with how many bytes of the text are left at it.
 use Rattle.std.specs.Prelude.{ℕ, ◌-◌, Bool, true, false, if◌then◌else◌, List, length, codes, Option, Some, None}
 use Rattle.std.specs.List.{filter_map, last_or, take_while}
 use Rattle.std.specs.Option.{option_map}
@@ -8,7 +9,7 @@ use Rattle.chess_pgn.specs.Tokens.{Token, Skip, Tag, Word}
 use Rattle.pgn_writer.specs.Outcomes.{outcome_of}
 use Rattle.chess_pgn.specs.Words.{is_marks}
 
--- whether a token says nothing of a game: it is skipped, or marks such as `!?`
+-- whether a token says nothing of a game: it is `Skip`, or a word of marks such as `!?`
 abbrev pub says_nothing : Token → Bool
 says_nothing Skip = true
 says_nothing (Word word) = is_marks word
@@ -19,24 +20,24 @@ abbrev pub may_precede_tags : Token → Bool
 may_precede_tags (Tag name text to_end) = true
 may_precede_tags token = says_nothing token
 
--- the bytes between the quotes of a tag with this name, and how many bytes of the text are left after its first quote;
+-- of a tag with this name: the bytes between its quotes, and how many bytes of the text are left after its first quote;
 -- `None` for any other token
 abbrev pub named_tag : List ℕ → Token → Option (List ℕ × ℕ)
 named_tag name (Tag other text to_end) = if bytes_eq other name then Some (text, to_end) else None
 named_tag name _ = None
 
--- of the tokens from a game's first one on (each with the number of bytes left at it) those of its tag section, with
--- all its tags: the ones before its first number, move, outcome or fault
+-- of a game's tokens from its first one on, those of its tag section, in which all its tags are: the ones before its
+-- first number, move, outcome or fault
 abbrev pub tag_section : List (ℕ × Token) → List (ℕ × Token)
 tag_section tokens = take_while (λ t. may_precede_tags t.1) tokens
 
--- the last tag with this name among these tokens: its text, and how many bytes are left after its first quote; `None`
--- if there is no such tag
+-- the last tag with this name among these tokens: the bytes between its quotes, and how many bytes of the text are left
+-- after its first quote; `None` if there is no such tag
 abbrev pub last_tag : List ℕ → List (ℕ × Token) → Option (List ℕ × ℕ)
 last_tag name tags = last_or None (filter_map (λ t. named_tag name t.1) tags)
 
--- the last tag Result of a game with these tokens, in a text of `total` bytes: the outcome that it names, if any, and
--- the offset and the length of the text between its quotes; `None` if there is no such tag
+-- the last tag Result of a game with these tokens, in a text of `total` bytes: the outcome that it names (`None`:
+-- none), and the offset and the length of the text between its quotes; `None` if there is no such tag
 abbrev pub result_tag_of : ℕ → List (ℕ × Token) → Option ResultTag
 result_tag_of total ts = option_map (λ t. record { outcome = outcome_of t.0; offset = total - t.1; len = length t.0 })
     (last_tag (codes "Result") (tag_section ts))

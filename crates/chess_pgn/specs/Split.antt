@@ -14,15 +14,16 @@ use Rattle.chess_pgn.specs.Tokens.{Token, Skip, Tag, Word, Bad_tag, Unclosed_com
 abbrev pub lacks : ℕ → List ℕ → Bool
 lacks b text = list_all (λ c. not (c == b)) text
 
--- whether the byte c begins what is skipped up to the end of its line: `;` (section 5), or `%` where a line begins
--- (section 6)
+-- whether all from the byte c to the end of its line is skipped: c is `;` (section 5), or `%` where a line begins
+-- (`line_begins`; section 6)
 abbrev pub skips_line : Bool → ℕ → Bool
 skips_line line_begins c = line_begins && c == byte "%" || c == byte ";"
 
 -- ---- variations (section 8.2.5): `(`, what is inside, `)`
 
 -- the text may be between a variation's `(` and its `)`, as `4. Ng5 d5 (4... Bc5)`: it has only the parts below, one
--- after another. `b`: whether its first byte begins a line
+-- after another, or none. `b`, the first argument: whether the text's first byte begins a line, as after `\n` (`true`),
+-- and not after `(`, `)` or `}` (`false`)
 pub data IsInside : Bool → List ℕ → Type 0 where
   -- no parts
   nothing : {b : Bool} → IsInside b []
@@ -41,8 +42,8 @@ pub data IsInside : Bool → List ℕ → Type 0 where
 
 -- ---- tags (section 8.1), as `[Event "a"]`: an opening (`[Event "`), the string (`a`), and a closing (`"]`)
 
--- the text may be between two parts of a tag: white space and `%` lines, or nothing. `b`: whether its first byte begins
--- a line
+-- the text may be between two parts of a tag: white space and `%` lines, or nothing. `b`, the first argument: whether
+-- the text's first byte begins a line, where `%` begins a `%` line
 pub data IsGap : Bool → List ℕ → Type 0 where
   nothing : {b : Bool} → IsGap b []
   -- a byte of white space, and then more
@@ -51,24 +52,25 @@ pub data IsGap : Bool → List ℕ → Type 0 where
   line : (text : List ℕ) {more : List ℕ} → lacks new_line text ≡ true → IsGap true more
       → IsGap true (byte "%" ∷ text ++ new_line ∷ more)
 
--- the opening of a tag with this name: `[`, a gap, the name, a gap, a quote
+-- the text is the opening of a tag with this name, such as `[Event "`: `[`, a gap, the name (letters, digits and `_`,
+-- at least one), a gap, a quote. A gap (`IsGap`) may be empty; its front begins no line (`false`)
 pub data OpensTag (name : List ℕ) : List ℕ → Type 0 where
   opens : {before after : List ℕ} → IsGap false before → 0 < length name → list_all is_name_byte name ≡ true
       → IsGap false after → OpensTag name (byte "[" ∷ (before ++ (name ++ (after ++ codes "\""))))
 
--- the text may be between a string's quotes (section 7), as `a\"b`: bytes other than quotes, backslashes and `\n`; and
--- pairs of a backslash and the byte that it keeps from ending the string, any but `\n`
+-- the text may be between a string's quotes (section 7), as `a\"b`, or empty: bytes other than quotes, backslashes and
+-- `\n`; and pairs of a backslash and the byte that it keeps from ending the string, any but `\n`
 pub data IsString : List ℕ → Type 0 where
   nothing : IsString []
   -- a backslash and the byte that it keeps
   kept : {c : ℕ} {more : List ℕ} → (c == new_line) ≡ false → IsString more → IsString (byte "\\" ∷ c ∷ more)
-  -- any other character: no backslash, quote or `\n`
+  -- any other byte: no backslash, quote or `\n`
   char : {c : ℕ} {more : List ℕ} → list_any (λ k. c == k) (codes "\\\"\n") ≡ false → IsString more → IsString (c ∷ more)
 
 -- ---- tokens
 
--- the text as a whole is this token (see `Token`). `b`: whether its first byte begins a line; `left`: how many bytes of
--- the game's text come after it
+-- the text as a whole is this token (see `Token`). `b`: whether the text's first byte begins a line; `left`: how many
+-- bytes of the game's text come after the token
 pub data IsToken (b : Bool) (left : ℕ) : List ℕ → Token → Type 0 where
   -- a byte of white space, or a dot
   blank : {c : ℕ} → (is_white_space c || c == byte ".") ≡ true → IsToken b left (c ∷ []) Skip
@@ -80,7 +82,7 @@ pub data IsToken (b : Bool) (left : ℕ) : List ℕ → Token → Type 0 where
   glyph : {digits : List ℕ} → list_all is_digit digits ≡ true → IsToken b left (byte "$" ∷ digits) Skip
   -- a variation, from `(` to its own `)`
   variation : {inner : List ℕ} → IsInside false inner → IsToken b left (byte "(" ∷ inner ++ byte ")" ∷ []) Skip
-  -- a tag, whose closing is a quote, a gap and `]`
+  -- a tag: an opening, a string, a closing (a quote, a gap and `]`). Its `to_end` counts the bytes from the string on
   tag : {name opening string gap closing : List ℕ} → OpensTag name opening → IsString string → IsGap false gap
       → closing ≡ byte "\"" ∷ (gap ++ codes "]")
       → IsToken b left (opening ++ (string ++ closing)) (Tag name string (length (string ++ closing) + left))
@@ -96,8 +98,9 @@ IsTokenAt text at front t =
 
 -- ---- what can't be read
 
--- the text, which begins right after the `(` of a variation, has a comment that isn't closed, and the number is how
--- many bytes are left at its `{`: 2 in `e4 (d4 {a`. Before it are only whole parts (see `IsInside`) and more `(`
+-- the text, which begins right after a variation's `(`, has a comment that isn't closed; the number: how many bytes
+-- from the comment's `{` to the text's end, 2 in `d4 {a`. Before the comment are only whole parts (`IsInside false`: no
+-- line begins after a `(`) and `(`s
 pub data HasOpenComment : List ℕ → ℕ → Type 0 where
   -- the comment, after whole parts
   here : {parts : List ℕ} (text : List ℕ) → IsInside false parts → lacks (byte "}") text ≡ true
@@ -106,8 +109,8 @@ pub data HasOpenComment : List ℕ → ℕ → Type 0 where
   deeper : {parts inner : List ℕ} {to_end : ℕ} → IsInside false parts → HasOpenComment inner to_end
       → HasOpenComment (parts ++ byte "(" ∷ inner) to_end
 
--- this token is the fault at the front of the text, if no token can be read there (which `IsSplit` claims): by the
--- first byte, and after `(` by whether a comment inside isn't closed
+-- this token is the fault at the front of the text, where no token can be read (as `IsSplit` claims): which one is
+-- decided by the first byte, and after `(` by whether a comment inside isn't closed
 pub data IsFaultOf : List ℕ → Token → Type 0 where
   -- a comment isn't closed; the number is how many bytes are left at its `{`
   comment : {text : List ℕ} → IsFaultOf (byte "{" ∷ text) (Unclosed_comment (length (byte "{" ∷ text)))
@@ -131,6 +134,6 @@ pub data IsSplit (text : List ℕ) : ℕ → List (ℕ × Token) → Type 0 wher
   token : {at : ℕ} {front : List ℕ} {t : Token} {tokens : List (ℕ × Token)} → IsTokenAt text at front t
       → ((other : List ℕ) (u : Token) → IsTokenAt text at other u → length other ≤ length front)
       → IsSplit text (at + length front) tokens → IsSplit text at ((length text - at, t) ∷ tokens)
-  -- the fault, if the text begins with no token there
+  -- the fault, if no token begins at `at`
   stopped : {at : ℕ} {fault : Token} → ((front : List ℕ) (t : Token) → IsTokenAt text at front t → ⊥)
       → IsFaultOf (drop at text) fault → IsSplit text at ((length text - at, fault) ∷ [])

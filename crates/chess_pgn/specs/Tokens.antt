@@ -10,18 +10,18 @@ use Rattle.std.specs.Str.{bytes_eq}
 use Rattle.text_lines.specs.Lines.{parts}
 
 -- a token of a PGN text (section 7): what is skipped, such as white space, a comment or a variation; a tag; a word,
--- such as a move; or what can't be read. `to_end` is the number of bytes from an offset to the text's end
+-- such as a move; or what can't be read. `to_end` counts the bytes from where its case says to the text's end
 pub data Token : Type 0 where
   -- what is skipped
   Skip : Token
-  -- a tag: its name, the bytes between its quotes as they are, and how many bytes are left after the first quote. At a
-  -- text's end `[Event "a"]` is `Tag Event a 3`
+  -- a tag: its name, the bytes between its quotes as they are, and `to_end` from after the first quote. As the last
+  -- bytes of a text `[Event "a"]` is `Tag Event a 3`
   Tag : (name : List ℕ) (text : List ℕ) (to_end : ℕ) → Token
   -- such as a move, a number or a result
   Word : (bytes : List ℕ) → Token
   -- a `[` that begins no tag
   Bad_tag : Token
-  -- a comment without its `}`, and how many bytes are left at its `{`
+  -- a comment without its `}`; `to_end` counts from its `{`
   Unclosed_comment : (to_end : ℕ) → Token
   -- a `(` whose variation is not closed
   Unclosed_variation : Token
@@ -30,7 +30,7 @@ pub data Token : Type 0 where
 
 -- ---- bytes
 
--- whether a byte is a space, a tab, or one of `\n` and `\r`
+-- whether a byte is a space, a tab, `\n` or `\r`
 abbrev pub is_white_space : ℕ → Bool
 is_white_space c = c == space || (c == tab || (c == new_line || c == carriage_return))
 
@@ -172,7 +172,7 @@ tokens_of (suc most) line_begins (c ∷ rest) =
 -- ---- a text from an offset on
 
 -- whether a line of the text begins at this offset: the offset is 0, or the byte before it is `\n`. So none begins
--- right after a byte order mark
+-- right after a byte order mark or a `\r`
 abbrev pub begins_line : List ℕ → ℕ → Bool
 begins_line text offset = (offset == 0) || (slice_index text (offset - 1) == new_line)
 

@@ -18,16 +18,16 @@ use Rattle.chess_pgn.specs.declared.variations.TheConstants.{MOST_NESTED}
 use Rattle.chess_pgn.specs.Tokens.{Token, Skip, Tag, Word, Bad}
 use Rattle.chess_pgn.specs.Words.{is_marks, word_gives}
 
--- whether a token, which begins at this offset of the text, is a variation: it is skipped, and begins with `(`
+-- whether a token, which begins at the offset `at` of the text, is a variation: it is skipped, and begins with `(`
 abbrev pub is_variation : List ℕ → ℕ → Token → Bool
 is_variation text at Skip = slice_index text at == byte "("
 is_variation text at _ = false
 
--- the first fault of a line (see the head) and of the variations in it, from these tokens of the text on; `None` if it
--- has none. `tags`: whether tags are passed over, as a game's own are; in a variation each is a bad token. `p` is the
--- position here, `before` the one before the line's last move, where a variation here begins; `None` if there is no
--- move yet, so that a variation is a fault. `inside start at` gives the first fault of the variation whose `(` is at
--- the offset `at`, and whose moves begin in `start`. A token's offset is `length text - left`
+-- the first fault of a line (see the head) and of the variations in it, from these tokens of the text on; `None` if
+-- there is none. `tags`: whether tags are passed over, as in a game's own line; if not, each is a bad token.
+-- `inside start at`: the first fault of the variation whose `(` is at the offset `at`, and whose moves begin in
+-- `start`. `before`: the position before the line's last move, where a variation here begins; `None` if there is no
+-- move yet, so that a variation is a fault. `p`: the position here. A token's offset is `length text - left`
 abbrev pub line_fault : Bool → List ℕ → (Setup → ℕ → Option PgnFault) → Option Setup → Setup → List (ℕ × Token)
     → Option PgnFault
 line_fault tags text inside before p [] = None
@@ -50,20 +50,22 @@ line_fault tags text inside before p ((left, Bad) ∷ more) = let at = length te
 line_fault tags text inside before p ((left, _) ∷ more) = Some (record { kind = BadToken; offset = length text - left })
 
 -- the first fault of the variation whose `(` is at the offset `at` of the text, and whose moves begin in the position
--- `start`; `None` if it has none. The second argument is how deep variations may be nested, this one included; one
--- deeper is a fault, too long. `tokens` gives the tokens of a text from an offset on
+-- `start`; `None` if there is none. `tokens` gives the tokens of a text from an offset on. The second argument: how
+-- deep variations may be nested, this one included; with 0 this one is the fault (`TooLong`). In it a tag is a fault
+-- (`false`), and a variation before its first move, too (`None`)
 unfoldable pub variation_fault : (List ℕ → ℕ → List (ℕ × Token)) → ℕ → List ℕ → Setup → ℕ → Option PgnFault
 variation_fault tokens zero text start at = Some (record { kind = TooLong; offset = at })
 variation_fault tokens (suc depth) text start at =
     line_fault false text (λ p from. variation_fault tokens depth text p from) None start (tokens text (at + 1))
 
--- whether one of these tokens of the text is a variation
+-- whether one of these tokens of the text, each paired with how many bytes are left at it, is a variation
 abbrev pub has_variation : List ℕ → List (ℕ × Token) → Bool
 has_variation text tokens = list_any (λ t. is_variation text (length text - t.0) t.1) tokens
 
--- the first fault in the variations of a game without another fault, whose start is `start`, and whose text goes from
--- the offset `at` to the end of `text`; `None` if there is none, so also if no token is a variation. At most 64
--- variations may be open. `tokens` gives the tokens of a text from an offset on
+-- the first fault in the variations of a game that has no other fault, and whose text goes from the offset `at` to the
+-- end of `text`; `None` if there is none, as where no token is a variation. `start`: the game's start; `tokens` gives
+-- the tokens of a text from an offset on. At most 64 variations (`MOST_NESTED`) may be open. The game's own tags are
+-- passed over (`true`); a variation before its first move is a fault (`None`)
 abbrev pub variations_fault : (List ℕ → ℕ → List (ℕ × Token)) → List ℕ → Setup → ℕ → Option PgnFault
 variations_fault tokens text start at = if has_variation text (tokens text at)
     then line_fault true text (λ p from. variation_fault tokens MOST_NESTED text p from) None start (tokens text at)

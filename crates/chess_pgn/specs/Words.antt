@@ -14,10 +14,10 @@ use Rattle.chess_pgn.specs.declared.read.PgnFaultKind.TheVariants.{BadToken, Ill
 abbrev pub is_marks : List ℕ → Bool
 is_marks word = not (length word == 0) && list_all (λ c. c == byte "!" || c == byte "?") word
 
--- what a word gives that is taken as a move, by how it is read (the last argument). Without a move's shape, as `Nf9`,
--- it gives `failed BadToken`. Otherwise, if no move may come here, as after mate, `closed` is the fault of that, and it
--- gives `failed` of this fault. If `closed` is `None`, a legal move m gives `made m`, any other word `failed` of its
--- fault
+-- what a word gives that is taken as a move, by what it is read as (the last argument). `closed`: the fault of any move
+-- here, as after mate; `None` if a move may come. Without a move's shape, as `Nf9`, the word gives `failed BadToken`.
+-- Otherwise, if there is a fault in `closed`, it gives `failed` of that; if not, a legal move m gives `made m`, and any
+-- other word `failed` of its own fault
 abbrev pub word_gives : {A : Type 0} → Option PgnFaultKind → (Move → A) → (PgnFaultKind → A) → Reading → A
 word_gives closed made failed reads.NotAMove = failed BadToken
 word_gives closed made failed (reads.Move m) = option_map_or failed closed (made m)

@@ -11,8 +11,8 @@ use Rattle.pgn_pieces.specs.declared.pieces.PieceFault.TheVariants.{ReadFailed, 
 
 -- ---- the lines of a text
 
--- the lines of a text, each with the `\n` or `\r` that ends it, if one does. The `\n` of `\r\n` is a line of its own,
--- which counts as empty: `a\r\nb` has the lines `a\r`, `\n` and `b`
+-- the lines of a text, each with the `\n` or `\r` that ends it, if one does; the empty text has none. The `\n` of
+-- `\r\n` is a line of its own, which counts as empty: `a\r\nb` has the lines `a\r`, `\n` and `b`
 abbrev pub lines_of : List ℕ → List (List ℕ)
 lines_of [] = []
 lines_of (c ∷ cs) = if breaks_line c then (c ∷ []) ∷ lines_of cs else onto_first c (lines_of cs)
@@ -21,29 +21,30 @@ lines_of (c ∷ cs) = if breaks_line c then (c ∷ []) ∷ lines_of cs else onto
 abbrev pub drop_while : (ℕ → Bool) → List ℕ → List ℕ
 drop_while test text = drop (prefix_len test text) text
 
--- the front of a line, which decides the line's kind: its first 256 bytes, less a byte order mark (EF BB BF) at the
--- beginning, and then less the spaces and tabs at the beginning
+-- the front of a line, which decides the line's kind: its first 256 bytes, without a byte order mark (EF BB BF) at
+-- their beginning, and then without spaces and tabs there
 abbrev pub front_of : List ℕ → List ℕ
 front_of line = let first = take 256 line in drop_while is_blank (drop (after_byte_order_mark first 0) first)
 
--- the name after the `[` with which the front of a tag line begins: `Event` in `[Event "x"]`
+-- the name in a line's front after its first byte, the `[` of a tag line: `Event` in `[Event "x"]`; maybe empty
 abbrev pub tag_name : List ℕ → List ℕ
 tag_name front = take_while is_name_byte (drop 1 front)
 
--- what comes after the tag's name and any spaces and tabs in the front of a tag line: `"x"]` in `[Event "x"]`
+-- what comes in a line's front after the name (`tag_name`) and any spaces and tabs: `"x"]` in `[Event "x"]`
 abbrev pub after_name : List ℕ → List ℕ
 after_name front = drop_while is_blank (drop (length (tag_name front)) (drop 1 front))
 
--- whether a front begins with a tag: `[`, a name of one byte or more, any spaces and tabs, and `"`
+-- whether a text, such as a line's front, begins with a tag: `[`, a name of one byte or more, any spaces and tabs, and
+-- `"`
 abbrev pub begins_tag : List ℕ → Bool
 begins_tag front = bytes_eq (take 1 front) (codes "[") && nat_lt 0 (length (tag_name front))
     && bytes_eq (take 1 (after_name front)) (codes "\"")
 
--- whether a line is a tag line, such as `[Event "Oslo"]`
+-- whether a line is a tag line, such as `[Event "Oslo"]`: its front begins with a tag (`begins_tag`)
 abbrev pub is_tag_line : List ℕ → Bool
 is_tag_line line = begins_tag (front_of line)
 
--- whether a line is a tag line of the tag Event
+-- whether a line is a tag line whose first tag is Event
 abbrev pub is_event_line : List ℕ → Bool
 is_event_line line = is_tag_line line && bytes_eq (tag_name (front_of line)) (codes "Event")
 
@@ -52,22 +53,21 @@ abbrev pub is_empty_line : List ℕ → Bool
 is_empty_line line = bytes_eq (take 1 (front_of line)) (codes "%") || bytes_eq (take 1 (front_of line)) (codes ";")
     || list_all (λ c. is_blank c || (c == 13) || (c == 10)) (front_of line)
 
--- what comes after the first tag in the front of a tag line and any spaces and tabs: `1. e4` in `[Event "x"] 1. e4`.
--- The tag's value ends at the next quote, even one after a backslash; if no `]` follows that at once, the result is
--- empty
+-- what comes after the tag with which a text begins and any spaces and tabs: `1. e4` in `[Event "x"] 1. e4`. The tag's
+-- value ends at the next quote, even one after a backslash; if no `]` follows that quote at once, the result is empty
 abbrev pub after_tag : List ℕ → List ℕ
 after_tag front = let close = drop_while (λ c. not (c == byte "\"")) (drop 1 (after_name front)) in
     if bytes_eq (take 2 close) (codes "\"]") then drop_while is_blank (drop 2 close) else []
 
--- what comes after the tags with which a text begins, at most so many of them, and after any spaces and tabs between
--- them (`after_tag`)
+-- what comes after the tags with which a text begins, and any spaces and tabs after each (`after_tag`); the text itself
+-- if it begins with none. At most as many tags are passed over as the first argument says
 unfoldable pub after_tags : ℕ → List ℕ → List ℕ
 after_tags zero text = text
 after_tags (suc more) text = if begins_tag text then after_tags more (after_tag text) else text
 
 -- whether a line counts as one of moves: one that is neither a tag line nor empty (so also one inside a `{` comment,
--- and a tag such as `[ Event "x" ]`); or a tag line in which, after its tags and any spaces and tabs, a letter, digit,
--- `_` or `*` follows: `[White "a"] [Black "b"] 1. e4`
+-- and a tag such as `[ Event "x" ]`); or a tag line in whose front, after its tags, a letter, digit, `_` or `*`
+-- follows: `[White "a"] [Black "b"] 1. e4`. (256: no front has so many tags)
 abbrev pub is_moves_line : List ℕ → Bool
 is_moves_line line = if is_tag_line line
     then list_any (λ c. is_name_byte c || c == byte "*") (take 1 (after_tags 256 (after_tag (front_of line))))
@@ -75,21 +75,21 @@ is_moves_line line = if is_tag_line line
 
 -- ---- the pieces of a text
 
--- whether a line begins a new piece, where `piece` are the lines of the last piece before it. A tag line does if
--- `piece` has a line of moves; an Event line does also if `piece` has an Event line
+-- whether a line begins a new piece, where `piece` are the lines of the last piece before it: a tag line does if
+-- `piece` has a line of moves, an Event line also if `piece` has an Event line; no other line does
 abbrev pub begins_piece : List (List ℕ) → List ℕ → Bool
 begins_piece piece line = is_tag_line line
     && (list_any is_moves_line piece || (is_event_line line && list_any is_event_line piece))
 
--- these pieces (each the list of its lines, the last piece first) with one line more: it begins a piece if it is the
--- first line or `begins_piece` holds; otherwise it goes to the end of the last piece
+-- these pieces (each the list of its lines, the last piece first) with one line more: the line begins a piece if it is
+-- the first one or if `begins_piece` holds; otherwise it goes to the end of the last piece
 abbrev pub with_line : List (List (List ℕ)) → List ℕ → List (List (List ℕ))
 with_line [] line = (line ∷ []) ∷ []
 with_line (last ∷ before) line =
     if begins_piece last line then (line ∷ []) ∷ last ∷ before else (last ++ line ∷ []) ∷ before
 
--- the pieces that a text is cut into, each as its bytes: one begins at the first line, and at each for which
--- `begins_piece` holds
+-- the pieces that a text is cut into, in order, each as its bytes: one begins at the first line, and at each for which
+-- `begins_piece` holds. The empty text has none
 abbrev pub cut : List ℕ → List (List ℕ)
 cut text = reverse (map concat (fold with_line [] (lines_of text)))
 

@@ -11,18 +11,18 @@ use Rattle.pgn_verifier.specs.declared.options.VerifyOptions.{VerifyOptions}
 use Rattle.pgn_verifier.specs.declared.tally.Verified.{Verified}
 use Rattle.pgn_verifier.specs.Reports.{Placed, AreReportsIn, report_lines, counts_line, counts_of, verified}
 
--- these are the reports on these pieces, piece after piece (`AreReportsIn`). The first piece begins at this offset of
--- the input, each other one where the one before it ends
+-- these are the reports on these pieces, piece after piece (`AreReportsIn`). The number is the offset of the input at
+-- which the first piece begins; each other one begins where the one before it ends
 pub data AreCollectionReports (strict : Strictness) : ℕ → List (List ℕ) → List Placed → Type 0 where
   no_piece : {offset : ℕ} → AreCollectionReports strict offset [] []
   next_piece : {offset : ℕ} {piece : List ℕ} {pieces : List (List ℕ)} (reports : List Placed) {more : List Placed}
       → AreReportsIn strict offset piece reports → AreCollectionReports strict (offset + length piece) pieces more
       → AreCollectionReports strict offset (piece ∷ pieces) (reports ++ more)
 
--- what was read of the input (`i`) and written (`o`) in the end, by the result (the third argument); `text` is all that
--- is to be written for what was read, and `expected` the summary that the reports give
+-- what was read of the input (`i`) and written (`o`) in the end, by the result (the third argument). `text`: all that
+-- is to be written for what was read; `expected`: how verifying ended by the reports (`verified`)
 abbrev pub CollectionEnds : List ℕ → Verified → Result Verified VerifyFault → FromInput → ToOutput → Type 0
--- the whole input was read; all of `text` was written and flushed; the summary is `expected`
+-- the whole input was read; all of `text` was written and flushed; the result is `expected`
 CollectionEnds text expected (Ok summary) i o = IsWhole i × (o ≡ all_of text) × (summary ≡ expected)
 -- no read failed; a beginning of `text`, maybe nothing or all, was written, nothing was flushed, and then a write or
 -- the flush failed
@@ -36,9 +36,9 @@ CollectionEnds text expected (Err NoMemory) i o = (i.ended ≡ false) × (i.fail
 CollectionEnds text expected (Err InputTooLong) i o =
     (i.ended ≡ false) × (i.failed ≡ false) × (2 ^ 63 ≤ length i.text + 2 ^ 16) × (o ≡ all_unflushed text)
 
--- what verifying a collection reads (`i`) and writes (`o`), by its result: the lines of the reports on its pieces,
--- numbered from 1, and after the input's end the line of counts. If the end was not reported, the last piece is left
--- out, since it may go on (`known_pieces`)
+-- what verifying a collection reads (`i`) and writes (`o`), by its result: the lines of the reports on its pieces, the
+-- first of which begins at offset 0, numbered from 1, and after the input's end the line of counts. If the end was not
+-- reported, the last piece is left out, since it may go on (`known_pieces`)
 abbrev pub VerifiesCollection : VerifyOptions → Result Verified VerifyFault → FromInput → ToOutput → Type 0
 VerifiesCollection options result i o = (reports : List Placed)
     × AreCollectionReports options.strict 0 (known_pieces i.ended i.text) reports

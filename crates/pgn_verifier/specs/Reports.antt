@@ -31,11 +31,11 @@ use Rattle.pgn_verifier.specs.declared.tally.Verified.TheVariants.{EachGame, Fau
 -- a report on a game, or on a piece that is too long
 pub data Report : Type 0 where
   -- a game without a fault: how many half-moves it has, the outcome of its termination marker, and what its last tag
-  -- Termination names, if that is one of the standard's values
+  -- Termination names (`None`: none of the standard's values, or there is no such tag)
   Game : (plies : ℕ) (outcome : Outcome) (termination : Option Termination) → Report
-  -- a fault, at its offset in the input. `names`: what names its game (`names_of`), nothing of a piece that is too
-  -- long; `wrong_at`, `part`: the offset in the input of the part that is wrong, and what is shown of it; `why`: what
-  -- else explains the fault; `is_unread`: whether to say that its text isn't read from the fault's byte on
+  -- a fault, at its offset in the input. `names`: what names its game (`names_of`), empty for a piece that is too long;
+  -- `wrong_at`, `part`: the offset in the input of the part that is wrong, and what is shown of it; `why`: what else
+  -- explains the fault; `is_unread`: whether to say that from the fault's byte on the text isn't read
   Faulty : (fault : GameFault) (names : List ℕ) (wrong_at : ℕ) (part why : List ℕ) (is_unread : Bool) → Report
 
 -- a report with its span, the part of the input that it is on: from the byte at the offset `begin` to the last one
@@ -45,11 +45,12 @@ pub record Placed : Type 0 where
   pub end : ℕ
   pub report : Report
 
--- the report with the span that begins and ends there
+-- the report with its span: from the byte at the offset `begin` to the last one before the offset `end`
 abbrev pub spanning : (begin end : ℕ) → Report → Placed
 spanning begin end report = record { begin = begin; end = end; report = report }
 
--- the offset in a text at which the game from the offset `at` on begins: after any byte order mark and white space
+-- the offset in a text at which the game from the offset `at` on begins: after a byte order mark (only if `at` is 0),
+-- and then after white space
 abbrev pub game_begin : List ℕ → ℕ → ℕ
 game_begin text at = let first = after_byte_order_mark text at in first + prefix_len is_white_space (drop first text)
 
@@ -59,7 +60,7 @@ abbrev pub shown_tag : List (ℕ × Token) → List ℕ → List ℕ
 shown_tag tokens name =
     option_map_or (λ tag. map shown_byte (take 40 tag.0)) (last_tag name (tag_section tokens)) (codes "?")
 
--- what names the game with these tokens in a line, from its tags: ` | White - Black, Event Date`
+-- what names the game with these tokens in a line, from the last tags of these names: ` | White - Black, Event Date`
 abbrev pub names_of : List (ℕ × Token) → List ℕ
 names_of tokens = codes " | " ++ (shown_tag tokens (codes "White") ++ (codes " - " ++ (shown_tag tokens (codes "Black")
     ++ (codes ", " ++ (shown_tag tokens (codes "Event") ++ (codes " " ++ shown_tag tokens (codes "Date")))))))
@@ -67,7 +68,8 @@ names_of tokens = codes " | " ++ (shown_tag tokens (codes "White") ++ (codes " -
 -- ---- the reports on the games of a text
 
 -- these are the reports on the games of `text` from its offset `at` on (the number before the reports). The text begins
--- at the offset `start` of the input, by which reports count. `goes_on`: whether the text is read on after a fault
+-- at the offset `start` of the input; reports have offsets in the input. `strict`: which faults are looked for;
+-- `goes_on`: whether the text is read on after a fault
 pub data AreReports (goes_on : Bool) (strict : Strictness) (start : ℕ) (text : List ℕ) : ℕ → List Placed → Type 0 where
   -- no game comes from `at` on
   none_left : {at : ℕ} {s : State} → IsJudged strict text at s (Ok None) → AreReports goes_on strict start text at []
@@ -76,10 +78,10 @@ pub data AreReports (goes_on : Bool) (strict : Strictness) (start : ℕ) (text :
       → AreReports goes_on strict start text end.offset reports
       → AreReports goes_on strict start text at (spanning (start + game_begin text at) (start + end.offset)
       (Game (length s.moves) end.outcome end.termination) ∷ reports)
-  -- the next game has a fault. Its offset in the text becomes one in the input, and so does that of `part`, the part
-  -- that is wrong. If `goes_on` and the game's end is found (`next`), the game's span ends there, and the text is read
-  -- on from there. Otherwise the span goes to the text's end, and no game follows. If `goes_on`, but the game's end
-  -- isn't found, the text from the fault's byte on isn't read, which the report says if there is such a byte
+  -- the next game has a fault: `part` is the part that is wrong, `reason` why, and `next` where the game ends (`None`
+  -- if not `goes_on`, or if no end is found). The game's span goes to there, and the other reports are on the games
+  -- after it; with `None` the span goes to the text's end, and there are no other reports. If `goes_on`, but no end is
+  -- found, the report says that from the fault's byte on the text isn't read, if there is such a byte
   next_fault : {at : ℕ} {s : State} {fault : GameFault} {reports : List Placed} (part : ℕ × List ℕ)
       (reason : Option (List ℕ)) (next : Option ℕ) (game : IsJudged strict text at s (Err fault))
       → part ≡ wrong_part fault.kind text (game_begin text at) fault.offset
@@ -93,9 +95,9 @@ pub data AreReports (goes_on : Bool) (strict : Strictness) (start : ℕ) (text :
 
 -- ---- the reports on the games of pieces
 
--- these are the reports on a piece that begins at this offset of the input, read as a text of its own, also after
--- faults; or, if it has more than 16,777,216 bytes (`PIECE_LEN`), the one report that it is too long, a fault at its
--- first byte
+-- these are the reports on a piece that begins at this offset of the input, read as a text of its own from its first
+-- byte on (0), also after faults (`true`); or, if it has more than 16,777,216 bytes (`PIECE_LEN`), the one report,
+-- without names and reason (`[]`), that it is too long, a fault at its first byte, and isn't read (`true`)
 abbrev pub AreReportsIn : Strictness → ℕ → List ℕ → List Placed → Type 0
 AreReportsIn strict offset piece reports =
     MatchBool (nat_le (length piece) PIECE_LEN) (AreReports true strict offset piece 0 reports)
@@ -108,14 +110,14 @@ AreReportsIn strict offset piece reports =
 unfoldable pub report_line : ℕ → List ℕ → List ℕ
 report_line number text = codes "game " ++ (decimal number ++ (codes ": " ++ (text ++ new_line ∷ [])))
 
--- what a report's line says of its span, with `options.spans`, such as `, bytes 61 to 120`: it begins at the offset 61
--- and ends before 120; nothing without
+-- what a report's line says of its span, if `options.spans`, such as `, bytes 61 to 120`: it begins at the offset 61
+-- and ends before 120; otherwise nothing
 abbrev pub span_text : VerifyOptions → Placed → List ℕ
 span_text options p =
     if options.spans then codes ", bytes " ++ (decimal p.begin ++ (codes " to " ++ decimal p.end)) else []
 
 -- what is written of `placed`, whose report is also given by itself (the last argument), so that its cases can be
--- distinguished; `input` is what was read of the input, and `number` the report's number
+-- distinguished. `input`: what was read of the input; `number`: the report's number
 abbrev pub written_line : VerifyOptions → List ℕ → ℕ → Placed → Report → List ℕ
 -- a game's line, such as `game 3: 4 half-moves, 0-1, time forfeit`, unless `options.quiet` leaves it out. The span
 -- comes last
@@ -132,8 +134,8 @@ written_line options input number placed (Faulty fault names wrong_at part why i
     then codes " | bytes " ++ (decimal fault.offset ++ (codes " to " ++ (decimal placed.end ++ codes " not read")))
     else []))) else [])
 
--- the lines of these reports, which are numbered from `number` on; one that `quiet` leaves out has a number too.
--- `input` is what was read of the input
+-- the lines of these reports, which are numbered from `number` on; one that `options.quiet` leaves out has a number
+-- too. `input`: what was read of the input
 abbrev pub report_lines : VerifyOptions → List ℕ → ℕ → List Placed → List ℕ
 report_lines options input number [] = []
 report_lines options input number (placed ∷ rest) =
@@ -146,7 +148,7 @@ abbrev pub is_game : Report → Bool
 is_game (Game plies outcome termination) = true
 is_game (Faulty fault names wrong_at part why is_unread) = false
 
--- how many half-moves a report counts
+-- how many half-moves a report counts, 0 for a fault
 abbrev pub plies_of : Report → ℕ
 plies_of (Game plies outcome termination) = plies
 plies_of (Faulty fault names wrong_at part why is_unread) = 0
@@ -159,7 +161,7 @@ counts_of reports = record {
   faults = count_by (λ placed. not (is_game placed.report)) reports;
 }
 
--- how verifying ended, by the counts of all reports: with a fault or without
+-- how verifying ended, by the counts of all reports: with a fault (`FaultReported`) or without (`EachGame`)
 abbrev pub verified : Tally → Verified
 verified t = if t.faults == 0 then EachGame else FaultReported
 

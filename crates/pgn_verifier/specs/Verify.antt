@@ -9,8 +9,8 @@ use Rattle.pgn_verifier.specs.declared.tally.Verified.{Verified}
 use Rattle.pgn_verifier.specs.Reports.{Placed, AreReports, report_lines, counts_of, verified}
 
 -- what verifying a text reads (`i`) and writes (`o`), by its result. `PIECE_LEN` is 16,777,216. `AreReports` gets
--- `false` since the text isn't read on after a fault, and 0 twice: the text begins at offset 0 of the input, and is
--- read from its offset 0 on
+-- `false`, since the text isn't read on after a fault, and 0 twice: the text begins at offset 0 of the input, and is
+-- read from its offset 0 on. The lines are numbered from 1
 abbrev pub Verifies : VerifyOptions → Result Verified VerifyFault → FromInput → ToOutput → Type 0
 -- the whole input was read, and has at most `PIECE_LEN` bytes; the lines of its games up to the first fault were
 -- written and flushed (flushed also if there are none)

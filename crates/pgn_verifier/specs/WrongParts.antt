@@ -27,7 +27,7 @@ field_at number fen = take_while (λ c. not (c == space)) (from_field number fen
 
 -- the number of the field that is shown for this fault of a FEN, 0 for the first. Of the counters it is the halfmove
 -- clock (4), unless that is a number of 1 to 6 digits: then it is the fullmove number (5). For a fault of the
--- placement, or of no single field, such as two kings, it is the first
+-- placement, or of no single field, such as two kings, it is the first (0)
 abbrev pub field_number : FenFault → List ℕ → ℕ
 field_number Side fen = 1
 field_number Castling fen = 2
@@ -35,30 +35,30 @@ field_number EnPassant fen = 3
 field_number Counters fen = if is_some (short_number 6 (field_at 4 fen)) then 5 else 4
 field_number _ fen = 0
 
--- the reason for a bad FEN: the name of its fault; of a bad castling field also how it was read, as a tag Variant may
--- give Chess960 a name that is not known
+-- the reason for a bad FEN: the name of its fault; of a bad castling field also how it was read, since a tag Variant
+-- may give Chess960 a name that is not known
 abbrev pub fen_reason : FenFault → List ℕ
 fen_reason Castling = codes "castling, as in normal chess unless the tag Variant names Chess960"
 fen_reason fault = fen_fault_name fault
 
 -- ---- tags
 
--- the text begins with `[`, a gap (white space and `%` lines, or nothing), and a name's first byte. The gap begins
--- inside a line (`false`), so a `%` right after the `[` is not skipped
+-- the text begins with `[`, a gap (white space and `%` lines, or nothing), and a name's first byte: a letter, digit or
+-- `_`. The gap begins inside a line (`false`), so a `%` right after the `[` is not skipped
 abbrev pub HasName : List ℕ → Type 0
 HasName text = (gap : List ℕ) × (c : ℕ) × (rest : List ℕ) × IsGap false gap × (is_name_byte c ≡ true)
     × (text ≡ byte "[" ∷ (gap ++ c ∷ rest))
 
--- the text begins with the opening of a tag, such as `[Event "`, and `rest` comes after it
+-- the text begins with the opening of a tag, such as `[Event "`; `rest` is all that comes after that
 abbrev pub HasOpening : List ℕ → List ℕ → Type 0
 HasOpening text rest = (name opening : List ℕ) × OpensTag name opening × (text ≡ opening ++ rest)
 
--- the text, which comes after a tag's opening quote, begins with the tag's string and the quote after it, such as `a"`
+-- the text, which comes after a tag's opening quote, begins with the tag's string (maybe empty) and a quote: `a"`
 abbrev pub HasString : List ℕ → Type 0
 HasString text = (string rest : List ℕ) × IsString string × (text ≡ string ++ byte "\"" ∷ rest)
 
--- this is the reason for a bad tag: the first part that is missing of a name, a quote after the name, a quote that ends
--- the value, and `]`. `text` is the text from its `[` on, where no tag can be read (so the fault is a bad tag)
+-- the second argument is the reason for a bad tag, never `None`: the first part that is missing of a name, a quote
+-- after it, a quote that ends the value, and `]`. `text`: all from the tag's `[` on, where no tag can be read
 pub data IsTagReason (text : List ℕ) : Option (List ℕ) → Type 0 where
   no_name : (HasName text → ⊥) → IsTagReason text (Some (codes "no name"))
   no_value : HasName text → ((rest : List ℕ) → HasOpening text rest → ⊥) → IsTagReason text (Some (codes "no value"))
@@ -69,7 +69,7 @@ pub data IsTagReason (text : List ℕ) : Option (List ℕ) → Type 0 where
 
 -- ---- tokens
 
--- the reason for a bad token; `text` is the text from its first byte on
+-- the reason for a bad token; `text`: all from the token's first byte on
 abbrev pub token_reason : List ℕ → List ℕ
 token_reason text =
     -- a draw that PGN writes in another way: the word `1/2`, or `½`, which is the bytes C2 BD
@@ -80,7 +80,7 @@ token_reason text =
     -- a null move, as other programs write it
     else if list_any (bytes_eq (take_while is_word_byte text)) (codes "--" ∷ codes "Z0" ∷ [])
     then codes "a null move, which chess does not have"
-    -- a variation with no move before it, or, after a tag in a variation, one that isn't closed
+    -- a variation with no move before it
     else if bytes_eq (take 1 text) (codes "(") then codes "no move that this variation replaces"
-    -- any other word is not a move, and with any other byte no token begins
+    -- any other word is not a move, and any other byte begins no token (in a variation also the `[` of a tag)
     else if list_any is_word_byte (take 1 text) then codes "not a move" else codes "begins no token"
