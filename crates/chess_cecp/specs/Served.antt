@@ -28,9 +28,10 @@ abbrev pub AnswersAll : {S : Type 0} → Server S → S → S → Bool → FromI
 AnswersAll respond s s' ends i o = let due = responses respond s (lines_read i) in
     (o ≡ all_flushed (nat_lt 0 (length (lines_read i))) due.text) × (s' ≡ due.state) × (due.ends ≡ ends)
 
--- the server `respond` answered the lines `before`, with none of which it ends, and their answers were flushed. Then a
--- write or a flush failed in the answer to `line`: a beginning of it was written and not flushed, maybe nothing or all.
--- `o` is what was written; `s` is the state before all this, and `s'` the one after `line`
+-- the server `respond` answered the lines `before`, with none of which it ends, and their answers were flushed (without
+-- such lines no flush succeeded). Then a write or a flush failed in the answer to `line`: a beginning of it was written
+-- and not flushed, maybe nothing or all. `o` is what was written; `s` is the state before all this, and `s'` the one
+-- after `line`
 abbrev pub BreaksOffAt : {S : Type 0} → Server S → S → S → List LineSeen → LineSeen → ToOutput → Type 0
 BreaksOffAt respond s s' before line o = let due = responses respond s before in let last = respond due.state line in
     (due.ends ≡ false) × BreaksOffIn (all_flushed (nat_lt 0 (length before)) due.text) last.text o × (s' ≡ last.state)

@@ -49,7 +49,7 @@ pub record SaidBy (S : Colour) (H : List Act) (i : FromInput) : Type 0 where
 -- `o` is what went to an engine's input, if the lines `sent` were sent to it, and then the blocks in the second list
 -- could not be sent
 abbrev pub WasSent : List SentLine → List (List SentLine) → ToOutput → Type 0
--- no block failed: all lines were written and flushed, and no call failed
+-- no block failed: all lines were written and flushed (without lines there was no flush), and no call failed
 WasSent sent [] o = o ≡ all_flushed (nat_lt 0 (length sent)) (bytes_of sent)
 -- a block failed, after the lines that were sent
 WasSent sent (block ∷ []) o = BreaksOffIn (all_flushed (nat_lt 0 (length sent)) (bytes_of sent)) (bytes_of block) o

@@ -18,8 +18,7 @@ abbrev pub tag_pair : ℕ → Token → Option TagPair
 tag_pair total (Tag name text to_end) = Some (record { name = name; text = text; offset = total - to_end })
 tag_pair total _ = None
 
--- the tags of a game with these tokens, in order, in a text of `total` bytes: those of its tag section, which ends
--- before its first number, move, outcome or fault
+-- the tags of a game with these tokens, in order, in a text of `total` bytes: those of its tag section (`tag_section`)
 abbrev pub game_tags_of : ℕ → List (ℕ × Token) → List TagPair
 game_tags_of total tokens = filter_map (λ t. tag_pair total t.1) (tag_section tokens)
 

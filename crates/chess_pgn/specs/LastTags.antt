@@ -26,8 +26,9 @@ abbrev pub named_tag : List ℕ → Token → Option (List ℕ × ℕ)
 named_tag name (Tag other text to_end) = if bytes_eq other name then Some (text, to_end) else None
 named_tag name _ = None
 
--- of a game's tokens from its first one on, those of its tag section, in which all its tags are: the ones before its
--- first number, move, outcome or fault
+-- of a game's tokens from its first one on, those of its tag section, in which all its tags are: all before the first
+-- word that is not marks (a number, a move, an outcome or any other) and before the first token that can't be read. A
+-- tag FEN that is a fault doesn't end the section
 abbrev pub tag_section : List (ℕ × Token) → List (ℕ × Token)
 tag_section tokens = take_while (λ t. may_precede_tags t.1) tokens
 

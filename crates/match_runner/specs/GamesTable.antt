@@ -73,8 +73,9 @@ abbrev pub GamesFuture : Type 1
 GamesFuture = List GamesStep → Type 0
 
 -- these steps passed at a host or a table, in order. `old` claims, of a list of steps, that just these may come there
--- from before `steps` on, and `new` claims it from after `steps` on (`HostFuture`, `GamesFuture`). What may come from
--- `new` on may come, after `steps`, from `old` on
+-- from before `steps` on, and `new` claims it from after `steps` on (`HostFuture`, `GamesFuture`). If `new` holds
+-- of a list, `old` holds of `steps` followed by that list. So if each holds of just one list, that of `old` is `steps`
+-- followed by that of `new`; if `old` holds of all lists (`anything`), nothing is claimed
 pub record StepsPass {S : Type 0} (old new : List S → Type 0) (steps : List S) : Type 0 where
   pub extends : (after : List S) → new after → old (steps ++ after)
 

@@ -35,8 +35,8 @@ field_number EnPassant fen = 3
 field_number Counters fen = if is_some (short_number 6 (field_at 4 fen)) then 5 else 4
 field_number _ fen = 0
 
--- the reason for a bad FEN: the name of its fault; of a bad castling field also how it was read, since a tag Variant
--- may give Chess960 a name that is not known
+-- the reason for a bad FEN: the name of its fault. For a fault of castling, in both variants, also how a FEN is read,
+-- since a tag Variant may give Chess960 a name that is not known, which counts as normal chess
 abbrev pub fen_reason : FenFault → List ℕ
 fen_reason Castling = codes "castling, as in normal chess unless the tag Variant names Chess960"
 fen_reason fault = fen_fault_name fault
