@@ -330,7 +330,8 @@ fn variant_of(tag: Option<Tag<'_>>) -> Variant
 }
 
 // The variant of the game whose text begins at the offset `at`, as its last tag `Variant` names it; normal chess if it
-// has no such tag. The game's tags end before its first number, move, termination marker or fault.
+// has no such tag. The game's tags end before its first number, move or
+// termination marker, or before what can't be read.
 fn tagged_variant(text: &[u8], at: usize) -> Variant
     requires { at ≤ length text.now }
     ensures { result ≡ tagged_variant (tag_section (tokens_from text.now at)) }
