@@ -16,6 +16,7 @@ SHORT = {
     "base": "chess_base",
     "lines": "text_lines",
     "fen": "chess_fen",
+    "fen_laws": "chess_fen_laws",
     "moves": "chess_moves",
     "bits": "chess_bits",
     "game": "chess_game",

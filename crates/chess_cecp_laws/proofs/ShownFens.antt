@@ -3,8 +3,9 @@ use Rattle.std.proofs.Common.{◌≡◌, ◌∙◌, ◌≤◌, ℕ, Bool, true, 
 use Rattle.std.proofs.{Math.Seq.take-append_seam, lemmas.Bool.Decides.nat_tests}
 use Rattle.chess_base.specs.{Letters.letter, Letters.letter_by, Sound.IsSound, declared.man.Colour.Colour, declared.man.Colour.TheVariants.White, declared.man.Colour.TheVariants.Black, declared.man.Kind.Kind, declared.man.Man.Man, declared.setup.Setup.Setup}
 use Rattle.chess_base.specs.declared.man.Kind.TheVariants.{King, Queen, Rook, Bishop, Knight, Pawn}
-use Rattle.chess_fen.specs.{Reading.fen_reading_as, laws.Laws.WrittenIsReadBack}
+use Rattle.chess_fen.specs.Reading.{fen_reading_as}
 use Rattle.chess_fen.specs.Writing.{fen, fen_rank, placement_text, squares_text}
+use Rattle.chess_fen_laws.specs.Laws.{WrittenIsReadBack}
 use Rattle.chess_game.specs.Game.{current}
 use Rattle.chess_game.proofs.shared.Lines.{IsSound-position_after, variant-position_after}
 use Rattle.text_lines.specs.{Lines.LineSeen, Lines.without_front_blanks, Words.argument_of}

@@ -4,7 +4,7 @@
 ghost use Rattle.chess_cecp_laws.specs.SetBoard.{SetboardTakesShownFens};
 ghost use Rattle.chess_cecp_laws.specs.Undo.{UndoTakesAMoveBack};
 
-use chess_fen::written_is_denoted;
+use chess_fen_laws::written_is_denoted;
 
 /// A law: the contract says it, and the function does nothing. `undo` after a move that a session accepted has no
 /// answer, and leaves the session as it was before the move.

@@ -186,6 +186,7 @@ holds [] f false ys e = absurd cc
 holds ((g, true) ∷ xs) f b ys e = holds xs f b ys e
 holds ((g, false) ∷ xs) f b ys e = absurd cc
 
+-- a sound position that is denoted is read
 pub reading-denoted : (v : Variant) (text : List ℕ) (p : Setup) → DenotesFenAs v text p → IsSound p
     → fen_reading_as v text ≡ Ok p
 reading-denoted v text p s h =
@@ -232,8 +233,9 @@ reading_in_variant v text = by_result (fen_reading_as v text) (reading_outcome v
     by_result (Ok p) s = s.1.5.variant
     by_result (Err f) s = tt
 
-pub found : (v : Variant) (text : List ℕ) (p : Setup) → fen_reading_as v text ≡ Ok p → DenotesFenAs v text p
-found v text p e = subst (ReadingOutcome v text) e (reading_outcome v text)
+-- what is read is denoted
+pub denoted-reading : (v : Variant) (text : List ℕ) (p : Setup) → fen_reading_as v text ≡ Ok p → DenotesFenAs v text p
+denoted-reading v text p e = subst (ReadingOutcome v text) e (reading_outcome v text)
 
 pub faulty : (v : Variant) (text : List ℕ) (f : FenFault) → fen_reading_as v text ≡ Err f → IsFaultAs v text f
 faulty v text f e = subst (ReadingOutcome v text) e (reading_outcome v text)

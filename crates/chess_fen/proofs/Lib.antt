@@ -11,7 +11,6 @@ mod RookAmong
 mod RooksNamed
 mod RightLetters
 mod RightsBack
-mod NamedRooks
 mod Joined
 mod FenBytes
 mod DenotedFields
@@ -21,7 +20,5 @@ mod DenotedFen
 mod NormalWritten
 mod NormalRead
 mod WrittenFen
-mod EqualFens
-mod OneRankText
 mod RightsAlike
 mod OneInitial

@@ -1,7 +1,7 @@
 -- What the letters of a castling field say of a right, as an option of an option: `None` for `Wrong`, `Some None` for
 -- `Absent`. Proofs about rights use this form; here it is shown to say the same as `right_in`.
 use Rattle.std.proofs.Common.{◌≡◌, ℕ, Bool, true, false, ◌&&◌, List, [], ◌∷◌, map, Option, Some, None, if◌then◌else◌, refl, sym, ap, ◌∙◌, is_some}
-use Rattle.std.specs.{Bool.then_some, List.filter, List.list_all, Option.option_flatten, Option.option_map_or}
+use Rattle.std.specs.{Bool.then_some, List.filter, List.list_all, Option.option_flatten}
 use Rattle.chess_base.specs.{declared.man.CastlingSide.CastlingSide, declared.man.CastlingSide.TheVariants.KingSide, declared.man.CastlingSide.TheVariants.QueenSide, declared.man.Colour.Colour, declared.man.Colour.TheVariants.White, declared.man.Colour.TheVariants.Black, declared.man.Rights.Rights, declared.man.Variant.Variant, declared.man.Variant.TheVariants.Normal, declared.man.Variant.TheVariants.Fischerandom, Castling.home_square, Castling.rook_file, Castling.rights_by, Men.Men}
 use Rattle.chess_fen.specs.RightNames.{all_rights, side_letter, names_right, rook_by, NamedRight, Absent, At, Wrong, right_by, right_in, is_named_well, names_rights_well, rook_of, rights_in}
 use Rattle.chess_fen.specs.Texts.{occurs}
@@ -107,35 +107,3 @@ pub wells_as_options : (v : Variant) (men : Men) (letters : List ℕ)
     → names_rights_well v men letters ≡ options_are_well v men letters
 wells_as_options v men letters = same_tests (λ c w. is_named_well (right_in v men letters c w))
     (λ c w. is_some (option_in v men letters c w)) (well_is v men letters)
-
--- ---- back
-
-abbrev of_option : Option (Option ℕ) → NamedRight
-of_option None = Wrong
-of_option (Some None) = Absent
-of_option (Some (Some s)) = At s
-
-back : (n : NamedRight) → of_option (as_option n) ≡ n
-back Absent = refl
-back (At s) = refl
-back Wrong = refl
-
-as_stated : (o : Option ℕ) → as_option (option_map_or At o Absent) ≡ Some o
-as_stated None = refl
-as_stated (Some s) = refl
-
-of_stated : (o : Option ℕ) → of_option (Some o) ≡ option_map_or At o Absent
-of_stated None = refl
-of_stated (Some s) = refl
-
--- a right that is named well, as an option
-pub as_named : (v : Variant) (men : Men) (letters : List ℕ) (c : Colour) (w : CastlingSide) (o : Option ℕ)
-    → right_in v men letters c w ≡ option_map_or At o Absent → option_in v men letters c w ≡ Some o
-as_named v men letters c w o e =
-    sym (option_is v men letters c w) ∙ ap (λ (n : NamedRight). as_option n) e ∙ as_stated o
-
--- and back
-pub of_named : (v : Variant) (men : Men) (letters : List ℕ) (c : Colour) (w : CastlingSide) (o : Option ℕ)
-    → option_in v men letters c w ≡ Some o → right_in v men letters c w ≡ option_map_or At o Absent
-of_named v men letters c w o e = sym (back (right_in v men letters c w))
-    ∙ ap (λ (x : Option (Option ℕ)). of_option x) (option_is v men letters c w ∙ e) ∙ of_stated o

@@ -2,7 +2,7 @@
 use Rattle.std.proofs.Common.{◌≡◌, ℕ, zero, suc, ◌+◌, ◌-◌, ◌*◌, ◌<◌, List, [], ◌∷◌, ◌++◌, take, drop, Option, Some, None, refl, sym, ap, ◌∙◌, append_assoc, append-nil, arith, is_none, replicate, true}
 use Rattle.std.specs.List.{prefix_len}
 use Rattle.chess_base.specs.{declared.man.Man.Man, Letters.letter}
-use Rattle.chess_fen.specs.{Writing.squares_text, Writing.fen_rank, ties.Loops.run_text, ties.Loops.row_text, ties.Loops.ranks_text}
+use Rattle.chess_fen.specs.{Writing.squares_text, Writing.fen_rank, shared.Rows.run_text, shared.Rows.row_text, ties.Loops.ranks_text}
 
 -- ---- a rank
 

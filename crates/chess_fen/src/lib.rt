@@ -18,7 +18,6 @@ mod castling_rights;
 mod fen;
 mod fields;
 mod initial;
-mod laws;
 mod letters;
 mod number;
 mod placement;
@@ -29,9 +28,5 @@ mod writing;
 
 pub use fen::Fen;
 pub use initial::is_initial;
-pub use laws::{
-    a_rank_has_one_text, equal_fens_are_equal_positions, fens_are_worked_out, normal_is_kept,
-    rights_are_named, written_is_denoted,
-};
 pub use reading::{read_fen, read_fen_as};
 pub use writing::{FenText, write_fen};

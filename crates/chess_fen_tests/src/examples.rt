@@ -1,7 +1,7 @@
 //! The examples in the documentation of chess_fen's items.
 
 use chess_base::{FenFault, Move, Position, Square, Variant};
-use chess_fen::{Fen, equal_fens_are_equal_positions};
+use chess_fen::Fen;
 use std::alloc::Global;
 use std::hash::{DefaultHasher, Hash, Hasher};
 use std::process::Abort;
@@ -76,9 +76,4 @@ fn fens_are_debugged_in_quotes(rt: HostRuntime) -> Result<(), Fail> {
         "Fen(\"4k3/8/8/8/8/8/4P3/4K3 w - - 0 1\")"
     );
     Ok(())
-}
-
-#[test]
-fn laws_are_called() {
-    equal_fens_are_equal_positions();
 }

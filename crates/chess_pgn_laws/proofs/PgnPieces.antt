@@ -3,7 +3,8 @@ use Rattle.std.proofs.Common.{◌≡◌, ℕ, suc, ◌+◌, ◌-◌, ◌<◌, �
 use Rattle.std.specs.List.{list_all}
 use Rattle.std.proofs.{lemmas.Bool.and_parts, lemmas.Bool.Decides.nat_tests}
 use Rattle.chess_base.specs.{declared.man.Move.Move, declared.setup.Setup.Setup, Sound.IsSound, Moves.is_legal}
-use Rattle.chess_fen.specs.{Reading.fen_reading_as, Writing.fen, laws.Laws.WrittenIsReadBack}
+use Rattle.chess_fen.specs.{Reading.fen_reading_as, Writing.fen}
+use Rattle.chess_fen_laws.specs.Laws.{WrittenIsReadBack}
 use Rattle.chess_game.specs.Game.{State, from_start, played, current, verdict_now}
 use Rattle.chess_game.specs.{Results.outcome_text, declared.results.Outcome.Outcome}
 use Rattle.chess_game.specs.declared.results.Outcome.TheVariants.{WhiteWins, BlackWins, Draw, Unfinished}

@@ -21,7 +21,7 @@ ghost use Rattle.pgn_writer.specs.PgnText.{IsPgn};
 ghost use Rattle.chess_pgn.specs.Split.{IsSplit};
 
 use chess_base::{Position, Variant, after_is_sound};
-use chess_fen::written_is_denoted;
+use chess_fen_laws::written_is_denoted;
 use chess_text::{read_moves_are_legal, texts_have_parts};
 
 /// States a law and does nothing: if a game is written without a prefix, and its text is read where it begins, the

@@ -1,5 +1,5 @@
 -- The definitions that loops compute, from any step of the loop on.
-use Rattle.std.specs.Prelude.{ℕ, codes, zero, suc, ◌+◌, ◌-◌, ◌*◌, List, [], ◌∷◌, ◌++◌, map, take, drop, Option, Some, None, if◌then◌else◌}
+use Rattle.std.specs.Prelude.{ℕ, codes, zero, suc, ◌-◌, ◌*◌, List, [], ◌∷◌, map, take, drop, Option, if◌then◌else◌}
 use Rattle.std.specs.List.{join_with_byte}
 use Rattle.std.specs.Option.{option_map_or}
 use Rattle.chess_base.specs.declared.man.Colour.{Colour}
@@ -11,7 +11,6 @@ use Rattle.chess_base.specs.declared.man.CastlingSide.TheVariants.{KingSide, Que
 use Rattle.chess_base.specs.declared.man.Kind.TheVariants.{Rook}
 use Rattle.chess_base.specs.Men.{Men, man_at, is_man}
 use Rattle.chess_base.specs.Castling.{home_square}
-use Rattle.chess_base.specs.Letters.{letter}
 use Rattle.byte_devices.specs.Bytes.{byte}
 use Rattle.chess_fen.specs.ties.Reader.{nowhere}
 use Rattle.chess_fen.specs.Writing.{fen_rank}
@@ -37,18 +36,6 @@ or_dash (c ∷ cs) = c ∷ cs
 -- the letter of a castling right, given as its rook's square, as text; nothing if there is no right
 abbrev pub right_text : Variant → Colour → CastlingSide → Option ℕ → List ℕ
 right_text v c w right = option_map_or (λ s. right_letter v c w s ∷ []) right []
-
--- a run of n empty squares as text: the digit n, or nothing for n = 0
-abbrev pub run_text : ℕ → List ℕ
-run_text zero = []
-run_text (suc n) = (byte "0" + suc n) ∷ []
-
--- the text of the rest of a rank, after `empty` empty squares that are not yet written: with 2 of them before a white
--- pawn it begins "2P"
-abbrev pub row_text : ℕ → List (Option Man) → List ℕ
-row_text empty [] = run_text empty
-row_text empty (None ∷ row) = row_text (suc empty) row
-row_text empty (Some man ∷ row) = run_text empty ++ letter man ∷ row_text 0 row
 
 -- the n lowest ranks of the board (the first argument is n), each as its eight squares, the highest of them first
 abbrev pub ranks_down : ℕ → List (Option Man) → List (List (Option Man))

@@ -3,12 +3,12 @@
 use Rattle.std.proofs.Common.{◌≡◌, Result, Ok, Err, List, ℕ, sym, ◌∙◌, IfOk, IfErr}
 use Rattle.chess_base.specs.{declared.man.Variant.Variant, declared.setup.Setup.Setup, Sound.IsSound, declared.fen_fault.FenFault.FenFault}
 use Rattle.chess_fen.specs.{Reading.fen_reading_as, Denotation.DenotesFenAs, FenFaults.IsFaultAs}
-use Rattle.chess_fen.proofs.DenotedFen.{found, faulty, fault-read, reading-denoted}
+use Rattle.chess_fen.proofs.DenotedFen.{denoted-reading, faulty, fault-read, reading-denoted}
 use Rattle.chess_fen.proofs.reading.read_fen_as.Goals as goal
 
 read : (v : Variant) (text : List ℕ) (r : Result Setup FenFault) → r ≡ fen_reading_as v text → IfOk r IsSound
     → IfOk r (λ p. DenotesFenAs v text p × IsSound p)
-read v text (Ok p) e h = (found v text p (sym e), h)
+read v text (Ok p) e h = (denoted-reading v text p (sym e), h)
 read v text (Err f) e h = tt
 
 said : (v : Variant) (text : List ℕ) (r : Result Setup FenFault) → r ≡ fen_reading_as v text

@@ -2,7 +2,7 @@
 -- there is room for it.
 use Rattle.std.proofs.Common.{◌≡◌, ◌+◌, ◌≤◌, ◌++◌, drop}
 use Rattle.arrayvec.specs.ArrayVec.{array_vec_len}
-use Rattle.chess_fen.specs.{Writing.fen_rank, ties.Loops.row_text}
+use Rattle.chess_fen.specs.{Writing.fen_rank, shared.Rows.row_text}
 use Rattle.chess_fen.proofs.writing.write_rank.Given as goal
 
 abbrev pub invariant-loop-square : goal.invariant-loop-square

@@ -1,21 +1,33 @@
 -- In Chess960 the letters of a field of rights name rooks: that of each right is named by just one.
-use Rattle.std.proofs.Common.{◌≡◌, ◌≢◌, ℕ, zero, suc, ◌+◌, ◌-◌, ◌%◌, ◌<◌, ◌≤◌, inl, inr, Bool, true, false, cond, eqb, ◌&&◌, ◌||◌, List, [], ◌∷◌, ◌++◌, map, Option, Some, None, refl, sym, ap, subst, ◌∙◌, arith, find, unwrap_or}
-use Rattle.std.specs.List.{AllByRecursion, filter}
+use Rattle.std.proofs.Common.{◌≡◌, ◌≢◌, ℕ, zero, suc, ◌+◌, ◌-◌, ◌%◌, ◌<◌, ◌≤◌, inl, inr, Bool, true, false, cond, eqb, ◌&&◌, ◌||◌, List, [], ◌∷◌, ◌++◌, map, Option, Some, None, refl, sym, ap, subst, ◌∙◌, arith, find}
+use Rattle.std.specs.{List.AllByRecursion, List.filter, Option.option_map_or}
 use Rattle.std.proofs.{lemmas.Bool.Decides.nat_tests, lemmas.List.Elements.filter-append}
 use Rattle.std.proofs.lemmas.Bool.{and_parts, eqb-true, eq-eqb, cases_lt}
-use Rattle.chess_base.specs.{declared.man.Colour.Colour, declared.man.Colour.TheVariants.White, declared.man.Colour.TheVariants.Black, declared.man.CastlingSide.CastlingSide, declared.man.CastlingSide.TheVariants.KingSide, declared.man.CastlingSide.TheVariants.QueenSide, declared.man.Kind.TheVariants.Rook, declared.man.Variant.TheVariants.Fischerandom, Squares.file, Squares.rank, shared.Splits.right_is_sound_at}
+use Rattle.chess_base.specs.{declared.man.Colour.Colour, declared.man.CastlingSide.CastlingSide, declared.man.CastlingSide.TheVariants.KingSide, declared.man.CastlingSide.TheVariants.QueenSide, declared.man.Kind.TheVariants.Rook, declared.man.Variant.TheVariants.Fischerandom, Squares.file, Squares.rank, shared.Splits.right_is_sound_at}
 use Rattle.chess_base.specs.Men.{Men, man_at, is_man, first_rank}
 use Rattle.chess_base.specs.Castling.{home_square, king_square, is_to_side, right_is_sound, right_of}
-use Rattle.chess_fen.specs.{Texts.first_letter, Texts.names_file, ties.Reader.nowhere, ties.Reader.outer_rook, ties.Loops.edge_file, ties.Loops.rook_among, laws.Laws.RightsAreNamed}
-use Rattle.chess_fen.specs.RightNames.{side_letter, from_edge, is_towards, names_right, rook_by}
-use Rattle.chess_fen.proofs.RooksNamed.{option_by, option_in, in_chess960, as_named, of_named}
-use Rattle.chess_fen.specs.laws.NamedRooks.{IsOutermost, NamesRook, NamesNone, RightIsNamed}
-use Rattle.chess_fen.proofs.RookAmong.{outer_among}
-use Rattle.chess_fen.proofs.RightsBack.{Beside, beside, no_side_letter, own_file, file_back, file_in, names_own, rook_own}
+use Rattle.chess_fen.specs.Texts.{first_letter, names_file}
+use Rattle.chess_fen.specs.RightNames.{side_letter, from_edge, is_towards, names_right, rook_by, Absent, At, right_by, right_in}
+use Rattle.chess_fen.proofs.shared.FileLetters.{Beside, beside, no_side_letter, own_file, file_back, file_in, names_own, rook_own}
+use Rattle.chess_fen_laws.specs.{Laws.RightsAreNamed, NamedRooks.IsOutermost, NamedRooks.NamesRook, NamedRooks.NamesNone, NamedRooks.RightIsNamed}
 
 -- ---- the outermost rook
 
-home_rank : (c : Colour) (w : CastlingSide) (k : ℕ) → k < 8 → rank (home_square c (edge_file w k)) ≡ first_rank c
+-- the square of the first rank on which k more files are left in a search from the edge on that side
+abbrev square_left : Colour → CastlingSide → ℕ → ℕ
+square_left c KingSide k = home_square c k
+square_left c QueenSide k = home_square c (7 - k)
+
+-- the squares of the last k files of this search
+squares_left : Colour → CastlingSide → ℕ → List ℕ
+squares_left c w zero = []
+squares_left c w (suc k) = square_left c w k ∷ squares_left c w k
+
+-- the first rook among these squares
+abbrev first_rook : Men → Colour → List ℕ → Option ℕ
+first_rook men c squares = find (λ s. is_man c Rook (man_at men s)) squares
+
+home_rank : (c : Colour) (w : CastlingSide) (k : ℕ) → k < 8 → rank (square_left c w k) ≡ first_rank c
 home_rank c w k h = grind (arith, h)
 
 -- how many files are left towards the other edge
@@ -26,25 +38,24 @@ files_left QueenSide t = 7 - t % 8
 left_few : (w : CastlingSide) (t : ℕ) → files_left w t < 8
 left_few w t = grind arith
 
-from_left : (c : Colour) (w : CastlingSide) (t : ℕ) → rank t ≡ first_rank c
-    → home_square c (edge_file w (files_left w t)) ≡ t
+from_left : (c : Colour) (w : CastlingSide) (t : ℕ) → rank t ≡ first_rank c → square_left c w (files_left w t) ≡ t
 from_left c w t h = grind (arith, h)
 
 -- what is further out than a file has more files left
 further : (c : Colour) (w : CastlingSide) (k t : ℕ) → k < 8 → rank t ≡ first_rank c
-    → is_to_side w (home_square c (edge_file w k)) t ≡ true → k < files_left w t
+    → is_to_side w (square_left c w k) t ≡ true → k < files_left w t
 further c w k t l h e = grind (arith, nat_tests, l, h, e)
 
 nearer : (c : Colour) (w : CastlingSide) (k s : ℕ) → k < 8 → rank s ≡ first_rank c → files_left w s < k
-    → is_to_side w s (home_square c (edge_file w k)) ≡ true
+    → is_to_side w s (square_left c w k) ≡ true
 nearer c w k s l h e = grind (arith, nat_tests, l, h, e)
 
 abbrev RookLeft : Men → Colour → CastlingSide → ℕ → Bool
-RookLeft men c w k = is_man c Rook (man_at men (home_square c (edge_file w k)))
+RookLeft men c w k = is_man c Rook (man_at men (square_left c w k))
 
 beyond : (men : Men) (c : Colour) (w : CastlingSide) (k : ℕ) → k < 8
     → ((j : ℕ) → k < j → j < 8 → RookLeft men c w j ≡ false)
-    → (t : ℕ) → rank t ≡ first_rank c → is_to_side w (home_square c (edge_file w k)) t ≡ true
+    → (t : ℕ) → rank t ≡ first_rank c → is_to_side w (square_left c w k) t ≡ true
     → is_man c Rook (man_at men t) ≡ false
 beyond men c w k l above t h e =
     ap (λ x. is_man c Rook (man_at men x)) (sym (from_left c w t h))
@@ -52,10 +63,12 @@ beyond men c w k l above t h e =
 
 among_by : (men : Men) (c : Colour) (w : CastlingSide) (s k : ℕ) → k < 8 → (b : Bool) → RookLeft men c w k ≡ b
     → ((j : ℕ) → k < j → j < 8 → RookLeft men c w j ≡ false)
-    → (((j : ℕ) → k ≤ j → j < 8 → RookLeft men c w j ≡ false) → rook_among men c w k ≡ s → IsOutermost men c w s)
-    → cond b (home_square c (edge_file w k)) (rook_among men c w k) ≡ s → IsOutermost men c w s
+    → (((j : ℕ) → k ≤ j → j < 8 → RookLeft men c w j ≡ false) → first_rook men c (squares_left c w k) ≡ Some s
+    → IsOutermost men c w s)
+    → cond b (Some (square_left c w k)) (first_rook men c (squares_left c w k)) ≡ Some s → IsOutermost men c w s
 among_by men c w s k l true at above rec e =
-    subst (IsOutermost men c w) e
+    let here : square_left c w k ≡ s = cc in
+    subst (IsOutermost men c w) here
     (record { rook = at; home = home_rank c w k l; none_beyond = beyond men c w k l above })
 among_by men c w s k l false at above rec e =
     rec (λ j low high. elim (cases_lt k j) [
@@ -63,38 +76,45 @@ among_by men c w s k l false at above rec e =
       | inr on ↦ let same : j ≡ k = omega (arith, low, on) in ap (RookLeft men c w) same ∙ at
     ]) e
 
-among : (men : Men) (c : Colour) (w : CastlingSide) (s : ℕ) → s ≢ nowhere → (k : ℕ) → k ≤ 8
+among : (men : Men) (c : Colour) (w : CastlingSide) (s k : ℕ) → k ≤ 8
     → ((j : ℕ) → k ≤ j → j < 8 → RookLeft men c w j ≡ false)
-    → rook_among men c w k ≡ s → IsOutermost men c w s
-among men c w s n zero low above e = absurd (n (sym e))
-among men c w s n (suc k) low above e =
+    → first_rook men c (squares_left c w k) ≡ Some s → IsOutermost men c w s
+unfolding squares_left
+among men c w s zero low above e = absurd cc
+among men c w s (suc k) low above e =
     among_by men c w s k (omega (arith, low)) (RookLeft men c w k) refl (λ j past. above j (omega (arith, past)))
-    (among men c w s n k (omega (arith, low))) e
+    (among men c w s k (omega (arith, low))) e
 
-outermost : (men : Men) (c : Colour) (w : CastlingSide) (s : ℕ) → s ≢ nowhere → outer_rook men c w ≡ s
+outermost : (men : Men) (c : Colour) (w : CastlingSide) (s : ℕ) → first_rook men c (from_edge c w) ≡ Some s
     → IsOutermost men c w s
-outermost men c w s n e = among men c w s n 8 (omega arith) (λ j low high. absurd (omega (arith, low, high)))
-    (sym (outer_among men c w) ∙ e)
+unfolding squares_left
+outermost men c KingSide s e =
+    among men c KingSide s 8 (omega arith) (λ j low high. absurd (omega (arith, low, high))) e
+outermost men c QueenSide s e =
+    among men c QueenSide s 8 (omega arith) (λ j low high. absurd (omega (arith, low, high))) e
 
 found_from : (men : Men) (c : Colour) (w : CastlingSide) (s : ℕ) → IsOutermost men c w s → (k : ℕ) → k ≤ 8
-    → files_left w s < k → rook_among men c w k ≡ s
+    → files_left w s < k → first_rook men c (squares_left c w k) ≡ Some s
+unfolding squares_left
 found_from men c w s o zero low past = absurd (omega (arith, past))
 found_from men c w s o (suc k) low past =
     elim (cases_lt (files_left w s) k) [
       | inl before ↦
           let l : k < 8 = omega (arith, low) in
           let none : RookLeft men c w k ≡ false =
-          o.none_beyond (home_square c (edge_file w k)) (home_rank c w k l) (nearer c w k s l o.home before) in
+          o.none_beyond (square_left c w k) (home_rank c w k l) (nearer c w k s l o.home before) in
           rw none (found_from men c w s o k (omega (arith, low)) before)
       | inr on ↦
           let same : files_left w s ≡ k = omega (arith, past, on) in
-          let here : home_square c (edge_file w k) ≡ s =
-          ap (λ j. home_square c (edge_file w j)) (sym same) ∙ from_left c w s o.home in
+          let here : square_left c w k ≡ s = ap (square_left c w) (sym same) ∙ from_left c w s o.home in
           rw (here, o.rook) refl
     ]
 
-outer_is : (men : Men) (c : Colour) (w : CastlingSide) (s : ℕ) → IsOutermost men c w s → outer_rook men c w ≡ s
-outer_is men c w s o = outer_among men c w ∙ found_from men c w s o 8 (omega arith) (left_few w s)
+outer_found : (men : Men) (c : Colour) (w : CastlingSide) (s : ℕ) → IsOutermost men c w s
+    → first_rook men c (from_edge c w) ≡ Some s
+unfolding squares_left
+outer_found men c KingSide s o = found_from men c KingSide s o 8 (omega arith) (left_few KingSide s)
+outer_found men c QueenSide s o = found_from men c QueenSide s o 8 (omega arith) (left_few QueenSide s)
 
 -- ---- what one letter says
 
@@ -138,38 +158,26 @@ unnamed_by men c w l h false false at bt = refl
 unnamed : (men : Men) (c : Colour) (w : CastlingSide) (l : ℕ) → NamesNone men c w l → names_right men c w l ≡ false
 unnamed men c w l h = unnamed_by men c w l h (eqb l (side_letter c w)) (IsFileTowards men c w l) refl refl
 
-some_by : (men : Men) (c : Colour) (w : CastlingSide) (l s : ℕ) → s ≢ nowhere → (a : Bool)
-    → eqb l (side_letter c w) ≡ a → (a || IsFileTowards men c w l) ≡ true
-    → cond a (find (λ k. is_man c Rook (man_at men k)) (from_edge c w)) (Some (home_square c (l - first_letter c)))
-    ≡ Some s → NamesRook men c w l s
-unfolding outer_rook
-some_by men c w l s n true at named e =
-    inl (eqb-true l (side_letter c w) at, outermost men c w s n (ap (λ o. unwrap_or o nowhere) e))
-some_by men c w l s n false at named e =
+some_by : (men : Men) (c : Colour) (w : CastlingSide) (l s : ℕ) → (a : Bool) → eqb l (side_letter c w) ≡ a
+    → (a || IsFileTowards men c w l) ≡ true
+    → cond a (first_rook men c (from_edge c w)) (Some (home_square c (l - first_letter c))) ≡ Some s
+    → NamesRook men c w l s
+some_by men c w l s true at named e = inl (eqb-true l (side_letter c w) at, outermost men c w s e)
+some_by men c w l s false at named e =
     let whole : home_square c (l - first_letter c) ≡ s = cc in
     let f = (and_parts (names_file c l) (is_towards w (king_square men c) (home_square c (l - first_letter c))) named).0
     in
     inr (subst (λ t. l ≡ first_letter c + file t) whole (file_of c l f))
 
-there : (o : Option ℕ) (s : ℕ) → unwrap_or o nowhere ≡ s → s ≢ nowhere → o ≡ Some s
-there None s e n = absurd (n (sym e))
-there (Some t) s e n = ap Some e
-
-outer_found : (men : Men) (c : Colour) (w : CastlingSide) (s : ℕ) → s ≢ nowhere → IsOutermost men c w s
-    → find (λ k. is_man c Rook (man_at men k)) (from_edge c w) ≡ Some s
-unfolding outer_rook
-outer_found men c w s n h =
-    there (find (λ k. is_man c Rook (man_at men k)) (from_edge c w)) s (outer_is men c w s h) n
-
-names_it : (men : Men) (c : Colour) (w : CastlingSide) (l s : ℕ) → Beside men c w s → s ≢ nowhere
-    → NamesRook men c w l s → (names_right men c w l ≡ true) × (rook_by men c w l ≡ Some s)
-names_it men c w l s b n (inl h) =
+names_it : (men : Men) (c : Colour) (w : CastlingSide) (l s : ℕ) → Beside men c w s → NamesRook men c w l s
+    → (names_right men c w l ≡ true) × (rook_by men c w l ≡ Some s)
+names_it men c w l s b (inl h) =
     let t : eqb l (side_letter c w) ≡ true = eq-eqb l (side_letter c w) h.0 in (
       ap (λ b. b || IsFileTowards men c w l) t,
-      ap (λ b. cond b (find (λ k. is_man c Rook (man_at men k)) (from_edge c w))
-          (Some (home_square c (l - first_letter c)))) t ∙ outer_found men c w s n h.1,
+      ap (λ b. cond b (first_rook men c (from_edge c w)) (Some (home_square c (l - first_letter c)))) t
+          ∙ outer_found men c w s h.1,
     )
-names_it men c w l s b n (inr h) = (
+names_it men c w l s b (inr h) = (
   ap (names_right men c w) h ∙ names_own men c w s b,
   ap (rook_by men c w) h ∙ rook_own men c w s b.rook_rank,
 )
@@ -220,56 +228,46 @@ one_of men c w l (x ∷ xs) e = by_test (names_right men c w x) refl e (one_of m
 -- ---- the rooks that letters name
 
 no_letters : (men : Men) (c : Colour) (w : CastlingSide) (ls : List ℕ)
-    → option_by (map (rook_by men c w) ls) ≡ Some None → ls ≡ []
+    → right_by (map (rook_by men c w) ls) ≡ Absent → ls ≡ []
 no_letters men c w [] e = refl
 no_letters men c w (x ∷ []) e = grind (arith, e)
 no_letters men c w (x ∷ y ∷ ls) e = grind (arith, e)
 
 one_letter : (men : Men) (c : Colour) (w : CastlingSide) (s : ℕ) (ls : List ℕ)
-    → option_by (map (rook_by men c w) ls) ≡ Some (Some s)
-    → (l : ℕ) × (ls ≡ l ∷ []) × (rook_by men c w l ≡ Some s)
+    → right_by (map (rook_by men c w) ls) ≡ At s → (l : ℕ) × (ls ≡ l ∷ []) × (rook_by men c w l ≡ Some s)
 one_letter men c w s [] e = absurd cc
 one_letter men c w s (x ∷ []) e = (x, refl, grind (arith, e))
 one_letter men c w s (x ∷ y ∷ ls) e = grind (arith, e)
 
 -- ---- the right
 
-somewhere : (c : Colour) (s : ℕ) → rank s ≡ first_rank c → s ≢ nowhere
-somewhere White s h e = absurd (omega (arith, h, e))
-somewhere Black s h e = absurd (omega (arith, h, e))
-
 named_by : (men : Men) (c : Colour) (w : CastlingSide) (text : List ℕ) (o : Option ℕ)
-    → right_is_sound_at Fischerandom men c w o ≡ true → option_in Fischerandom men text c w ≡ Some o
-    → RightIsNamed text men c w o
-named_by men c w text None sound e =
-    all_none men c w text (no_letters men c w (filter (names_right men c w) text) (sym (in_chess960 men c w text) ∙ e))
-named_by men c w text (Some s) sound e =
-    let n = somewhere c s (beside men c w s sound).rook_rank in
-    let k = one_letter men c w s (filter (names_right men c w) text) (sym (in_chess960 men c w text) ∙ e) in
+    → right_in Fischerandom men text c w ≡ option_map_or At o Absent → RightIsNamed text men c w o
+named_by men c w text None e = all_none men c w text (no_letters men c w (filter (names_right men c w) text) e)
+named_by men c w text (Some s) e =
+    let k = one_letter men c w s (filter (names_right men c w) text) e in
     let r = one_of men c w k.0 text k.1 in
-    (r.0, k.0, r.1, r.2, some_by men c w k.0 s n (eqb k.0 (side_letter c w)) refl r.3 k.2, r.4, r.5)
+    (r.0, k.0, r.1, r.2, some_by men c w k.0 s (eqb k.0 (side_letter c w)) refl r.3 k.2, r.4, r.5)
 
 said_by : (men : Men) (c : Colour) (w : CastlingSide) (text : List ℕ) (o : Option ℕ)
     → right_is_sound_at Fischerandom men c w o ≡ true → RightIsNamed text men c w o
-    → option_in Fischerandom men text c w ≡ Some o
+    → right_in Fischerandom men text c w ≡ option_map_or At o Absent
 said_by men c w text None sound h =
-    in_chess960 men c w text ∙ ap (λ letters. option_by (map (rook_by men c w) letters)) (none_left men c w text h)
+    ap (λ letters. right_by (map (rook_by men c w) letters)) (none_left men c w text h)
 said_by men c w text (Some s) sound h =
-    let b = beside men c w s sound in
-    let it = names_it men c w h.1 s b (somewhere c s b.rook_rank) h.4 in
-    in_chess960 men c w text ∙ ap (λ letters. option_by (map (rook_by men c w) letters)) (ap (filter (names_right men c w)) h.3
+    let it = names_it men c w h.1 s (beside men c w s sound) h.4 in
+    ap (λ letters. right_by (map (rook_by men c w) letters))
+    (ap (filter (names_right men c w)) h.3
     ∙ filter-append (names_right men c w) h.0 (h.1 ∷ h.2)
     ∙ ap (λ xs. xs ++ filter (names_right men c w) (h.1 ∷ h.2)) (none_left men c w h.0 h.5)
     ∙ ap (λ b. cond b (h.1 ∷ filter (names_right men c w) h.2) (filter (names_right men c w) h.2)) it.0
     ∙ ap (λ xs. h.1 ∷ xs) (none_left men c w h.2 h.6))
-    ∙ ap (λ rook. option_by (rook ∷ [])) it.1
+    ∙ ap (λ rook. right_by (rook ∷ [])) it.1
 
 pub rights_named : RightsAreNamed
 unfolding right_is_sound
 rights_named text p c w is sound =
     let stands = subst (λ v. right_is_sound_at v p.men c w (right_of p.rights c w) ≡ true) is sound in (
-      (λ e. named_by p.men c w text (right_of p.rights c w) stands
-          (as_named Fischerandom p.men text c w (right_of p.rights c w) e)),
-      (λ h. of_named Fischerandom p.men text c w (right_of p.rights c w)
-          (said_by p.men c w text (right_of p.rights c w) stands h)),
+      (λ e. named_by p.men c w text (right_of p.rights c w) e),
+      (λ h. said_by p.men c w text (right_of p.rights c w) stands h),
     )

@@ -5,8 +5,8 @@ use Rattle.std.proofs.{lemmas.Bool.and_parts, lemmas.Cmp.nat_list_eq_equiv}
 use Rattle.std.specs.Cmp.Lexicographic.{pointwise, same_text}
 use Rattle.chess_base.specs.contracts.man.VariantPartialEq.TheImpl.{eq-value}
 use Rattle.chess_fen.specs.Writing.{fen}
-use Rattle.chess_fen.proofs.EqualFens.{variants_equal, variant_equal, same_position}
-use Rattle.chess_fen.proofs.laws.equal_fens_are_equal_positions.Goals as goal
+use Rattle.chess_fen_laws.proofs.EqualFens.{variants_equal, variant_equal, same_position}
+use Rattle.chess_fen_laws.proofs.laws.equal_fens_are_equal_positions.Goals as goal
 
 pub returns : goal.returns
 returns c = λ p q sound_p sound_q. (

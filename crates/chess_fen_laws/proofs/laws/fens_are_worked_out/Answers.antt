@@ -4,9 +4,11 @@ use Rattle.chess_base.specs.{declared.man.Colour.TheVariants.White, declared.man
 use Rattle.chess_base.specs.Attacks.{is_clear, could_capture, attacks, is_attacked, is_in_check}
 use Rattle.chess_base.specs.Sound.{has_one_king, no_pawn_on_end_ranks, has_at_most_16, target_is_sound}
 use Rattle.chess_base.specs.Squares.{squares, some_square, each_square, is_between}
-use Rattle.chess_fen.specs.{Reading.fen_reading_as, laws.Examples.kings_and_pawn, Texts.may_name_right}
-use Rattle.chess_fen.proofs.{DenotedFen.text_outcome, OneRankText.rank_text_is}
-use Rattle.chess_fen.proofs.laws.fens_are_worked_out.Goals as goal
+use Rattle.chess_fen.specs.{Reading.fen_reading_as, Texts.may_name_right}
+use Rattle.chess_fen.proofs.shared.Denoted.{denoted-reading}
+use Rattle.chess_fen_laws.specs.Examples.{kings_and_pawn}
+use Rattle.chess_fen_laws.proofs.OneRankText.{rank_text_is}
+use Rattle.chess_fen_laws.proofs.laws.fens_are_worked_out.Goals as goal
 
 -- by computing each condition of a sound position
 read_so : fen_reading_as Normal (codes "4k3/8/8/8/8/8/4P3/4K3 b - - 5 39") ≡ Ok kings_and_pawn
@@ -20,11 +22,7 @@ unfolding may_name_right
 returns-clause-fields c = (
   refl,
   read_so,
-  (
-    codes "-",
-    text_outcome Normal (codes "4k3/8/8/8/8/8/4P3/4K3 b - - 5 39"),
-    refl,
-  ),
+  denoted-reading Normal (codes "4k3/8/8/8/8/8/4P3/4K3 b - - 5 39") kings_and_pawn read_so,
 )
 
 pub returns-clause-rank : goal.returns-clause-rank

@@ -2,7 +2,7 @@
 use Rattle.std.proofs.Common.{◌≡◌, true, refl, sym, ap, ◌∙◌}
 use Rattle.chess_base.specs.{declared.man.Variant.Variant, declared.man.Variant.TheVariants.Normal, declared.man.Variant.TheVariants.Fischerandom, declared.setup.Setup.Setup, Sound.IsSound, contracts.man.VariantPartialEq.TheImpl.eq-value}
 use Rattle.chess_fen.specs.{Reading.fen_reading_as, Writing.fen}
-use Rattle.chess_fen.proofs.{DenotedFen.reading-denoted, WrittenFen.fen-denoted}
+use Rattle.chess_fen.proofs.shared.Denoted.{reading-denoted, fen-denoted}
 
 pub variants_equal : (v w : Variant) → eq-value.it v w ≡ true → v ≡ w
 variants_equal Normal Normal e = refl

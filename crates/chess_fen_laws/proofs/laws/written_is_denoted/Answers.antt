@@ -1,13 +1,13 @@
--- What is written denotes its position and no other (WrittenFen), and what denotes a sound position is read as it.
-use Rattle.chess_fen.proofs.{DenotedFen.reading-denoted, WrittenFen.fen-denoted, WrittenFen.no_other}
+-- What is written denotes its position and no other, and what denotes a sound position is read as it.
+use Rattle.chess_fen.proofs.shared.Denoted.{reading-denoted, fen-denoted, fen-denotes_one}
 use Rattle.chess_fen.specs.Writing.{fen}
-use Rattle.chess_fen.proofs.laws.written_is_denoted.Goals as goal
+use Rattle.chess_fen_laws.proofs.laws.written_is_denoted.Goals as goal
 
 pub returns-clause-denotes : goal.returns-clause-denotes
 returns-clause-denotes c = fen-denoted
 
 pub returns-clause-no_other : goal.returns-clause-no_other
-returns-clause-no_other c = no_other
+returns-clause-no_other c = fen-denotes_one
 
 pub returns-clause-read_back : goal.returns-clause-read_back
 returns-clause-read_back c = λ p h. reading-denoted p.variant (fen p) p (fen-denoted p h) h

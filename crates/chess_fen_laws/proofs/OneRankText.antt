@@ -4,8 +4,9 @@ use Rattle.std.specs.List.{AllZip}
 use Rattle.std.proofs.{lemmas.Bool.and_parts, lemmas.Bool.Decides.nat_tests}
 use Rattle.chess_base.specs.{declared.man.Man.Man, Letters.letter}
 use Rattle.byte_devices.specs.Bytes.{is_digit}
-use Rattle.chess_fen.specs.{Denotation.StandsFor, Writing.fen_rank, ties.Loops.run_text, ties.Loops.row_text, laws.RankTexts.digits_apart, laws.RankTexts.IsRankText}
-use Rattle.chess_fen.proofs.{DenotedRanks.joined, FenBytes.white_range, RoundTrip.rank_denotes, WrittenRanks.row_is}
+use Rattle.chess_fen.specs.{Denotation.StandsFor, Writing.fen_rank, shared.Rows.run_text, shared.Rows.row_text}
+use Rattle.chess_fen.proofs.shared.Ranks.{joined, rank_denotes, row_is, white_range}
+use Rattle.chess_fen_laws.specs.RankTexts.{digits_apart, IsRankText}
 
 no_digit : (man : Man) → is_digit (letter man) ≡ false
 no_digit man = let range = white_range man.kind in grind (arith, nat_tests, range.0)

@@ -11,7 +11,7 @@ use Rattle.chess_fen.specs.Writing.{fen}
 use Rattle.chess_fen.specs.Reading.{fen_reading_as}
 use Rattle.chess_fen.specs.Denotation.{DenotesFenAs}
 use Rattle.chess_fen.specs.RightNames.{Absent, At, right_in}
-use Rattle.chess_fen.specs.laws.NamedRooks.{RightIsNamed}
+use Rattle.chess_fen_laws.specs.NamedRooks.{RightIsNamed}
 
 -- the FEN that is written for a sound position denotes that position, in its variant
 abbrev pub WrittenIsDenoted : Type 0

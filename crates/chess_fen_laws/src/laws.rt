@@ -14,10 +14,10 @@ ghost use Rattle.chess_fen.specs.Reading.{fen_reading_as};
 ghost use Rattle.chess_fen.specs.RightNames.{Absent, At, Wrong, right_in, names_rights_well};
 ghost use Rattle.chess_fen.specs.Texts.{fields_of};
 ghost use Rattle.chess_fen.specs.Writing.{fen, fen_rank};
-ghost use Rattle.chess_fen.specs.laws.Examples.{kings_and_pawn, three_rooks};
 ghost use Rattle.chess_fen.specs.laws.Normal.{normal_fen, normal_fen_reading};
-ghost use Rattle.chess_fen.specs.laws.Laws.{WrittenIsDenoted, WrittenDenotesNoOther, WrittenIsReadBack, RightsAreNamed};
-ghost use Rattle.chess_fen.specs.laws.RankTexts.{IsRankText};
+ghost use Rattle.chess_fen_laws.specs.Examples.{kings_and_pawn, three_rooks};
+ghost use Rattle.chess_fen_laws.specs.Laws.{WrittenIsDenoted, WrittenDenotesNoOther, WrittenIsReadBack, RightsAreNamed};
+ghost use Rattle.chess_fen_laws.specs.RankTexts.{IsRankText};
 
 /// A law: the contract says it, and the function does nothing. The FEN that is written for a sound position denotes
 /// that position, denotes no other, and is read as that position.
@@ -30,7 +30,7 @@ pub fn written_is_denoted()
 /// A law: the contract says it, and the function does nothing. Two `Fen`s are equal exactly if their positions are the
 /// same, in pieces, side, rights, target, counters and variant.
 pub fn equal_fens_are_equal_positions()
-    ensures { (p q : Setup) → IsSound p → IsSound q → IsTrue (⟦<crate::fen::Fen as PartialEq>⟧.eq p q) ↔ p ≡ q }
+    ensures { (p q : Setup) → IsSound p → IsSound q → IsTrue (⟦<chess_fen::Fen as PartialEq>⟧.eq p q) ↔ p ≡ q }
 {}
 
 /// A law: the contract says it, and the function does nothing. In Chess960 a castling right is named by the letter of

@@ -1,0 +1,3 @@
+mod EqualFens
+mod NamedRooks
+mod OneRankText

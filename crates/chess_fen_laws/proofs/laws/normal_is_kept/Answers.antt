@@ -1,0 +1,9 @@
+-- In normal chess FENs are read and written as by the definitions for normal chess alone, which chess_fen shows.
+use Rattle.chess_fen.proofs.shared.Normal.{reading_kept, fen_kept}
+use Rattle.chess_fen_laws.proofs.laws.normal_is_kept.Goals as goal
+
+pub returns-clause-read : goal.returns-clause-read
+returns-clause-read c = reading_kept
+
+pub returns-clause-written : goal.returns-clause-written
+returns-clause-written c = fen_kept

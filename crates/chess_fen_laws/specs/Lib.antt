@@ -1,0 +1,4 @@
+pub mod NamedRooks
+pub mod Laws
+pub mod RankTexts
+pub mod Examples
