@@ -2,5 +2,4 @@ pub mod shared
 mod Allotment
 mod Pieces
 mod LevelTexts
-mod LevelRanges
 mod FeatureRuns

@@ -2,6 +2,4 @@
 #![tactic(auto)]
 
 #[cfg(test)]
-mod laws;
-#[cfg(test)]
 mod levels;

@@ -12,6 +12,8 @@ mod EndLinesLaw
 mod NotesLaw
 mod ClockLaw
 mod LineLaw
+mod LevelTexts
+mod LevelRanges
 mod ActsInOrder
 mod OneRunLaw
 mod GameLaw

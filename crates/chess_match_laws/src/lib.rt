@@ -1,9 +1,11 @@
-//! Laws of the matches that chess_match plays, each the contract of a function that does nothing. They are in a crate
-//! of their own so that no other crate waits for their proofs.
+//! Laws of the matches that chess_match plays, and one of the time controls that cecp_engine parses and writes. Each is
+//! the contract of a function that does nothing. They are in a crate of their own so that no program waits for their
+//! proofs.
 #![tactic(auto)]
 
 mod handshakes;
 mod laws;
+mod levels;
 mod lines;
 mod worked;
 
@@ -17,6 +19,7 @@ pub use laws::{
     setups_are_these_lines, silences_end_matches, silences_leave_no_line, time_forfeits_are_shown,
     times_are_clocks, turns_are_opened_once, used_times_are_differences, verdicts_end_matches,
 };
+pub use levels::levels_are_parsed_back;
 pub use lines::{draw_claims_end_matches, other_lines_are_ignored};
 pub use worked::{
     bare_kings_are_worked_out, claims_are_worked_out, engine_lines_are_worked_out,

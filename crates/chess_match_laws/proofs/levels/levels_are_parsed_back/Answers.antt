@@ -1,7 +1,7 @@
 -- A level that was parsed, or whose numbers are in range, is parsed back from its text (LevelRanges.read_back,
 -- LevelTexts.level_back).
-use Rattle.cecp_engine.proofs.{LevelRanges.read_back, LevelTexts.level_back}
-use Rattle.cecp_engine.proofs.laws.levels_are_parsed_back.Goals as goal
+use Rattle.chess_match_laws.proofs.{LevelRanges.read_back, LevelTexts.level_back}
+use Rattle.chess_match_laws.proofs.levels.levels_are_parsed_back.Goals as goal
 
 pub returns-clause-parsed : goal.returns-clause-parsed
 returns-clause-parsed c = read_back

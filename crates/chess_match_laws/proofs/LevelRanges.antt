@@ -5,8 +5,8 @@ use Rattle.std.proofs.{lemmas.Bool.Decides.nat_tests, lemmas.Str.Parse.digits_va
 use Rattle.byte_devices.specs.Bytes.{byte, is_digit}
 use Rattle.text_lines.specs.{Lines.without_front_blanks, Words.short_number, Words.word_of, Words.argument_of}
 use Rattle.cecp_engine.specs.Levels.{LevelSeen, base_of, level_of, level_reading, level_text, level_with, milliseconds_of, thousandths_of}
-use Rattle.cecp_engine.specs.{declared.level_fault.LevelFault.TheVariants.Words, ties.Bounds.IsLevel}
-use Rattle.cecp_engine.proofs.LevelTexts.{numeral, level_back}
+use Rattle.cecp_engine.specs.declared.level_fault.LevelFault.TheVariants.{Words}
+use Rattle.chess_match_laws.proofs.LevelTexts.{numeral, level_back}
 
 same_value : {a b : ℕ} → Some a ≡ Some b → a ≡ b
 same_value {a} {b} e = ap (λ (o : Option ℕ). or_zero o) e
@@ -122,6 +122,12 @@ base_small text n e =
 
 -- ---- the level
 
+-- the numbers of a level are within the ranges of levels
+record IsInRange (level : LevelSeen) : Type 0 where
+  moves : level.moves ≤ 999
+  base : level.base ≤ 59999999
+  increment : level.increment ≤ 999999
+
 same_level : {a b : LevelSeen} → Some a ≡ Some b → a ≡ b
 same_level {a} {b} e = ap (λ (o : Option LevelSeen). or_this o) e
   where
@@ -131,14 +137,14 @@ same_level {a} {b} e = ap (λ (o : Option LevelSeen). or_this o) e
 
 with_small : (m b i : Option ℕ) (level : LevelSeen) → ((n : ℕ) → m ≡ Some n → n ≤ 999)
     → ((n : ℕ) → b ≡ Some n → n ≤ 59999999) → ((n : ℕ) → i ≡ Some n → n ≤ 999999)
-    → result_ok (level_with m b i) ≡ Some level → IsLevel level
+    → result_ok (level_with m b i) ≡ Some level → IsInRange level
 with_small None b i level h k l e = cc
 with_small (Some m) None i level h k l e = cc
 with_small (Some m) (Some b) None level h k l e = cc
 with_small (Some m) (Some b) (Some i) level h k l e =
-    subst IsLevel (same_level e) (record { moves = h m refl; base = k b refl; increment = l i refl })
+    subst IsInRange (same_level e) (record { moves = h m refl; base = k b refl; increment = l i refl })
 
-read_in_range : (text : List ℕ) (level : LevelSeen) → level_of text ≡ Some level → IsLevel level
+read_in_range : (text : List ℕ) (level : LevelSeen) → level_of text ≡ Some level → IsInRange level
 unfolding level_reading
 read_in_range text level e = by_test (length third == 0 || nat_lt 0 (length (argument_of third))) e
   where
@@ -152,7 +158,7 @@ read_in_range text level e = by_test (length third == 0 || nat_lt 0 (length (arg
     third = argument_of second
 
     by_test : (b : Bool) → result_ok (if b then Err Words else level_with (short_number 3 (word_of first))
-        (base_of (word_of second)) (milliseconds_of 3 (word_of third))) ≡ Some level → IsLevel level
+        (base_of (word_of second)) (milliseconds_of 3 (word_of third))) ≡ Some level → IsInRange level
     by_test true e = cc
     by_test false e = with_small _ _ _ level
         (λ n is. let s : n < 10 ^ 3 = number_small 3 (word_of first) n is in omega (arith, s))
