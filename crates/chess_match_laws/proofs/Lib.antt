@@ -35,6 +35,7 @@ mod PrefixLaw
 mod LinesDue
 mod WorkedLines
 mod WorkedTurns
+mod WorkedEnds
 mod IgnoredLaw
 mod ClaimLaw
 mod Answering
