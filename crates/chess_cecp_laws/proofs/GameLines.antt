@@ -18,12 +18,13 @@ use Rattle.chess_text.specs.{Moves.reading, San.is_fischerandom, declared.readin
 use Rattle.chess_text.specs.declared.reading.Reading.TheVariants as reads
 use Rattle.text_lines.specs.Words.{argument_of}
 use Rattle.chess_cecp.specs.{Commands.command_of, Commands.is_ignored, Commands.named_command, Declaring.read_result, Declaring.result_comment, Declaring.state_text, Held.SessionSeen, Serving.Response, Serving.becomes, Serving.says, declared.command.Command.Command}
+use Rattle.pgn_writer.specs.{GameText.pgn, declared.tags.Tags.Tags}
 use Rattle.chess_cecp.specs.Session.{answers, becomes_judged, claim_row, declares, move_row, moves_text, reading_row, result_row, row, setboard_row, take_back_row}
-use Rattle.chess_cecp.specs.declared.command.Command.TheVariants.{Claim, Declare, Remove, SetBoard, ShowFen, ShowMoves, ShowState, Undo, UserMove}
+use Rattle.chess_cecp.specs.declared.command.Command.TheVariants.{Claim, Declare, Remove, SetBoard, ShowFen, ShowMoves, ShowPgn, ShowState, Undo, UserMove}
 use Rattle.chess_cecp.specs.declared.command.Command.TheVariants as commands
-use Rattle.chess_cecp_laws.specs.{GameLines.ClaimsAreShown, GameLines.Declares, GameLines.GameLinesAreAnswered, GameLines.Plays, SessionLines.Becomes, SessionLines.IsAnswered, SessionLines.IsIgnored, SessionLines.response_to}
+use Rattle.chess_cecp_laws.specs.{GameLines.after_e4, GameLines.ClaimsAreShown, GameLines.Declares, GameLines.GameLinesAreAnswered, GameLines.Plays, GameLines.unknown_tags, SessionLines.Becomes, SessionLines.IsAnswered, SessionLines.IsIgnored, SessionLines.response_to}
 use Rattle.chess_cecp_laws.proofs.SessionLines.{answered, if_false, if_true, responds, with_game}
-use Rattle.chess_cecp_laws.proofs.ShownLines.{fen_shown, moves_shown, stalemate_set, state_shown}
+use Rattle.chess_cecp_laws.proofs.ShownLines.{fen_shown, moves_shown, pgn_shown, stalemate_set, state_shown}
 
 -- the row of this line in the table
 abbrev row_of : SessionSeen → List ℕ → Command → Response State
@@ -323,6 +324,14 @@ module _ (session : SessionSeen) where
       (answers s (codes "# state ply ") (state_text s)) refl refl
       (ap (shows (codes "# state ply ")) (ap state_text e ∙ state_shown)) refl refl
 
+  pgn_lines : session.tags ≡ unknown_tags → s ≡ after_e4 → IsAnswered session "showpgn"
+      "# [Event \"?\"]\n# [Site \"?\"]\n# [Date \"????.??.??\"]\n# [Round \"?\"]\n# [White \"?\"]\n# [Black \"?\"]\n# [Result \"*\"]\n# [Termination \"unterminated\"]\n# \n# 1. e4 *\n# \n"
+  unfolding command_of named_command is_ignored
+  pgn_lines tags e =
+      by_row session "showpgn" _ ShowPgn (says s (pgn (codes "# ") session.tags s)) refl refl
+      (ap (λ (t : Tags). pgn (codes "# ") t s) tags ∙ ap (λ (x : State). pgn (codes "# ") unknown_tags x) e ∙ pgn_shown)
+      refl refl
+
   claim_after_end : is_over s ≡ true → IsAnswered session "claim" "Error (command not legal now): claim\n"
   unfolding command_of named_command is_ignored
   claim_after_end e =
@@ -432,6 +441,7 @@ game_lines_are_answered session = record {
   shown_fen = fen_line session;
   shown_moves = moves_line session;
   shown_state = state_line session;
+  shown_pgn = pgn_lines session;
   no_claim = no_claim session;
   threefold = threefold session;
   fifty_moves = fifty_moves session;

@@ -3,5 +3,6 @@ mod PlayedWords
 mod Undone
 mod ShownFens
 mod SessionLines
+mod BareMoves
 mod ShownLines
 mod GameLines

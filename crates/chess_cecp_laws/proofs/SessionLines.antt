@@ -31,7 +31,7 @@ by_command session text command =
     let r = row session.tags session.limit session.state text (argument_of text) command in
     record { text = r.text; state = record session { state = r.state }; ends = r.ends }
 
-responds_by : (session : SessionSeen) (line : LineSeen) (command : Command) → line.too_long ≡ false
+pub responds_by : (session : SessionSeen) (line : LineSeen) (command : Command) → line.too_long ≡ false
     → command_of line.text ≡ command → session_response session line ≡ by_command session line.text command
 unfolding session_response
 responds_by session line command fits is = rw (fits, is) refl
@@ -64,7 +64,7 @@ none_named false false (Some c) e f g = absurd (cc)
 none_named false true found e f g = absurd (cc)
 none_named true ignored found e f g = absurd (cc)
 
-no_name : (word argument : List ℕ) → list_any (bytes_eq word) known_words ≡ false
+pub no_name : (word argument : List ℕ) → list_any (bytes_eq word) known_words ≡ false
     → named_command word argument ≡ None
 unfolding named_command is_ignored
 no_name word argument e =

@@ -1,4 +1,5 @@
--- What a session shows of a game that has just begun, and how it answers the FEN of a stalemate, by computation.
+-- What a session shows of a game that has just begun and of one of a single half-move, and how it answers the FEN of a
+-- stalemate, by computation.
 use Rattle.std.proofs.Common.{◌≡◌, refl, codes}
 use Rattle.std.specs.Fmt.{digits}
 use Rattle.chess_base.specs.Attacks.{is_clear, could_capture, attacks, is_attacked, is_in_check}
@@ -11,9 +12,11 @@ use Rattle.chess_fen.specs.{Reading.fen_reading_as, Texts.may_name_right, Writin
 use Rattle.chess_game.specs.Ends.{has_bishop_on, has_insufficient_material, result_text, verdict}
 use Rattle.chess_game.specs.Game.{State, current, from_start}
 use Rattle.chess_game.specs.Same.{is_same_position, legal_en_passant_square, repetition_count, same_men, same_rights}
-use Rattle.chess_text.specs.San.{shown_move}
+use Rattle.chess_text.specs.{Moves.described, San.check_mark, San.rival_starts, San.san, San.shown_move}
+use Rattle.pgn_writer.specs.GameText.{pgn}
 use Rattle.chess_cecp.specs.{Declaring.state_text, Session.moves_text, Session.setboard_row}
 use Rattle.text_lines.specs.Words.{argument_of}
+use Rattle.chess_cecp_laws.specs.GameLines.{after_e4, unknown_tags}
 
 pub fen_shown : fen (current (from_start initial_setup))
     ≡ codes "rnbqkbnr/pppppppp/8/8/8/8/PPPPPPPP/RNBQKBNR w KQkq - 0 1"
@@ -38,6 +41,16 @@ unfolding squares some_square each_square is_between is_of is_man is_clear could
     after is_legal digits verdict has_bishop_on has_insufficient_material same_men same_rights legal_en_passant_square
     is_same_position repetition_count result_text state_text
 state_shown = refl
+
+pub pgn_shown : pgn (codes "# ") unknown_tags after_e4
+    ≡ codes "# [Event \"?\"]\n# [Site \"?\"]\n# [Date \"????.??.??\"]\n# [Round \"?\"]\n# [White \"?\"]\n# [Black \"?\"]\n# [Result \"*\"]\n# [Termination \"unterminated\"]\n# \n# 1. e4 *\n# \n"
+unfolding squares some_square each_square is_between is_of is_man is_clear could_capture attacks is_attacked is_in_check
+    is_castling_to castling castle_of castling_needs_empty castling_way_is_empty castling_way_is_safe castles
+    initial_setup initial_setup_of all_moves moves is_double_advance is_en_passant pawn_advances pawn_captures
+    pawn_moves man_moves is_pseudo_legal captured_square men_after rights_after target_after resets_clock halfmove_after
+    after is_legal placement_text digits verdict has_bishop_on has_insufficient_material same_men same_rights
+    legal_en_passant_square is_same_position repetition_count described rival_starts check_mark san pgn
+pgn_shown = refl
 
 pub stalemate_set : (s : State) → (setboard_row s (fen_reading_as Normal
     (argument_of (codes "setboard 7k/5Q2/6K1/8/8/8/8/8 b - - 0 1")))).text ≡ codes "1/2-1/2 {Stalemate}\n"

@@ -1,6 +1,8 @@
 -- Lines of an interface that a session answers by its game, as texts (CECP, version 2; `claim` is this project's own).
-use Rattle.std.specs.Prelude.{◌≡◌, ◌<◌, ◌≤◌, Bool, true, false, [], ◌∷◌, codes, length, None, Some}
+use Rattle.std.specs.Prelude.{◌≡◌, ◌<◌, ◌≤◌, Bool, true, false, [], ◌∷◌, ◌++◌, codes, length, None, Some}
 use Prim.Native.String.{String as Text}
+use Rattle.std.specs.List.{list_any}
+use Rattle.std.specs.Str.{bytes_eq}
 use Rattle.chess_base.specs.declared.man.Move.{Move}
 use Rattle.chess_base.specs.declared.man.Variant.TheVariants.{Normal, Fischerandom}
 use Rattle.chess_base.specs.Initial.{initial_setup}
@@ -9,13 +11,18 @@ use Rattle.chess_game.specs.Game.{State, current, from_start, is_over, played, v
 use Rattle.chess_game.specs.declared.results.Declared.{Declared}
 use Rattle.chess_game.specs.declared.results.Outcome.{Outcome}
 use Rattle.chess_game.specs.declared.results.Outcome.TheVariants.{WhiteWins, Draw}
+use Rattle.chess_game.specs.declared.tags.HowEnded.TheVariants as how
 use Rattle.chess_game.specs.declared.verdicts.DrawClaim.TheVariants.{Threefold, FiftyMoves}
 use Rattle.chess_game.specs.declared.verdicts.Verdict.TheVariants.{WhiteMates, BlackMates}
-use Rattle.chess_text.specs.Moves.{reading}
+use Rattle.chess_text.specs.Moves.{reading, shape}
 use Rattle.chess_text.specs.declared.reading.Reading.TheVariants as reads
+use Rattle.text_lines.specs.Lines.{LineSeen}
+use Rattle.text_lines.specs.Words.{word_of}
+use Rattle.pgn_writer.specs.declared.tags.Tags.{Tags}
 use Rattle.chess_cecp.specs.Declaring.{claims_text}
 use Rattle.chess_cecp.specs.Held.{SessionSeen}
-use Rattle.chess_cecp_laws.specs.SessionLines.{Becomes, IsAnswered, IsIgnored, response_to}
+use Rattle.chess_cecp.specs.Session.{session_response}
+use Rattle.chess_cecp_laws.specs.SessionLines.{Becomes, IsAnswered, IsIgnored, known_words, response_to}
 
 -- the session once this result is declared in its game
 abbrev pub with_result : SessionSeen → Declared → SessionSeen
@@ -31,6 +38,26 @@ pub record Declares (session : SessionSeen) (line answer : Text) (outcome : Outc
 pub record Plays (session : SessionSeen) (line answer : Text) (m : Move) : Type 0 where
   pub text : (response_to session line).text ≡ codes answer
   pub state : (response_to session line).state ≡ record session { state = played session.state m }
+
+-- the game from the initial position by 1 e4
+abbrev pub after_e4 : State
+after_e4 = record {
+  start = initial_setup;
+  moves = record { from = 12; to = 28; promotion = None } ∷ [];
+  declared = None;
+}
+
+-- the tags of a game of which nothing is known
+abbrev pub unknown_tags : Tags
+unknown_tags = record {
+  event = codes "?";
+  site = codes "?";
+  date = codes "????.??.??";
+  round = codes "?";
+  white = codes "?";
+  black = codes "?";
+  ended = how.Normal;
+}
 
 -- the answers of this session to some lines, by what its game is
 pub record ByTheGame (session : SessionSeen) : Type 0 where
@@ -72,6 +99,9 @@ pub record ByTheGame (session : SessionSeen) : Type 0 where
       "# moves 20 b1a3 b1c3 g1f3 g1h3 a2a3 a2a4 b2b3 b2b4 c2c3 c2c4 d2d3 d2d4 e2e3 e2e4 f2f3 f2f4 g2g3 g2g4 h2h3 h2h4\n"
   pub shown_state : session.state ≡ from_start initial_setup → IsAnswered session "showstate"
       "# state ply 0 rep 1 clock 0 claims none verdict none declared none\n"
+  -- a game of one half-move: each line of its PGN has `# ` before it
+  pub shown_pgn : session.tags ≡ unknown_tags → session.state ≡ after_e4 → IsAnswered session "showpgn"
+      "# [Event \"?\"]\n# [Site \"?\"]\n# [Date \"????.??.??\"]\n# [Round \"?\"]\n# [White \"?\"]\n# [Black \"?\"]\n# [Result \"*\"]\n# [Termination \"unterminated\"]\n# \n# 1. e4 *\n# \n"
   -- a game in which no draw can be claimed, and one in which it can
   pub no_claim : is_over session.state ≡ false
       → draw_claim (claims session.state.start session.state.moves) ≡ None
@@ -105,6 +135,15 @@ pub record ByTheGame (session : SessionSeen) : Type 0 where
 -- in every session these lines are answered as `ByTheGame` says
 abbrev pub GameLinesAreAnswered : Type 0
 GameLinesAreAnswered = (session : SessionSeen) → ByTheGame session
+
+-- ---- moves without `usermove`
+
+-- in every session: a line that is a move alone, such as `e4`, gets the response of `usermove` with this move. Its first
+-- word is none of `known_words`, and it has a move's shape
+abbrev pub BareMovesAreMoves : Type 0
+BareMovesAreMoves = (session : SessionSeen) (bare named : LineSeen) → bare.too_long ≡ false → named.too_long ≡ false
+    → list_any (bytes_eq (word_of bare.text)) known_words ≡ false → shape bare.text ≡ true
+    → named.text ≡ codes "usermove " ++ bare.text → session_response session bare ≡ session_response session named
 
 -- ---- draws that can be claimed
 

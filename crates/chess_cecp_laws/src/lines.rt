@@ -1,7 +1,7 @@
 //! Laws of the lines that a session is sent. A caller learns one by calling its function, which does nothing. What a
 //! law refuses are wrong definitions: with one of them it can't be proved.
 
-ghost use Rattle.chess_cecp_laws.specs.GameLines.{ClaimsAreShown, GameLinesAreAnswered};
+ghost use Rattle.chess_cecp_laws.specs.GameLines.{BareMovesAreMoves, ClaimsAreShown, GameLinesAreAnswered};
 ghost use Rattle.chess_cecp_laws.specs.SessionLines.{LinesAreCut, OtherWordsAreUnknown, SessionLinesAreAnswered};
 
 /// A law: the contract says it, and the function does nothing. A line whose first word is none of 37 words, and which
@@ -25,11 +25,14 @@ pub fn session_lines_are_answered()
 /// A law: the contract says it, and the function does nothing. By what a session's game is, some lines have these
 /// answers: a move while the game is on, moves and `claim` after the end, a move beyond the limit, `undo` and `remove`
 /// of one or two half-moves, `variant normal`, `claim`, `result`, `setboard` of two FENs that are refused and of a
-/// stalemate's, and what is shown of a game that has just begun, and of the draws that can be claimed.
+/// stalemate's, and what is shown of a game that has just begun, of one of a single half-move, and of the draws that
+/// can be claimed. And a line that is a move alone, such as `e4`, is answered as `usermove e4` is.
 ///
 /// It refuses a result against the board's verdict that is taken, a move more than the limit, a mate or a stalemate
-/// that is not answered, an `undo` that keeps a declared result, and a brace that stays in a comment.
+/// that is not answered, an `undo` that keeps a declared result, a brace that stays in a comment, and a move that needs
+/// `usermove`.
 pub fn game_lines_are_answered()
     ensures answers { GameLinesAreAnswered }
+    ensures bare { BareMovesAreMoves }
     ensures claims { ClaimsAreShown }
 {}

@@ -37,6 +37,7 @@ mod PrefixLaw
 mod LinesDue
 mod WorkedLines
 mod WorkedTurns
+mod WorkedEnds
 mod IgnoredLaw
 mod ClaimLaw
 mod Answering

@@ -8,7 +8,7 @@ use Rattle.text_lines.specs.Words.{argument_of, command_number}
 use Rattle.cecp_engine.specs.EngineLines.{kind_of}
 use Rattle.cecp_engine.specs.Items.{has_word, item_of, items_of, plays_fischerandom, takes}
 use Rattle.cecp_engine.specs.Levels.{allotted, base_of, base_text, decimals_text, increment_text, level_reading, level_text, milliseconds_of, thousandths_of}
-use Rattle.chess_match_laws.specs.Worked.{EndsAreOfKinds, EndsAreWorded, FaultsAreReported, FeaturesAreOn, ItemsAreRead, KingsAreBare, LevelsGive, LinesAreSent, LinesSay, LosersLose}
+use Rattle.chess_match_laws.specs.Worked.{ClocksGoOn, EndsAreOfKinds, EndsAreWorded, FaultsAreReported, FeaturesAreOn, ItemsAreRead, KingsAreBare, LevelsGive, LinesAreSent, LinesSay, LosersLose}
 
 pub lines_say : LinesSay
 unfolding argument_of command_number kind_of
@@ -69,6 +69,18 @@ levels_give = record {
   last = refl;
   second = refl;
   increments = refl;
+}
+
+pub clocks_go_on : ClocksGoOn
+unfolding allotted
+clocks_go_on = record {
+  start = (refl, refl);
+  white = (refl, refl);
+  black = (refl, refl);
+  again = (refl, refl);
+  last = (refl, refl);
+  next_session = (refl, refl);
+  none_left = (refl, refl);
 }
 
 pub lines_are_sent : LinesAreSent

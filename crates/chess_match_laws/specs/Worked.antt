@@ -1,5 +1,5 @@
 -- Lines of engines and to them, time controls and ends of a match, worked out.
-use Rattle.std.specs.Prelude.{◌≡◌, ℕ, Bool, true, false, List, [], ◌∷◌, codes, map, Option, None, Some}
+use Rattle.std.specs.Prelude.{◌≡◌, ℕ, Bool, true, false, List, [], ◌∷◌, codes, map, replicate, Option, None, Some}
 use Prim.Native.String.{String as Text}
 use Rattle.chess_base.specs.declared.man.Colour.{Colour}
 use Rattle.chess_base.specs.declared.man.Colour.TheVariants.{White, Black}
@@ -12,6 +12,7 @@ use Rattle.chess_game.specs.declared.results.Outcome.TheVariants.{WhiteWins, Bla
 use Rattle.chess_game.specs.declared.tags.HowEnded.TheVariants as how
 use Rattle.chess_game.specs.declared.verdicts.DrawClaim.{DrawClaim}
 use Rattle.chess_game.specs.declared.verdicts.Verdict.{Verdict}
+use Rattle.cecp_engine.specs.Clocks.{ClocksSeen, charged, new_clocks, remaining}
 use Rattle.cecp_engine.specs.EngineLines.{LineKind, Features, Moves, Resigns, OffersDraw, ClaimsDraw, ClaimsWin, Rejects, Answers, SaysElse, kind_of}
 use Rattle.cecp_engine.specs.Items.{Item, items_of, plays_fischerandom, takes}
 use Rattle.cecp_engine.specs.Levels.{LevelSeen, allotted, level_of, level_text}
@@ -114,6 +115,35 @@ pub record LevelsGive : Type 0 where
   pub second : allotted forty_in_five 40 ≡ 600000
   -- 12 seconds more for each move made
   pub increments : allotted two_and_twelve 3 ≡ 156000
+
+-- ---- clocks
+
+-- the clocks of a game for which White has 40 moves in 5 minutes, and Black 2 minutes and 12 seconds more for each move
+abbrev pub two_clocks : ClocksSeen
+two_clocks = new_clocks (by_colour forty_in_five two_and_twelve)
+
+-- the clocks after these moves, each given by its side and the milliseconds that it took
+abbrev pub after_times : ClocksSeen → List (Colour × ℕ) → ClocksSeen
+after_times clocks [] = clocks
+after_times clocks (move ∷ moves) = after_times (charged clocks move.0 move.1) moves
+
+-- after these moves White and Black have so many milliseconds left
+abbrev pub HaveLeft : List (Colour × ℕ) → (white black : ℕ) → Type 0
+HaveLeft moves white black = (remaining (after_times two_clocks moves) White ≡ white)
+    × (remaining (after_times two_clocks moves) Black ≡ black)
+
+-- what moves leave on the clocks
+pub record ClocksGoOn : Type 0 where
+  pub start : HaveLeft [] 300000 120000
+  -- White moves in 1,001 milliseconds, Black in 5 seconds, and gets 12, and White again in 2 seconds
+  pub white : HaveLeft ((White, 1001) ∷ []) 298999 120000
+  pub black : HaveLeft ((White, 1001) ∷ (Black, 5000) ∷ []) 298999 127000
+  pub again : HaveLeft ((White, 1001) ∷ (Black, 5000) ∷ (White, 2000) ∷ []) 296999 127000
+  -- White makes 39 moves, of a second each, and the 40th, with which it gets 5 minutes more
+  pub last : HaveLeft (replicate 39 (White, 1000)) 261000 120000
+  pub next_session : HaveLeft (replicate 40 (White, 1000)) 560000 120000
+  -- a move that takes all that White has
+  pub none_left : HaveLeft ((White, 300000) ∷ []) 0 120000
 
 -- ---- lines that are sent
 

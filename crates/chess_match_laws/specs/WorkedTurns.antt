@@ -1,13 +1,18 @@
 -- What lines of engines do in a match, worked out: who loses by claiming a result or rejecting a move, what an offer of
--- a draw does, when the count of ignored lines begins anew, how long a handshake and a reply are awaited, and from
--- which line on the time for a reply runs.
-use Rattle.std.specs.Prelude.{◌≡◌, ℕ, Bool, true, false, List, [], ◌∷◌, codes, Option, None, Some}
+-- a draw does, when the count of ignored lines begins anew, how long a handshake and a reply are awaited, from which
+-- line on the time for a reply runs, and what engines are sent at the end.
+use Rattle.std.specs.Prelude.{◌≡◌, ℕ, Bool, true, false, List, [], ◌∷◌, codes, map, option_map, Option, None, Some}
 use Prim.Native.String.{String as Text}
+use Rattle.std.specs.Result.{result_ok}
 use Rattle.chess_base.specs.declared.man.Colour.{Colour}
 use Rattle.chess_base.specs.declared.man.Colour.TheVariants.{White, Black}
+use Rattle.chess_base.specs.declared.man.Variant.TheVariants.{Normal}
 use Rattle.chess_base.specs.ByColour.{by_colour}
+use Rattle.chess_fen.specs.Reading.{fen_reading_as}
+use Rattle.chess_match.specs.Acts.{Block, due_after}
 use Rattle.chess_match.specs.Effects.{AfterMove, BeforeMove, Effect, Handshake, Match, Over, Phase, Setup, beginning, effect, judged, setup_done}
-use Rattle.chess_match.specs.Events.{Line, Silent}
+use Rattle.chess_match.specs.Events.{FailsToWrite, Line, OutputEnds, Silent}
+use Rattle.chess_match.specs.Lines.{bytes_of}
 use Rattle.chess_match.specs.Rules.{Rules}
 use Rattle.chess_match.specs.declared.reason.MatchFault.TheVariants.{NoAnswer, NoDone, NoHandshake, NoPing, NoSetboard}
 use Rattle.chess_match.specs.declared.reason.Reason.TheVariants as over_by
@@ -149,3 +154,45 @@ pub record RepliesAreTimed : Type 0 where
   pub pong : runs_from (match_in (Setup White)) (("# ready", 3000) ∷ ("pong 1", 4000) ∷ []) ≡ Some 4000
   -- while the `pong` after a move is awaited, none
   pub moved : runs_from (match_in (AfterMove White)) (("# waiting", 3000) ∷ ("pong 5", 4000) ∷ []) ≡ Some 2000
+
+-- ---- ends
+
+-- White resigns in its first turn, before it moves
+abbrev pub resigned : Effect
+resigned = by_line (match_in (BeforeMove White 1000)) White "resign"
+
+-- White resigns after 1 e4, while its `pong` is awaited, so that Black was not sent the move yet
+abbrev pub resigned_later : Effect
+resigned_later = by_line after_e4 White "resign"
+
+-- after 1 e4 writing to Black fails
+abbrev pub broken : Effect
+broken = effect worked_rules after_e4 (FailsToWrite Black)
+
+-- what Black is sent if the output of White's engine ends in the handshake of a match that begins with the position of
+-- this FEN of normal chess; `None` if the FEN is refused
+abbrev pub sent_at_fault : Text → Option (List ℕ)
+sent_at_fault fen = option_map
+    (λ start. bytes_of ((effect (record worked_rules { start = start }) beginning.after (OutputEnds White)).to Black))
+    (result_ok (fen_reading_as Normal (codes fen)))
+
+-- the sides to which blocks are due after this line of the side `S` in the match `m`, in their order
+abbrev pub sides_due : Match → Colour → Text → List Colour
+sides_due m S line =
+    map (λ (block : Block). block.to) (due_after (Line S (Some (codes line)) 3000) (by_line m S line))
+
+-- what engines are sent at the end, and which engine first (CECP, version 2: section 8)
+pub record EndLinesAreSent : Type 0 where
+  -- both sides are sent the result and `quit`, Black after the move that it was not sent yet
+  pub white : AreSentAs (resigned.to White) "result 0-1 {White resigns}\nquit\n"
+  pub black : AreSentAs (resigned.to Black) "result 0-1 {White resigns}\nquit\n"
+  pub mover : AreSentAs (resigned_later.to White) "result 0-1 {White resigns}\nquit\n"
+  pub owed : AreSentAs (resigned_later.to Black) "usermove e2e4\nresult 0-1 {White resigns}\nquit\n"
+  -- a side to which writing failed is sent nothing more
+  pub broken_off : AreSentAs (broken.to Black) ""
+  pub others : AreSentAs (broken.to White) "result * {Black can not be written}\nquit\n"
+  -- a start that ends the game is the result, also if a fault ends the match
+  pub stalemate : sent_at_fault "7k/5Q2/6K1/8/8/8/8/8 b - - 0 1" ≡ Some (codes "result 1/2-1/2 {Stalemate}\nquit\n")
+  -- the end is sent to White first; before it, the side whose line came is sent its block first
+  pub at_the_end : sides_due (match_in (BeforeMove Black 1000)) Black "resign" ≡ White ∷ Black ∷ []
+  pub before_it : sides_due (match_in (Handshake Black)) Black "feature ping=1 done=1" ≡ Black ∷ White ∷ []

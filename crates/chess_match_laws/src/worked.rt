@@ -1,8 +1,8 @@
 //! Laws of lines, time controls and ends, worked out. A caller learns one by calling its function, which does nothing.
 //! What a law refuses are wrong definitions: with one of them it can't be proved.
 
-ghost use Rattle.chess_match_laws.specs.Worked.{EndsAreOfKinds, EndsAreWorded, FaultsAreReported, FeaturesAreOn, ItemsAreRead, KingsAreBare, LevelsGive, LinesAreSent, LinesSay, LosersLose};
-ghost use Rattle.chess_match_laws.specs.WorkedTurns.{ClaimsAreJudged, HandshakesEnd, IgnoredAreCounted, OffersAreJudged, RepliesAreTimed, SilencesAreJudged};
+ghost use Rattle.chess_match_laws.specs.Worked.{ClocksGoOn, EndsAreOfKinds, EndsAreWorded, FaultsAreReported, FeaturesAreOn, ItemsAreRead, KingsAreBare, LevelsGive, LinesAreSent, LinesSay, LosersLose};
+ghost use Rattle.chess_match_laws.specs.WorkedTurns.{ClaimsAreJudged, EndLinesAreSent, HandshakesEnd, IgnoredAreCounted, OffersAreJudged, RepliesAreTimed, SilencesAreJudged};
 
 /// States a law and does nothing: what some lines of engines say, which items a `feature` line has, which features an
 /// engine has on by them, that lines that are ignored are counted anew in each setup and each turn, and how handshakes
@@ -15,17 +15,25 @@ pub fn engine_lines_are_worked_out()
     ensures handshakes { HandshakesEnd }
 {}
 
-/// States a law and does nothing: what some time controls are, and how much time they give after some moves.
+/// States a law and does nothing: what some time controls are, how much time they give after some moves, and what moves
+/// leave on the clocks of a game in which each side has its own.
+///
+/// It refuses a clock that the other side's move runs down, an increment or a new session that is left out, and moves
+/// of which only the last counts.
 pub fn levels_are_worked_out()
-    ensures { LevelsGive }
+    ensures levels { LevelsGive }
+    ensures clocks { ClocksGoOn }
 {}
 
 /// States a law and does nothing: the lines by which handshakes and turns are opened in a match of 40 moves in 5
-/// minutes, byte by byte: in an engine's first turn the move comes before the clocks, in later turns after them.
+/// minutes, byte by byte: in an engine's first turn the move comes before the clocks, in later turns after them. And
+/// those at the end: the last move, if the engine was not sent it yet, the result and `quit`, to White first.
 ///
-/// It refuses another version of the protocol, `time` and `otim` that are exchanged, and clocks that are rounded up.
+/// It refuses another version of the protocol, `time` and `otim` that are exchanged, clocks that are rounded up, an end
+/// without `quit`, and a result that is sent before the last move.
 pub fn sent_lines_are_worked_out()
-    ensures { LinesAreSent }
+    ensures openings { LinesAreSent }
+    ensures ends { EndLinesAreSent }
 {}
 
 /// States a law and does nothing: with a king alone, whatever the other side has, a side has a bare king; with a knight

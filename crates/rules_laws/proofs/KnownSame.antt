@@ -1,5 +1,8 @@
--- Positions that are the same for repetition, and some that look alike and are not, by computation.
-use Rattle.std.proofs.Common.{◌≡◌, [], ◌∷◌, ◌++◌, Some, true, false, refl}
+-- Positions that are the same for repetition, and some that look alike and are not, by computation; and the pieces of
+-- positions that are the same.
+use Rattle.std.proofs.Common.{◌≡◌, [], ◌∷◌, ◌++◌, Option, Some, None, Bool, true, false, ◌&&◌, refl, ap, arith}
+use Rattle.std.proofs.lemmas.Bool.{and_parts}
+use Rattle.std.specs.Option.{option_eq}
 use Rattle.chess_base.specs.Attacks.{is_clear, could_capture, attacks, is_attacked, is_in_check}
 use Rattle.chess_base.specs.Castling.{king_square, right_is_sound, is_castling_to, castling, castle_of, castling_needs_empty, castling_way_is_empty, castling_way_is_safe, castles}
 use Rattle.chess_base.specs.{Faults.rights_are_sound, Initial.initial_setup, Initial.initial_setup_of, Men.is_of, Men.is_man, MoveList.all_moves, MoveList.moves}
@@ -7,9 +10,11 @@ use Rattle.chess_base.specs.Moves.{is_double_advance, is_en_passant, pawn_advanc
 use Rattle.chess_base.specs.Sound.{has_one_king, no_pawn_on_end_ranks, has_at_most_16, target_is_sound}
 use Rattle.chess_base.specs.Squares.{squares, some_square, each_square, is_between}
 use Rattle.chess_fen.specs.Texts.{may_name_right}
-use Rattle.chess_game.specs.Same.{same_men, same_rights, legal_en_passant_square, is_same_position}
+use Rattle.chess_base.specs.{declared.man.Man.Man, Men.man_at, Men.same_colour, Men.same_kind}
+use Rattle.chess_base.proofs.{shared.Men.same_colour-true, shared.Men.same_kind-true, shared.Squares.each_square-at}
+use Rattle.chess_game.specs.Same.{same_man, same_men, same_rights, legal_en_passant_square, is_same_position}
 use Rattle.rules_laws.specs.KnownGames.{move_by}
-use Rattle.rules_laws.specs.KnownPositions.{PositionsAreTheSame, are_same_after, are_same_fens, open_game}
+use Rattle.rules_laws.specs.KnownPositions.{PositionsAreTheSame, TheSameHaveTheSamePieces, are_same_after, are_same_fens, open_game}
 
 -- White's pawn on e5 is pinned, or is not; and one right to castle differs
 fens : (are_same_fens "4k3/4r3/8/4Pp2/8/8/8/4K3 w - f6 0 1" "4k3/4r3/8/4Pp2/8/8/8/4K3 w - - 0 1" ≡ Some true)
@@ -48,3 +53,28 @@ positions_are_the_same = record {
   rights = rights;
   queen_side = fens.2;
 }
+
+-- ---- the pieces
+
+-- two optional values that a test finds equal are, if it finds only equal values so
+equal_options : {A : Type 0} (test : A → A → Bool) (o r : Option A) → ((x y : A) → test x y ≡ true → x ≡ y)
+    → option_eq test o r ≡ true → o ≡ r
+equal_options test None None h e = refl
+equal_options test None (Some y) h e = cc
+equal_options test (Some x) None h e = cc
+equal_options test (Some x) (Some y) h e = ap (λ z. Some z) (h x y e)
+
+one_man : (x y : Man) → x.colour ≡ y.colour → x.kind ≡ y.kind → x ≡ y
+one_man x y colours kinds = (λ i. record { colour = colours i; kind = kinds i })
+
+equal_men : (x y : Man) → (same_colour x.colour y.colour && same_kind x.kind y.kind) ≡ true → x ≡ y
+equal_men x y e =
+    let both = and_parts (same_colour x.colour y.colour) (same_kind x.kind y.kind) e in
+    one_man x y (same_colour-true x.colour y.colour both.0) (same_kind-true x.kind y.kind both.1)
+
+pub the_same_have_the_same_pieces : TheSameHaveTheSamePieces
+unfolding is_same_position same_men
+the_same_have_the_same_pieces p q s e below =
+    let pieces : same_men p.men q.men ≡ true = grind (arith, e) in
+    equal_options (λ x y. same_colour x.colour y.colour && same_kind x.kind y.kind) (man_at p.men s) (man_at q.men s)
+    equal_men (each_square-at (λ t. same_man (man_at p.men t) (man_at q.men t)) pieces s below)

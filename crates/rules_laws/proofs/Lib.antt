@@ -1,6 +1,7 @@
 mod Reach
 mod Pieces
 mod Castled
+mod AtHome
 mod EnPassant
 mod FirstMoves
 mod NoMove

@@ -1,5 +1,5 @@
 -- Castling by the names of its squares (Laws of Chess 2023, article 3.8.2; Guidelines II for Chess960).
-use Rattle.std.specs.Prelude.{◌≡◌, ◌≢◌, ◌↔◌, ℕ, ◌<◌, nat_lt, ◌⊎◌, Bool, false, IsTrue, List, [], ◌∷◌, None}
+use Rattle.std.specs.Prelude.{◌≡◌, ◌≢◌, ◌↔◌, ℕ, ◌<◌, ◌≤◌, nat_lt, ◌⊎◌, Bool, false, IsTrue, List, [], ◌∷◌, length, None, Some}
 use Rattle.std.specs.List.{AllByRecursion}
 use Rattle.chess_base.specs.declared.castling.Castle.{Castle}
 use Rattle.chess_base.specs.declared.man.Colour.{Colour}
@@ -11,10 +11,10 @@ use Rattle.chess_base.specs.declared.man.Move.{Move}
 use Rattle.chess_base.specs.declared.man.Variant.TheVariants.{Normal, Fischerandom}
 use Rattle.chess_base.specs.declared.setup.Setup.{Setup}
 use Rattle.chess_base.specs.Attacks.{is_attacked}
-use Rattle.chess_base.specs.Castling.{right_of}
+use Rattle.chess_base.specs.Castling.{right_of, right_is_sound}
 use Rattle.chess_base.specs.Men.{man_at, is_man, other}
 use Rattle.chess_base.specs.Moves.{is_legal, after}
-use Rattle.chess_base.specs.Sound.{IsSound}
+use Rattle.chess_base.specs.Sound.{IsSound, has_one_king}
 use Rattle.rules_laws.specs.Names.{square}
 
 -- a colour's castling on one side: where king and rook start in normal chess, and where they end in both variants
@@ -91,3 +91,26 @@ abbrev pub NormalCastlingIsLegal : Type 0
 NormalCastlingIsLegal = (p : Setup) (w : CastlingSide) → IsSound p → p.variant ≡ Normal
     → IsTrue (is_man p.side King (man_at p.men (castling_of p.side w).king_from))
     → IsTrue (is_legal p (castling_move p.side w)) ↔ MayCastle p w
+
+-- ---- rights of Chess960
+
+-- square s is on colour c's first rank: from a1 to h1, or from a8 to h8
+abbrev pub IsOnFirstRank : Colour → ℕ → Type 0
+IsOnFirstRank White s = (square "a1" ≤ s) × (s ≤ square "h1")
+IsOnFirstRank Black s = (square "a8" ≤ s) × (s ≤ square "h8")
+
+-- colour c's king and a rook of c are on these squares of c's first rank: the rook towards the h-file from the king for
+-- the king side, towards the a-file for the queen side
+pub record AreAtHome (p : Setup) (c : Colour) (w : CastlingSide) (king rook : ℕ) : Type 0 where
+  pub is_king : IsTrue (is_man c King (man_at p.men king))
+  pub is_rook : IsTrue (is_man c Rook (man_at p.men rook))
+  pub king_rank : IsOnFirstRank c king
+  pub rook_rank : IsOnFirstRank c rook
+  pub side : IsTrue (is_towards w king rook)
+
+-- Chess960: a right to castle, with the rook on the square `rook`, is one of a sound position exactly if c's king and
+-- this rook are on c's first rank (`AreAtHome`); where c has one king
+abbrev pub FischerandomRightsAreAtHome : Type 0
+FischerandomRightsAreAtHome = (p : Setup) (c : Colour) (w : CastlingSide) (rook : ℕ) → p.variant ≡ Fischerandom
+    → length p.men ≡ 64 → IsTrue (has_one_king p.men c) → right_of p.rights c w ≡ Some rook
+    → IsTrue (right_is_sound p c w) ↔ ((king : ℕ) × AreAtHome p c w king rook)

@@ -1,6 +1,6 @@
 -- What chess players and programmers know: which FEN a line leads to, which positions are the same, and which FENs are
 -- refused.
-use Rattle.std.specs.Prelude.{◌≡◌, Bool, true, false, List, [], ◌∷◌, ◌++◌, codes, Option, Some, is_some, option_map, option_and_then, Err}
+use Rattle.std.specs.Prelude.{◌≡◌, ◌<◌, ℕ, Bool, true, false, IsTrue, List, [], ◌∷◌, ◌++◌, codes, Option, Some, is_some, option_map, option_and_then, Err}
 use Prim.Native.String.{String as Text}
 use Rattle.std.specs.Result.{result_ok}
 use Rattle.byte_devices.specs.Bytes.{tab}
@@ -9,7 +9,10 @@ use Rattle.chess_base.specs.declared.fen_fault.FenFault.TheVariants.{Fields, Pla
 use Rattle.chess_base.specs.declared.man.Kind.TheVariants.{Queen}
 use Rattle.chess_base.specs.declared.man.Move.{Move}
 use Rattle.chess_base.specs.declared.man.Variant.TheVariants.{Normal, Fischerandom}
+use Rattle.chess_base.specs.declared.setup.Setup.{Setup}
 use Rattle.chess_base.specs.Initial.{initial_setup}
+use Rattle.chess_base.specs.Men.{man_at}
+use Rattle.chess_base.specs.Moves.{after}
 use Rattle.chess_fen.specs.Reading.{fen_reading_as}
 use Rattle.chess_fen.specs.Writing.{fen}
 use Rattle.chess_game.specs.Line.{IsLine, position_after}
@@ -26,6 +29,11 @@ LeadsTo ms text = IsLine initial_setup ms × (fen (position_after initial_setup 
 -- the move between two named squares, with the promotion to a queen
 abbrev pub promotes : Text → Text → Move
 promotes from to = record { from = square from; to = square to; promotion = Some Queen }
+
+-- by this move the position of a FEN of normal chess becomes that of the FEN `next`
+abbrev pub Becomes : Text → Move → Text → Type 0
+Becomes text m next =
+    option_map (λ p. fen (after p m)) (result_ok (fen_reading_as Normal (codes text))) ≡ Some (codes next)
 
 -- known lines and the FENs that they lead to
 pub record LinesLeadToFens : Type 0 where
@@ -52,6 +60,11 @@ pub record LinesLeadToFens : Type 0 where
   -- 1 b3 g6 2 Bb2 a6 3 Bxh8: Black's right on the king side is lost with the rook
   pub rook_captured : LeadsTo (move_by "b2" "b3" ∷ move_by "g7" "g6" ∷ move_by "c1" "b2" ∷ move_by "a7" "a6" ∷
       move_by "b2" "h8" ∷ []) "rnbqkbnB/1ppppp1p/p5p1/8/8/1P6/P1PPPPPP/RN1QKBNR b KQq - 0 3"
+  -- clock and number rise to 999,999, and stay there
+  pub last_counts : Becomes "4k3/8/8/8/8/8/8/4K3 b - - 999998 999998" (move_by "e8" "d8")
+      "3k4/8/8/8/8/8/8/4K3 w - - 999999 999999"
+  pub full_counts : Becomes "4k3/8/8/8/8/8/8/4K3 b - - 999999 999999" (move_by "e8" "d8")
+      "3k4/8/8/8/8/8/8/4K3 w - - 999999 999999"
 
 -- ---- the same position
 
@@ -96,6 +109,11 @@ pub record PositionsAreTheSame : Type 0 where
   -- only one right to castle differs
   pub queen_side : are_same_fens "4k3/8/8/8/8/8/8/R3K2R w KQ - 0 1" "4k3/8/8/8/8/8/8/R3K2R w K - 0 1" ≡ Some false
 
+-- positions that are the same have the same piece, or none, on each square
+abbrev pub TheSameHaveTheSamePieces : Type 0
+TheSameHaveTheSamePieces = (p q : Setup) (s : ℕ) → IsTrue (is_same_position p q) → s < 64
+    → man_at p.men s ≡ man_at q.men s
+
 -- ---- FENs
 
 -- a FEN of normal chess is refused for this fault
@@ -128,6 +146,9 @@ pub record FensAreRefused : Type 0 where
   pub target_taken : IsRefused "4k3/8/4n3/4p3/8/8/8/4K3 w - e6 0 1" EnPassant
   pub own_pawn : IsRefused "4k3/8/8/8/4P3/8/8/4K3 w - e3 0 1" EnPassant
   pub target : IsTaken "4k3/8/8/4p3/8/8/8/4K3 w - e6 0 1"
+  -- a target on rank 3 is Black's to capture on, and not White's, even if a black pawn is below it
+  pub target_on_3 : IsTaken "4k3/8/8/8/4P3/8/8/4K3 b - e3 0 1"
+  pub other_side : IsRefused "4k3/8/8/8/8/8/4p3/6K1 w - e3 0 1" EnPassant
   -- the side that is not on move is in check
   pub check : IsRefused "4k3/8/8/8/8/8/8/K3R3 w - - 0 1" Check
   pub in_check : IsTaken "4k3/8/8/8/8/8/8/K3R3 b - - 0 1"
@@ -147,6 +168,10 @@ pub record FensAreRefused : Type 0 where
   -- of several faults the first is reported: fields from the left, and then what is wrong with the position, in the
   -- order kings, pawns, pieces, castling, en passant, check
   pub counters_before_kings : IsRefused "8/8/8/8/8/8/8/8 w - - x 1" Counters
+  -- a target is a square on rank 3 or 6; another one is the fault of its field
+  pub rank_4_before_kings : IsRefused "8/8/8/8/8/8/8/8 w - e4 0 1" EnPassant
+  pub rank_5_before_kings : IsRefused "8/8/8/8/8/8/8/8 w - e5 0 1" EnPassant
+  pub kings_before_rank_3 : IsRefused "8/8/8/8/8/8/8/8 w - e3 0 1" Kings
   pub kings_before_pawns : IsRefused "P7/8/8/8/8/8/8/4K3 w - - 0 1" Kings
   pub pawns_before_pieces : IsRefused "k6P/8/8/8/8/8/PPPPPPPP/NNNNNNNK w - - 0 1" Pawns
   pub pieces_before_castling : IsRefused "k7/8/8/8/8/P7/PPPPPPPP/NNNNNNNK w K - 0 1" Men

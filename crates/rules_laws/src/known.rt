@@ -3,13 +3,14 @@
 //! proved.
 
 ghost use Rattle.rules_laws.specs.KnownCounts.{EndingsAreJudged, MovesAreAsMany};
-ghost use Rattle.rules_laws.specs.KnownPositions.{FensAreRefused, LinesLeadToFens, PositionsAreTheSame};
+ghost use Rattle.rules_laws.specs.KnownPositions.{FensAreRefused, LinesLeadToFens, PositionsAreTheSame, TheSameHaveTheSamePieces};
 
 /// A law: the contract says it, and the function does nothing. Known lines are legal, and lead to positions with these
-/// FENs (PGN standard of 1994, section 16.1.4, has three of them).
+/// FENs (PGN standard of 1994, section 16.1.4, has three of them). Clock and move number rise to 999,999, and stay
+/// there.
 ///
 /// It refuses a right to castle that is lost without a reason, a target that is missing, a move number that rises after
-/// White's move, and castling or a promotion that leaves other pieces.
+/// White's move, castling or a promotion that leaves other pieces, and counters without a limit.
 pub fn known_lines_lead_to_these_fens()
     ensures { LinesLeadToFens }
 {}
@@ -23,9 +24,10 @@ pub fn known_fens_are_refused()
 
 /// A law: the contract says it, and the function does nothing. Of positions that look alike some are the same, and
 /// others differ in the side on move, in rights to castle, or in a capture en passant (FIDE Laws of Chess 2023, article
-/// 9.2.3).
+/// 9.2.3). Any two that are the same have the same piece, or none, on each square.
 pub fn known_positions_are_the_same()
-    ensures { PositionsAreTheSame }
+    ensures known { PositionsAreTheSame }
+    ensures pieces { TheSameHaveTheSamePieces }
 {}
 
 /// A law: the contract says it, and the function does nothing. Known positions, some of Chess960 among them, have so

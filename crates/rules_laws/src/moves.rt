@@ -1,7 +1,7 @@
 //! Laws of how pieces move. A caller learns one by calling its function, which does nothing. What a law refuses are
 //! wrong definitions: with one of them it can't be proved.
 
-ghost use Rattle.rules_laws.specs.Castled.{FischerandomCastlingEnds, NormalCastlingEnds, NormalCastlingIsLegal};
+ghost use Rattle.rules_laws.specs.Castled.{FischerandomCastlingEnds, FischerandomRightsAreAtHome, NormalCastlingEnds, NormalCastlingIsLegal};
 ghost use Rattle.rules_laws.specs.EnPassant.{EnPassantFollowsDoubleAdvance};
 ghost use Rattle.rules_laws.specs.FirstMoves.{FirstMovesAreThese};
 ghost use Rattle.rules_laws.specs.KnownGames.{KnownGamesEnd};
@@ -36,11 +36,14 @@ pub fn castling_ends_on_named_squares()
 
 /// A law: the contract says it, and the function does nothing. In normal chess castling is legal exactly if the side on
 /// move has the right to it, the squares between king and rook are empty, and none of the three squares on which the
-/// king starts, goes or ends is attacked (FIDE Laws of Chess 2023, article 3.8.2). The squares are named.
+/// king starts, goes or ends is attacked (FIDE Laws of Chess 2023, article 3.8.2). The squares are named. In Chess960 a
+/// right needs the king and the rook on their first rank, from a1 to h1 or from a8 to h8 (Guidelines II).
 ///
-/// It refuses castling out of check or through it, and a rule that b1 must not be attacked, or that c1 may be.
+/// It refuses castling out of check or through it, a rule that b1 must not be attacked, or that c1 may be, and a right
+/// of Chess960 with the king or the rook on another rank.
 pub fn castling_needs_named_squares()
-    ensures { NormalCastlingIsLegal }
+    ensures normal { NormalCastlingIsLegal }
+    ensures fischerandom { FischerandomRightsAreAtHome }
 {}
 
 /// A law: the contract says it, and the function does nothing. A pawn is captured en passant only by the move right
