@@ -3,10 +3,11 @@ use Rattle.std.proofs.Common.{◌≡◌, ◌≤◌, ◌<◌, ℕ, zero, suc, ◌
 use Rattle.std.specs.List.{cons_option, filter_map, prefix_len}
 use Rattle.byte_devices.specs.Bytes.{after_byte_order_mark}
 use Rattle.chess_game.specs.declared.results.Outcome.{Outcome}
-use Rattle.chess_pgn.specs.{GameEnds.ends_at, GameEnds.game_end, LastTags.may_precede_tags, declared.token.TokenFault.TokenFault, ties.GameSteps.IsWithin, ties.Seen.fault_seen, ties.TagsPassed.IsAfterTags, ties.TagsPassed.after_tags}
-use Rattle.chess_pgn.specs.Tokens.{Token, Skip, Tag, Word, Bad_tag, Unclosed_comment, Unclosed_variation, Bad, token_at, tokens_of, begins_line, tokens_from}
-use Rattle.chess_pgn.specs.declared.token.TokenFault.TheVariants as fault
-use Rattle.chess_pgn.proofs.{FaultPlaces.not_before, TokenPlaces.within, Walk.no_token, Walk.shorter}
+use Rattle.chess_pgn.specs.{GameEnds.ends_at, GameEnds.game_end, ties.TagsPassed.IsAfterTags, ties.TagsPassed.after_tags}
+use Rattle.pgn_tokens.specs.{LastTags.may_precede_tags, declared.token.TokenFault.TokenFault, shared.Places.IsWithin, Seen.fault_seen}
+use Rattle.pgn_tokens.specs.Tokens.{Token, Skip, Tag, Word, Bad_tag, Unclosed_comment, Unclosed_variation, Bad, token_at, tokens_of, begins_line, tokens_from}
+use Rattle.pgn_tokens.specs.declared.token.TokenFault.TheVariants as fault
+use Rattle.pgn_tokens.proofs.shared.Tokens.{not_before, within, shorter}
 use Rattle.pgn_writer.specs.Outcomes.{outcome_of}
 
 outcome_has_bytes : (word : List ℕ) (o : Outcome) → Some o ≡ outcome_of word → 0 < length word
@@ -227,13 +228,6 @@ end_in_text text at h =
         let marked = not_before text at h in
         let left = length-drop (after_byte_order_mark text at) text in
         let low = k.0 in (omega (arith, marked.0, marked.1, left, low), k.1)
-
--- from a text's end on there is no token
-pub none_from_end : (text : List ℕ) → tokens_from text (after_byte_order_mark text (length text)) ≡ []
-none_from_end text =
-    let marked = not_before text (length text) (omega arith) in
-    let left = length-drop (after_byte_order_mark text (length text)) text in
-    no_token text (after_byte_order_mark text (length text)) (omega (arith, marked.0, left))
 
 module _ (text : List ℕ) (at : ℕ) (end : Option ℕ) (h : at ≤ length text)
     (is : end ≡ game_end (length text) (tokens_from text (after_byte_order_mark text at)))

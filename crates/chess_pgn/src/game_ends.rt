@@ -4,16 +4,15 @@ ghost use Rattle.std.specs.Prelude.{◌≡◌, ◌≤◌, ◌<◌, List, ℕ, le
 ghost use Rattle.std.specs.Option.{IfSome};
 ghost use Rattle.byte_devices.specs.Bytes.{after_byte_order_mark};
 ghost use Rattle.chess_pgn.specs.GameEnds.{ends_at, game_end};
-ghost use Rattle.chess_pgn.specs.Split.{IsSplit};
-ghost use Rattle.chess_pgn.specs.Tokens as spec;
-ghost use Rattle.chess_pgn.specs.Tokens.{tokens_from};
-ghost use Rattle.chess_pgn.specs.ties.GameSteps.{IsWithin};
-ghost use Rattle.chess_pgn.specs.ties.Seen.{token_seen};
+ghost use Rattle.pgn_tokens.specs.Split.{IsSplit};
+ghost use Rattle.pgn_tokens.specs.Tokens as spec;
+ghost use Rattle.pgn_tokens.specs.Tokens.{tokens_from};
+ghost use Rattle.pgn_tokens.specs.shared.Places.{IsWithin};
+ghost use Rattle.pgn_tokens.specs.Seen.{token_seen};
 ghost use Rattle.chess_pgn.specs.ties.TagsPassed.{IsAfterTags};
 
-use crate::last_tag::may_precede_tags;
-use crate::token::{Token, next_token};
 use byte_devices::after_byte_order_mark;
+use pgn_tokens::{Token, may_precede_tags, next_token};
 use pgn_writer::outcome_of;
 
 // The offset after the tags of the game that begins at the offset `at`: that of its first number, move or outcome, of

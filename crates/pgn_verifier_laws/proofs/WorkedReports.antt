@@ -1,7 +1,8 @@
 -- Lines of reports, spans of games, where texts are read on, and pieces of collections, by computation.
 use Rattle.std.proofs.Common.{refl}
 use Rattle.std.specs.Fmt.{digits}
-use Rattle.chess_pgn.specs.{GameRead.pgn_read, Tokens.token_at, Tokens.tokens_from, Tokens.tokens_of}
+use Rattle.chess_pgn.specs.GameRead.{pgn_read}
+use Rattle.pgn_tokens.specs.Tokens.{token_at, tokens_from, tokens_of}
 use Rattle.pgn_pieces.specs.Pieces.{after_tags}
 use Rattle.pgn_verifier.specs.{Explanations.explanation_line, Reports.counts_line, Reports.report_line, laws.Reported.placed_from}
 use Rattle.pgn_verifier_laws.specs.WorkedReports.{GamesAreFound, PiecesBegin, ReportsAreWritten, TextsAreReadOn}

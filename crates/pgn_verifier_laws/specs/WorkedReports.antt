@@ -5,7 +5,7 @@ use Prim.Native.String.{String as Text}
 use Rattle.chess_game.specs.declared.results.Outcome.TheVariants.{BlackWins, Draw}
 use Rattle.chess_pgn.specs.declared.read.PgnFaultKind.TheVariants.{AfterEnd, IllegalMove}
 use Rattle.chess_pgn.specs.GameEnds.{game_end}
-use Rattle.chess_pgn.specs.Tokens.{Token, Tag, tokens_from}
+use Rattle.pgn_tokens.specs.Tokens.{Token, Tag, tokens_from}
 use Rattle.pgn_pieces.specs.Pieces.{cut}
 use Rattle.pgn_verifier.specs.Explanations.{explanation_line}
 use Rattle.pgn_verifier.specs.Reports.{Report, Placed, Game, Faulty, counts_line, counts_of, names_of, report_lines, spanning}

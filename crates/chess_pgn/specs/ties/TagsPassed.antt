@@ -1,7 +1,7 @@
 -- The tags of a game, passed over.
 use Rattle.std.specs.Prelude.{◌≡◌, ℕ, List, length, drop}
-use Rattle.chess_pgn.specs.LastTags.{tag_section}
-use Rattle.chess_pgn.specs.Tokens.{Token, tokens_from}
+use Rattle.pgn_tokens.specs.LastTags.{tag_section}
+use Rattle.pgn_tokens.specs.Tokens.{Token, tokens_from}
 
 -- a game's tokens after its tag section
 abbrev pub after_tags : List (ℕ × Token) → List (ℕ × Token)

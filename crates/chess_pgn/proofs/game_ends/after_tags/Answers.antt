@@ -1,7 +1,7 @@
 -- A token more keeps that the tokens after the tags are the same (GameEnds.passes_on); the first that can't be among
 -- tags, the text's end and what can't be read each end the tags by one lemma.
 use Rattle.std.proofs.Common.{sym, ◌∙◌, refl}
-use Rattle.chess_pgn.specs.ties.Seen.{token_seen}
+use Rattle.pgn_tokens.specs.Seen.{token_seen}
 use Rattle.chess_pgn.proofs.GameEnds.{passes_on, passed_all, passed_to_end, no_tag}
 use Rattle.chess_pgn.proofs.game_ends.after_tags.Goals as goal
 
