@@ -14,8 +14,8 @@ use Rattle.chess_game.proofs.shared.Lines.{position_after-snoc}
 use Rattle.chess_text.specs.{declared.reading.Reading.Reading, Moves.reading}
 use Rattle.chess_text.specs.declared.reading.Reading.TheVariants as reads
 use Rattle.pgn_writer.specs.{declared.termination.Termination.Termination, Outcomes.outcome_of, Terminations.termination_named}
-use Rattle.chess_pgn.specs.{declared.past_draws.ReadGame.ReadGame, declared.read.PgnEnd.PgnEnd, declared.read.PgnFault.PgnFault, declared.read.PgnFaultKind.PgnFaultKind, declared.word_kind.WordKind.WordKind, laws.WordKinds.word_kind, ties.TagsPassed.IsAfterTags, ties.TagsPassed.after_tags}
-use Rattle.pgn_tokens.specs.{declared.token.TokenFault.TokenFault, LastTags.last_tag, LastTags.says_nothing, LastTags.tag_section, Marks.is_marks, Seen.fault_seen}
+use Rattle.chess_pgn.specs.{declared.past_draws.ReadGame.ReadGame, declared.read.PgnEnd.PgnEnd, declared.read.PgnFault.PgnFault, declared.read.PgnFaultKind.PgnFaultKind, declared.word_kind.WordKind.WordKind, laws.WordKinds.word_kind}
+use Rattle.pgn_tokens.specs.{declared.token.TokenFault.TokenFault, LastTags.last_tag, LastTags.says_nothing, LastTags.tag_section, Marks.is_marks, Seen.fault_seen, TagsPassed.IsAfterTags, TagsPassed.after_tags}
 use Rattle.chess_pgn.specs.declared.past_draws.Effect as code
 use Rattle.chess_pgn.specs.declared.past_draws.Effect.TheVariants as does
 use Rattle.chess_pgn.specs.declared.read.PgnFaultKind.TheVariants.{BadTag, BadFen, AmbiguousMove, AfterEnd, BadToken, IllegalMove, NoResult, TooLong}

@@ -1,5 +1,4 @@
 -- What only joins code to the definitions: no claim rests on it.
 pub mod GameSteps
 pub mod LineSteps
-pub mod TagsPassed
 pub mod PastDraws

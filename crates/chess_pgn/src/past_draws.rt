@@ -17,7 +17,6 @@ ghost use Rattle.chess_pgn.specs.PastDraws.{IsAnswer, Stands};
 ghost use Rattle.chess_pgn.specs.ties.PastDraws.{IsReadAgain, closing_fault, is_past_draw, move_effect, next_position, stops_past_draw, token_effect, unread_fault, word_effect};
 ghost use Rattle.pgn_tokens.specs.Seen.{found_seen, token_seen, fault_seen};
 
-use crate::game_ends::after_tags;
 use crate::read::{PgnEnd, PgnFault, PgnFaultKind, read_pgn};
 use crate::termination::termination_named;
 use crate::word_kind::{WordKind, word_kind};
@@ -26,7 +25,7 @@ use chess_base::Position;
 use chess_game::{Game, MOST_MOVES, Outcome, Verdict};
 use chess_moves::Board;
 use chess_text::{Reading, read_move};
-use pgn_tokens::{Tag, Token, TokenFault, last_tag, next_token};
+use pgn_tokens::{Tag, Token, TokenFault, after_tags, last_tag, next_token};
 use pgn_writer::Termination;
 
 /// A game that was read to its termination marker.

@@ -229,7 +229,11 @@ fn check_unclosed(
     let mut input = Counted::reading(text.as_slice());
     let mut pieces = PgnPieces::open(host.alloc())?;
     is_equal(rt, &pieces.next(&mut input), &Ok(true));
-    assert_eq!(rt; pieces.end() == len, ends_there, "a tag line of {len} bytes");
+    assert_eq!(rt;
+        pieces.end() == len,
+        ends_there,
+        "a tag line of {len} bytes"
+    );
     Ok(())
 }
 

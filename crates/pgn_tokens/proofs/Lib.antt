@@ -6,6 +6,7 @@ mod Cuts
 mod FirstWords
 mod Gaps
 mod LastTagReads
+mod PassedTags
 mod PlainBytes
 mod Skipped
 mod SkippedTokens

@@ -3,6 +3,7 @@ pub mod Split
 pub mod Marks
 pub mod LastTags
 pub mod GameTags
+pub mod TagsPassed
 pub mod VariationTokens
 pub mod Seen
 pub mod shared

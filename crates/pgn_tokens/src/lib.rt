@@ -14,6 +14,7 @@
 mod bytes;
 mod last_tags;
 mod marks;
+mod passed_tags;
 mod skips;
 mod tag;
 mod tag_list;
@@ -24,6 +25,7 @@ mod variations;
 pub use bytes::{is_white_space, is_word_byte};
 pub use last_tags::{last_tag, may_precede_tags, named_tag};
 pub use marks::is_marks;
+pub use passed_tags::after_tags;
 pub use skips::{after_brace, after_gap};
 pub use tag::{Tag, split_name, split_string};
 pub use tag_list::{GameTags, PgnTag, game_tags, tag_text};

@@ -1,9 +1,9 @@
--- A token more keeps that the tokens after the tags are the same (GameEnds.passes_on); the first that can't be among
+-- A token more keeps that the tokens after the tags are the same (PassedTags.passes_on); the first that can't be among
 -- tags, the text's end and what can't be read each end the tags by one lemma.
 use Rattle.std.proofs.Common.{sym, ◌∙◌, refl}
 use Rattle.pgn_tokens.specs.Seen.{token_seen}
-use Rattle.chess_pgn.proofs.GameEnds.{passes_on, passed_all, passed_to_end, no_tag}
-use Rattle.chess_pgn.proofs.game_ends.after_tags.Goals as goal
+use Rattle.pgn_tokens.proofs.PassedTags.{passes_on, passed_all, passed_to_end, no_tag}
+use Rattle.pgn_tokens.proofs.passed_tags.after_tags.Goals as goal
 
 pub loop-token-init : goal.loop-token-init
 loop-token-init c = record { offset = c.requires; whole = refl }

@@ -1,7 +1,7 @@
--- The loop's invariant: the tags from `offset` on end where those from `at` on end (PassesTags of GameEnds).
+-- The loop's invariant: the tags from `offset` on end where those from `at` on end (PassesTags of PassedTags).
 use Rattle.std.proofs.Common.{length, ◌-◌}
-use Rattle.chess_pgn.proofs.GameEnds.{PassesTags}
-use Rattle.chess_pgn.proofs.game_ends.after_tags.Given as goal
+use Rattle.pgn_tokens.proofs.PassedTags.{PassesTags}
+use Rattle.pgn_tokens.proofs.passed_tags.after_tags.Given as goal
 
 abbrev pub invariant-loop-token : goal.invariant-loop-token
 invariant-loop-token l = PassesTags l.text l.at l.offset
