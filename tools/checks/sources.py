@@ -15,6 +15,7 @@ SHORT = {
     "devices": "byte_devices",
     "base": "chess_base",
     "lines": "text_lines",
+    "tokens": "pgn_tokens",
     "fen": "chess_fen",
     "fen_laws": "chess_fen_laws",
     "moves": "chess_moves",

@@ -7,11 +7,12 @@ use Rattle.chess_game.specs.Game.{State, from_start, played, current, verdict_no
 use Rattle.chess_game.specs.{declared.results.Outcome.Outcome, declared.verdicts.Verdict.Verdict}
 use Rattle.chess_text.specs.{declared.reading.Reading.Reading, Moves.reading}
 use Rattle.chess_text.specs.declared.reading.Reading.TheVariants as reads
-use Rattle.chess_pgn.specs.{declared.read.PgnEnd.PgnEnd, declared.read.PgnFault.PgnFault, declared.read.PgnFaultKind.TheVariants.AfterEnd, declared.read.PgnFaultKind.TheVariants.TooLong, LastTags.says_nothing, LastTags.tag_section, Words.is_marks}
+use Rattle.chess_pgn.specs.{declared.read.PgnEnd.PgnEnd, declared.read.PgnFault.PgnFault, declared.read.PgnFaultKind.TheVariants.AfterEnd, declared.read.PgnFaultKind.TheVariants.TooLong}
+use Rattle.pgn_tokens.specs.{LastTags.says_nothing, LastTags.tag_section, Marks.is_marks}
 use Rattle.pgn_writer.specs.{declared.termination.Termination.Termination, Outcomes.outcome_of}
 use Rattle.chess_pgn.specs.GameRead.{GameRead, moves_read, tagged_variant, read_after_tags, pgn_read}
 use Rattle.chess_pgn.specs.shared.Rows.{Row, Goes_on, Ends, Fails, with_fault, move_row, row, after_row, last_start}
-use Rattle.chess_pgn.specs.Tokens.{Token, Skip, Tag, Word, Bad_tag, Unclosed_comment, Unclosed_variation, Bad, tokens_from}
+use Rattle.pgn_tokens.specs.Tokens.{Token, Skip, Tag, Word, Bad_tag, Unclosed_comment, Unclosed_variation, Bad, tokens_from}
 use Rattle.chess_pgn.proofs.shared.Games.{fens, moves_by_row, termination_in}
 
 -- from the game `s` on each word denotes the move at its index, where the game has no verdict and fewer than `limit`

@@ -1,12 +1,13 @@
 -- A fault's offset is in the text, and not before the offset where reading began; a game ends in the text, and each
 -- half-move takes at least a byte.
-use Rattle.std.proofs.Common.{◌≡◌, ℕ, zero, suc, ◌+◌, ◌-◌, ◌≤◌, ◌<◌, Bool, true, eqb, List, [], ◌∷◌, length, take, drop, Option, Some, None, IfSome, Result, Ok, Err, IfOk, IfErr, sym, ap, subst, arith, ◌&&◌, bytes_eq, length-append, length-drop, length-take}
-use Rattle.std.proofs.{lemmas.Bool.and_parts, lemmas.Bool.Decides.nat_tests, lemmas.Slice.Eq.bytes_eq-Decides}
-use Rattle.chess_pgn.specs.{declared.read.PgnEnd.PgnEnd, declared.read.PgnFault.PgnFault, GameRead.GameRead, GameRead.tagged_variant, GameRead.pgn_read, LastTags.tag_section, laws.Offsets.FaultsHaveOffsets, laws.Offsets.HalfMovesHaveBytes}
+use Rattle.std.proofs.Common.{ℕ, zero, suc, ◌+◌, ◌-◌, ◌≤◌, ◌<◌, Bool, eqb, List, [], ◌∷◌, length, drop, Option, Some, None, IfSome, Result, Ok, Err, IfOk, IfErr, sym, subst, arith, length-append, length-drop}
+use Rattle.chess_pgn.specs.{declared.read.PgnEnd.PgnEnd, declared.read.PgnFault.PgnFault, GameRead.GameRead, GameRead.tagged_variant, GameRead.pgn_read, laws.Offsets.FaultsHaveOffsets, laws.Offsets.HalfMovesHaveBytes}
+use Rattle.pgn_tokens.specs.LastTags.{tag_section}
 use Rattle.chess_pgn.specs.laws.TokenByToken.{SoFar, Step, On, Stop, step, read_rest_with, game_of, at_text_end, nothing_read, tokens_read}
-use Rattle.chess_pgn.specs.Tokens.{Token, token_at, tokens_of, begins_line, tokens_from}
+use Rattle.pgn_tokens.specs.Tokens.{Token, token_at, tokens_of, begins_line, tokens_from}
 use Rattle.byte_devices.specs.Bytes.{after_byte_order_mark}
-use Rattle.chess_pgn.proofs.{GamesByTags.reads_alike, ByteRuns.pick, TokenPlaces.within, Walk.shorter}
+use Rattle.chess_pgn.proofs.GamesByTags.{reads_alike}
+use Rattle.pgn_tokens.proofs.{shared.Bytes.pick, shared.Tokens.within, shared.Tokens.shorter}
 use Rattle.chess_pgn.proofs.StepKinds.{StepIs, passes, stays, plays, starts, stops, finishes, step_is}
 
 -- what was read from an offset on, with `done` half-moves before it and `moves` in the end: a fault is from there to
@@ -69,22 +70,6 @@ game_in_place draws limit total (suc n) begins g (c ∷ rest) h =
     (step_in_place (suc (length rest)) total g h
     (step_is draws limit total g (suc (length rest)) t.0 (within begins c rest)))
     (λ u. game_in_place draws limit total n (eqb c 10) u t.1 few)
-
--- ---- the offset where reading begins
-
-pub not_before : (text : List ℕ) (at : ℕ) → at ≤ length text → (at ≤ after_byte_order_mark text at)
-    × (after_byte_order_mark text at ≤ length text)
-not_before text at h = pick (λ (n : ℕ). (at ≤ n) × (n ≤ length text))
-    (eqb at 0 && bytes_eq (take 3 text) (239 ∷ 187 ∷ 191 ∷ [])) _ _ (λ e. mark (and_parts (eqb at 0) _ e))
-    (λ _. (omega arith, h))
-  where
-    mark : (eqb at 0 ≡ true) × (bytes_eq (take 3 text) (239 ∷ 187 ∷ 191 ∷ []) ≡ true) → (at ≤ 3) × (3 ≤ length text)
-    mark (first, is) =
-        let none : at ≡ 0 = grind (arith, nat_tests, first) in
-        let same : length (take 3 text) ≡ 3 =
-        ap length ((bytes_eq-Decides (take 3 text) (239 ∷ 187 ∷ 191 ∷ [])).0 is) in
-        let few = length-take 3 text in
-        (omega (arith, none), omega (arith, same, few))
 
 in_place : (draws : Bool) (limit : ℕ) (text : List ℕ) (at : ℕ) → at ≤ length text
     → let r = tokens_read draws limit (length text) (tokens_from text (after_byte_order_mark text at)) in

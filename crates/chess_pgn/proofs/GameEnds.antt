@@ -3,62 +3,16 @@ use Rattle.std.proofs.Common.{◌≡◌, ◌≤◌, ◌<◌, ℕ, zero, suc, ◌
 use Rattle.std.specs.List.{cons_option, filter_map, prefix_len}
 use Rattle.byte_devices.specs.Bytes.{after_byte_order_mark}
 use Rattle.chess_game.specs.declared.results.Outcome.{Outcome}
-use Rattle.chess_pgn.specs.{GameEnds.ends_at, GameEnds.game_end, LastTags.may_precede_tags, declared.token.TokenFault.TokenFault, ties.GameSteps.IsWithin, ties.Seen.fault_seen, ties.TagsPassed.IsAfterTags, ties.TagsPassed.after_tags}
-use Rattle.chess_pgn.specs.Tokens.{Token, Skip, Tag, Word, Bad_tag, Unclosed_comment, Unclosed_variation, Bad, token_at, tokens_of, begins_line, tokens_from}
-use Rattle.chess_pgn.specs.declared.token.TokenFault.TheVariants as fault
-use Rattle.chess_pgn.proofs.{FaultPlaces.not_before, TokenPlaces.within, Walk.no_token, Walk.shorter}
+use Rattle.chess_pgn.specs.{GameEnds.ends_at, GameEnds.game_end}
+use Rattle.pgn_tokens.specs.{TagsPassed.IsAfterTags, declared.token.TokenFault.TokenFault, shared.Places.IsWithin, Seen.fault_seen}
+use Rattle.pgn_tokens.specs.Tokens.{Token, Skip, Tag, Word, Bad_tag, Unclosed_comment, Unclosed_variation, Bad, token_at, tokens_of, begins_line, tokens_from}
+use Rattle.pgn_tokens.specs.declared.token.TokenFault.TheVariants as fault
+use Rattle.pgn_tokens.proofs.shared.Tokens.{not_before, within, shorter}
 use Rattle.pgn_writer.specs.Outcomes.{outcome_of}
 
 outcome_has_bytes : (word : List ℕ) (o : Outcome) → Some o ≡ outcome_of word → 0 < length word
 outcome_has_bytes [] o h = cc
 outcome_has_bytes (c ∷ word) o h = search rules
-
--- ---- the tags
-
--- one more
-pub tags_on : (t : ℕ × Token) (rest : List (ℕ × Token)) → true ≡ may_precede_tags t.1
-    → after_tags (t ∷ rest) ≡ after_tags rest
-tags_on t rest may =
-    let n = prefix_len (λ u. may_precede_tags u.1) rest in
-    ap (λ b. drop (length (take (cond b (1 + n) 0) (t ∷ rest))) (t ∷ rest)) (sym may)
-    ∙ ap (λ k. drop (length (take k (t ∷ rest))) (t ∷ rest)) (one-add n)
-
--- no more
-pub tags_end : (t : ℕ × Token) (rest : List (ℕ × Token)) → may_precede_tags t.1 ≡ false
-    → after_tags (t ∷ rest) ≡ t ∷ rest
-tags_end t rest h =
-    ap (λ b. drop (length (take (cond b (1 + prefix_len (λ u. may_precede_tags u.1) rest) 0) (t ∷ rest))) (t ∷ rest)) h
-
--- as code passes over them
-pub record PassesTags (text : List ℕ) (from here : ℕ) : Type 0 where
-  pub offset : here ≤ length text
-  pub whole : after_tags (tokens_from text here) ≡ after_tags (tokens_from text from)
-
-pub passes_on : (text : List ℕ) (from here tail : ℕ) (t : Token) → PassesTags text from here
-    → tokens_from text here ≡ (length text - here, t) ∷ tokens_from text tail → tail ≤ length text
-    → true ≡ may_precede_tags t → PassesTags text from tail
-passes_on text from here tail t r is inside may = record {
-  offset = inside;
-  whole = sym (ap after_tags is ∙ tags_on (length text - here, t) (tokens_from text tail) may) ∙ r.whole;
-}
-
--- a token ends them
-pub passed_all : (text : List ℕ) (from here : ℕ) (t : Token) (rest : List (ℕ × Token)) → PassesTags text from here
-    → tokens_from text here ≡ (length text - here, t) ∷ rest → may_precede_tags t ≡ false → IsAfterTags text from here
-passed_all text from here t rest r is ends =
-    sym r.whole ∙ ap after_tags is ∙ tags_end (length text - here, t) rest ends ∙ sym is
-
--- the text's end does
-pub passed_to_end : (text : List ℕ) (from here : ℕ) → PassesTags text from here → tokens_from text here ≡ []
-    → IsAfterTags text from here
-passed_to_end text from here r is = sym r.whole ∙ ap after_tags is ∙ sym is
-
--- what can't be read does
-pub no_tag : (f : TokenFault) → may_precede_tags (fault_seen f) ≡ false
-no_tag fault.BadTag = refl
-no_tag (fault.UnclosedComment left) = refl
-no_tag fault.UnclosedVariation = refl
-no_tag fault.BadByte = refl
 
 -- ---- the end
 
@@ -227,13 +181,6 @@ end_in_text text at h =
         let marked = not_before text at h in
         let left = length-drop (after_byte_order_mark text at) text in
         let low = k.0 in (omega (arith, marked.0, marked.1, left, low), k.1)
-
--- from a text's end on there is no token
-pub none_from_end : (text : List ℕ) → tokens_from text (after_byte_order_mark text (length text)) ≡ []
-none_from_end text =
-    let marked = not_before text (length text) (omega arith) in
-    let left = length-drop (after_byte_order_mark text (length text)) text in
-    no_token text (after_byte_order_mark text (length text)) (omega (arith, marked.0, left))
 
 module _ (text : List ℕ) (at : ℕ) (end : Option ℕ) (h : at ≤ length text)
     (is : end ≡ game_end (length text) (tokens_from text (after_byte_order_mark text at)))

@@ -2,12 +2,15 @@
 use Rattle.std.proofs.Common.{◌≡◌, ℕ, ◌-◌, ◌≤◌, ◌<◌, Bool, true, false, cond, List, ◌∷◌, arith, length, get_or, take, drop, Some, None, is_some, Result, Ok, Err, refl, sym, ap, subst, ◌∙◌, Option, IsNone, OnErr, codes}
 use Rattle.chess_base.specs.{declared.man.Variant.Variant, declared.man.Variant.TheVariants.Normal, declared.setup.Setup.Setup, Initial.initial_setup, Initial.initial_setup_of}
 use Rattle.chess_game.specs.Game.{State, Seen, from_start, with_state as left_at}
-use Rattle.chess_pgn.specs.{declared.read.PgnEnd.PgnEnd, declared.read.PgnFault.PgnFault, declared.progress.Progress.Progress, laws.WordKinds.word_kind, GameRead.tagged_variant, GameRead.pgn_read, LastTags.may_precede_tags, LastTags.named_tag, LastTags.tag_section, ties.Seen.SkipsTo}
-use Rattle.chess_pgn.specs.Tokens.{Token, Skip, Word, after_brace, token_at, begins_line, tokens_from}
+use Rattle.chess_pgn.specs.{declared.read.PgnEnd.PgnEnd, declared.read.PgnFault.PgnFault, declared.progress.Progress.Progress, laws.WordKinds.word_kind, GameRead.tagged_variant, GameRead.pgn_read}
+use Rattle.pgn_tokens.specs.{LastTags.may_precede_tags, LastTags.named_tag, LastTags.tag_section, Seen.SkipsTo}
+use Rattle.pgn_tokens.specs.Tokens.{Token, Skip, Word, after_brace, token_at, begins_line, tokens_from}
 use Rattle.byte_devices.specs.Bytes.{after_byte_order_mark}
 use Rattle.chess_pgn.specs.laws.TokenByToken.{SoFar, Step, On, Stop, word_step, step, read_rest_with, game_of, nothing_read, tokens_read}
-use Rattle.chess_pgn.specs.ties.GameSteps.{IsWithin, so_far, begun, StopsAt, IsReadOn, ReadsAlike, IsTaken, GoesOn, step_seen}
-use Rattle.chess_pgn.proofs.{GamesByTags.reads_alike, TokenPlaces.token_within, SkippedTokens.skips_alike, SkippedTokens.skips_say, Walk.NextToken, Walk.next_token}
+use Rattle.pgn_tokens.specs.shared.Places.{IsWithin}
+use Rattle.chess_pgn.specs.ties.GameSteps.{so_far, begun, StopsAt, IsReadOn, ReadsAlike, IsTaken, GoesOn, step_seen}
+use Rattle.chess_pgn.proofs.{GamesByTags.reads_alike, SkippedTokens.skips_alike, SkippedTokens.skips_say}
+use Rattle.pgn_tokens.proofs.shared.Tokens.{token_within, NextToken, next_token}
 use Rattle.chess_pgn.proofs.StepKinds.{StepIs, passes, stays, plays, starts, stops, finishes, step_is}
 use Rattle.chess_pgn.proofs.TagScans.{variant_or, variant_said, variant_from, variants_are}
 

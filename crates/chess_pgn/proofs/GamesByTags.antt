@@ -8,19 +8,21 @@ use Rattle.chess_base.specs.{declared.fen_fault.FenFault.FenFault, declared.man.
 use Rattle.byte_devices.specs.Bytes.{is_digit, after_byte_order_mark}
 use Rattle.chess_fen.specs.Reading.{fen_reading_as}
 use Rattle.chess_game.specs.Game.{Seen, State, from_start, played, current, with_state as left_at}
-use Rattle.chess_pgn.specs.{declared.read.PgnEnd.PgnEnd, declared.read.PgnFault.PgnFault, declared.read.PgnFaultKind.TheVariants.BadTag, declared.read.PgnFaultKind.TheVariants.BadFen, declared.word_kind.WordKind.WordKind, Words.is_marks, laws.WordKinds.word_kind}
+use Rattle.chess_pgn.specs.{declared.read.PgnEnd.PgnEnd, declared.read.PgnFault.PgnFault, declared.read.PgnFaultKind.TheVariants.BadTag, declared.read.PgnFaultKind.TheVariants.BadFen, declared.word_kind.WordKind.WordKind, laws.WordKinds.word_kind}
+use Rattle.pgn_tokens.specs.Marks.{is_marks}
 use Rattle.chess_game.specs.declared.results.Outcome.{Outcome}
 use Rattle.chess_text.specs.{declared.reading.Reading.Reading, Moves.reading}
 use Rattle.chess_text.specs.declared.reading.Reading.TheVariants as reads
 use Rattle.pgn_writer.specs.{declared.termination.Termination.Termination, Terminations.termination_named, Outcomes.outcome_of}
 use Rattle.chess_pgn.specs.GameRead.{GameRead, ending, tagged_variant, pgn_read, failed, moves_read, fen_read, read_after_tags, read_of_split, IsRead}
 use Rattle.chess_pgn.specs.shared.Rows.{Goes_on, Ends, move_row, row, after_row, with_fault, last_start}
-use Rattle.chess_pgn.specs.shared.TagsNamed.{tags_named}
+use Rattle.pgn_tokens.specs.shared.TagsNamed.{tags_named}
 use Rattle.chess_pgn.specs.laws.TokenByToken.{SoFar, Step, On, word_step, move_step, fen_step, step, read_rest_with, game_of, termination_after, tokens_read}
-use Rattle.chess_pgn.specs.LastTags.{says_nothing, may_precede_tags, tag_section, last_tag}
+use Rattle.pgn_tokens.specs.LastTags.{says_nothing, may_precede_tags, tag_section, last_tag}
 use Rattle.chess_pgn.specs.declared.word_kind.WordKind.TheVariants.{End, Number, Marks, Move}
-use Rattle.chess_pgn.specs.Tokens.{Token, Skip, Tag, Word, Bad_tag, Unclosed_comment, Unclosed_variation, Bad, tokens_from}
-use Rattle.chess_pgn.proofs.{PgnWords.are_marks, PgnWords.marks_by_kind, ByteRuns.run_passes, FenVariants.initial_variant, FenVariants.read_variant, RowsRead.moves_by_row, Splits.split_read}
+use Rattle.pgn_tokens.specs.Tokens.{Token, Skip, Tag, Word, Bad_tag, Unclosed_comment, Unclosed_variation, Bad, tokens_from}
+use Rattle.chess_pgn.proofs.{PgnWords.are_marks, PgnWords.marks_by_kind, FenVariants.initial_variant, FenVariants.read_variant, RowsRead.moves_by_row}
+use Rattle.pgn_tokens.proofs.{shared.Bytes.run_passes, shared.Tokens.split_read}
 
 -- ---- words, where `met` and `begun` say what came before them
 

@@ -3,12 +3,13 @@ use Rattle.std.proofs.Common.{◌≡◌, ℕ, ◌<◌, ◌≤◌, ◌-◌, Bool,
 use Rattle.std.specs.List.{list_all, take_while}
 use Rattle.std.proofs.{lemmas.Bool.and_parts, lemmas.List.take_rest}
 use Rattle.chess_game.specs.Game.{Seen}
-use Rattle.chess_pgn.specs.{declared.word_kind.WordKind.WordKind, LastTags.may_precede_tags, laws.WordKinds.word_kind, ties.GameSteps.IsNoMove, ties.GameSteps.IsLeft, ties.GameSteps.StopsAt}
+use Rattle.chess_pgn.specs.{declared.word_kind.WordKind.WordKind, laws.WordKinds.word_kind, ties.GameSteps.IsNoMove, ties.GameSteps.IsLeft, ties.GameSteps.StopsAt}
+use Rattle.pgn_tokens.specs.LastTags.{may_precede_tags}
 use Rattle.chess_pgn.specs.declared.word_kind.WordKind.TheVariants.{End, Number, Marks, Move}
-use Rattle.chess_pgn.specs.Tokens.{Token, Skip, Tag, Word, Bad_tag, Unclosed_comment, Unclosed_variation, Bad, is_word_byte, token_at, begins_line, tokens_from}
-use Rattle.chess_pgn.specs.shared.Kinds.{Kind, Blank, Line, Comment, Nag, Variation, Tag_pair, Asterisk, Symbol, IsOf, token_of}
-use Rattle.chess_pgn.proofs.{PgnWords.are_marks, PgnWords.marks_by_kind, Walk.no_token, Walk.token_more}
-use Rattle.chess_pgn.proofs.TokenKinds.{begins_word, TokenSays, known, faulty, is_fault, token_says}
+use Rattle.pgn_tokens.specs.Tokens.{Token, Skip, Tag, Word, Bad_tag, Unclosed_comment, Unclosed_variation, Bad, is_word_byte, token_at, begins_line, tokens_from}
+use Rattle.pgn_tokens.specs.shared.Kinds.{Kind, Blank, Line, Comment, Nag, Variation, Tag_pair, Asterisk, Symbol, IsOf, token_of}
+use Rattle.chess_pgn.proofs.PgnWords.{are_marks, marks_by_kind}
+use Rattle.pgn_tokens.proofs.shared.Tokens.{no_token, token_more, begins_word, TokenSays, known, faulty, is_fault, token_says}
 
 pub move_has_bytes : (word : List ℕ) → Move ≡ word_kind word → 0 < length word
 move_has_bytes [] h = cc

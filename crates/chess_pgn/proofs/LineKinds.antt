@@ -6,9 +6,11 @@ use Rattle.chess_base.specs.{declared.man.Move.Move, declared.setup.Setup.Setup,
 use Rattle.chess_text.specs.{declared.reading.Reading.Reading, Moves.reading}
 use Rattle.chess_text.specs.declared.reading.Reading.TheVariants as reads
 use Rattle.pgn_writer.specs.Outcomes.{outcome_of}
-use Rattle.chess_pgn.specs.{declared.read.PgnFault.PgnFault, declared.read.PgnFaultKind.PgnFaultKind, declared.read.PgnFaultKind.TheVariants.BadToken, Words.is_marks, Words.word_gives, laws.LineEnds.is_end}
-use Rattle.chess_pgn.specs.Tokens.{Token, Skip, Tag, Word, Bad_tag, Unclosed_comment, Unclosed_variation, Bad}
-use Rattle.chess_pgn.specs.Variations.{is_variation, line_fault}
+use Rattle.chess_pgn.specs.{declared.read.PgnFault.PgnFault, declared.read.PgnFaultKind.PgnFaultKind, declared.read.PgnFaultKind.TheVariants.BadToken, Words.word_gives, laws.LineEnds.is_end}
+use Rattle.pgn_tokens.specs.Marks.{is_marks}
+use Rattle.pgn_tokens.specs.Tokens.{Token, Skip, Tag, Word, Bad_tag, Unclosed_comment, Unclosed_variation, Bad}
+use Rattle.pgn_tokens.specs.VariationTokens.{is_variation}
+use Rattle.chess_pgn.specs.Variations.{line_fault}
 use Rattle.chess_pgn.specs.shared.LineTokens.{after_token, token_move, word_move}
 
 module _ (tags : Bool) (text : List ℕ) (inside : Setup → ℕ → Option PgnFault) (before : Option Setup) (p : Setup)

@@ -2,12 +2,14 @@
 use Rattle.std.proofs.Common.{◌≡◌, ℕ, zero, suc, ◌+◌, ◌-◌, ◌≤◌, Bool, true, false, cond, List, [], ◌∷◌, length, Option, Some, None, IfSome, IfErr, Result, Ok, Err, refl, sym, ap, subst, ◌∙◌, inl, inr, arith}
 use Rattle.std.specs.{Option.option_map_or, Option.option_or, Result.result_err}
 use Rattle.chess_base.specs.{declared.man.Move.Move, declared.setup.Setup.Setup, Moves.after}
-use Rattle.chess_pgn.specs.{declared.read.PgnFault.PgnFault, declared.read.PgnFaultKind.PgnFaultKind, declared.read.PgnFaultKind.TheVariants.BadToken, declared.read.PgnFaultKind.TheVariants.TooLong, ties.Seen.token_seen}
-use Rattle.chess_pgn.specs.Tokens.{Token, Skip, Tag, Word, Bad_tag, Unclosed_comment, Unclosed_variation, Bad, tokens_from}
-use Rattle.chess_pgn.specs.Variations.{is_variation, line_fault, variation_fault}
+use Rattle.chess_pgn.specs.{declared.read.PgnFault.PgnFault, declared.read.PgnFaultKind.PgnFaultKind, declared.read.PgnFaultKind.TheVariants.BadToken, declared.read.PgnFaultKind.TheVariants.TooLong}
+use Rattle.pgn_tokens.specs.Seen.{token_seen}
+use Rattle.pgn_tokens.specs.Tokens.{Token, Skip, Tag, Word, Bad_tag, Unclosed_comment, Unclosed_variation, Bad, tokens_from}
+use Rattle.pgn_tokens.specs.VariationTokens.{is_variation}
+use Rattle.chess_pgn.specs.Variations.{line_fault, variation_fault}
 use Rattle.chess_pgn.specs.{laws.LineEnds.is_end, shared.LineTokens.after_token, shared.LineTokens.token_move}
-use Rattle.chess_pgn.specs.declared.token.Token as code
-use Rattle.chess_pgn.specs.declared.token.Token.TheVariants as seen
+use Rattle.pgn_tokens.specs.declared.token.Token as code
+use Rattle.pgn_tokens.specs.declared.token.Token.TheVariants as seen
 use Rattle.chess_pgn.specs.ties.LineSteps.{EndsLine, IsUnread, inside, opening, played}
 use Rattle.chess_pgn.proofs.LineKinds.{line_by_kind}
 

@@ -3,7 +3,8 @@ use Rattle.std.proofs.Common.{◌≡◌, ℕ, Bool, true, false, List, Option, S
 use Rattle.std.specs.{List.list_all, Option.option_map_or}
 use Rattle.byte_devices.specs.Bytes.{is_digit}
 use Rattle.chess_game.specs.declared.results.Outcome.{Outcome}
-use Rattle.chess_pgn.specs.{declared.word_kind.WordKind.WordKind, Words.is_marks, laws.WordKinds.word_kind}
+use Rattle.chess_pgn.specs.{declared.word_kind.WordKind.WordKind, laws.WordKinds.word_kind}
+use Rattle.pgn_tokens.specs.Marks.{is_marks}
 use Rattle.chess_pgn.specs.declared.word_kind.WordKind.TheVariants.{End, Number, Marks, Move}
 use Rattle.pgn_writer.specs.Outcomes.{outcome_of}
 

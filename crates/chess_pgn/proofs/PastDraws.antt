@@ -14,16 +14,17 @@ use Rattle.chess_game.proofs.shared.Lines.{position_after-snoc}
 use Rattle.chess_text.specs.{declared.reading.Reading.Reading, Moves.reading}
 use Rattle.chess_text.specs.declared.reading.Reading.TheVariants as reads
 use Rattle.pgn_writer.specs.{declared.termination.Termination.Termination, Outcomes.outcome_of, Terminations.termination_named}
-use Rattle.chess_pgn.specs.{declared.past_draws.ReadGame.ReadGame, declared.read.PgnEnd.PgnEnd, declared.read.PgnFault.PgnFault, declared.read.PgnFaultKind.PgnFaultKind, declared.token.TokenFault.TokenFault, declared.word_kind.WordKind.WordKind, LastTags.last_tag, LastTags.says_nothing, LastTags.tag_section, Words.is_marks, laws.WordKinds.word_kind, ties.Seen.fault_seen, ties.TagsPassed.IsAfterTags, ties.TagsPassed.after_tags}
+use Rattle.chess_pgn.specs.{declared.past_draws.ReadGame.ReadGame, declared.read.PgnEnd.PgnEnd, declared.read.PgnFault.PgnFault, declared.read.PgnFaultKind.PgnFaultKind, declared.word_kind.WordKind.WordKind, laws.WordKinds.word_kind}
+use Rattle.pgn_tokens.specs.{declared.token.TokenFault.TokenFault, LastTags.last_tag, LastTags.says_nothing, LastTags.tag_section, Marks.is_marks, Seen.fault_seen, TagsPassed.IsAfterTags, TagsPassed.after_tags}
 use Rattle.chess_pgn.specs.declared.past_draws.Effect as code
 use Rattle.chess_pgn.specs.declared.past_draws.Effect.TheVariants as does
 use Rattle.chess_pgn.specs.declared.read.PgnFaultKind.TheVariants.{BadTag, BadFen, AmbiguousMove, AfterEnd, BadToken, IllegalMove, NoResult, TooLong}
-use Rattle.chess_pgn.specs.declared.token.TokenFault.TheVariants as unreadable
+use Rattle.pgn_tokens.specs.declared.token.TokenFault.TheVariants as unreadable
 use Rattle.chess_pgn.specs.declared.word_kind.WordKind.TheVariants.{End, Number, Marks, Move}
 use Rattle.chess_pgn.specs.GameRead.{GameRead, ending, fen_read, moves_read, not_of_2014, pgn_read, read_after_tags, read_of_split, tagged_variant}
 use Rattle.chess_pgn.specs.shared.Rows.{Row, Goes_on, Ends, Fails, after_row, last_start, move_row, row, with_fault}
-use Rattle.chess_pgn.specs.shared.TagsNamed.{tags_named}
-use Rattle.chess_pgn.specs.Tokens.{Token, Skip, Tag, Word, Bad_tag, Unclosed_comment, Unclosed_variation, Bad, tokens_from}
+use Rattle.pgn_tokens.specs.shared.TagsNamed.{tags_named}
+use Rattle.pgn_tokens.specs.Tokens.{Token, Skip, Tag, Word, Bad_tag, Unclosed_comment, Unclosed_variation, Bad, tokens_from}
 use Rattle.chess_pgn.specs.PastDraws.{IsAnswer, Stands}
 use Rattle.chess_pgn.specs.ties.PastDraws.{IsReadAgain, closing_fault, is_at_past_draw, is_past_draw, move_effect, next_position, stops_past_draw, token_effect, unread_fault, word_effect}
 use Rattle.chess_pgn.proofs.{GamesByTags.fens, GamesByTags.termination_in, RowsRead.moves_by_row}

@@ -11,8 +11,9 @@ use Rattle.chess_pgn.specs.declared.read.PgnFaultKind.{PgnFaultKind}
 use Rattle.chess_pgn.specs.declared.read.PgnFaultKind.TheVariants.{AmbiguousMove, AfterEnd, IllegalMove, TooLong}
 use Rattle.pgn_writer.specs.{declared.termination.Termination.Termination, Outcomes.outcome_of}
 use Rattle.chess_pgn.specs.GameRead.{GameRead, closed_by, declared_after, ending, failed, moves_read}
-use Rattle.chess_pgn.specs.Words.{is_marks, word_gives}
-use Rattle.chess_pgn.specs.Tokens.{Token, Skip, Tag, Word, Bad_tag, Unclosed_comment, Unclosed_variation, Bad}
+use Rattle.pgn_tokens.specs.Marks.{is_marks}
+use Rattle.chess_pgn.specs.Words.{word_gives}
+use Rattle.pgn_tokens.specs.Tokens.{Token, Skip, Tag, Word, Bad_tag, Unclosed_comment, Unclosed_variation, Bad}
 use Rattle.chess_pgn.specs.shared.Rows.{Goes_on, Ends, Fails, move_row, row, after_row}
 
 module _ (draws : Bool) (limit total : ℕ) (termination : Option Termination) (s : State) (later : State → GameRead)

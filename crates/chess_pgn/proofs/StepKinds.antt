@@ -6,13 +6,15 @@ use Rattle.chess_game.specs.Game.{from_start, played, current}
 use Rattle.chess_game.specs.declared.results.Outcome.{Outcome}
 use Rattle.chess_text.specs.{declared.reading.Reading.Reading, Moves.reading}
 use Rattle.chess_text.specs.declared.reading.Reading.TheVariants as reads
-use Rattle.chess_pgn.specs.{declared.read.PgnFaultKind.PgnFaultKind, declared.word_kind.WordKind.WordKind, GameRead.ending, LastTags.may_precede_tags, ties.GameSteps.IsWithin, laws.WordKinds.word_kind}
+use Rattle.chess_pgn.specs.{declared.read.PgnFaultKind.PgnFaultKind, declared.word_kind.WordKind.WordKind, GameRead.ending, laws.WordKinds.word_kind}
+use Rattle.pgn_tokens.specs.{LastTags.may_precede_tags, shared.Places.IsWithin}
 use Rattle.chess_pgn.specs.declared.read.PgnFaultKind.TheVariants.{BadTag, BadFen, BadToken, IllegalMove, AmbiguousMove, AfterEnd, TooLong, UnclosedComment, UnclosedVariation, NoResult}
 use Rattle.pgn_writer.specs.declared.termination.Termination.{Termination}
 use Rattle.chess_pgn.specs.declared.word_kind.WordKind.TheVariants.{End, Number, Marks, Move}
 use Rattle.chess_pgn.specs.laws.TokenByToken.{SoFar, Step, On, fails, ends, unless_full, move_step, word_step, fen_step, tag_step, termination_after, step}
-use Rattle.chess_pgn.specs.Tokens.{Token, Skip, Tag, Word, Bad_tag, Unclosed_comment, Unclosed_variation, Bad}
-use Rattle.chess_pgn.proofs.{ByteRuns.pick, PgnWords.are_marks, PgnWords.marks_by_kind}
+use Rattle.pgn_tokens.specs.Tokens.{Token, Skip, Tag, Word, Bad_tag, Unclosed_comment, Unclosed_variation, Bad}
+use Rattle.pgn_tokens.proofs.shared.Bytes.{pick}
+use Rattle.chess_pgn.proofs.PgnWords.{are_marks, marks_by_kind}
 
 -- a step from the game `g` on, at a token from which `left` of `total` bytes are left: it leaves the game, plays a
 -- move, sets the start, stops at a fault, whose offset is not before the token, or ends the game after `len` bytes of

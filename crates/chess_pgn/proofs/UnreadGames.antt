@@ -12,13 +12,15 @@ use Rattle.chess_game.specs.declared.results.Outcome.{Outcome}
 use Rattle.chess_text.specs.{declared.reading.Reading.Reading, Moves.reading}
 use Rattle.chess_text.specs.declared.reading.Reading.TheVariants as reads
 use Rattle.pgn_writer.specs.Outcomes.{outcome_of}
-use Rattle.chess_pgn.specs.{declared.read.PgnEnd.PgnEnd, declared.read.PgnFault.PgnFault, declared.read.PgnFaultKind.PgnFaultKind, GameEnds.ends_at, GameEnds.game_end, GameRead.GameRead, GameRead.ending, GameRead.tagged_variant, LastTags.may_precede_tags, LastTags.tag_section, laws.Unreadable.is_unreadable, laws.Unreadable.UnreadableGamesHaveNoEnd, laws.WordKinds.word_kind, ties.TagsPassed.after_tags, Words.is_marks}
+use Rattle.chess_pgn.specs.{declared.read.PgnEnd.PgnEnd, declared.read.PgnFault.PgnFault, declared.read.PgnFaultKind.PgnFaultKind, GameEnds.ends_at, GameEnds.game_end, GameRead.GameRead, GameRead.ending, GameRead.tagged_variant, laws.Unreadable.is_unreadable, laws.Unreadable.UnreadableGamesHaveNoEnd, laws.WordKinds.word_kind}
+use Rattle.pgn_tokens.specs.{LastTags.may_precede_tags, LastTags.tag_section, Marks.is_marks, TagsPassed.after_tags}
 use Rattle.chess_pgn.specs.declared.read.PgnFaultKind.TheVariants.{BadFen, BadToken, IllegalMove, AmbiguousMove, AfterEnd, TooLong, NoResult}
 use Rattle.chess_pgn.specs.declared.word_kind.WordKind.TheVariants.{End, Number, Marks, Move}
 use Rattle.chess_pgn.specs.laws.TokenByToken.{SoFar, Step, On, fails, unless_full, move_step, word_step, fen_step, tag_step, termination_after, step, read_rest_with, game_of, nothing_read, tokens_read}
-use Rattle.chess_pgn.specs.Tokens.{Token, Skip, Tag, Word, is_word_byte, begins_line, tokens_from}
-use Rattle.chess_pgn.specs.Split.{IsToken, blank, line, comment, glyph, variation, tag, asterisk, word, IsFaultOf, inner_comment, other, IsSplit, ended, token, stopped}
-use Rattle.chess_pgn.proofs.{ByteRuns.pick, GameEnds.first_end, GameEnds.tags_on, GameEnds.tags_end, GamesByTags.reads_alike, Splits.read_split, StepKinds.word_cases}
+use Rattle.pgn_tokens.specs.Tokens.{Token, Skip, Tag, Word, is_word_byte, begins_line, tokens_from}
+use Rattle.pgn_tokens.specs.Split.{IsToken, blank, line, comment, glyph, variation, tag, asterisk, word, IsFaultOf, inner_comment, other, IsSplit, ended, token, stopped}
+use Rattle.pgn_tokens.proofs.{shared.Bytes.pick, shared.Tags.tags_end, shared.Tags.tags_on, shared.Tokens.read_split}
+use Rattle.chess_pgn.proofs.{GameEnds.first_end, GamesByTags.reads_alike, StepKinds.word_cases}
 
 -- ---- answers
 

@@ -3,8 +3,8 @@
 use Rattle.std.specs.Prelude.{ℕ, ◌+◌, ◌-◌, List, length, drop, slice_get, Option, Some, None}
 use Rattle.std.specs.List.{filter_map}
 use Rattle.std.specs.Option.{option_map}
-use Rattle.chess_pgn.specs.LastTags.{tag_section}
-use Rattle.chess_pgn.specs.Tokens.{Token, Tag, Word}
+use Rattle.pgn_tokens.specs.LastTags.{tag_section}
+use Rattle.pgn_tokens.specs.Tokens.{Token, Tag, Word}
 use Rattle.pgn_writer.specs.Outcomes.{outcome_of}
 
 -- the offset at which a token after a game's tags ends the game: after a termination marker, or before a tag, which is

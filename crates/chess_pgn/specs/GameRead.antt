@@ -27,11 +27,12 @@ use Rattle.chess_pgn.specs.declared.read.PgnFaultKind.{PgnFaultKind}
 use Rattle.chess_pgn.specs.declared.read.PgnFaultKind.TheVariants.{BadTag, BadFen, BadToken, AfterEnd, TooLong, UnclosedComment, UnclosedVariation, NoResult}
 use Rattle.pgn_writer.specs.declared.termination.Termination.{Termination}
 use Rattle.pgn_writer.specs.Terminations.{termination_named}
-use Rattle.chess_pgn.specs.LastTags.{says_nothing, named_tag, tag_section, last_tag}
-use Rattle.chess_pgn.specs.Tokens.{Token, Skip, Word, Bad_tag, Unclosed_comment, Unclosed_variation, Bad, tokens_from}
-use Rattle.chess_pgn.specs.Split.{IsSplit}
+use Rattle.pgn_tokens.specs.LastTags.{says_nothing, named_tag, tag_section, last_tag}
+use Rattle.pgn_tokens.specs.Tokens.{Token, Skip, Word, Bad_tag, Unclosed_comment, Unclosed_variation, Bad, tokens_from}
+use Rattle.pgn_tokens.specs.Split.{IsSplit}
 use Rattle.pgn_writer.specs.Outcomes.{outcome_of}
-use Rattle.chess_pgn.specs.Words.{is_marks, word_gives}
+use Rattle.pgn_tokens.specs.Marks.{is_marks}
+use Rattle.chess_pgn.specs.Words.{word_gives}
 
 -- ---- what is read in the end
 

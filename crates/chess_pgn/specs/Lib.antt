@@ -1,8 +1,5 @@
-pub mod Tokens
-pub mod Split
 pub mod Words
-pub mod LastTags
-pub mod GameTags
+pub mod ResultTags
 pub mod GameRead
 pub mod UnknownVariants
 pub mod PastDraws

@@ -1,7 +1,7 @@
 -- Tags Variant that name no variant that is known.
 use Rattle.std.specs.Prelude.{ℕ, ◌-◌, List, codes, Option, Some, None, is_some, if◌then◌else◌, option_and_then}
-use Rattle.chess_pgn.specs.LastTags.{tag_section, last_tag}
-use Rattle.chess_pgn.specs.Tokens.{Token}
+use Rattle.pgn_tokens.specs.LastTags.{tag_section, last_tag}
+use Rattle.pgn_tokens.specs.Tokens.{Token}
 use Rattle.chess_pgn.specs.GameRead.{known_variant}
 
 -- if the last tag Variant of a game with these tokens names no known variant, as `atomic`: the offset of the text

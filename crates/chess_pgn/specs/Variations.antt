@@ -3,11 +3,11 @@
 -- *line* is a game's own moves, or those of a variation. This project's own: which words are taken; that a result is
 -- passed over in a variation, and a tag there is a fault, since a `)` in its string may end the variation for the game
 -- (`Split`); that no draw ends a variation; and how deep they may be nested.
-use Rattle.std.specs.Prelude.{ℕ, zero, suc, ◌+◌, ◌-◌, Bool, true, false, ◌||◌, if◌then◌else◌, List, [], ◌∷◌, codes, length, take, drop, slice_index, Option, Some, None, is_some, ◌==◌}
-use Rattle.std.specs.List.{list_all, list_any}
+use Rattle.std.specs.Prelude.{ℕ, zero, suc, ◌+◌, ◌-◌, Bool, true, false, ◌||◌, if◌then◌else◌, List, [], ◌∷◌, codes, length, take, drop, Option, Some, None, is_some}
+use Rattle.std.specs.List.{list_all}
 use Rattle.std.specs.Option.{option_map_or, option_or}
 use Rattle.std.specs.Str.{bytes_eq}
-use Rattle.byte_devices.specs.Bytes.{byte, is_digit}
+use Rattle.byte_devices.specs.Bytes.{is_digit}
 use Rattle.chess_base.specs.declared.setup.Setup.{Setup}
 use Rattle.chess_base.specs.Moves.{after}
 use Rattle.chess_text.specs.Moves.{reading}
@@ -15,13 +15,9 @@ use Rattle.pgn_writer.specs.Outcomes.{outcome_of}
 use Rattle.chess_pgn.specs.declared.read.PgnFault.{PgnFault}
 use Rattle.chess_pgn.specs.declared.read.PgnFaultKind.TheVariants.{BadToken, TooLong}
 use Rattle.chess_pgn.specs.declared.variations.TheConstants.{MOST_NESTED}
-use Rattle.chess_pgn.specs.Tokens.{Token, Skip, Tag, Word, Bad}
-use Rattle.chess_pgn.specs.Words.{is_marks, word_gives}
-
--- whether a token, which begins at the offset `at` of the text, is a variation: it is skipped, and begins with `(`
-abbrev pub is_variation : List ℕ → ℕ → Token → Bool
-is_variation text at Skip = slice_index text at == byte "("
-is_variation text at _ = false
+use Rattle.pgn_tokens.specs.Tokens.{Token, Skip, Tag, Word, Bad}
+use Rattle.pgn_tokens.specs.Marks.{is_marks}
+use Rattle.chess_pgn.specs.Words.{word_gives}
 
 -- the first fault of a line (see the head) and of the variations in it, from these tokens of the text on; `None` if
 -- there is none. `tags`: whether tags are passed over, as in a game's own line; if not, each is a bad token.
@@ -57,10 +53,6 @@ unfoldable pub variation_fault : (List ℕ → ℕ → List (ℕ × Token)) → 
 variation_fault tokens zero text start at = Some (record { kind = TooLong; offset = at })
 variation_fault tokens (suc depth) text start at =
     line_fault false text (λ p from. variation_fault tokens depth text p from) None start (tokens text (at + 1))
-
--- whether one of these tokens of the text, each paired with how many bytes are left at it, is a variation
-abbrev pub has_variation : List ℕ → List (ℕ × Token) → Bool
-has_variation text tokens = list_any (λ t. is_variation text (length text - t.0) t.1) tokens
 
 -- the first fault in the variations of a game that has no other fault, and whose text goes from the offset `at` to the
 -- end of `text`; `None` if there is none, as where no token is a variation. `start`: the game's start; `tokens` gives

@@ -1,18 +1,11 @@
--- Which words of a game's text are marks such as `!?` (PGN standard of 1994, section 8.2.3.8), and what a word gives
--- that is taken as a move.
-use Rattle.std.specs.Prelude.{ℕ, Bool, not, ◌&&◌, ◌||◌, List, length, ◌==◌, Option}
-use Rattle.byte_devices.specs.Bytes.{byte}
-use Rattle.std.specs.List.{list_all}
+-- What a word of a game's text gives that is taken as a move.
+use Rattle.std.specs.Prelude.{Option}
 use Rattle.std.specs.Option.{option_map_or, unwrap_or}
 use Rattle.chess_base.specs.declared.man.Move.{Move}
 use Rattle.chess_text.specs.declared.reading.Reading.{Reading}
 use Rattle.chess_text.specs.declared.reading.Reading.TheVariants as reads
 use Rattle.chess_pgn.specs.declared.read.PgnFaultKind.{PgnFaultKind}
 use Rattle.chess_pgn.specs.declared.read.PgnFaultKind.TheVariants.{BadToken, IllegalMove, AmbiguousMove}
-
--- whether a word is marks such as `!?`: one or more bytes, each of them `!` or `?`
-abbrev pub is_marks : List ℕ → Bool
-is_marks word = not (length word == 0) && list_all (λ c. c == byte "!" || c == byte "?") word
 
 -- what a word gives that is taken as a move, by what it is read as (the last argument). `closed`: the fault of any move
 -- here, as after mate; `None` if a move may come. Without a move's shape, as `Nf9`, the word gives `failed BadToken`.

@@ -1,10 +1,6 @@
 -- Definitions for private contracts and proofs of this crate and of crates above: equal to those at the top of specs/,
 -- or parts of them.
-pub mod Kinds
-pub mod TagParts
-pub mod Gaps
 pub mod Begins
 pub mod Rows
 pub mod LineTokens
-pub mod TagsNamed
 pub mod VariantNames

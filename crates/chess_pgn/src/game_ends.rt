@@ -4,39 +4,16 @@ ghost use Rattle.std.specs.Prelude.{◌≡◌, ◌≤◌, ◌<◌, List, ℕ, le
 ghost use Rattle.std.specs.Option.{IfSome};
 ghost use Rattle.byte_devices.specs.Bytes.{after_byte_order_mark};
 ghost use Rattle.chess_pgn.specs.GameEnds.{ends_at, game_end};
-ghost use Rattle.chess_pgn.specs.Split.{IsSplit};
-ghost use Rattle.chess_pgn.specs.Tokens as spec;
-ghost use Rattle.chess_pgn.specs.Tokens.{tokens_from};
-ghost use Rattle.chess_pgn.specs.ties.GameSteps.{IsWithin};
-ghost use Rattle.chess_pgn.specs.ties.Seen.{token_seen};
-ghost use Rattle.chess_pgn.specs.ties.TagsPassed.{IsAfterTags};
+ghost use Rattle.pgn_tokens.specs.Split.{IsSplit};
+ghost use Rattle.pgn_tokens.specs.Tokens as spec;
+ghost use Rattle.pgn_tokens.specs.Tokens.{tokens_from};
+ghost use Rattle.pgn_tokens.specs.shared.Places.{IsWithin};
+ghost use Rattle.pgn_tokens.specs.Seen.{token_seen};
+ghost use Rattle.pgn_tokens.specs.TagsPassed.{IsAfterTags};
 
-use crate::last_tag::may_precede_tags;
-use crate::token::{Token, next_token};
 use byte_devices::after_byte_order_mark;
+use pgn_tokens::{Token, after_tags, next_token};
 use pgn_writer::outcome_of;
-
-// The offset after the tags of the game that begins at the offset `at`: that of its first number, move or outcome, of
-// what can't be read, or of the text's end.
-pub(crate) fn after_tags(text: &[u8], at: usize) -> usize
-    requires { at ≤ length text.now }
-    ensures passed { IsAfterTags text.now at result }
-    ensures within { result ≤ length text.now }
-{
-    let mut offset = at;
-    loop {
-        match next_token(text, offset) {
-            Ok(Some((token, token_end))) => {
-                if !may_precede_tags(&token) {
-                    return offset;
-                }
-                offset = token_end;
-            }
-            Ok(None) => return offset,
-            Err(_) => return offset,
-        }
-    }
-}
 
 // Where a token after a game's tags ends the game, in a text of `len` bytes: after a termination marker, or before a
 // tag. `None` for any other. `to_end` bytes are left where the token begins.

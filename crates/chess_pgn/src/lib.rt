@@ -1,4 +1,5 @@
-//! Games' texts, read (PGN standard of 1994). What pgn_writer has to write them can also be imported from here.
+//! Games' texts, read (PGN standard of 1994). What pgn_writer has to write them can also be imported from here, and so can
+//! what pgn_tokens has of their tags.
 //!
 //! The first game of a text, written anew; the next one is read from `offset` on:
 //!
@@ -9,33 +10,16 @@
 //! }
 //! write_pgn(&game, &mut scratch, &Tags::default(), b"", &mut output)?;
 //! ```
-//!
-//! The names of its tags, one a line:
-//!
-//! ```
-//! for tag in game_tags(text, 0) {
-//!     put(&mut output, tag.name)?;
-//!     put(&mut output, b"\n")?;
-//! }
-//! ```
 #![tactic(auto)]
 
-mod bytes;
 mod game_ends;
-mod last_tag;
 mod laws;
 mod past_draws;
 mod progress;
 mod read;
-mod skips;
-mod tag;
-mod tag_list;
 mod tagged_result;
 mod termination;
-mod token;
-pub mod token_parts;
 mod unknown_variants;
-mod variation;
 mod variations;
 mod word_kind;
 mod words;
@@ -44,9 +28,9 @@ pub use chess_game::{HowEnded, TagText};
 pub use game_ends::game_end;
 pub use laws::{faults_have_offsets, half_moves_have_bytes, unreadable_games_have_no_end};
 pub use past_draws::{ReadGame, ending, read_past_draws};
+pub use pgn_tokens::{GameTags, PgnTag, game_tags, has_variation, tag_text};
 pub use pgn_writer::{Tags, Termination, outcome_of, write_pgn};
 pub use read::{PgnEnd, PgnFault, PgnFaultKind, read_pgn};
-pub use tag_list::{GameTags, PgnTag, game_tags, tag_text};
 pub use tagged_result::{ResultTag, result_tag};
 pub use unknown_variants::unknown_variant;
-pub use variations::{MOST_NESTED, has_variation, read_variations};
+pub use variations::{MOST_NESTED, read_variations};

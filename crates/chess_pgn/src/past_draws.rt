@@ -9,26 +9,23 @@ ghost use Rattle.chess_game.specs.declared.game.TheConstants.{MOST_MOVES};
 ghost use Rattle.chess_text.specs.Moves.{reading};
 ghost use Rattle.pgn_writer.specs.Terminations.{termination_named};
 ghost use Rattle.chess_pgn.specs.GameRead.{not_of_2014, ending, moves_read, pgn_read};
-ghost use Rattle.chess_pgn.specs.LastTags.{tag_section, last_tag};
-ghost use Rattle.chess_pgn.specs.Tokens.{tokens_from};
+ghost use Rattle.pgn_tokens.specs.LastTags.{tag_section, last_tag};
+ghost use Rattle.pgn_tokens.specs.Tokens.{tokens_from};
 ghost use Rattle.chess_pgn.specs.laws.WordKinds.{word_kind};
-ghost use Rattle.chess_pgn.specs.ties.GameSteps.{IsWithin};
+ghost use Rattle.pgn_tokens.specs.shared.Places.{IsWithin};
 ghost use Rattle.chess_pgn.specs.PastDraws.{IsAnswer, Stands};
 ghost use Rattle.chess_pgn.specs.ties.PastDraws.{IsReadAgain, closing_fault, is_past_draw, move_effect, next_position, stops_past_draw, token_effect, unread_fault, word_effect};
-ghost use Rattle.chess_pgn.specs.ties.Seen.{found_seen, token_seen, fault_seen};
+ghost use Rattle.pgn_tokens.specs.Seen.{found_seen, token_seen, fault_seen};
 
-use crate::game_ends::after_tags;
-use crate::last_tag::last_tag;
 use crate::read::{PgnEnd, PgnFault, PgnFaultKind, read_pgn};
-use crate::tag::Tag;
 use crate::termination::termination_named;
-use crate::token::{Token, TokenFault, next_token};
 use crate::word_kind::{WordKind, word_kind};
 use byte_devices::after_byte_order_mark;
 use chess_base::Position;
 use chess_game::{Game, MOST_MOVES, Outcome, Verdict};
 use chess_moves::Board;
 use chess_text::{Reading, read_move};
+use pgn_tokens::{Tag, Token, TokenFault, after_tags, last_tag, next_token};
 use pgn_writer::Termination;
 
 /// A game that was read to its termination marker.

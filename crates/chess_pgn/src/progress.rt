@@ -3,8 +3,8 @@
 ghost use Rattle.std.specs.Prelude.{◌≡◌, true, false, None};
 ghost use Rattle.chess_pgn.specs.laws.TokenByToken.{termination_after};
 
-use crate::tag::Tag;
 use crate::termination::termination_named;
+use pgn_tokens::Tag;
 use pgn_writer::Termination;
 
 // What is known, apart from the moves, of a game that is being read.

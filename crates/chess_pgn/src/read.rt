@@ -1,7 +1,7 @@
 //! Reads a game's tags, moves and termination marker: the token `1-0`, `0-1`, `1/2-1/2` or `*` that ends a game's text
 //! (PGN standard of 1994, section 8.2.6). "Termination" alone means the tag of this name, but in the text of `BadToken`
 //! it means the marker.
-//! Small functions that the loops over tokens call for most tokens are inlined, for the reason at the head of token.rt.
+//! Small functions that the loops over tokens call for most tokens are inlined, for the reason at the head of pgn_tokens' token.rt.
 //!
 //! Contracts here compare results with the definitions of TokenByToken, such as `word_step`. `so_far` and `step_seen`
 //! give the code's values in the form of these definitions.
@@ -12,18 +12,16 @@ ghost use Rattle.chess_game.specs.Game.{State, with_state, current, verdict_now,
 ghost use Rattle.chess_base.specs.declared.man.Variant.TheVariants.{Normal};
 ghost use Rattle.chess_text.specs.Moves.{reading};
 ghost use Rattle.chess_pgn.specs.laws.WordKinds.{word_kind};
-ghost use Rattle.chess_pgn.specs.ties.Seen.{found_seen, token_seen, fault_seen};
+ghost use Rattle.pgn_tokens.specs.Seen.{found_seen, token_seen, fault_seen};
 ghost use Rattle.chess_pgn.specs.GameRead.{GameRead, IsRead, declared_after, tagged_variant, pgn_read};
 ghost use Rattle.chess_pgn.specs.shared.VariantNames.{variant_named};
 ghost use Rattle.chess_pgn.specs.laws.TokenByToken.{move_step, word_step, tag_step, step};
-ghost use Rattle.chess_pgn.specs.LastTags.{tag_section};
-ghost use Rattle.chess_pgn.specs.Tokens.{tokens_from};
-ghost use Rattle.chess_pgn.specs.ties.GameSteps.{refusal_kind, EndsIn, so_far, step_seen, IsWithin, IsReadOn, is_played, IsNoMove, IsLeft};
+ghost use Rattle.pgn_tokens.specs.LastTags.{tag_section};
+ghost use Rattle.pgn_tokens.specs.Tokens.{tokens_from};
+ghost use Rattle.chess_pgn.specs.ties.GameSteps.{refusal_kind, EndsIn, so_far, step_seen, IsReadOn, is_played, IsNoMove, IsLeft};
+ghost use Rattle.pgn_tokens.specs.shared.Places.{IsWithin};
 
-use crate::last_tag::{last_tag, may_precede_tags, named_tag};
 use crate::progress::Progress;
-use crate::tag::Tag;
-use crate::token::{Token, TokenFault, after_blanks, next_token};
 use crate::word_kind::{WordKind, word_kind};
 use crate::words::{after_skipped, play_words};
 use byte_devices::after_byte_order_mark;
@@ -32,6 +30,9 @@ use chess_fen::read_fen_as;
 use chess_game::{Comment, Game, Outcome, PlayRefusal};
 use chess_moves::Board;
 use chess_text::{Reading, read_move};
+use pgn_tokens::{
+    Tag, Token, TokenFault, after_blanks, last_tag, may_precede_tags, named_tag, next_token,
+};
 use pgn_writer::Termination;
 
 /// How a game's text ended, and where. It ends with its termination marker, the token `1-0`, `0-1`, `1/2-1/2` or `*`.

@@ -2,14 +2,14 @@
 
 ghost use Rattle.std.specs.Prelude.{◌≡◌, ◌≤◌, List, length, ℕ};
 ghost use Rattle.std.specs.Option.{IfSome};
-ghost use Rattle.chess_pgn.specs.LastTags.{result_tag_of};
-ghost use Rattle.chess_pgn.specs.Split.{IsSplit};
-ghost use Rattle.chess_pgn.specs.Tokens.{Token};
+ghost use Rattle.chess_pgn.specs.ResultTags.{result_tag_of};
+ghost use Rattle.pgn_tokens.specs.Split.{IsSplit};
+ghost use Rattle.pgn_tokens.specs.Tokens.{Token};
 ghost use Rattle.byte_devices.specs.Bytes.{after_byte_order_mark};
 
-use crate::last_tag::last_tag;
 use byte_devices::after_byte_order_mark;
 use chess_game::Outcome;
+use pgn_tokens::last_tag;
 use pgn_writer::outcome_of;
 
 /// The last tag `Result` of a game, such as `[Result "1-0"]`.

@@ -4,13 +4,12 @@ ghost use Rattle.std.specs.Prelude.{◌≡◌, ◌≤◌, ◌-◌, List, length,
 ghost use Rattle.std.specs.Option.{IfSome};
 ghost use Rattle.chess_pgn.specs.UnknownVariants.{unknown_variant_in};
 ghost use Rattle.chess_pgn.specs.shared.VariantNames.{is_known_variant};
-ghost use Rattle.chess_pgn.specs.Split.{IsSplit};
-ghost use Rattle.chess_pgn.specs.Tokens.{Token};
+ghost use Rattle.pgn_tokens.specs.Split.{IsSplit};
+ghost use Rattle.pgn_tokens.specs.Tokens.{Token};
 ghost use Rattle.byte_devices.specs.Bytes.{after_byte_order_mark};
 
-use crate::last_tag::last_tag;
-use crate::tag::Tag;
 use byte_devices::after_byte_order_mark;
+use pgn_tokens::{Tag, last_tag};
 
 // Whether the text of a tag `Variant` names a variant that is known: Chess960 or normal chess.
 fn is_known_variant(text: &[u8]) -> bool

@@ -1,31 +1,31 @@
-//! Reads the variations of a game (PGN standard of 1994, section 8.2.5). `variation` skips them; here their moves are
-//! read, too.
+//! Reads the variations of a game (PGN standard of 1994, section 8.2.5). The reader of tokens skips them; here their
+//! moves are read, too.
 
-ghost use Rattle.std.specs.Prelude.{◌≡◌, ◌≤◌, ◌+◌, ◌||◌, ◌==◌, IsTrue, IfErr, IfOk, Option, is_some, drop, length, ℕ, None};
-ghost use Rattle.std.specs.List.{list_all, position_or_len};
+ghost use Rattle.std.specs.Prelude.{◌≡◌, ◌≤◌, ◌+◌, ◌||◌, IsTrue, IfErr, IfOk, Option, is_some, length, None};
+ghost use Rattle.std.specs.List.{list_all};
 ghost use Rattle.std.specs.Option.{IfSome};
 ghost use Rattle.std.specs.Result.{result_err};
 ghost use Rattle.chess_base.specs.Moves.{is_legal};
-ghost use Rattle.chess_pgn.specs.Tokens.{tokens_from};
+ghost use Rattle.pgn_tokens.specs.Tokens.{tokens_from};
 ghost use Rattle.chess_base.specs.declared.setup.Setup.{Setup};
 ghost use Rattle.chess_pgn.specs.declared.read.PgnFault.{PgnFault};
-ghost use Rattle.chess_pgn.specs.Variations.{has_variation, is_variation, line_fault, variations_fault};
+ghost use Rattle.pgn_tokens.specs.VariationTokens.{has_variation, is_variation};
+ghost use Rattle.chess_pgn.specs.Variations.{line_fault, variations_fault};
 ghost use Rattle.chess_pgn.specs.laws.LineEnds.{is_end};
 ghost use Rattle.chess_pgn.specs.shared.LineTokens.{after_token, token_move, word_move};
-ghost use Rattle.byte_devices.specs.Bytes.{byte, is_digit};
+ghost use Rattle.byte_devices.specs.Bytes.{is_digit};
 ghost use Rattle.pgn_writer.specs.Outcomes.{outcome_of};
-ghost use Rattle.chess_pgn.specs.Words.{is_marks};
+ghost use Rattle.pgn_tokens.specs.Marks.{is_marks};
 ghost use Rattle.chess_text.specs.Moves.{reading};
-ghost use Rattle.chess_pgn.specs.ties.Seen.{fault_seen, token_seen};
-ghost use Rattle.chess_pgn.specs.ties.LineSteps.{HasNone, IsLineToken, inside, opening, played};
+ghost use Rattle.pgn_tokens.specs.Seen.{fault_seen, token_seen};
+ghost use Rattle.chess_pgn.specs.ties.LineSteps.{IsLineToken, inside, opening, played};
 
 use crate::read::{PgnFault, PgnFaultKind};
-use crate::token::{Token, TokenFault, next_token};
 use crate::word_kind::{WordKind, word_kind};
-use byte_devices::len_before;
 use chess_base::{Move, Position};
 use chess_moves::Board;
 use chess_text::{Reading, read_move};
+use pgn_tokens::{Token, TokenFault, has_variation, is_variation, next_token};
 
 /// How many variations may be open at a place of a game's text: so many calls of `read_line` may be in one another.
 pub const MOST_NESTED: usize = 64;
@@ -83,17 +83,6 @@ fn token_move<B: Board>(
                 word_move(board, word)
             }
         }
-    }
-}
-
-// Whether a token, which begins at the offset `at`, is a variation.
-fn is_variation(text: &[u8], at: usize, token: &Token<'_>) -> bool
-    requires { at + 1 ≤ length text.now }
-    ensures { result ≡ is_variation text.now at (token_seen token.now) }
-{
-    match token {
-        Token::Skip => text[at] == b'(',
-        Token::Tag(_) | Token::Word(_) => false,
     }
 }
 
@@ -212,53 +201,6 @@ fn read_line<B: Board>(
         }
         offset = token_end;
     }
-}
-
-// The offset of the first `(` of a text from the offset `at` on; the text's length if there is none.
-fn next_parenthesis(text: &[u8], at: usize) -> usize
-    requires { at ≤ length text.now }
-    ensures { result ≡ at + position_or_len (λ c. c == byte "(") (drop at text.now) }
-{
-    at + len_before(&text[at..], b'(')
-}
-
-// The offset of the first `(` from the offset `at` on, where `known` is that of the first from an earlier offset on: a
-// `(` is looked for only if `known` comes before `at`, so that no byte is looked at twice.
-fn parenthesis_from(text: &[u8], at: usize, known: usize) -> usize
-    requires { at ≤ length text.now }
-    ensures { (from : ℕ) → from ≤ at → HasNone text.now from known → HasNone text.now at result }
-{
-    if known < at {
-        next_parenthesis(text, at)
-    } else {
-        known
-    }
-}
-
-/// Whether a token from the offset `at` on is a variation. Of a game without one, whose text goes to the end of `text`,
-/// [`read_variations`] reads nothing, so no board is needed. Tokens are read only up to the text's last `(`: mostly
-/// none, as a game's text mostly has no `(`. A byte order mark at `at` is to be skipped by the caller.
-pub fn has_variation(text: &[u8], at: usize) -> bool
-    requires { at ≤ length text.now }
-    ensures { result ≡ has_variation text.now (tokens_from text.now at) }
-{
-    let mut offset = at;
-    // Where the first `(` from `offset` on is.
-    let mut place = next_parenthesis(text, at);
-    while place < text.len() {
-        match next_token(text, offset) {
-            Ok(Some((token, token_end))) => {
-                if is_variation(text, offset, &token) {
-                    return true;
-                }
-                place = parenthesis_from(text, token_end, place);
-                offset = token_end;
-            }
-            Ok(None) => return false,
-            Err(_) => return false,
-        }
-    }
-    false
 }
 
 /// Reads the variations of the game that begins at the offset `at` and ends where the text ends, right after its

@@ -1,14 +1,15 @@
-//! What a word of a game's text is. `word_kind` is inlined for the reason at the head of token.rt.
+//! What a word of a game's text is. `word_kind` is inlined for the reason at the head of pgn_tokens' token.rt.
 
-ghost use Rattle.std.specs.Prelude.{◌≡◌, ◌||◌, ◌==◌, false};
+ghost use Rattle.std.specs.Prelude.{◌≡◌, false};
 ghost use Rattle.std.specs.List.{list_all};
 ghost use Rattle.byte_devices.specs.Bytes.{byte, is_digit};
-ghost use Rattle.chess_pgn.specs.Words.{is_marks};
+ghost use Rattle.pgn_tokens.specs.Marks.{is_marks};
 ghost use Rattle.chess_pgn.specs.laws.WordKinds.{word_kind};
 ghost use Rattle.chess_pgn.specs.shared.Begins.{begins_as_move};
 
 use byte_devices::is_digit;
 use chess_game::Outcome;
+use pgn_tokens::is_marks;
 use pgn_writer::outcome_of;
 
 /// The kinds of words of a game's text.
@@ -29,20 +30,6 @@ fn has_digits_alone(word: &[u8]) -> bool
     ensures { result ≡ list_all is_digit word.now }
 {
     word.iter().all(|byte| is_digit(*byte))
-}
-
-// Whether all bytes of a word are `!` or `?`, as in `!?`; true of the empty word.
-fn has_marks_alone(word: &[u8]) -> bool
-    ensures { result ≡ list_all (λ c. c == byte "!" || c == byte "?") word.now }
-{
-    word.iter().all(|byte| *byte == b'!' || *byte == b'?')
-}
-
-/// Whether a word is marks such as `!?`: one or more `!` and `?`.
-pub(crate) fn is_marks(word: &[u8]) -> bool
-    ensures { result ≡ is_marks word.now }
-{
-    !word.is_empty() && has_marks_alone(word)
 }
 
 // Whether a word begins with a letter or `_`, as `Nf3` does. Of the bytes that a word may have, these are the ones from

@@ -7,16 +7,15 @@ ghost use Rattle.chess_game.specs.Game.{current};
 ghost use Rattle.chess_text.specs.Moves.{reading};
 ghost use Rattle.chess_pgn.specs.laws.WordKinds.{word_kind};
 ghost use Rattle.chess_pgn.specs.laws.TokenByToken.{move_step, word_step};
-ghost use Rattle.chess_pgn.specs.Tokens.{tokens_from};
+ghost use Rattle.pgn_tokens.specs.Tokens.{tokens_from};
 ghost use Rattle.chess_pgn.specs.ties.GameSteps.{ReadsAlike, is_played, IsNoMove, StopsAt, IsTaken, GoesOn};
 
 use crate::progress::Progress;
-use crate::skips::after_brace;
-use crate::token::{after_blanks, split_word};
 use crate::word_kind::{WordKind, word_kind};
 use chess_game::Game;
 use chess_moves::Board;
 use chess_text::{Reading, read_move};
+use pgn_tokens::{after_blanks, after_brace, split_word};
 
 // The offset after the `{` comment that begins at the offset `at`: 3 for `{a} e5` at 0. `None` if no `{` is there, or
 // no `}` follows it. The comment changes nothing: reading on from both offsets gives the same (`ReadsAlike`).

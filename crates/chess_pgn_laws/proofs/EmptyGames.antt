@@ -18,7 +18,7 @@ use Rattle.chess_text.specs.Moves.{denotes, one_of, reading, shape}
 use Rattle.chess_text.specs.{Parts.unmarked, declared.reading.Reading.Reading, laws.CastlingTexts.is_castling_text, laws.Laws.ShapedByText}
 use Rattle.chess_text.specs.declared.reading.Reading.TheVariants as reads
 use Rattle.chess_pgn.specs.GameRead.{GameRead, closed_by, declared_after, failed, moves_read, pgn_read}
-use Rattle.chess_pgn.specs.Tokens.{Word, token_at, tokens_from, tokens_of}
+use Rattle.pgn_tokens.specs.Tokens.{Word, token_at, tokens_from, tokens_of}
 use Rattle.chess_pgn.specs.Words.{word_gives}
 use Rattle.chess_pgn.specs.{declared.read.PgnEnd.PgnEnd, declared.read.PgnFault.PgnFault, declared.read.PgnFaultKind.TheVariants.AfterEnd, declared.read.PgnFaultKind.TheVariants.BadFen, declared.read.PgnFaultKind.TheVariants.IllegalMove}
 use Rattle.pgn_writer.specs.Terminations.{termination_named}

@@ -1,9 +1,9 @@
 -- The text of the last tag of a name, token by token, is that of the definition.
 use Rattle.std.proofs.Common.{◌≡◌, ℕ, Bool, true, false, cond, List, [], ◌∷◌, Option, Some, None, refl, sym, ap, ◌∙◌, if◌then◌else◌}
 use Rattle.std.specs.Option.{option_map, option_or}
-use Rattle.chess_pgn.specs.LastTags.{may_precede_tags, named_tag, tag_section, last_tag}
-use Rattle.chess_pgn.specs.Tokens.{Token}
-use Rattle.chess_pgn.proofs.shared.Tags.{last_from, last_step}
+use Rattle.pgn_tokens.specs.LastTags.{may_precede_tags, named_tag, tag_section, last_tag}
+use Rattle.pgn_tokens.specs.Tokens.{Token}
+use Rattle.pgn_tokens.proofs.shared.Tags.{last_from, last_step}
 
 -- the text of the last tag of the name among these tokens, as far as they can be the game's tags; `before` if there is
 -- none

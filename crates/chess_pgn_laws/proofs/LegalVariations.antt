@@ -6,9 +6,11 @@ use Rattle.chess_base.specs.{declared.man.Move.Move, declared.setup.Setup.Setup,
 use Rattle.chess_text.specs.{declared.reading.Reading.Reading, Moves.reading, laws.Laws.ReadMovesAreLegal}
 use Rattle.chess_text.specs.declared.reading.Reading.TheVariants as reads
 use Rattle.pgn_writer.specs.Outcomes.{outcome_of}
-use Rattle.chess_pgn.specs.{declared.read.PgnFault.PgnFault, declared.read.PgnFaultKind.PgnFaultKind, declared.read.PgnFaultKind.TheVariants.BadToken, declared.variations.TheConstants.MOST_NESTED, Words.is_marks}
-use Rattle.chess_pgn.specs.Tokens.{Token, Skip, Tag, Word, Bad_tag, Unclosed_comment, Unclosed_variation, Bad}
-use Rattle.chess_pgn.specs.Variations.{is_variation, line_fault, variation_fault}
+use Rattle.chess_pgn.specs.{declared.read.PgnFault.PgnFault, declared.read.PgnFaultKind.PgnFaultKind, declared.read.PgnFaultKind.TheVariants.BadToken, declared.variations.TheConstants.MOST_NESTED}
+use Rattle.pgn_tokens.specs.Marks.{is_marks}
+use Rattle.pgn_tokens.specs.Tokens.{Token, Skip, Tag, Word, Bad_tag, Unclosed_comment, Unclosed_variation, Bad}
+use Rattle.pgn_tokens.specs.VariationTokens.{is_variation}
+use Rattle.chess_pgn.specs.Variations.{line_fault, variation_fault}
 use Rattle.chess_pgn.specs.{laws.LineEnds.is_end, shared.LineTokens.word_move, shared.LineTokens.token_move, shared.LineTokens.after_token}
 use Rattle.chess_pgn.proofs.shared.Games.{line_by_kind}
 use Rattle.chess_pgn_laws.specs.LegalVariations.{is_passed, IsLegalLine, no_more, closed, passed, move, variation, VariationsAreLegal}

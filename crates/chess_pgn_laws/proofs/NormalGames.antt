@@ -6,7 +6,7 @@ use Rattle.chess_game.specs.Game.{from_start, outcome_now}
 use Rattle.chess_pgn.specs.GameRead.{GameRead, read_after_tags, pgn_read}
 use Rattle.chess_pgn.specs.shared.{Rows.last_start, Rows.with_fault, VariantNames.variant_named}
 use Rattle.pgn_writer.specs.{shared.TagGroups.roster_lines, shared.TagGroups.start_lines_in, shared.TagGroups.last_lines, Terminations.termination_of}
-use Rattle.chess_pgn.specs.{LastTags.says_nothing, LastTags.tag_section, LastTags.last_tag, Tokens.Token, Tokens.tokens_from}
+use Rattle.pgn_tokens.specs.{LastTags.says_nothing, LastTags.tag_section, LastTags.last_tag, Tokens.Token, Tokens.tokens_from}
 use Rattle.chess_pgn_laws.specs.Normal.{normal_read, NormalIsKept}
 use Rattle.chess_pgn.proofs.shared.Games.{fens}
 use Rattle.byte_devices.specs.Bytes.{after_byte_order_mark}

@@ -8,13 +8,14 @@ use Rattle.chess_fen.specs.Reading.{fen_reading_as}
 use Rattle.chess_game.specs.{declared.verdicts.Verdict.Verdict, Game.current, Line.position_after}
 use Rattle.chess_text.specs.{declared.reading.Reading.Reading, Moves.reading}
 use Rattle.chess_text.specs.declared.reading.Reading.TheVariants as reads
-use Rattle.chess_pgn.specs.{declared.read.PgnFaultKind.PgnFaultKind, declared.word_kind.WordKind.WordKind, GameRead.GameRead, GameRead.ending, GameRead.tagged_variant, LastTags.tag_section, laws.WordKinds.word_kind}
+use Rattle.chess_pgn.specs.{declared.read.PgnFaultKind.PgnFaultKind, declared.word_kind.WordKind.WordKind, GameRead.GameRead, GameRead.ending, GameRead.tagged_variant, laws.WordKinds.word_kind}
+use Rattle.pgn_tokens.specs.LastTags.{tag_section}
 use Rattle.chess_pgn.specs.declared.read.PgnFaultKind.TheVariants.{BadFen, BadToken, IllegalMove, AmbiguousMove, AfterEnd, TooLong, UnclosedComment, UnclosedVariation, NoResult}
 use Rattle.pgn_writer.specs.declared.termination.Termination.{Termination}
 use Rattle.chess_pgn.specs.declared.word_kind.WordKind.TheVariants.{End, Number, Marks, Move}
 use Rattle.chess_pgn.specs.laws.TokenByToken.{SoFar, Step, On, Stop, game_of, read_rest_with, step, nothing_read, move_step, word_step, tag_step, fen_step, fails, unless_full, termination_after}
 use Rattle.chess_pgn_laws.specs.GameOfTokens.{begins, counts, is_fen, can_be_taken, can_all_be_taken, if_move, move_words_of, move_words, start_by, tagged_start, termination_by_token, tagged_termination, AreReadAs, unless_closed, move_fault, word_fault, fault_at, token_fault, StopsAt, IsOfTokens, GamesAreOfTokens, game_by, is_number_or_move, is_outcome}
-use Rattle.chess_pgn.specs.Tokens.{Token, Skip, Tag, Word, Bad_tag, Unclosed_comment, Unclosed_variation, Bad}
+use Rattle.pgn_tokens.specs.Tokens.{Token, Skip, Tag, Word, Bad_tag, Unclosed_comment, Unclosed_variation, Bad}
 use Rattle.chess_pgn.proofs.shared.Games.{tokens_are, read_variant, initial_variant}
 
 -- ---- tests

@@ -5,7 +5,8 @@ use Rattle.chess_base.specs.{declared.man.Colour.Colour, declared.man.Colour.The
 use Rattle.chess_game.specs.{Ends.verdict, Line.position_after, Line.IsLine, Results.outcome_text, declared.results.Outcome.Outcome}
 use Rattle.chess_game.specs.declared.results.Outcome.TheVariants.{WhiteWins, BlackWins, Draw, Unfinished}
 use Rattle.pgn_writer.specs.{declared.termination.Termination.Termination, shared.NumberedMoves.number_if_due, shared.NumberedMoves.numbered_moves}
-use Rattle.chess_pgn.specs.{GameRead.GameRead, laws.TokenByToken.SoFar, Tokens.is_word_byte}
+use Rattle.chess_pgn.specs.{GameRead.GameRead, laws.TokenByToken.SoFar}
+use Rattle.pgn_tokens.specs.Tokens.{is_word_byte}
 use Rattle.chess_text.specs.San.{san}
 use Rattle.pgn_writer.specs.shared.Lines.{fits_line, wrapped_token, next_column, line_close}
 use Rattle.pgn_writer.proofs.shared.Lines.{filled_from}

@@ -13,10 +13,11 @@ use Rattle.pgn_writer.specs.declared.termination.Termination.TheVariants as endi
 use Rattle.chess_pgn.specs.{GameRead.GameRead, GameRead.declared_after, laws.WordKinds.word_kind}
 use Rattle.chess_pgn.specs.laws.TokenByToken.{SoFar, On, Stop, move_step, word_step, fen_step, step, read_rest_with, game_of}
 use Rattle.chess_text.specs.{Moves.reading, San.san}
-use Rattle.chess_pgn.specs.Tokens.{Token, Skip, Tag, Word, is_word_byte, token_at, tokens_of}
+use Rattle.pgn_tokens.specs.Tokens.{Token, Skip, Tag, Word, is_word_byte, token_at, tokens_of}
 use Rattle.chess_pgn_laws.proofs.PgnFen.{fen_bare}
 use Rattle.chess_pgn_laws.proofs.PgnTags.{is_in_line, is_bare, bare_escaped, bare_in_line, is_tag_name, tag_token, tag_line_bytes}
-use Rattle.chess_pgn.proofs.{shared.Bytes.differs, shared.Games.still_open, shared.Words.number_kind, shared.Tokens.enough, shared.Tokens.shorter}
+use Rattle.pgn_tokens.proofs.{shared.Bytes.differs, shared.Tokens.enough, shared.Tokens.shorter}
+use Rattle.chess_pgn.proofs.{shared.Games.still_open, shared.Words.number_kind}
 use Rattle.chess_pgn_laws.proofs.WrittenWords.{word_token, move_kind, decimal_digits, decimal_some, number_bytes, san_bytes_in_word}
 use Rattle.chess_text.proofs.shared.San.{san_read, san_short, san_bytes, san_letter}
 

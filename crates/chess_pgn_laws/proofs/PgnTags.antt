@@ -2,14 +2,14 @@
 use Rattle.std.proofs.Common.{◌≡◌, ℕ, ◌≤◌, Bool, true, false, not, cond, ◌&&◌, ◌||◌, eqb, List, [], ◌∷◌, ◌++◌, length, drop, Some, refl, sym, ap, ◌∙◌, append_assoc, arith}
 use Rattle.std.specs.List.{list_all, prefix_len, take_while, AllByRecursion}
 use Rattle.std.proofs.{lemmas.Bool.and_parts, lemmas.Bool.and_from, lemmas.Bool.or_parts, lemmas.Bool.Decides.nat_tests}
-use Rattle.chess_pgn.specs.Tokens.{Tag, after_gap, after_byte, string_at, onto, token_at}
+use Rattle.pgn_tokens.specs.Tokens.{Tag, after_gap, after_byte, string_at, onto, token_at}
 use Rattle.byte_devices.specs.Bytes.{is_name_byte}
-use Rattle.chess_pgn.specs.shared.TagParts.{closed, with_text, with_string, with_tag_name, tag_by_parts}
+use Rattle.pgn_tokens.specs.shared.TagParts.{closed, with_text, with_string, with_tag_name, tag_by_parts}
 use Rattle.chess_game.specs.Results.{IsTagText}
 use Rattle.pgn_writer.specs.Written.{escaped, tag_line}
 use Rattle.chess_pgn_laws.proofs.WrittenWords.{whole_run}
-use Rattle.chess_pgn.proofs.{shared.Tokens.no_percent, shared.Bytes.differs}
-use Rattle.chess_pgn.proofs.shared.Tags.{gap_same, parts_are, string_quote, string_other}
+use Rattle.pgn_tokens.proofs.{shared.Tokens.no_percent, shared.Bytes.differs}
+use Rattle.pgn_tokens.proofs.shared.Tags.{gap_same, parts_are, string_quote, string_other}
 
 -- ---- a string
 

@@ -10,14 +10,16 @@ use Rattle.std.specs.Option.{option_map, option_map_or, option_or}
 use Rattle.chess_game.specs.declared.results.Outcome.TheVariants.{WhiteWins, BlackWins, Draw, Unfinished}
 use Rattle.pgn_writer.specs.{declared.tags.Tags.Tags, declared.termination.Termination.Termination, Terminations.termination_text, Terminations.termination_of, Outcomes.outcome_of, GameText.tag_lines, GameText.game_tokens, GameText.pgn, shared.NumberedMoves.numbered_moves, Written.escaped, Written.tag_line, Written.ended, laws.Layout.AreShort}
 use Rattle.chess_pgn.specs.GameRead.{GameRead, declared_after, tagged_variant, pgn_read}
-use Rattle.chess_pgn.specs.{LastTags.tag_section, LastTags.last_tag, declared.tagged_result.ResultTag.ResultTag, shared.VariantNames.is_known_variant, shared.VariantNames.variant_named}
+use Rattle.pgn_tokens.specs.LastTags.{tag_section, last_tag}
+use Rattle.chess_pgn.specs.{declared.tagged_result.ResultTag.ResultTag, shared.VariantNames.is_known_variant, shared.VariantNames.variant_named}
 use Rattle.chess_pgn.specs.laws.TokenByToken.{SoFar, game_of, nothing_read, tokens_read}
 use Rattle.pgn_writer.specs.shared.TagGroups.{fen_lines, start_lines_in, last_lines, further_lines}
 use Rattle.chess_pgn_laws.specs.PgnLaw.{AreTagTexts, IsReadBack, PgnIsReadBack, ResultIsWritten, VariantIsWritten}
-use Rattle.chess_pgn.specs.Tokens.{Token, begins_line, tokens_of, tokens_from}
+use Rattle.pgn_tokens.specs.Tokens.{Token, begins_line, tokens_of, tokens_from}
 use Rattle.byte_devices.specs.Bytes.{after_byte_order_mark}
 use Rattle.pgn_writer.proofs.{shared.Lines.filled_from, shared.GameTexts.pgn_filled, shared.GameTexts.game_numbered, shared.GameTexts.game_is_short}
-use Rattle.chess_pgn.proofs.{shared.Games.reads_alike, shared.Games.initial_variant, shared.Tokens.split_read, shared.Tokens.enough}
+use Rattle.chess_pgn.proofs.shared.Games.{reads_alike, initial_variant}
+use Rattle.pgn_tokens.proofs.shared.Tokens.{split_read, enough}
 use Rattle.chess_pgn_laws.proofs.PgnMoves.{outcome_some, filled_long, outcome_read, read_so_far, moves_read}
 use Rattle.chess_pgn_laws.proofs.PgnPieces.{read_on, TakesLine, empty_line, tagged, ended_game, plain_tag, termination_tag, fen_tag}
 use Rattle.chess_pgn_laws.proofs.{PgnTags.tag_text_in_line, LastTexts.text_from, LastTexts.text_is}

@@ -6,14 +6,16 @@ use Rattle.chess_fen.specs.Writing.{fen, is_initial}
 use Rattle.chess_game.specs.{Game.State, Game.outcome_now, Results.outcome_text, declared.results.Outcome.Outcome}
 use Rattle.chess_game.specs.declared.results.Outcome.TheVariants.{WhiteWins, BlackWins, Draw, Unfinished}
 use Rattle.pgn_writer.specs.{declared.tags.Tags.Tags, declared.termination.Termination.Termination, GameText.tag_lines, GameText.game_tokens, shared.TagGroups.fen_lines, shared.TagGroups.start_lines_in, shared.TagGroups.last_lines, shared.NumberedMoves.number_if_due, shared.NumberedMoves.numbered_moves, Terminations.termination_text, Terminations.termination_of, shared.Lines.next_column, Written.escaped, Written.tag_line, Written.ended}
-use Rattle.chess_pgn.specs.{declared.word_kind.WordKind.TheVariants.Number, LastTags.may_precede_tags, LastTags.named_tag, laws.WordKinds.word_kind}
+use Rattle.chess_pgn.specs.{declared.word_kind.WordKind.TheVariants.Number, laws.WordKinds.word_kind}
+use Rattle.pgn_tokens.specs.LastTags.{may_precede_tags, named_tag}
 use Rattle.chess_pgn_laws.specs.PgnLaw.{AreTagTexts}
-use Rattle.chess_pgn.specs.Tokens.{Token, Skip, Tag, Word, is_word_byte, token_at, tokens_of}
+use Rattle.pgn_tokens.specs.Tokens.{Token, Skip, Tag, Word, is_word_byte, token_at, tokens_of}
 use Rattle.chess_text.specs.San.{san}
 use Rattle.pgn_writer.proofs.{shared.GameTexts.game_numbered, shared.Lines.filled_from}
 use Rattle.chess_pgn_laws.proofs.{PgnFen.fen_bare, PgnPieces.termination_bare, LastTexts.text_from}
 use Rattle.chess_pgn_laws.proofs.PgnTags.{is_in_line, bare_in_line, is_tag_name, tag_token, tag_line_bytes, tag_text_in_line}
-use Rattle.chess_pgn.proofs.{shared.Words.are_marks, shared.Words.marks_by_kind, shared.Words.number_kind, shared.Tokens.enough, shared.Tokens.shorter}
+use Rattle.chess_pgn.proofs.shared.Words.{are_marks, marks_by_kind, number_kind}
+use Rattle.pgn_tokens.proofs.shared.Tokens.{enough, shorter}
 use Rattle.chess_pgn_laws.proofs.WrittenWords.{word_token, decimal_digits, decimal_some, number_bytes}
 
 -- ---- tags by their names and texts

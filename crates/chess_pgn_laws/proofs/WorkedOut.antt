@@ -10,11 +10,12 @@ use Rattle.chess_pgn.specs.declared.read.PgnFaultKind.TheVariants.{AfterEnd, Too
 use Rattle.pgn_writer.specs.{declared.tags.Tags.Tags, GameText.tag_lines, GameText.game_tokens, Written.ended, PgnText.IsPgn}
 use Rattle.chess_pgn.specs.GameRead.{GameRead, moves_read, read_of_split, IsRead}
 use Rattle.chess_pgn.specs.shared.Rows.{Row, Goes_on, Fails, move_row, after_row}
-use Rattle.chess_pgn.specs.Tokens.{Token, Skip, Tag, Word, token_at, tokens_of, tokens_from}
+use Rattle.pgn_tokens.specs.Tokens.{Token, Skip, Tag, Word, token_at, tokens_of, tokens_from}
 use Rattle.byte_devices.specs.Bytes.{after_byte_order_mark}
 use Rattle.chess_pgn_laws.specs.Examples.{finished, TextsAreSplit, TextsAreRead, TextsAreLaidOut}
 use Rattle.chess_pgn_laws.proofs.FullLines.{full_cons, grouped_full}
-use Rattle.chess_pgn.proofs.{shared.Games.moves_by_row, shared.Tokens.read_split}
+use Rattle.chess_pgn.proofs.shared.Games.{moves_by_row}
+use Rattle.pgn_tokens.proofs.shared.Tokens.{read_split}
 
 pub texts_are_split : TextsAreSplit
 unfolding token_at tokens_of tokens_from

@@ -3,9 +3,11 @@ use Rattle.std.proofs.Common.{◌≡◌, ℕ, ◌<◌, ◌≤◌, Bool, true, fa
 use Rattle.std.proofs.{lemmas.Bool.and_parts, lemmas.Bool.and_from, lemmas.Bool.or_cases, lemmas.Bool.Decides.nat_tests, lemmas.Fmt.decimal_is_IsNumeral, lemmas.Str.Parse.digit_from_value}
 use Rattle.std.specs.{List.list_all, List.prefix_len, List.take_while, Str.Parse.AllDigits}
 use Rattle.byte_devices.specs.Bytes.{is_digit, is_letter}
-use Rattle.chess_pgn.specs.{declared.word_kind.WordKind.TheVariants.Move, Tokens.Word, Tokens.is_word_byte, Tokens.token_at, laws.WordKinds.word_kind}
+use Rattle.chess_pgn.specs.{declared.word_kind.WordKind.TheVariants.Move, laws.WordKinds.word_kind}
+use Rattle.pgn_tokens.specs.Tokens.{Word, is_word_byte, token_at}
 use Rattle.chess_text.specs.laws.Laws.{is_san_byte, begins_with_letter}
-use Rattle.chess_pgn.proofs.{shared.Bytes.run_drop, shared.Bytes.run_take, shared.Tokens.begins_word, shared.Words.begins_as_move_kind}
+use Rattle.pgn_tokens.proofs.{shared.Bytes.run_drop, shared.Bytes.run_take, shared.Tokens.begins_word}
+use Rattle.chess_pgn.proofs.shared.Words.{begins_as_move_kind}
 
 -- ---- a run of bytes that pass
 

@@ -14,10 +14,10 @@ use Rattle.chess_text.specs.Moves.{reading}
 use Rattle.chess_pgn.specs.declared.read.PgnFaultKind.TheVariants.{BadTag, BadFen, NoResult}
 use Rattle.pgn_writer.specs.declared.tags.Tags.{Tags}
 use Rattle.pgn_writer.specs.GameText.{tag_lines, game_tokens}
-use Rattle.chess_pgn.specs.Tokens.{Skip, Tag, Word, Bad_tag, Unclosed_comment, Unclosed_variation}
+use Rattle.pgn_tokens.specs.Tokens.{Skip, Tag, Word, Bad_tag, Unclosed_comment, Unclosed_variation}
 use Rattle.pgn_writer.specs.Written.{ended}
 use Rattle.pgn_writer.specs.PgnText.{AreFullLines, IsPgn}
-use Rattle.chess_pgn.specs.Split.{IsSplit}
+use Rattle.pgn_tokens.specs.Split.{IsSplit}
 use Rattle.chess_pgn.specs.GameRead.{GameRead, declared_after, failed}
 use Rattle.chess_pgn.specs.GameRead.{IsRead}
 

@@ -24,9 +24,9 @@ use Rattle.pgn_writer.specs.declared.termination.Termination.{Termination}
 use Rattle.chess_pgn.specs.declared.word_kind.WordKind.{WordKind}
 use Rattle.chess_pgn.specs.declared.word_kind.WordKind.TheVariants.{End, Number, Move}
 use Rattle.chess_pgn.specs.GameRead.{GameRead, IsRead, declared_after, ending, tagged_variant}
-use Rattle.chess_pgn.specs.LastTags.{tag_section}
+use Rattle.pgn_tokens.specs.LastTags.{tag_section}
 use Rattle.chess_pgn.specs.laws.TokenByToken.{termination_after}
-use Rattle.chess_pgn.specs.Tokens.{Token, Skip, Tag, Word, Bad_tag, Unclosed_comment, Unclosed_variation, Bad}
+use Rattle.pgn_tokens.specs.Tokens.{Token, Skip, Tag, Word, Bad_tag, Unclosed_comment, Unclosed_variation, Bad}
 use Rattle.chess_pgn.specs.laws.WordKinds.{word_kind}
 
 -- ---- kinds of tokens

@@ -6,10 +6,11 @@ use Rattle.byte_devices.specs.Bytes.{is_digit}
 use Rattle.chess_base.specs.declared.man.Move.{Move}
 use Rattle.chess_base.specs.declared.setup.Setup.{Setup}
 use Rattle.chess_base.specs.Moves.{after, is_legal}
-use Rattle.chess_pgn.specs.Tokens.{Token, Skip, Tag, Word}
-use Rattle.chess_pgn.specs.Variations.{has_variation, is_variation, variations_fault}
+use Rattle.pgn_tokens.specs.Tokens.{Token, Skip, Tag, Word}
+use Rattle.pgn_tokens.specs.VariationTokens.{has_variation, is_variation}
+use Rattle.chess_pgn.specs.Variations.{variations_fault}
 use Rattle.chess_pgn.specs.laws.LineEnds.{is_end}
-use Rattle.chess_pgn.specs.Words.{is_marks}
+use Rattle.pgn_tokens.specs.Marks.{is_marks}
 use Rattle.chess_text.specs.declared.reading.Reading.TheVariants as reads
 use Rattle.chess_text.specs.Moves.{reading}
 use Rattle.pgn_writer.specs.Outcomes.{outcome_of}

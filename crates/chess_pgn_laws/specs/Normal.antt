@@ -16,9 +16,9 @@ use Rattle.chess_pgn.specs.declared.read.PgnFault.{PgnFault}
 use Rattle.chess_pgn.specs.declared.read.PgnFaultKind.TheVariants.{BadFen}
 use Rattle.chess_pgn.specs.GameRead.{GameRead, failed, read_after_tags, pgn_read}
 use Rattle.pgn_writer.specs.GameText.{tag_lines}
-use Rattle.chess_pgn.specs.LastTags.{says_nothing, named_tag, tag_section, last_tag}
+use Rattle.pgn_tokens.specs.LastTags.{says_nothing, named_tag, tag_section, last_tag}
 use Rattle.pgn_writer.specs.Terminations.{termination_text, termination_of}
-use Rattle.chess_pgn.specs.Tokens.{Token, tokens_from}
+use Rattle.pgn_tokens.specs.Tokens.{Token, tokens_from}
 use Rattle.byte_devices.specs.Bytes.{after_byte_order_mark}
 use Rattle.pgn_writer.specs.Written.{tag_line}
 

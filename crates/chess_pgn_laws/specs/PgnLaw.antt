@@ -6,10 +6,10 @@ use Rattle.pgn_writer.specs.declared.termination.Termination.{Termination}
 use Rattle.pgn_writer.specs.Terminations.{termination_of}
 use Rattle.chess_pgn.specs.GameRead.{GameRead, pgn_read}
 use Rattle.pgn_writer.specs.GameText.{pgn}
-use Rattle.chess_pgn.specs.LastTags.{result_tag_of}
+use Rattle.chess_pgn.specs.ResultTags.{result_tag_of}
 use Rattle.chess_pgn.specs.UnknownVariants.{unknown_variant_in}
-use Rattle.chess_pgn.specs.Split.{IsSplit}
-use Rattle.chess_pgn.specs.Tokens.{Token}
+use Rattle.pgn_tokens.specs.Split.{IsSplit}
+use Rattle.pgn_tokens.specs.Tokens.{Token}
 use Rattle.byte_devices.specs.Bytes.{after_byte_order_mark}
 use Rattle.chess_game.specs.Results.{IsTagText}
 

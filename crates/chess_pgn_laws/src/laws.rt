@@ -8,7 +8,7 @@ ghost use Rattle.chess_pgn.specs.GameRead.{IsRead};
 ghost use Rattle.chess_pgn.specs.laws.TokenByToken.{tokens_read};
 ghost use Rattle.pgn_writer.specs.GameText.{pgn};
 ghost use Rattle.pgn_writer.specs.Written.{lines_of};
-ghost use Rattle.chess_pgn.specs.Tokens.{Token, tokens_from};
+ghost use Rattle.pgn_tokens.specs.Tokens.{Token, tokens_from};
 ghost use Rattle.byte_devices.specs.Bytes.{after_byte_order_mark};
 ghost use Rattle.chess_pgn_laws.specs.EmptyGames.{EmptyGamesAreRead};
 ghost use Rattle.chess_pgn_laws.specs.Examples.{TextsAreLaidOut, TextsAreRead, TextsAreSplit};
@@ -18,7 +18,7 @@ ghost use Rattle.chess_pgn_laws.specs.LegalVariations.{VariationsAreLegal};
 ghost use Rattle.chess_pgn_laws.specs.Normal.{NormalIsKept};
 ghost use Rattle.chess_pgn_laws.specs.PgnLaw.{PgnIsReadBack, ResultIsWritten, VariantIsWritten};
 ghost use Rattle.pgn_writer.specs.PgnText.{IsPgn};
-ghost use Rattle.chess_pgn.specs.Split.{IsSplit};
+ghost use Rattle.pgn_tokens.specs.Split.{IsSplit};
 
 use chess_base::{Position, Variant, after_is_sound};
 use chess_fen_laws::written_is_denoted;

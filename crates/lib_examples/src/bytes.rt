@@ -2,8 +2,9 @@
 //! is.
 
 use anyhow::Result;
-use byte_devices::{Counted, Input, PieceReader, put};
+use byte_devices::{Counted, Input, Output, PieceReader, put};
 use pgn_pieces::PgnPieces;
+use pgn_tokens::game_tags;
 use std::alloc::Global;
 use text_lines::{Lines, split_word};
 
@@ -30,6 +31,15 @@ fn words<R: Input + Drop>(rt: &HostRuntime, mut input: R) -> Result<()> {
     Ok(())
 }
 
+// pgn_tokens
+fn tag_names<W: Output + Drop>(text: &[u8], mut output: W) -> Result<()> {
+    for tag in game_tags(text, 0) {
+        put(&mut output, tag.name)?;
+        put(&mut output, b"\n")?;
+    }
+    Ok(())
+}
+
 // pgn_pieces
 fn pieces<R: Input + Drop>(rt: &HostRuntime, alloc: Global, mut input: R) -> Result<()> {
     let mut pieces = PgnPieces::open(alloc)?;
@@ -49,6 +59,8 @@ pub(crate) fn run(rt: &HostRuntime) -> Result<()> {
     let alloc = rt.alloc();
     println!(rt; "{} bytes", copied(alloc)?)?;
     words(rt, Counted::reading(b"ping 7\nquit".as_slice()))?;
+    let output = Counted::writing(Vec::<u8>::new(alloc));
+    tag_names(b"[Event \"a\"] *", output)?;
     let text = b"[Event \"a\"]\n\n1. e4 *\n\n[Event \"b\"]\n\n1. d4 *\n";
     pieces(rt, alloc, Counted::reading(text.as_slice()))
 }

@@ -8,7 +8,7 @@ use chess_bits::{AttackTables, Bits};
 use chess_fen::{Fen, read_fen, write_fen};
 use chess_game::{Game, TagText};
 use chess_moves::{Board, Plain};
-use chess_pgn::{game_tags, read_pgn};
+use chess_pgn::read_pgn;
 use chess_text::{Reading, read_move};
 use pgn_writer::{Tags, write_pgn};
 use std::alloc::Global;
@@ -103,15 +103,6 @@ fn written_anew<W: Output + Drop>(alloc: Global, text: &[u8], mut output: W) -> 
     Ok(offset)
 }
 
-// chess_pgn, the second one
-fn tag_names<W: Output + Drop>(text: &[u8], mut output: W) -> Result<()> {
-    for tag in game_tags(text, 0) {
-        put(&mut output, tag.name)?;
-        put(&mut output, b"\n")?;
-    }
-    Ok(())
-}
-
 pub(crate) fn run(rt: &HostRuntime) -> Result<()> {
     let alloc = rt.alloc();
     is_legal(rt)?;
@@ -127,7 +118,5 @@ pub(crate) fn run(rt: &HostRuntime) -> Result<()> {
     written(played, Counted::writing(Vec::<u8>::new(alloc)))?;
     let output = Counted::writing(Vec::<u8>::new(alloc));
     println!(rt; "to byte {}", written_anew(alloc, b"1. e4 *", output)?)?;
-    let output = Counted::writing(Vec::<u8>::new(alloc));
-    tag_names(b"[Event \"a\"] *", output)?;
     Ok(())
 }

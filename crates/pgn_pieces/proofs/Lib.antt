@@ -1,4 +1,5 @@
 pub mod shared
+mod BeyondTags
 mod CutLines
 mod InPlace
 mod Kept

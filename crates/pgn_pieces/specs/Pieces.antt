@@ -6,6 +6,8 @@ use Rattle.std.specs.Str.{bytes_eq}
 use Rattle.byte_devices.specs.Bytes.{byte, is_blank, is_name_byte, after_byte_order_mark}
 use Rattle.byte_devices.specs.Devices.{InputState, saturating_increment}
 use Rattle.pgn_pieces.specs.Places.{breaks_line}
+use Rattle.pgn_tokens.specs.Marks.{is_marks}
+use Rattle.pgn_tokens.specs.Tokens.{Token, Word, Bad_tag, Bad, tokens_from}
 use Rattle.pgn_pieces.specs.declared.pieces.PieceFault.{PieceFault}
 use Rattle.pgn_pieces.specs.declared.pieces.PieceFault.TheVariants.{ReadFailed, NoMemory, InputTooLong}
 
@@ -53,24 +55,21 @@ abbrev pub is_empty_line : List ℕ → Bool
 is_empty_line line = bytes_eq (take 1 (front_of line)) (codes "%") || bytes_eq (take 1 (front_of line)) (codes ";")
     || list_all (λ c. is_blank c || (c == 13) || (c == 10)) (front_of line)
 
--- what comes after the tag with which a text begins and any spaces and tabs: `1. e4` in `[Event "x"] 1. e4`. The tag's
--- value ends at the next quote, even one after a backslash; if no `]` follows that quote at once, the result is empty
-abbrev pub after_tag : List ℕ → List ℕ
-after_tag front = let close = drop_while (λ c. not (c == byte "\"")) (drop 1 (after_name front)) in
-    if bytes_eq (take 2 close) (codes "\"]") then drop_while is_blank (drop 2 close) else []
-
--- what comes after the tags with which a text begins, and any spaces and tabs after each (`after_tag`); the text itself
--- if it begins with none. At most as many tags are passed over as the first argument says
-unfoldable pub after_tags : ℕ → List ℕ → List ℕ
-after_tags zero text = text
-after_tags (suc more) text = if begins_tag text then after_tags more (after_tag text) else text
+-- whether a token in the front of a tag line shows that not only tags are on it: it is a word that is no marks, such as
+-- a move or a result, or a byte that begins no token; or a `[` that begins no tag, as in `[White "a`. That counts only
+-- if the line ends in its front (`ended`): otherwise the tag may be closed after the front
+abbrev pub is_beyond_tags : Bool → Token → Bool
+is_beyond_tags ended (Word word) = not (is_marks word)
+is_beyond_tags ended Bad_tag = ended
+is_beyond_tags ended Bad = true
+is_beyond_tags ended _ = false
 
 -- whether a line counts as one of moves: one that is neither a tag line nor empty (so also one inside a `{` comment,
--- and a tag such as `[ Event "x" ]`); or a tag line in whose front, after its tags, a letter, digit, `_` or `*`
--- follows: `[White "a"] [Black "b"] 1. e4`. (256: no front has so many tags)
+-- and a tag such as `[ Event "x" ]`); or a tag line in whose front, read as a text, a token is beyond tags
+-- (`is_beyond_tags`): `[White "a"] {x} 1. e4`, or `[White "a`
 abbrev pub is_moves_line : List ℕ → Bool
-is_moves_line line = if is_tag_line line
-    then list_any (λ c. is_name_byte c || c == byte "*") (take 1 (after_tags 256 (after_tag (front_of line))))
+is_moves_line line = let front = front_of line in if is_tag_line line
+    then list_any (λ t. is_beyond_tags (list_any breaks_line front) t.1) (tokens_from front 0)
     else not (is_empty_line line)
 
 -- ---- the pieces of a text

@@ -4,8 +4,8 @@
 //! - a tag line begins with `[`, a name, perhaps spaces and tabs, and `"`: `[White "Carlsen"]`
 //! - an Event line is a tag line of the tag Event: `[Event "Oslo"]`
 //! - an empty line has only white space, or begins with `%` or `;`
-//! - a line of moves is any other line: `1. e4 e5`, but also `{a comment}`; and a tag line with moves after its tags:
-//!   `[White "a"] [Result "1-0"] 1. e4 1-0`
+//! - a line of moves is any other line: `1. e4 e5`, but also `{a comment}`; and a tag line with more than tags, such as
+//!   `[White "a"] [Result "1-0"] 1. e4 1-0`, or with a tag that isn't closed: `[White "a`
 //!
 //! The functions that `kind_of` calls are inlined, since `verify --keep-going` calls it for every line of a collection
 //! (the workloads collections and puzzles). What that gains was not measured apart.
@@ -13,12 +13,14 @@
 ghost use Rattle.std.specs.Prelude.{◌≡◌, ◌≤◌, nat_lt, true, false, ◌&&◌, ◌||◌, ◌==◌, length, take, drop, codes};
 ghost use Rattle.std.specs.Str.{bytes_eq};
 ghost use Rattle.std.specs.List.{list_all, list_any};
-ghost use Rattle.pgn_pieces.specs.Pieces.{front_of, after_name, after_tag, after_tags, begins_tag, tag_name, is_tag_line, is_event_line, is_moves_line};
-ghost use Rattle.byte_devices.specs.Bytes.{after_byte_order_mark, byte, is_blank, is_name_byte};
-ghost use Rattle.pgn_pieces.specs.Places.{line_ends};
-ghost use Rattle.pgn_pieces.specs.ties.Fronts.{after_value, is_empty_front, without_blanks};
+ghost use Rattle.pgn_pieces.specs.Pieces.{front_of, after_name, tag_name, is_beyond_tags, is_tag_line, is_event_line, is_moves_line};
+ghost use Rattle.byte_devices.specs.Bytes.{after_byte_order_mark, is_blank};
+ghost use Rattle.pgn_pieces.specs.Places.{breaks_line, line_ends};
+ghost use Rattle.pgn_pieces.specs.ties.Fronts.{is_empty_front, without_blanks};
+ghost use Rattle.pgn_tokens.specs.Tokens.{tokens_from};
 
-use byte_devices::{after_byte_order_mark, is_blank, is_name_byte, len_before, split_while};
+use byte_devices::{after_byte_order_mark, is_blank, is_name_byte, split_while};
+use pgn_tokens::{TokenFault, after_tags, next_token};
 
 // How many of a line's first bytes decide its kind; the bytes after these are not looked at.
 pub(crate) const FRONT_LEN: usize = 256;
@@ -61,71 +63,34 @@ pub(crate) fn kind_of(line: &[u8], moves: bool) -> Kind
         is_event: is_tag && name == b"Event".as_slice(),
         moves: moves
             || if is_tag {
-                has_moves(after_name)
+                has_moves(front)
             } else {
                 !is_empty_front(front)
             },
     }
 }
 
-// Whether moves come after the tags of a tag line: a letter, a digit, `_` or `*`, after any spaces and tabs. The
-// argument is the part of its front after the first tag's name.
-#[inline(always)]
-fn has_moves(after_name: &[u8]) -> bool
-    ensures { result
-        ≡ list_any (λ c. is_name_byte c || c == byte "*") (take 1 (after_tags 256 (after_value after_name.now))) }
+// Whether the front of a tag line has more than tags: a word such as a move after them, a byte that begins no token, or
+// a tag that isn't closed on its line. It is not inlined, since few lines of a collection are tag lines before moves.
+#[inline(never)]
+fn has_moves(front: &[u8]) -> bool
+    ensures { result ≡ list_any (λ t. is_beyond_tags (list_any breaks_line front.now) t.1) (tokens_from front.now 0) }
 {
-    match after_tags(after_value(after_name)) {
-        [first, ..] => is_name_byte(*first) || *first == b'*',
-        [] => false,
+    match next_token(front, after_tags(front, 0)) {
+        Ok(None) => false,
+        Ok(Some(_)) => true,
+        Err(TokenFault::BadTag) => has_line_end(front),
+        Err(TokenFault::BadByte) => true,
+        Err(TokenFault::UnclosedComment { .. }) => false,
+        Err(TokenFault::UnclosedVariation) => false,
     }
 }
 
-// What comes after the value of the first tag of a tag line, its `"]`, and any spaces and tabs there; empty if no `"]`
-// ends the tag. The value goes to the next quote, even one after a backslash. The argument is the part of the line's
-// front after the tag's name.
-#[inline(always)]
-fn after_value(after_name: &[u8]) -> &[u8]
-    ensures { result.now ≡ after_value after_name.now }
+// Whether a line's end is among these bytes: `\n` or `\r`.
+fn has_line_end(bytes: &[u8]) -> bool
+    ensures { result ≡ list_any breaks_line bytes.now }
 {
-    let value = without_first(after_name);
-    match &value[len_before(value, b'"')..] {
-        [b'"', b']', rest @ ..] => without_blanks(rest),
-        _ => &after_name[..0], // nothing
-    }
-}
-
-// Whether a text begins with a tag, as the front of a tag line does.
-fn begins_tag(text: &[u8]) -> bool
-    ensures { result ≡ begins_tag text.now }
-{
-    if !text.starts_with(b"[") {
-        return false;
-    }
-    let name = tag_name(text);
-    has_tag(name, after_name(text, name))
-}
-
-// What comes after the tag with which a text begins, and any spaces and tabs; empty if no `"]` ends the tag.
-fn after_tag(text: &[u8]) -> &[u8]
-    ensures { result.now ≡ after_tag text.now }
-{
-    after_value(after_name(text, tag_name(text)))
-}
-
-// What comes after the tags with which a part of a line's front begins, and any spaces and tabs; mostly none is there.
-// A front has no more than 256 tags.
-fn after_tags(text: &[u8]) -> &[u8]
-    ensures { result.now ≡ after_tags 256 text.now }
-{
-    let mut rest = text;
-    for passed in 0..FRONT_LEN {
-        if !begins_tag(rest) {
-            return rest;
-        }
-        rest = after_tag(rest);
-    }
-    rest
+    bytes.iter().any(|byte| *byte == b'\n' || *byte == b'\r')
 }
 
 // The text after the byte order mark (the bytes EF BB BF of UTF-8) at its front; all of the text, if it has none. Each

@@ -61,7 +61,7 @@ fn check_cut(
 }
 
 // Texts, and the lengths of their pieces.
-const CUTS: [(&[u8], &[usize]); 25] = [
+const CUTS: [(&[u8], &[usize]); 33] = [
     (b"", &[]),
     (b"1. e4 *", &[7]),
     (b"[Event \"a\"]\n1. e4 *\n\n[Event \"b\"]\n*", &[21, 13]),
@@ -107,6 +107,15 @@ const CUTS: [(&[u8], &[usize]); 25] = [
     (b"[Event \"a\"] {c}\n[Site \"b\"] ; x\n*\n", &[33]),
     (b"[a \"b\"] [c \"d\"] e4 *\n[e \"f\"]\n", &[21, 8]),
     (b"[a \"b\"][c\"d\"]\t[e \"\"] *\n[e \"f\"]\n", &[23, 8]),
+    (b"[a \"\\\"b\"] e4 *\n[c \"d\"]\n", &[15, 8]),
+    (b"[a \"b\" ] {x} e4 *\n[c \"d\"]\n", &[18, 8]),
+    (b"[a \"b\"] !? $1 (x) .\n[c \"d\"]\n", &[28]),
+    (b"[a \"b\"] {x\n[c \"d\"]\n", &[19]),
+    // A byte that begins no token, and tags that aren't closed on their lines.
+    (b"[a \"b\"] <x>\n[c \"d\"]\n", &[12, 8]),
+    (b"[a \"b\n[c \"d\"]\n", &[6, 8]),
+    (b"[a \"b\" \r[c \"d\"]\n", &[8, 8]),
+    (b"[a \"b\"] [c\n[d \"e\"]\n", &[11, 8]),
     (b"*\n[A_1 \t\"x\"]\n\xef\xbb\xbf% y\n[b\"", &[2, 21]),
     (
         b"\xef\xbb\xbf*\n\xef\xbb[a \"b\"]\n\xef\xbb\xbf\xef\xbb\xbf[a \"b\"]\n",
@@ -201,6 +210,39 @@ fn check_name(rt: &impl Abort, host: &HostRuntime, len: usize, begins: bool) -> 
 fn names_have_at_most_254_bytes(rt: HostRuntime) -> Result<(), Fail> {
     check_name(&rt, &rt, 254, true)?;
     check_name(&rt, &rt, 255, false)
+}
+
+// Where the string of a tag goes on after these 256 bytes, it isn't known to be unclosed: a tag line of so many bytes,
+// which isn't closed, ends the piece before the next tag line, or doesn't.
+fn check_unclosed(
+    rt: &impl Abort,
+    host: &HostRuntime,
+    len: usize,
+    ends_there: bool,
+) -> Result<(), Fail> {
+    let mut text = Vec::new(host.alloc());
+    text.extend_from_slice(b"[a \"")?;
+    for _ in 5..len {
+        text.push(b'x')?;
+    }
+    text.extend_from_slice(b"\n[b \"c\"]\n")?;
+    let mut input = Counted::reading(text.as_slice());
+    let mut pieces = PgnPieces::open(host.alloc())?;
+    is_equal(rt, &pieces.next(&mut input), &Ok(true));
+    assert_eq!(rt;
+        pieces.end() == len,
+        ends_there,
+        "a tag line of {len} bytes"
+    );
+    Ok(())
+}
+
+#[test]
+fn tags_are_unclosed_on_lines_of_at_most_256_bytes(rt: HostRuntime) -> Result<(), Fail> {
+    check_unclosed(&rt, &rt, 255, true)?;
+    check_unclosed(&rt, &rt, 256, true)?;
+    check_unclosed(&rt, &rt, 257, false)?;
+    check_unclosed(&rt, &rt, 400, false)
 }
 
 // Blanks before a tag are among these 256 bytes: after so many the tag begins a piece, or doesn't.

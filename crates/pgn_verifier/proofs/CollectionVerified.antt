@@ -2,7 +2,8 @@
 -- far.
 use Rattle.std.proofs.Common.{◌≡◌, ℕ, ◌+◌, ◌*◌, ◌≤◌, ◌<◌, ◌^◌, Bool, true, false, not, List, [], ◌∷◌, ◌++◌, length, map, take, Some, None, Ok, Err, refl, sym, ap, subst, ◌∙◌, append_assoc, append-nil, arith, ap₂, take-take, if◌then◌else◌, nat_le, sum_by, flat_map, take_while}
 use Rattle.std.specs.Option.{option_map_or}
-use Rattle.chess_pgn.specs.{Tokens.is_white_space, declared.read.PgnFaultKind.TheVariants.TooLong}
+use Rattle.pgn_tokens.specs.Tokens.{is_white_space}
+use Rattle.chess_pgn.specs.declared.read.PgnFaultKind.TheVariants.{TooLong}
 use Rattle.pgn_pieces.specs.{declared.pieces.TheConstants.PIECE_LEN, declared.pieces.PieceFault.PieceFault, laws.HandedOut.PiecesAreCut, laws.Places.PiecesAreInPlace}
 use Rattle.pgn_verifier.specs.{declared.options.Strictness.Strictness, Explanations.shown, Explanations.shown_word, declared.game_fault.FaultKind.TheVariants.Pgn, declared.options.VerifyOptions.VerifyOptions, declared.tally.Tally.Tally, declared.fault.VerifyFault.TheVariants.WriteFailed, Collection.VerifiesCollection, Faults.of_piece}
 use Rattle.std.proofs.{lemmas.List.Concat.flat_map-append, lemmas.List.Sums.sum_by_push}

@@ -3,9 +3,10 @@ use Rattle.std.proofs.Common.{◌≡◌, ℕ, zero, suc, ◌<◌, ◌≤◌, ◌
 use Rattle.std.proofs.lemmas.List.{length-append, length-drop, nil_from_length, take-append-drop}
 use Rattle.byte_devices.specs.Bytes.{after_byte_order_mark}
 use Rattle.chess_base.specs.declared.setup.Setup.{Setup}
-use Rattle.chess_pgn.specs.{Split.ended, Tokens.Token, Tokens.tokens_from, Variations.has_variation, Variations.line_fault, Variations.variation_fault, declared.variations.TheConstants.MOST_NESTED, declared.read.PgnEnd.PgnEnd, declared.read.PgnFault.PgnFault, declared.tagged_result.ResultTag.ResultTag}
-use Rattle.std.specs.{Option.option_eq, Option.option_or}
-use Rattle.chess_pgn.proofs.shared.Tokens.{split_read}
+use Rattle.pgn_tokens.specs.{Split.ended, Tokens.Token, Tokens.tokens_from, VariationTokens.has_variation}
+use Rattle.chess_pgn.specs.{Variations.line_fault, Variations.variation_fault, declared.variations.TheConstants.MOST_NESTED, declared.read.PgnEnd.PgnEnd, declared.read.PgnFault.PgnFault, declared.tagged_result.ResultTag.ResultTag}
+use Rattle.std.specs.Option.{option_eq, option_or}
+use Rattle.pgn_tokens.proofs.shared.Tokens.{split_read}
 use Rattle.chess_game.specs.{Game.contradicts_verdict, declared.verdicts.Verdict.Verdict, Results.same_outcome}
 use Rattle.pgn_verifier.specs.GameFaults.{result_differs, board_says_otherwise}
 use Rattle.pgn_verifier.specs.shared.Contradictions.{looked_for, variation_in}

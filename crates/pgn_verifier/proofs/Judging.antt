@@ -5,7 +5,8 @@ use Rattle.byte_devices.specs.Bytes.{after_byte_order_mark}
 use Rattle.chess_base.specs.declared.setup.Setup.{Setup}
 use Rattle.chess_fen.specs.Writing.{fen}
 use Rattle.chess_game.specs.{Game.State, Game.current, declared.game.TheConstants.MOST_MOVES, declared.verdicts.Verdict.Verdict}
-use Rattle.chess_pgn.specs.{GameRead.GameRead, GameRead.ending, LastTags.result_tag_of, Tokens.Token, Tokens.tokens_from, UnknownVariants.unknown_variant_in, declared.past_draws.ReadGame.ReadGame, declared.read.PgnEnd.PgnEnd, declared.read.PgnFault.PgnFault, declared.tagged_result.ResultTag.ResultTag, laws.Offsets.FaultsHaveOffsets, laws.Offsets.HalfMovesHaveBytes, PastDraws.IsAnswer, PastDraws.Stands}
+use Rattle.chess_pgn.specs.{GameRead.GameRead, GameRead.ending, ResultTags.result_tag_of, UnknownVariants.unknown_variant_in, declared.past_draws.ReadGame.ReadGame, declared.read.PgnEnd.PgnEnd, declared.read.PgnFault.PgnFault, declared.tagged_result.ResultTag.ResultTag, laws.Offsets.FaultsHaveOffsets, laws.Offsets.HalfMovesHaveBytes, PastDraws.IsAnswer, PastDraws.Stands}
+use Rattle.pgn_tokens.specs.Tokens.{Token, tokens_from}
 use Rattle.chess_pgn.proofs.shared.Ends.{ends_in_text}
 use Rattle.pgn_verifier.specs.{Explanations.explanation, Explanations.has_position, GameFaults.judged, declared.game_fault.FaultKind.FaultKind, declared.game_fault.FaultKind.TheVariants.Pgn, declared.game_fault.GameFault.GameFault, declared.options.Strictness.Strictness, laws.Reasons.reason, laws.Reported.judged_of, laws.Reported.read_at, shared.Contradictions.end_fault, shared.Contradictions.variation_in, ties.Explaining.explanation_of, ties.Explaining.part_on}
 

@@ -2,8 +2,8 @@
 use Rattle.std.proofs.Common.{◌≡◌, ℕ, Bool, true, false, List, map, take, Option, Some, None, refl, ap, ◌∙◌, if◌then◌else◌, codes}
 use Rattle.std.specs.Option.{option_map, option_map_or}
 use Rattle.byte_devices.specs.Bytes.{shown_byte}
-use Rattle.chess_pgn.specs.{LastTags.last_tag, LastTags.tag_section, Split.IsSplit, Tokens.Token, Tokens.tokens_from}
-use Rattle.chess_pgn.proofs.shared.Tokens.{split_read}
+use Rattle.pgn_tokens.specs.{LastTags.last_tag, LastTags.tag_section, Split.IsSplit, Tokens.Token, Tokens.tokens_from}
+use Rattle.pgn_tokens.proofs.shared.Tokens.{split_read}
 use Rattle.pgn_verifier.specs.Reports.{shown_tag}
 
 abbrev pub shown_or : Option (List ℕ) → List ℕ

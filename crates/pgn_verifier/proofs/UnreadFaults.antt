@@ -4,7 +4,8 @@ use Rattle.std.proofs.Common.{◌≡◌, ℕ, Bool, true, false, List, length, O
 use Rattle.std.specs.Option.{option_eq, option_map, option_map_or, option_or}
 use Rattle.byte_devices.specs.Bytes.{after_byte_order_mark}
 use Rattle.chess_game.specs.{Game.contradicts_verdict, Results.same_outcome, declared.game.TheConstants.MOST_MOVES, declared.verdicts.Verdict.Verdict}
-use Rattle.chess_pgn.specs.{GameEnds.game_end, GameRead.ending, LastTags.result_tag_of, Tokens.tokens_from, UnknownVariants.unknown_variant_in, declared.read.PgnEnd.PgnEnd, declared.read.PgnFault.PgnFault, declared.tagged_result.ResultTag.ResultTag, laws.Unreadable.is_unreadable, laws.Unreadable.UnreadableGamesHaveNoEnd}
+use Rattle.chess_pgn.specs.{GameEnds.game_end, GameRead.ending, ResultTags.result_tag_of, UnknownVariants.unknown_variant_in, declared.read.PgnEnd.PgnEnd, declared.read.PgnFault.PgnFault, declared.tagged_result.ResultTag.ResultTag, laws.Unreadable.is_unreadable, laws.Unreadable.UnreadableGamesHaveNoEnd}
+use Rattle.pgn_tokens.specs.Tokens.{tokens_from}
 use Rattle.pgn_verifier.specs.GameFaults.{board_says_otherwise, judged, result_differs}
 use Rattle.pgn_verifier.specs.declared.game_fault.FaultKind.TheVariants.{Pgn, InVariation, UnknownVariant}
 use Rattle.pgn_verifier.specs.declared.game_fault.GameFault.{GameFault}

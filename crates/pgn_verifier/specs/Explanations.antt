@@ -8,7 +8,7 @@ use Rattle.chess_game.specs.Ends.{verdict_result, result_text}
 use Rattle.chess_game.specs.Game.{State, current}
 use Rattle.chess_game.specs.Results.{outcome_text}
 use Rattle.chess_game.specs.declared.verdicts.Verdict.{Verdict}
-use Rattle.chess_pgn.specs.Tokens.{is_white_space, is_word_byte}
+use Rattle.pgn_tokens.specs.Tokens.{is_white_space, is_word_byte}
 use Rattle.chess_pgn.specs.declared.read.PgnFaultKind.TheVariants.{BadTag, BadFen, BadToken, IllegalMove, AfterEnd, NoResult}
 use Rattle.pgn_pieces.specs.Places.{line_of, column_of}
 use Rattle.pgn_verifier.specs.declared.game_fault.FaultKind.{FaultKind}

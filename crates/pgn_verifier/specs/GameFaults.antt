@@ -6,12 +6,12 @@ use Rattle.chess_game.specs.Results.{outcome_text, same_outcome}
 use Rattle.chess_game.specs.declared.verdicts.Verdict.{Verdict}
 use Rattle.chess_game.specs.declared.game.TheConstants.{MOST_MOVES}
 use Rattle.chess_pgn.specs.GameRead.{ending, read_of_split}
-use Rattle.chess_pgn.specs.LastTags.{result_tag_of}
+use Rattle.chess_pgn.specs.ResultTags.{result_tag_of}
 use Rattle.chess_pgn.specs.UnknownVariants.{unknown_variant_in}
 use Rattle.chess_pgn.specs.Variations.{variations_fault}
 use Rattle.pgn_verifier.specs.declared.options.Strictness.{Strictness}
-use Rattle.chess_pgn.specs.Split.{IsSplit}
-use Rattle.chess_pgn.specs.Tokens.{Token}
+use Rattle.pgn_tokens.specs.Split.{IsSplit}
+use Rattle.pgn_tokens.specs.Tokens.{Token}
 use Rattle.byte_devices.specs.Bytes.{after_byte_order_mark}
 use Rattle.chess_pgn.specs.declared.read.PgnEnd.{PgnEnd}
 use Rattle.chess_pgn.specs.declared.read.PgnFault.{PgnFault}

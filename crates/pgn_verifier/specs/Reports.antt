@@ -9,8 +9,8 @@ use Rattle.chess_game.specs.Results.{outcome_text}
 use Rattle.chess_game.specs.declared.results.Outcome.{Outcome}
 use Rattle.chess_pgn.specs.GameEnds.{game_end}
 use Rattle.chess_pgn.specs.GameRead.{ending}
-use Rattle.chess_pgn.specs.LastTags.{last_tag, tag_section}
-use Rattle.chess_pgn.specs.Tokens.{Token, is_white_space}
+use Rattle.pgn_tokens.specs.LastTags.{last_tag, tag_section}
+use Rattle.pgn_tokens.specs.Tokens.{Token, is_white_space}
 use Rattle.chess_pgn.specs.declared.read.PgnEnd.{PgnEnd}
 use Rattle.chess_pgn.specs.declared.read.PgnFaultKind.TheVariants.{TooLong}
 use Rattle.pgn_writer.specs.declared.termination.Termination.{Termination}

@@ -8,8 +8,8 @@ use Rattle.chess_base.specs.Faults.{fen_fault_name}
 use Rattle.chess_base.specs.declared.fen_fault.FenFault.{FenFault}
 use Rattle.chess_base.specs.declared.fen_fault.FenFault.TheVariants.{Side, Castling, EnPassant, Counters}
 use Rattle.text_lines.specs.Words.{short_number}
-use Rattle.chess_pgn.specs.Split.{IsGap, OpensTag, IsString}
-use Rattle.chess_pgn.specs.Tokens.{is_word_byte}
+use Rattle.pgn_tokens.specs.Split.{IsGap, OpensTag, IsString}
+use Rattle.pgn_tokens.specs.Tokens.{is_word_byte}
 use Rattle.pgn_pieces.specs.Pieces.{drop_while}
 
 -- ---- the fields of a FEN

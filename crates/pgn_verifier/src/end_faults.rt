@@ -5,8 +5,8 @@ ghost use Rattle.std.specs.Option.{IfSome, option_or};
 ghost use Rattle.std.specs.Result.{result_err};
 ghost use Rattle.byte_devices.specs.Bytes.{after_byte_order_mark};
 ghost use Rattle.chess_pgn.specs.GameRead.{ending};
-ghost use Rattle.chess_pgn.specs.LastTags.{result_tag_of};
-ghost use Rattle.chess_pgn.specs.Tokens.{tokens_from};
+ghost use Rattle.chess_pgn.specs.ResultTags.{result_tag_of};
+ghost use Rattle.pgn_tokens.specs.Tokens.{tokens_from};
 ghost use Rattle.chess_pgn.specs.UnknownVariants.{unknown_variant_in};
 ghost use Rattle.pgn_verifier.specs.shared.Contradictions.{contradiction, end_fault, looked_for, variant_fault, variation_fault, variation_in};
 

@@ -5,7 +5,7 @@ ghost use Rattle.std.specs.Prelude.{◌≡◌, ◌≤◌, ◌<◌, ◌+◌, ◌+
 ghost use Rattle.std.specs.Option.{IfSome, option_map, unwrap_or};
 ghost use Rattle.std.specs.List.{prefix_len};
 ghost use Rattle.arrayvec.specs.ArrayVec.{array_vec_len};
-ghost use Rattle.chess_pgn.specs.Tokens.{is_white_space};
+ghost use Rattle.pgn_tokens.specs.Tokens.{is_white_space};
 ghost use Rattle.byte_devices.specs.Bytes.{after_byte_order_mark};
 ghost use Rattle.pgn_pieces.specs.Stream.{current};
 ghost use Rattle.pgn_verifier.specs.Reports.{game_begin};
@@ -18,7 +18,7 @@ use crate::names::{NamesText, game_names};
 use crate::options::VerifyOptions;
 use arrayvec::ArrayVec;
 use byte_devices::{after_byte_order_mark, append, append_number};
-use chess_pgn::token_parts::is_white_space;
+use pgn_tokens::is_white_space;
 use pgn_pieces::PgnPieces;
 
 /// A part of the input.

@@ -3,7 +3,7 @@
 ghost use Rattle.pgn_verifier.specs.declared.names.TheConstants.{NAMES_LEN};
 ghost use Rattle.std.specs.Prelude.{◌≡◌, ◌≤◌, ◌+◌, ◌++◌, length};
 ghost use Rattle.arrayvec.specs.ArrayVec.{array_vec_len};
-ghost use Rattle.chess_pgn.specs.Tokens.{tokens_from};
+ghost use Rattle.pgn_tokens.specs.Tokens.{tokens_from};
 ghost use Rattle.byte_devices.specs.Bytes.{after_byte_order_mark};
 ghost use Rattle.pgn_verifier.specs.Reports.{shown_tag};
 ghost use Rattle.pgn_verifier.specs.laws.Reported.{names_at};

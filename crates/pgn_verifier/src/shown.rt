@@ -2,14 +2,14 @@
 
 ghost use Rattle.std.specs.Prelude.{◌≡◌, ◌≤◌, ◌+◌, ◌++◌, ◌&&◌, nat_le, not, take_while, take, map, length, codes};
 ghost use Rattle.arrayvec.specs.ArrayVec.{array_vec_len};
-ghost use Rattle.chess_pgn.specs.Tokens.{is_white_space};
+ghost use Rattle.pgn_tokens.specs.Tokens.{is_white_space};
 ghost use Rattle.pgn_verifier.specs.declared.shown.TheConstants.{FIELD_LEN};
 ghost use Rattle.pgn_verifier.specs.Explanations.{shown_word, shown};
 ghost use Rattle.byte_devices.specs.Bytes.{shown_byte};
 
 use arrayvec::ArrayVec;
 use byte_devices::{shown_byte, split_while};
-use chess_pgn::token_parts::is_white_space;
+use pgn_tokens::is_white_space;
 
 // The most bytes of a word, or of a tag's text, that are shown.
 const WORD_LEN: usize = 40;

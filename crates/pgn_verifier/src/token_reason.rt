@@ -4,11 +4,11 @@ ghost use Rattle.std.specs.Prelude.{◌≡◌, ◌≤◌, ◌||◌, ◌∷◌, [
 ghost use Rattle.std.specs.List.{list_any, prefix_len};
 ghost use Rattle.std.specs.Option.{IfSome, option_map};
 ghost use Rattle.std.specs.Str.{bytes_eq};
-ghost use Rattle.chess_pgn.specs.Tokens.{name_at, is_word_byte};
+ghost use Rattle.pgn_tokens.specs.Tokens.{name_at, is_word_byte};
 ghost use Rattle.pgn_verifier.specs.WrongParts.{token_reason};
 ghost use Rattle.pgn_verifier.specs.laws.Reasons.{move_reason, string_reason, value_reason, name_reason, tag_reason};
 
-use chess_pgn::token_parts::{after_gap, is_word_byte, split_name, split_string};
+use pgn_tokens::{after_gap, is_word_byte, split_name, split_string};
 
 // The text after the name at its front; `None` if it begins with no name.
 fn after_name(text: &[u8]) -> Option<&[u8]>

@@ -3,11 +3,12 @@ use Rattle.std.proofs.Common.{◌≡◌, ℕ, ◌+◌, ◌-◌, ◌<◌, ◌≤�
 use Rattle.std.specs.{List.filter_map, List.prefix_len, Option.option_map_or}
 use Rattle.std.proofs.lemmas.Bool.Decides.{nat_tests}
 use Rattle.chess_base.specs.declared.man.Variant.TheVariants.{Normal}
-use Rattle.chess_pgn.specs.{GameEnds.ends_at, GameEnds.game_end, GameRead.pgn_read, LastTags.may_precede_tags, laws.TokenByToken.game_of, laws.TokenByToken.nothing_read, laws.TokenByToken.tokens_read, shared.VariantNames.variant_named}
-use Rattle.chess_pgn.specs.Tokens.{Token, Skip, begins_line, is_white_space, tokens_from}
+use Rattle.chess_pgn.specs.{GameEnds.ends_at, GameEnds.game_end, GameRead.pgn_read, laws.TokenByToken.game_of, laws.TokenByToken.nothing_read, laws.TokenByToken.tokens_read, shared.VariantNames.variant_named}
+use Rattle.pgn_tokens.specs.LastTags.{may_precede_tags}
+use Rattle.pgn_tokens.specs.Tokens.{Token, Skip, begins_line, is_white_space, tokens_from}
 use Rattle.byte_devices.specs.Bytes.{after_byte_order_mark}
-use Rattle.chess_pgn.specs.shared.Kinds.{IsOf, IsLongest, Blank, token}
-use Rattle.chess_pgn.proofs.{shared.Tags.last_step, shared.Tokens.read_kinds, shared.Tokens.kinds_read}
+use Rattle.pgn_tokens.specs.shared.Kinds.{IsOf, IsLongest, Blank, token}
+use Rattle.pgn_tokens.proofs.{shared.Tags.last_step, shared.Tokens.read_kinds, shared.Tokens.kinds_read}
 use Rattle.pgn_verifier.specs.{Reports.game_begin, laws.Reported.next_at}
 use Rattle.pgn_verifier_laws.proofs.PartsAlike.{TokenByToken, not_before, no_mark}
 

@@ -4,7 +4,8 @@ use Rattle.std.specs.{List.filter, List.list_all, Option.option_map_or, Option.u
 use Rattle.chess_base.specs.{Initial.initial_setup_of, MoveList.moves, Sound.IsSound, declared.man.Move.Move, declared.man.Variant.Variant, declared.setup.Setup.Setup}
 use Rattle.byte_devices.specs.Bytes.{is_digit}
 use Rattle.chess_game.specs.{Game.State, Line.position_after, declared.game.TheConstants.MOST_MOVES, declared.results.Outcome.Outcome}
-use Rattle.chess_pgn.specs.{GameRead.GameRead, GameRead.IsRead, GameRead.ending, GameRead.tagged_variant, LastTags.result_tag_of, LastTags.tag_section, UnknownVariants.unknown_variant_in, Tokens.Token, Tokens.Word, Words.is_marks, declared.read.PgnEnd.PgnEnd, declared.word_kind.WordKind.WordKind, laws.WordKinds.word_kind, declared.read.PgnFaultKind.TheVariants.TooLong}
+use Rattle.chess_pgn.specs.{GameRead.GameRead, GameRead.IsRead, GameRead.ending, GameRead.tagged_variant, ResultTags.result_tag_of, UnknownVariants.unknown_variant_in, declared.read.PgnEnd.PgnEnd, declared.word_kind.WordKind.WordKind, laws.WordKinds.word_kind, declared.read.PgnFaultKind.TheVariants.TooLong}
+use Rattle.pgn_tokens.specs.{LastTags.tag_section, Tokens.Token, Tokens.Word, Marks.is_marks}
 use Rattle.chess_pgn.specs.declared.word_kind.WordKind.TheVariants.{End, Number, Marks, Move as MoveWord}
 use Rattle.chess_pgn_laws.specs.GameOfTokens.{AreReadAs, GamesAreOfTokens, IsOfTokens, StopsAt, game_by, move_words}
 use Rattle.chess_text.specs.Moves.{denotes, one_of, reading, shape}

@@ -2,7 +2,8 @@
 use Rattle.std.proofs.Common.{◌≡◌, ℕ, zero, suc, ◌+◌, ◌-◌, ◌<◌, ◌≤◌, Bool, true, false, cond, count_by, sum_by, ap₂, eqb, not, List, [], ◌∷◌, ◌++◌, length, get_or, drop, take, Option, Some, None, Result, Ok, Err, refl, sym, ap, subst, ◌∙◌, inl, inr, ◌⊎◌, append_assoc, append-nil, length-append, arith, bytes_eq, nat_le, if◌then◌else◌, ◌&&◌, ◌||◌}
 use Rattle.std.specs.List.{concat, flat_map, list_all, list_any}
 use Rattle.std.proofs.{lemmas.Bool.and_parts, lemmas.Bool.or_parts, lemmas.Bool.eqb-true, lemmas.Bool.Decides.nat_tests, lemmas.List.get_or_at, lemmas.List.reverse-append, Math.Path.fun_ext, lemmas.List.Folds.list_all-append, lemmas.List.Folds.sum_by-zero, lemmas.List.Sums.sum_by-cons}
-use Rattle.chess_pgn.specs.{Tokens.begins_line, declared.read.PgnEnd.PgnEnd}
+use Rattle.pgn_tokens.specs.Tokens.{begins_line}
+use Rattle.chess_pgn.specs.declared.read.PgnEnd.{PgnEnd}
 use Rattle.byte_devices.specs.Bytes.{after_byte_order_mark}
 use Rattle.pgn_pieces.specs.{Pieces.cut, Places.breaks_line, Stream.with_offsets, Stream.pieces, declared.pieces.TheConstants.PIECE_LEN}
 use Rattle.pgn_pieces.proofs.shared.Cuts.{AreLines, no_texts, last_text, next_text, cut_is_all, cut_ends}

@@ -1,11 +1,12 @@
 -- A game without a fault that is read in one text is read in another, if its tokens are there too.
 use Rattle.std.proofs.Common.{◌≡◌, ℕ, ◌+◌, ◌-◌, ◌<◌, ◌≤◌, Bool, List, ◌∷◌, ◌++◌, length, drop, Some, Ok, refl, sym, ap, subst, ◌∙◌, length-append, arith, is_some, length-drop}
 use Rattle.chess_game.specs.Game.{State, verdict_now}
-use Rattle.chess_pgn.specs.{GameRead.GameRead, GameRead.declared_after, LastTags.may_precede_tags, laws.WordKinds.word_kind, declared.read.PgnEnd.PgnEnd, declared.read.PgnFaultKind.TheVariants.NoResult}
-use Rattle.chess_pgn.specs.shared.Kinds.{IsSplitByKinds, IsOf, IsLongest, Kind, token_of, Blank, Line, Comment, Nag, Variation, Tag_pair, Asterisk, Symbol, ended, token, stopped}
-use Rattle.chess_pgn.specs.Tokens.{Token, Word, begins_line, tokens_from}
+use Rattle.chess_pgn.specs.{GameRead.GameRead, GameRead.declared_after, laws.WordKinds.word_kind, declared.read.PgnEnd.PgnEnd, declared.read.PgnFaultKind.TheVariants.NoResult}
+use Rattle.pgn_tokens.specs.LastTags.{may_precede_tags}
+use Rattle.pgn_tokens.specs.shared.Kinds.{IsSplitByKinds, IsOf, IsLongest, Kind, token_of, Blank, Line, Comment, Nag, Variation, Tag_pair, Asterisk, Symbol, ended, token, stopped}
+use Rattle.pgn_tokens.specs.Tokens.{Token, Word, begins_line, tokens_from}
 use Rattle.chess_pgn.specs.laws.TokenByToken.{SoFar, word_step, step, read_rest_with, game_of}
-use Rattle.chess_pgn.proofs.shared.Tokens.{read_kinds}
+use Rattle.pgn_tokens.proofs.shared.Tokens.{read_kinds}
 use Rattle.pgn_verifier_laws.proofs.PartsAlike.{over, OnOrFails, on, goes_on, Does, ends_game, no_end, does, tags_alike, HaveSameTags, skip_more, tag_more, word_more, word_ends, none_left, faults_stop}
 
 -- the text has this token at this place, and then some rest

@@ -1,9 +1,9 @@
 -- No other reason for a fault is one than that which the function gives: a bad tag lacks one part.
 use Rattle.std.proofs.Common.{◌≡◌, ℕ, List, Option, Some, refl, sym, ap, subst, ◌∙◌}
 use Rattle.chess_game.specs.declared.verdicts.Verdict.{Verdict}
-use Rattle.chess_pgn.specs.Tokens.{after_next}
+use Rattle.pgn_tokens.specs.Tokens.{after_next}
 use Rattle.chess_pgn.specs.declared.read.PgnFaultKind.TheVariants as pgn
-use Rattle.chess_pgn.proofs.shared.Tags.{opening_read}
+use Rattle.pgn_tokens.proofs.shared.Tags.{opening_read}
 use Rattle.pgn_verifier.specs.{Explanations.IsReason, declared.game_fault.FaultKind.FaultKind, laws.Reasons.reason}
 use Rattle.pgn_verifier.specs.WrongParts.{HasName, HasOpening, HasString, IsTagReason, no_name, no_value, not_closed, no_bracket}
 use Rattle.pgn_verifier.specs.declared.game_fault.FaultKind.TheVariants.{Pgn, InVariation, UnknownVariant, ResultDiffers, BoardSaysOtherwise}

@@ -3,9 +3,10 @@ use Rattle.std.proofs.Common.{◌≡◌, ℕ, zero, suc, ◌+◌, Bool, List, []
 use Rattle.std.proofs.{Math.Path.ap₂, Math.Path.fun_ext, lemmas.List.map-append}
 use Rattle.std.specs.Option.{option_map_or, unwrap_or}
 use Rattle.chess_game.specs.{Game.State, declared.game.TheConstants.MOST_MOVES}
-use Rattle.chess_pgn.specs.{GameRead.GameRead, GameRead.ending, GameRead.pgn_read, GameRead.read_of_split, LastTags.result_tag_of, UnknownVariants.unknown_variant_in, Split.IsSplit, Tokens.Token, Tokens.tokens_from, declared.read.PgnEnd.PgnEnd}
+use Rattle.chess_pgn.specs.{GameRead.GameRead, GameRead.ending, GameRead.pgn_read, GameRead.read_of_split, ResultTags.result_tag_of, UnknownVariants.unknown_variant_in, declared.read.PgnEnd.PgnEnd}
+use Rattle.pgn_tokens.specs.{Split.IsSplit, Tokens.Token, Tokens.tokens_from}
 use Rattle.byte_devices.specs.Bytes.{after_byte_order_mark}
-use Rattle.chess_pgn.proofs.shared.Tokens.{split_read}
+use Rattle.pgn_tokens.proofs.shared.Tokens.{split_read}
 use Rattle.pgn_pieces.specs.{Pieces.known_pieces, Stream.Piece, Stream.with_offsets, Stream.pieces, declared.pieces.TheConstants.PIECE_LEN}
 use Rattle.pgn_verifier.specs.{declared.options.Strictness.Strictness, Collection.AreCollectionReports, Collection.no_piece, Collection.next_piece, Explanations.IsReason, Explanations.explanation, Explanations.shown, Explanations.wrong_part, GameFaults.judged, GameFaults.IsJudged, declared.game_fault.FaultKind.FaultKind, declared.game_fault.GameFault.GameFault, laws.Reasons.reason, shared.Contradictions.variation_in}
 use Rattle.pgn_verifier.specs.declared.game_fault.FaultKind.TheVariants.{Pgn, InVariation, UnknownVariant, ResultDiffers, BoardSaysOtherwise}

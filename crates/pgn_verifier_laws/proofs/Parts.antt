@@ -5,10 +5,11 @@ use Rattle.std.proofs.Math.Seq.{drop-length, take-length}
 use Rattle.std.proofs.lemmas.List.{take-append-drop, take-append-le, length-drop, append_cancel_left}
 use Rattle.chess_game.specs.{Game.State, declared.game.TheConstants.MOST_MOVES, declared.verdicts.Verdict.Verdict}
 use Rattle.chess_pgn.specs.GameRead.{GameRead, ending, pgn_read, read_of_split, tagged_variant}
-use Rattle.chess_pgn.specs.{LastTags.tag_section, LastTags.result_tag_of, UnknownVariants.unknown_variant_in, Tokens.Token, Tokens.begins_line, Tokens.tokens_from, declared.read.PgnEnd.PgnEnd, laws.TokenByToken.game_of, laws.TokenByToken.nothing_read, laws.TokenByToken.tokens_read}
-use Rattle.chess_pgn.specs.shared.Kinds.{IsOf, IsLongest, Kind, ended}
+use Rattle.pgn_tokens.specs.{LastTags.tag_section, Tokens.Token, Tokens.begins_line, Tokens.tokens_from}
+use Rattle.chess_pgn.specs.{ResultTags.result_tag_of, UnknownVariants.unknown_variant_in, declared.read.PgnEnd.PgnEnd, laws.TokenByToken.game_of, laws.TokenByToken.nothing_read, laws.TokenByToken.tokens_read}
+use Rattle.pgn_tokens.specs.shared.Kinds.{IsOf, IsLongest, Kind, ended}
 use Rattle.byte_devices.specs.Bytes.{after_byte_order_mark}
-use Rattle.chess_pgn.proofs.shared.Tokens.{read_kinds, kinds_read}
+use Rattle.pgn_tokens.proofs.shared.Tokens.{read_kinds, kinds_read}
 use Rattle.pgn_verifier.specs.{declared.options.Strictness.Strictness, GameFaults.judged, shared.Contradictions.variation_in}
 use Rattle.pgn_verifier_laws.specs.Parts.{BeginsAlike, GamesAreInParts, HoldsWhole, no_more, game, WholeGamesAreReportedAlike, AllHoldWhole, no_parts, next_part, TextsAreReportedInParts, PiecesAreReportedAlike}
 use Rattle.pgn_pieces.specs.{Pieces.cut, Stream.with_offsets, Stream.pieces, declared.pieces.TheConstants.PIECE_LEN}

@@ -10,10 +10,13 @@ use Rattle.chess_game.specs.{Results.same_outcome, declared.results.Outcome.Outc
 use Rattle.chess_text.specs.{declared.reading.Reading.Reading, Moves.reading}
 use Rattle.chess_text.specs.declared.reading.Reading.TheVariants as reads
 use Rattle.chess_pgn.specs.GameRead.{GameRead, ending, pgn_read, tagged_variant}
-use Rattle.chess_pgn.specs.shared.{TagsNamed.tags_named, VariantNames.is_known_variant, VariantNames.variant_named}
-use Rattle.chess_pgn.specs.LastTags.{may_precede_tags, tag_section, last_tag, result_tag_of}
-use Rattle.chess_pgn.specs.{shared.Kinds.IsFault, laws.WordKinds.word_kind, declared.read.PgnEnd.PgnEnd, declared.read.PgnFault.PgnFault, declared.tagged_result.ResultTag.ResultTag, UnknownVariants.unknown_variant_in}
-use Rattle.chess_pgn.specs.Tokens.{Token, Skip, Tag, Word, Bad_tag, Unclosed_comment, Unclosed_variation, Bad, begins_line, tokens_from}
+use Rattle.pgn_tokens.specs.shared.TagsNamed.{tags_named}
+use Rattle.chess_pgn.specs.shared.VariantNames.{is_known_variant, variant_named}
+use Rattle.pgn_tokens.specs.LastTags.{may_precede_tags, tag_section, last_tag}
+use Rattle.chess_pgn.specs.ResultTags.{result_tag_of}
+use Rattle.pgn_tokens.specs.shared.Kinds.{IsFault}
+use Rattle.chess_pgn.specs.{laws.WordKinds.word_kind, declared.read.PgnEnd.PgnEnd, declared.read.PgnFault.PgnFault, declared.tagged_result.ResultTag.ResultTag, UnknownVariants.unknown_variant_in}
+use Rattle.pgn_tokens.specs.Tokens.{Token, Skip, Tag, Word, Bad_tag, Unclosed_comment, Unclosed_variation, Bad, begins_line, tokens_from}
 use Rattle.byte_devices.specs.Bytes.{after_byte_order_mark}
 use Rattle.pgn_writer.specs.Outcomes.{outcome_of}
 use Rattle.chess_pgn.specs.laws.TokenByToken.{SoFar, Step, On, Stop, ends, move_step, word_step, fen_step, step, read_rest_with, game_of, tokens_read}

@@ -8,16 +8,18 @@ use Rattle.chess_game.specs.{Game.State, Game.current, declared.game.TheConstant
 use Rattle.chess_text.specs.{declared.reading.Reading.Reading, Moves.reading}
 use Rattle.chess_text.specs.declared.reading.Reading.TheVariants as reads
 use Rattle.chess_pgn.specs.GameRead.{GameRead, ending, pgn_read, tagged_variant}
-use Rattle.chess_pgn.specs.shared.{TagsNamed.tags_named, VariantNames.is_known_variant, VariantNames.variant_named}
-use Rattle.chess_pgn.specs.LastTags.{may_precede_tags, tag_section, result_tag_of}
-use Rattle.chess_pgn.specs.shared.Kinds.{IsSplitByKinds, IsOf, IsLongest, Kind, token_of, Blank, Line, Comment, Nag, Variation, Tag_pair, Asterisk, Symbol, ended, token, stopped}
-use Rattle.chess_pgn.specs.Tokens.{Token, Skip, Tag, Word, Bad_tag, Unclosed_comment, Unclosed_variation, Bad, begins_line, tokens_from}
+use Rattle.pgn_tokens.specs.shared.TagsNamed.{tags_named}
+use Rattle.chess_pgn.specs.shared.VariantNames.{is_known_variant, variant_named}
+use Rattle.pgn_tokens.specs.LastTags.{may_precede_tags, tag_section}
+use Rattle.chess_pgn.specs.ResultTags.{result_tag_of}
+use Rattle.pgn_tokens.specs.shared.Kinds.{IsSplitByKinds, IsOf, IsLongest, Kind, token_of, Blank, Line, Comment, Nag, Variation, Tag_pair, Asterisk, Symbol, ended, token, stopped}
+use Rattle.pgn_tokens.specs.Tokens.{Token, Skip, Tag, Word, Bad_tag, Unclosed_comment, Unclosed_variation, Bad, begins_line, tokens_from}
 use Rattle.byte_devices.specs.Bytes.{after_byte_order_mark}
 use Rattle.pgn_writer.specs.Outcomes.{outcome_of}
 use Rattle.chess_pgn.specs.{laws.WordKinds.word_kind, declared.read.PgnEnd.PgnEnd, declared.read.PgnFault.PgnFault, declared.read.PgnFaultKind.TheVariants.NoResult, declared.tagged_result.ResultTag.ResultTag, UnknownVariants.unknown_variant_in}
 use Rattle.chess_pgn.specs.laws.TokenByToken.{SoFar, Step, On, Stop, move_step, word_step, fen_step, step, read_rest_with, game_of, nothing_read, tokens_read}
 use Rattle.chess_pgn.proofs.shared.Words.{word_cases}
-use Rattle.chess_pgn.proofs.shared.Tokens.{read_kinds, kinds_read, stays_longest, token_some}
+use Rattle.pgn_tokens.proofs.shared.Tokens.{read_kinds, kinds_read, stays_longest, token_some}
 use Rattle.pgn_verifier.specs.{declared.options.Strictness.Strictness, GameFaults.judged, shared.Contradictions.end_fault, shared.Contradictions.variation_in, declared.game_fault.GameFault.GameFault}
 use Rattle.pgn_verifier_laws.specs.Parts.{BeginsAlike}
 use Rattle.pgn_verifier_laws.proofs.GamesAlike.{Fits, found}

@@ -9,7 +9,7 @@ use Rattle.chess_fen.specs.Reading.{◌>>=◌, conditions_of, fen_reading_as, re
 use Rattle.chess_fen.specs.RightNames.{names_rights_well, rights_in}
 use Rattle.chess_fen.specs.Texts.{all_there, fields_of, from_top, is_castling_field, placement_of, rank_of, squares_of, target_of}
 use Rattle.text_lines.specs.Words.{short_number}
-use Rattle.chess_pgn.specs.Tokens.{Token, Tag}
+use Rattle.pgn_tokens.specs.Tokens.{Token, Tag}
 use Rattle.chess_pgn_laws.specs.GameOfTokens.{if_read, is_fen, start_by, tagged_start}
 
 -- ---- 64 squares

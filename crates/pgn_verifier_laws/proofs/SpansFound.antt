@@ -3,10 +3,12 @@ use Rattle.std.proofs.Common.{◌≡◌, ℕ, zero, suc, ◌+◌, ◌-◌, ◌<�
 use Rattle.std.specs.{List.concat, List.flat_map, Option.option_map_or}
 use Rattle.std.proofs.{Math.Seq.drop-length, lemmas.Bool.Decides.nat_tests, lemmas.List.Folds.concat-append, lemmas.List.Sums.prefix_len-le-length}
 use Rattle.chess_game.specs.declared.game.TheConstants.{MOST_MOVES}
-use Rattle.chess_pgn.specs.{GameRead.GameRead, GameRead.ending, GameRead.pgn_read, LastTags.result_tag_of, UnknownVariants.unknown_variant_in, Tokens.is_white_space, Tokens.tokens_from, declared.read.PgnEnd.PgnEnd, declared.read.PgnFault.PgnFault, laws.TokenByToken.tokens_read}
+use Rattle.chess_pgn.specs.{GameRead.GameRead, GameRead.ending, GameRead.pgn_read, ResultTags.result_tag_of, UnknownVariants.unknown_variant_in, declared.read.PgnEnd.PgnEnd, declared.read.PgnFault.PgnFault, laws.TokenByToken.tokens_read}
+use Rattle.pgn_tokens.specs.Tokens.{is_white_space, tokens_from}
 use Rattle.byte_devices.specs.Bytes.{after_byte_order_mark}
-use Rattle.chess_pgn.specs.shared.Kinds as kinds
-use Rattle.chess_pgn.proofs.{shared.Ends.ends_in_text, shared.Tokens.kinds_read}
+use Rattle.pgn_tokens.specs.shared.Kinds as kinds
+use Rattle.chess_pgn.proofs.shared.Ends.{ends_in_text}
+use Rattle.pgn_tokens.proofs.shared.Tokens.{kinds_read}
 use Rattle.pgn_pieces.specs.{Pieces.cut, Stream.Piece, Stream.with_offsets, Stream.pieces, declared.pieces.TheConstants.PIECE_LEN}
 use Rattle.pgn_pieces.proofs.shared.Cuts.{cut_is_all}
 use Rattle.pgn_verifier.specs.{declared.options.Strictness.Strictness, GameFaults.judged, Reports.Placed, Reports.game_begin, declared.game_fault.GameFault.GameFault, shared.Contradictions.variation_in}

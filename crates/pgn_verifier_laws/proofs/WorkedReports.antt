@@ -1,8 +1,8 @@
 -- Lines of reports, spans of games, where texts are read on, and pieces of collections, by computation.
 use Rattle.std.proofs.Common.{refl}
 use Rattle.std.specs.Fmt.{digits}
-use Rattle.chess_pgn.specs.{GameRead.pgn_read, Tokens.token_at, Tokens.tokens_from, Tokens.tokens_of}
-use Rattle.pgn_pieces.specs.Pieces.{after_tags}
+use Rattle.chess_pgn.specs.GameRead.{pgn_read}
+use Rattle.pgn_tokens.specs.Tokens.{token_at, tokens_from, tokens_of}
 use Rattle.pgn_verifier.specs.{Explanations.explanation_line, Reports.counts_line, Reports.report_line, laws.Reported.placed_from}
 use Rattle.pgn_verifier_laws.specs.WorkedReports.{GamesAreFound, PiecesBegin, ReportsAreWritten, TextsAreReadOn}
 
@@ -29,7 +29,7 @@ unfolding token_at tokens_from tokens_of
 texts_are_read_on = record { marker = refl; later = refl; tags = refl; end = refl; unreadable = refl }
 
 pub pieces_begin : PiecesBegin
-unfolding after_tags
+unfolding token_at tokens_from tokens_of
 pieces_begin = record {
   events = refl;
   event_later = refl;
@@ -38,4 +38,9 @@ pieces_begin = record {
   moves = refl;
   moves_after_tag = refl;
   moves_after_tags = refl;
+  moves_after_comment = refl;
+  no_token = refl;
+  unclosed_tag = refl;
+  marks_after_tag = refl;
+  unclosed_comment = refl;
 }

@@ -5,12 +5,13 @@ use Rattle.std.specs.Option.{option_map, option_map_or, option_or}
 use Rattle.chess_game.specs.{Ends.verdict_result, Game.outcome_now, Game.verdict_now, Results.same_outcome, declared.game.TheConstants.MOST_MOVES, declared.results.Declared.Declared, declared.results.Outcome.Outcome, declared.verdicts.Verdict.Verdict}
 use Rattle.chess_game.specs.declared.results.Outcome.TheVariants.{WhiteWins, BlackWins, Draw, Unfinished}
 use Rattle.chess_game.specs.declared.verdicts.Verdict.TheVariants.{WhiteMates, BlackMates, Stalemate, InsufficientMaterial, FivefoldRepetition, SeventyFiveMoves}
-use Rattle.chess_pgn.specs.{GameRead.GameRead, GameRead.ending, GameRead.not_of_2014, GameRead.pgn_read, LastTags.result_tag_of, UnknownVariants.unknown_variant_in, Tokens.tokens_from, declared.read.PgnEnd.PgnEnd, declared.read.PgnFault.PgnFault, declared.tagged_result.ResultTag.ResultTag}
+use Rattle.chess_pgn.specs.{GameRead.GameRead, GameRead.ending, GameRead.not_of_2014, GameRead.pgn_read, ResultTags.result_tag_of, UnknownVariants.unknown_variant_in, declared.read.PgnEnd.PgnEnd, declared.read.PgnFault.PgnFault, declared.tagged_result.ResultTag.ResultTag}
+use Rattle.pgn_tokens.specs.Tokens.{tokens_from}
 use Rattle.pgn_writer.specs.{GameText.pgn, Terminations.termination_of}
 use Rattle.byte_devices.specs.Bytes.{after_byte_order_mark}
 use Rattle.pgn_verifier.specs.{declared.game_fault.GameFault.GameFault, declared.options.Strictness.Strictness, shared.Contradictions.end_fault, shared.Contradictions.looked_for, shared.Contradictions.variant_fault, shared.Contradictions.variation_in}
 use Rattle.chess_pgn_laws.specs.PgnLaw.{PgnIsReadBack, ResultIsWritten, VariantIsWritten}
-use Rattle.chess_pgn.proofs.shared.Tokens.{read_split}
+use Rattle.pgn_tokens.proofs.shared.Tokens.{read_split}
 use Rattle.pgn_verifier.specs.GameFaults.{result_differs, board_says_otherwise, judged, IsJudged}
 use Rattle.pgn_verifier.proofs.shared.ReportsAre.{judged_is}
 use Rattle.pgn_verifier_laws.specs.WrittenGames.{WrittenGamesHaveNoFault}

@@ -4,14 +4,14 @@ use Rattle.std.specs.List.{concat, flat_map, list_all}
 use Rattle.std.proofs.{Math.Seq.drop-append-add, lemmas.Grind.flat_map-append}
 use Rattle.chess_game.specs.Game.{State, outcome_now, IsPlayable}
 use Rattle.chess_game.specs.{declared.game.TheConstants.MOST_MOVES, declared.results.Outcome.Outcome}
-use Rattle.chess_pgn.specs.{GameRead.GameRead, GameRead.ending, GameRead.pgn_read, LastTags.result_tag_of, UnknownVariants.unknown_variant_in, declared.read.PgnEnd.PgnEnd, laws.TokenByToken.tokens_read}
+use Rattle.chess_pgn.specs.{GameRead.GameRead, GameRead.ending, GameRead.pgn_read, ResultTags.result_tag_of, UnknownVariants.unknown_variant_in, declared.read.PgnEnd.PgnEnd, laws.TokenByToken.tokens_read}
 use Rattle.pgn_writer.specs.{GameText.pgn, GameText.tag_lines, GameText.game_tokens, Terminations.termination_of, declared.tags.Tags.Tags, declared.termination.Termination.Termination}
-use Rattle.chess_pgn.specs.shared.Kinds.{IsSplitByKinds, IsOf, IsLongest, Blank, ended, token}
-use Rattle.chess_pgn.specs.Tokens.{Token, Skip, begins_line, tokens_from}
+use Rattle.pgn_tokens.specs.shared.Kinds.{IsSplitByKinds, IsOf, IsLongest, Blank, ended, token}
+use Rattle.pgn_tokens.specs.Tokens.{Token, Skip, begins_line, tokens_from}
 use Rattle.byte_devices.specs.Bytes.{after_byte_order_mark}
 use Rattle.pgn_writer.specs.Written as written
 use Rattle.chess_pgn_laws.specs.PgnLaw.{AreTagTexts, IsReadBack, PgnIsReadBack}
-use Rattle.chess_pgn.proofs.shared.Tokens.{kinds_read}
+use Rattle.pgn_tokens.proofs.shared.Tokens.{kinds_read}
 use Rattle.pgn_verifier.specs.{declared.options.Strictness.Strictness, GameFaults.judged, shared.Contradictions.variation_in}
 use Rattle.pgn_verifier_laws.specs.NoFaults.{begins_with_mark}
 use Rattle.pgn_verifier_laws.specs.Parts.{BeginsAlike, AllHoldWhole, no_parts, next_part}

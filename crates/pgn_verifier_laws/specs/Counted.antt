@@ -8,8 +8,8 @@ use Rattle.chess_base.specs.declared.man.Move.{Move}
 use Rattle.chess_base.specs.declared.setup.Setup.{Setup}
 use Rattle.chess_game.specs.declared.results.Outcome.{Outcome}
 use Rattle.chess_pgn.specs.GameRead.{ending}
-use Rattle.chess_pgn.specs.Split.{IsSplit}
-use Rattle.chess_pgn.specs.Tokens.{Token, Word}
+use Rattle.pgn_tokens.specs.Split.{IsSplit}
+use Rattle.pgn_tokens.specs.Tokens.{Token, Word}
 use Rattle.byte_devices.specs.Bytes.{after_byte_order_mark}
 use Rattle.chess_pgn_laws.specs.GameOfTokens.{game_by, move_words}
 use Rattle.chess_text.specs.Moves.{denotes}

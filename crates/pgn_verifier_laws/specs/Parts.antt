@@ -2,7 +2,7 @@
 -- `verify_collection` report the same of them.
 use Rattle.std.specs.Prelude.{◌≡◌, ◌≤◌, ◌<◌, ◌⊎◌, ℕ, ◌+◌, ◌-◌, true, List, [], ◌∷◌, ◌++◌, length, Some, None, Ok, false}
 use Rattle.std.specs.List.{concat, flat_map}
-use Rattle.chess_pgn.specs.Tokens.{begins_line}
+use Rattle.pgn_tokens.specs.Tokens.{begins_line}
 use Rattle.byte_devices.specs.Bytes.{new_line, after_byte_order_mark}
 use Rattle.chess_pgn.specs.declared.read.PgnEnd.{PgnEnd}
 use Rattle.pgn_pieces.specs.Pieces.{cut}

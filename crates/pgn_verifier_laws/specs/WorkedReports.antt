@@ -5,7 +5,7 @@ use Prim.Native.String.{String as Text}
 use Rattle.chess_game.specs.declared.results.Outcome.TheVariants.{BlackWins, Draw}
 use Rattle.chess_pgn.specs.declared.read.PgnFaultKind.TheVariants.{AfterEnd, IllegalMove}
 use Rattle.chess_pgn.specs.GameEnds.{game_end}
-use Rattle.chess_pgn.specs.Tokens.{Token, Tag, tokens_from}
+use Rattle.pgn_tokens.specs.Tokens.{Token, Tag, tokens_from}
 use Rattle.pgn_pieces.specs.Pieces.{cut}
 use Rattle.pgn_verifier.specs.Explanations.{explanation_line}
 use Rattle.pgn_verifier.specs.Reports.{Report, Placed, Game, Faulty, counts_line, counts_of, names_of, report_lines, spanning}
@@ -132,3 +132,14 @@ pub record PiecesBegin : Type 0 where
   -- and after several tags
   pub moves_after_tags : AreItsPieces "[Event \"a\"] [Site \"b\"] e4 *\n[White \"c\"]\n"
       (codes "[Event \"a\"] [Site \"b\"] e4 *\n" ∷ codes "[White \"c\"]\n" ∷ [])
+  -- and after a string with a quote in it, and a comment
+  pub moves_after_comment : AreItsPieces "[Event \"\\\"\"] {a} e4 *\n[White \"b\"]\n"
+      (codes "[Event \"\\\"\"] {a} e4 *\n" ∷ codes "[White \"b\"]\n" ∷ [])
+  -- also at one after a tag line with a byte that begins no token, or with a tag that isn't closed
+  pub no_token : AreItsPieces "[Event \"a\"] <\n[White \"b\"]\n"
+      (codes "[Event \"a\"] <\n" ∷ codes "[White \"b\"]\n" ∷ [])
+  pub unclosed_tag : AreItsPieces "[Event \"a\n[White \"b\"]\n"
+      (codes "[Event \"a\n" ∷ codes "[White \"b\"]\n" ∷ [])
+  -- not at one after marks, or after a comment that isn't closed on its line
+  pub marks_after_tag : AreItsPieces "[Event \"a\"] !\n[White \"b\"]\n" (codes "[Event \"a\"] !\n[White \"b\"]\n" ∷ [])
+  pub unclosed_comment : AreItsPieces "[Event \"a\"] {\n[White \"b\"]\n" (codes "[Event \"a\"] {\n[White \"b\"]\n" ∷ [])

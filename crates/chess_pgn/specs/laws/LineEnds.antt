@@ -1,7 +1,7 @@
 -- Where the line of a variation ends.
 use Rattle.std.specs.Prelude.{ℕ, Bool, false, List, codes, take, drop}
 use Rattle.std.specs.Str.{bytes_eq}
-use Rattle.chess_pgn.specs.Tokens.{Token, Bad}
+use Rattle.pgn_tokens.specs.Tokens.{Token, Bad}
 
 -- whether a token, which begins at this offset of the text, ends a variation: it is a `)`, which can't be read as a
 -- token

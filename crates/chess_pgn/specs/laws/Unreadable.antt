@@ -6,7 +6,7 @@ use Rattle.chess_pgn.specs.declared.read.PgnFaultKind.{PgnFaultKind}
 use Rattle.chess_pgn.specs.declared.read.PgnFaultKind.TheVariants.{BadTag, BadToken, UnclosedComment, UnclosedVariation}
 use Rattle.chess_pgn.specs.GameEnds.{game_end}
 use Rattle.chess_pgn.specs.GameRead.{pgn_read}
-use Rattle.chess_pgn.specs.Tokens.{is_word_byte, tokens_from}
+use Rattle.pgn_tokens.specs.Tokens.{is_word_byte, tokens_from}
 
 -- whether a fault of this kind at the offset `at` of the text is one of what can't be read as a token: a bad tag, a
 -- comment or a variation that isn't closed, or a bad token that begins with no byte of a word

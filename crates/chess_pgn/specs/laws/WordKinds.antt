@@ -6,7 +6,7 @@ use Rattle.std.specs.Option.{option_map_or}
 use Rattle.chess_pgn.specs.declared.word_kind.WordKind.{WordKind}
 use Rattle.chess_pgn.specs.declared.word_kind.WordKind.TheVariants.{End, Number, Marks, Move}
 use Rattle.pgn_writer.specs.Outcomes.{outcome_of}
-use Rattle.chess_pgn.specs.Words.{is_marks}
+use Rattle.pgn_tokens.specs.Marks.{is_marks}
 
 -- what a word is: an outcome such as `1-0`, a number (digits alone) or marks such as `!?`; any other word may be a move
 abbrev pub word_kind : List ℕ → WordKind

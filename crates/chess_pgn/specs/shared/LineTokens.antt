@@ -12,8 +12,8 @@ use Rattle.pgn_writer.specs.Outcomes.{outcome_of}
 use Rattle.chess_pgn.specs.declared.read.PgnFault.{PgnFault}
 use Rattle.chess_pgn.specs.declared.read.PgnFaultKind.{PgnFaultKind}
 use Rattle.chess_pgn.specs.declared.read.PgnFaultKind.TheVariants.{BadToken, IllegalMove, AmbiguousMove}
-use Rattle.chess_pgn.specs.Tokens.{Token, Skip, Tag, Word}
-use Rattle.chess_pgn.specs.Words.{is_marks}
+use Rattle.pgn_tokens.specs.Tokens.{Token, Skip, Tag, Word}
+use Rattle.pgn_tokens.specs.Marks.{is_marks}
 
 -- what a word that is taken as a move does, by what it denotes in the line's position: a legal move is made, anything
 -- else is a fault

@@ -16,9 +16,9 @@ use Rattle.chess_pgn.specs.declared.read.PgnFaultKind.{PgnFaultKind}
 use Rattle.chess_pgn.specs.declared.read.PgnFaultKind.TheVariants.{BadToken, IllegalMove, AmbiguousMove, AfterEnd, TooLong, UnclosedComment, UnclosedVariation, NoResult}
 use Rattle.pgn_writer.specs.declared.termination.Termination.{Termination}
 use Rattle.chess_pgn.specs.GameRead.{GameRead, declared_after, ending}
-use Rattle.chess_pgn.specs.Tokens.{Token, Skip, Word, Unclosed_comment, Unclosed_variation, Bad}
+use Rattle.pgn_tokens.specs.Tokens.{Token, Skip, Word, Unclosed_comment, Unclosed_variation, Bad}
 use Rattle.pgn_writer.specs.Outcomes.{outcome_of}
-use Rattle.chess_pgn.specs.Words.{is_marks}
+use Rattle.pgn_tokens.specs.Marks.{is_marks}
 
 -- what a token does: the game goes on as `next`; an outcome ends it, before the offset `end`; or there is this fault at
 -- the offset `at`

@@ -15,7 +15,7 @@ use Rattle.chess_pgn.specs.declared.read.Step.TheVariants as does
 use Rattle.chess_pgn.specs.declared.word_kind.WordKind.{WordKind}
 use Rattle.chess_pgn.specs.declared.word_kind.WordKind.TheVariants.{Move}
 use Rattle.chess_pgn.specs.laws.WordKinds.{word_kind}
-use Rattle.chess_pgn.specs.Tokens.{Token, Skip, Tag, Word, Bad_tag, Unclosed_comment, Unclosed_variation, Bad, tokens_from}
+use Rattle.pgn_tokens.specs.Tokens.{Token, Word, tokens_from}
 use Rattle.chess_pgn.specs.laws.TokenByToken.{SoFar, Step, On, Stop, game_of, tokens_read}
 
 -- the fault to give for a move that the game refuses: it is over, full (`TooLong`), or the move is illegal
@@ -72,17 +72,6 @@ abbrev pub EndsIn : ℕ → ℕ → Result code.Step PgnFault → Type 0
 EndsIn first last (Ok (does.On p)) = Unit {0}
 EndsIn first last (Ok (does.Ended end)) = (first < end.offset) × (end.offset ≤ last)
 EndsIn first last (Err fault) = Unit {0}
-
--- the places that a token names are inside the token and what follows: at most `to_end` bytes, those from its first
--- byte on, are left at each
-abbrev pub IsWithin : ℕ → Token → Type 0
-IsWithin to_end Skip = Unit {0}
-IsWithin to_end (Tag name text string) = string ≤ to_end
-IsWithin to_end (Word word) = length word ≤ to_end
-IsWithin to_end Bad_tag = Unit {0}
-IsWithin to_end (Unclosed_comment brace) = brace ≤ to_end
-IsWithin to_end Unclosed_variation = Unit {0}
-IsWithin to_end Bad = Unit {0}
 
 -- reading on from the offset `a` gives the same as from `b`, whatever was read before
 abbrev pub ReadsAlike : List ℕ → ℕ → ℕ → Type 0

@@ -1,14 +1,13 @@
 -- What the reader of variations answers, step by step, in the words of the definitions.
-use Rattle.std.specs.Prelude.{◌≡◌, ◌⊎◌, ℕ, zero, suc, ◌-◌, ◌<◌, ◌≤◌, true, false, ◌∷◌, [], List, length, slice_index, ◌==◌, Option, Some, None, Result, Ok, Err}
-use Rattle.byte_devices.specs.Bytes.{byte}
+use Rattle.std.specs.Prelude.{◌≡◌, ◌⊎◌, ℕ, zero, suc, ◌-◌, ◌<◌, ◌≤◌, true, false, ◌∷◌, [], List, length, Option, Some, None, Result, Ok, Err}
 use Rattle.chess_base.specs.declared.setup.Setup.{Setup}
 use Rattle.chess_pgn.specs.declared.read.PgnFault.{PgnFault}
 use Rattle.chess_pgn.specs.declared.read.PgnFaultKind.TheVariants.{BadToken, TooLong}
-use Rattle.chess_pgn.specs.declared.token.Token as code
-use Rattle.chess_pgn.specs.Tokens.{Token, Skip, Tag, Word, tokens_from}
-use Rattle.chess_pgn.specs.Variations.{is_variation, variation_fault}
+use Rattle.pgn_tokens.specs.declared.token.Token as code
+use Rattle.pgn_tokens.specs.Tokens.{Token, Skip, Tag, Word, tokens_from}
+use Rattle.chess_pgn.specs.Variations.{variation_fault}
 use Rattle.chess_pgn.specs.laws.LineEnds.{is_end}
-use Rattle.chess_pgn.specs.ties.Seen.{token_seen}
+use Rattle.pgn_tokens.specs.Seen.{token_seen}
 
 -- whether a token can't be read
 abbrev pub IsUnread : Token → Type 0
@@ -44,10 +43,6 @@ abbrev pub opening : ℕ → Option Setup → ℕ → Result (Setup × ℕ) PgnF
 opening depth None at = Err (record { kind = BadToken; offset = at })
 opening zero (Some start) at = Err (record { kind = TooLong; offset = at })
 opening (suc depth) (Some start) at = Ok (start, depth)
-
--- no `(` is in the text from the offset `a` to the offset `b`
-abbrev pub HasNone : List ℕ → ℕ → ℕ → Type 0
-HasNone text a b = (place : ℕ) → a ≤ place → place < b → (slice_index text place == byte "(") ≡ false
 
 -- the first fault of the variation of a line at an offset, where so many may be open
 abbrev pub inside : ℕ → List ℕ → Setup → ℕ → Option PgnFault

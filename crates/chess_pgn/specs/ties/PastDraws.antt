@@ -18,7 +18,7 @@ use Rattle.chess_pgn.specs.declared.read.PgnFaultKind.TheVariants.{BadToken, Ill
 use Rattle.chess_pgn.specs.declared.word_kind.WordKind.{WordKind}
 use Rattle.chess_pgn.specs.declared.word_kind.WordKind.TheVariants.{End, Number, Marks, Move}
 use Rattle.chess_pgn.specs.laws.WordKinds.{word_kind}
-use Rattle.chess_pgn.specs.Tokens.{Token, Skip, Word, Unclosed_comment, Unclosed_variation, Bad}
+use Rattle.pgn_tokens.specs.Tokens.{Token, Skip, Word, Unclosed_comment, Unclosed_variation, Bad}
 use Rattle.chess_pgn.specs.GameRead.{GameRead, ending}
 
 -- whether a fault of this kind is a move after one of the two draws of 2014, which has ended the game `s`

@@ -2,9 +2,11 @@
 use Rattle.std.proofs.Common.{◌≡◌, ℕ, zero, suc, ◌+◌, ◌<◌, ◌≤◌, Bool, List, [], ◌∷◌, length, drop, Option, Some, None, IfSome, true, false, not, ◌&&◌, is_some, nat_lt, Result, Ok, Err, IfOk, refl, sym, ap, subst, arith, flat_map, MatchBool, nat_le, if◌then◌else◌}
 use Rattle.std.specs.Option.{option_map_or, unwrap_or}
 use Rattle.chess_game.specs.{Game.State, declared.game.TheConstants.MOST_MOVES, declared.verdicts.Verdict.Verdict}
-use Rattle.chess_pgn.specs.{GameRead.ending, GameRead.pgn_read, GameRead.read_of_split, LastTags.result_tag_of, UnknownVariants.unknown_variant_in, Tokens.tokens_from, GameEnds.game_end, declared.read.PgnEnd.PgnEnd, declared.read.PgnFault.PgnFault, declared.tagged_result.ResultTag.ResultTag}
+use Rattle.chess_pgn.specs.{GameRead.ending, GameRead.pgn_read, GameRead.read_of_split, ResultTags.result_tag_of, UnknownVariants.unknown_variant_in, GameEnds.game_end, declared.read.PgnEnd.PgnEnd, declared.read.PgnFault.PgnFault, declared.tagged_result.ResultTag.ResultTag}
+use Rattle.pgn_tokens.specs.Tokens.{tokens_from}
 use Rattle.byte_devices.specs.Bytes.{after_byte_order_mark}
-use Rattle.chess_pgn.proofs.{shared.Ends.ends_in_text, shared.Ends.end_in_text, shared.Ends.none_from_end, shared.Tokens.read_split, shared.Tokens.split_read}
+use Rattle.chess_pgn.proofs.shared.Ends.{ends_in_text, end_in_text}
+use Rattle.pgn_tokens.proofs.shared.Tokens.{none_from_end, read_split, split_read}
 use Rattle.pgn_pieces.specs.{Pieces.known_pieces, Stream.Piece, Stream.with_offsets, Stream.pieces, declared.pieces.TheConstants.PIECE_LEN}
 use Rattle.pgn_verifier.specs.{declared.options.Strictness.Strictness, Collection.AreCollectionReports, Collection.no_piece, Collection.next_piece, GameFaults.judged, GameFaults.IsJudged, shared.Contradictions.end_fault, shared.Contradictions.variation_in, declared.game_fault.GameFault.GameFault, laws.Reasons.reason}
 use Rattle.pgn_verifier.specs.Reports.{Faulty, Placed, game_begin, names_of, AreReports, none_left, next_game, next_fault, AreReportsIn}

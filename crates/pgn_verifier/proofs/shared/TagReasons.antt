@@ -4,10 +4,10 @@ use Rattle.std.specs.{List.list_all, Option.option_map_or}
 use Rattle.std.proofs.lemmas.Bool.{and_parts, eqb-true}
 use Rattle.chess_game.specs.declared.verdicts.Verdict.{Verdict}
 use Rattle.byte_devices.specs.Bytes.{is_name_byte}
-use Rattle.chess_pgn.specs.Split.{IsGap}
-use Rattle.chess_pgn.specs.Tokens.{after_gap, after_next, name_at, string_at}
+use Rattle.pgn_tokens.specs.Split.{IsGap}
+use Rattle.pgn_tokens.specs.Tokens.{after_gap, after_next, name_at, string_at}
 use Rattle.chess_pgn.specs.declared.read.PgnFaultKind.TheVariants as pgn
-use Rattle.chess_pgn.proofs.shared.Tags.{name_comes, opening_read, NameIs, name_is, name_after_gap, opening_is, string_read, StringLeaves, string_leaves}
+use Rattle.pgn_tokens.proofs.shared.Tags.{name_comes, opening_read, NameIs, name_is, name_after_gap, opening_is, string_read, StringLeaves, string_leaves}
 use Rattle.pgn_verifier.specs.{Explanations.IsReason, declared.game_fault.FaultKind.FaultKind}
 use Rattle.pgn_verifier.specs.WrongParts.{HasName, HasOpening, HasString, IsTagReason, no_name, no_value, not_closed, no_bracket}
 use Rattle.pgn_verifier.specs.declared.game_fault.FaultKind.TheVariants.{Pgn, InVariation, UnknownVariant, ResultDiffers, BoardSaysOtherwise}

@@ -9,7 +9,7 @@ use Rattle.chess_game.specs.declared.verdicts.Verdict.{Verdict}
 use Rattle.chess_pgn.specs.declared.read.PgnEnd.{PgnEnd}
 use Rattle.chess_pgn.specs.declared.read.PgnFault.{PgnFault}
 use Rattle.chess_pgn.specs.declared.tagged_result.ResultTag.{ResultTag}
-use Rattle.chess_pgn.specs.Tokens.{Token}
+use Rattle.pgn_tokens.specs.Tokens.{Token}
 use Rattle.chess_pgn.specs.Variations.{variations_fault}
 use Rattle.pgn_verifier.specs.declared.game_fault.FaultKind.TheVariants.{InVariation, UnknownVariant}
 use Rattle.pgn_verifier.specs.declared.game_fault.GameFault.{GameFault}

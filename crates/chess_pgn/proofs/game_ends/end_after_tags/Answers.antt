@@ -1,9 +1,9 @@
 -- A token more keeps that the first end is the same (GameEnds.seeks_on); a token that ends the game, the text's end and
 -- what can't be read each give it by one lemma.
 use Rattle.std.proofs.Common.{◌≡◌, None, Some, refl, sym, ◌∙◌, rules}
-use Rattle.chess_pgn.specs.ties.Seen.{token_seen}
+use Rattle.pgn_tokens.specs.Seen.{token_seen}
 use Rattle.chess_pgn.proofs.GameEnds.{seeks_on, found, none_to_end, none_readable, end_is}
-use Rattle.chess_pgn.proofs.TokenPlaces.{token_within}
+use Rattle.pgn_tokens.proofs.shared.Tokens.{token_within}
 use Rattle.chess_pgn.proofs.game_ends.end_after_tags.Goals as goal
 
 pub loop-token-init : goal.loop-token-init

@@ -1,7 +1,8 @@
 -- The end is that of the text's split (Splits.read_split), and in the text (GameEnds.end_in_text).
 use Rattle.byte_devices.specs.Bytes.{after_byte_order_mark}
-use Rattle.chess_pgn.specs.Tokens.{tokens_from}
-use Rattle.chess_pgn.proofs.{GameEnds.is_later, GameEnds.is_within, Splits.read_split}
+use Rattle.pgn_tokens.specs.Tokens.{tokens_from}
+use Rattle.chess_pgn.proofs.GameEnds.{is_later, is_within}
+use Rattle.pgn_tokens.proofs.shared.Tokens.{read_split}
 use Rattle.chess_pgn.proofs.game_ends.game_end.Goals as goal
 
 pub returns-clause-end : goal.returns-clause-end

@@ -4,9 +4,10 @@ use Rattle.std.proofs.Common.{◌∙◌, ap, false, length}
 use Rattle.std.proofs.lemmas.Result.{err_from_is_err_and}
 use Rattle.chess_game.specs.Game.{Seen, from_start}
 use Rattle.chess_game.specs.declared.game.TheConstants.{MOST_MOVES}
-use Rattle.chess_pgn.specs.{GameRead.moves_read, Tokens.tokens_from, ties.Seen.fault_seen, ties.Seen.token_seen}
+use Rattle.chess_pgn.specs.GameRead.{moves_read}
+use Rattle.pgn_tokens.specs.{Tokens.tokens_from, Seen.fault_seen, Seen.token_seen}
 use Rattle.chess_pgn.proofs.PastDraws.{first, passed, moved, ended, stopped, at_end, unread}
-use Rattle.chess_pgn.proofs.TokenPlaces.{token_within}
+use Rattle.pgn_tokens.proofs.shared.Tokens.{token_within}
 use Rattle.chess_pgn.proofs.past_draws.read_moves.Goals as goal
 
 pub loop-token-init : goal.loop-token-init

@@ -1,6 +1,7 @@
 use Rattle.std.proofs.Common.{◌≡◌, false, length, ◌-◌}
 use Rattle.chess_game.specs.{Game.from_start, declared.game.TheConstants.MOST_MOVES}
-use Rattle.chess_pgn.specs.{GameRead.moves_read, Tokens.tokens_from}
+use Rattle.chess_pgn.specs.GameRead.{moves_read}
+use Rattle.pgn_tokens.specs.Tokens.{tokens_from}
 use Rattle.chess_pgn.proofs.PastDraws.{Again}
 use Rattle.chess_pgn.proofs.past_draws.read_moves.Given as goal
 

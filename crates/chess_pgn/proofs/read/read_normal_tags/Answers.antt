@@ -1,8 +1,9 @@
 -- Each tag keeps that what is left gives the whole (GameReads.more_normal), and so does what is skipped after it
 -- (GameReads.normal_on).
 use Rattle.std.proofs.Common.{sym, ◌∙◌}
-use Rattle.chess_pgn.specs.ties.Seen.{found_seen, token_seen}
-use Rattle.chess_pgn.proofs.{GameReads.first_normal, GameReads.more_normal, GameReads.normal_on, LeftTokens.tags_left, TokenPlaces.token_within}
+use Rattle.pgn_tokens.specs.Seen.{found_seen, token_seen}
+use Rattle.chess_pgn.proofs.{GameReads.first_normal, GameReads.more_normal, GameReads.normal_on, LeftTokens.tags_left}
+use Rattle.pgn_tokens.proofs.shared.Tokens.{token_within}
 use Rattle.chess_pgn.proofs.read.read_normal_tags.Goals as goal
 
 pub loop-next-init : goal.loop-next-init

@@ -1,8 +1,10 @@
 -- From here on, the rest with what was read so far gives what the whole text gives (GameReads.Reads): the step of a
 -- token keeps that (GameReads.more), and so do what is skipped after it (GameReads.alike) and the words taken then
 -- (GameReads.further), after which the next token is left to a step (GameReads.ReadsWords).
-use Rattle.chess_pgn.specs.{ties.Seen.token_seen, ties.Seen.fault_seen, declared.read.PgnFaultKind.TheVariants.NoResult, ties.GameSteps.so_far, ties.GameSteps.StopsAt}
-use Rattle.chess_pgn.proofs.{TokenPlaces.token_within, GamesByTags.as_said}
+use Rattle.pgn_tokens.specs.Seen.{token_seen, fault_seen}
+use Rattle.chess_pgn.specs.{declared.read.PgnFaultKind.TheVariants.NoResult, ties.GameSteps.so_far, ties.GameSteps.StopsAt}
+use Rattle.pgn_tokens.proofs.shared.Tokens.{token_within}
+use Rattle.chess_pgn.proofs.GamesByTags.{as_said}
 use Rattle.chess_pgn.proofs.GameReads.{read_from, more, alike, further, bare_at_fault}
 use Rattle.std.proofs.Common.{true, length, subst, Some, None, Ok, Err, rules}
 use Rattle.chess_pgn.proofs.read.read_pgn.Goals as goal

@@ -1,7 +1,7 @@
 -- The tag is the last tag Result of the text's split (Splits.read_split).
-use Rattle.chess_pgn.specs.Tokens.{tokens_from}
+use Rattle.pgn_tokens.specs.Tokens.{tokens_from}
 use Rattle.byte_devices.specs.Bytes.{after_byte_order_mark}
-use Rattle.chess_pgn.proofs.Splits.{read_split}
+use Rattle.pgn_tokens.proofs.shared.Tokens.{read_split}
 use Rattle.std.proofs.Common.{rules}
 use Rattle.chess_pgn.proofs.tagged_result.result_tag.Goals as goal
 

@@ -1,6 +1,6 @@
 -- Each token keeps that what is left gives the whole, or its fault is the line's (LinesRead).
 use Rattle.std.proofs.{Common.◌≡◌, Common.None, Common.sym, Common.◌∙◌, Common.rules, lemmas.Result.err_from_is_err_and}
-use Rattle.chess_pgn.specs.ties.Seen.{token_seen}
+use Rattle.pgn_tokens.specs.Seen.{token_seen}
 use Rattle.chess_pgn.proofs.LinesRead.{begun, ended, unread, goes_on, passed_over, moved_on, faulty, not_opened, faulty_inside, went_inside}
 use Rattle.chess_pgn.proofs.variations.+read_line.Goals as goal
 

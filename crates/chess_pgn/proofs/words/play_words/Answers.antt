@@ -1,7 +1,8 @@
 -- A word that is taken is the next token (PgnWords.some_word), and the step of that token is what was done
 -- (GameReads.one_more). Where none is taken, the next token is left (LeftTokens.left_at).
 use Rattle.std.proofs.Common.{refl}
-use Rattle.chess_pgn.proofs.{GameReads.one_more, LeftTokens.left_at, PgnWords.some_word}
+use Rattle.chess_pgn.proofs.{GameReads.one_more, LeftTokens.left_at}
+use Rattle.pgn_tokens.proofs.shared.Tokens.{some_word}
 use Rattle.chess_pgn.proofs.words.play_words.Goals as goal
 
 pub loop-tail-preserved : goal.loop-tail-preserved

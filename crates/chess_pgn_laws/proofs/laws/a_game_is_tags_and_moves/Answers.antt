@@ -1,8 +1,10 @@
 -- The three definitions agree, since a text has only one split into tokens (Games and Tokens of chess_pgn).
 use Rattle.std.proofs.Common.{ℕ, Bool, List, refl}
-use Rattle.chess_pgn.specs.{GameRead.IsRead, GameRead.pgn_read, Tokens.tokens_from}
+use Rattle.chess_pgn.specs.GameRead.{IsRead, pgn_read}
+use Rattle.pgn_tokens.specs.Tokens.{tokens_from}
 use Rattle.byte_devices.specs.Bytes.{after_byte_order_mark}
-use Rattle.chess_pgn.proofs.{shared.Games.only_read, shared.Games.reads_alike, shared.Tokens.read_split}
+use Rattle.chess_pgn.proofs.shared.Games.{only_read, reads_alike}
+use Rattle.pgn_tokens.proofs.shared.Tokens.{read_split}
 use Rattle.chess_pgn_laws.proofs.laws.a_game_is_tags_and_moves.Goals as goal
 
 -- what is read is what the only split of the text says

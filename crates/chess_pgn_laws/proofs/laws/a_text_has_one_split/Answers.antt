@@ -1,5 +1,5 @@
 -- `tokens_from` is a split of the text, and the only one (Tokens of chess_pgn).
-use Rattle.chess_pgn.proofs.shared.Tokens.{read_split, split_read}
+use Rattle.pgn_tokens.proofs.shared.Tokens.{read_split, split_read}
 use Rattle.chess_pgn_laws.proofs.laws.a_text_has_one_split.Goals as goal
 
 pub returns-clause-read : goal.returns-clause-read

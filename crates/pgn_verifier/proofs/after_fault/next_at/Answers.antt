@@ -2,8 +2,9 @@
 -- what can't be read there is no end (UnreadFaults.none_after).
 use Rattle.std.proofs.Common.{◌∙◌, ap, sym, length, None, if◌then◌else◌}
 use Rattle.byte_devices.specs.Bytes.{after_byte_order_mark}
-use Rattle.chess_pgn.specs.{GameEnds.game_end, Tokens.tokens_from}
-use Rattle.chess_pgn.proofs.shared.Tokens.{split_read}
+use Rattle.chess_pgn.specs.GameEnds.{game_end}
+use Rattle.pgn_tokens.specs.Tokens.{tokens_from}
+use Rattle.pgn_tokens.proofs.shared.Tokens.{split_read}
 use Rattle.pgn_verifier.proofs.UnreadFaults.{none_after, none_next}
 use Rattle.pgn_verifier.proofs.after_fault.next_at.Goals as goal
 

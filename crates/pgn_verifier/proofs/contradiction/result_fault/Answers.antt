@@ -2,9 +2,10 @@
 -- the text is split into; there is only one (split_read).
 use Rattle.std.proofs.Common.{◌≡◌, length, ap, sym, subst, ◌∙◌, arith}
 use Rattle.std.proofs.lemmas.Grind.{common_steps}
-use Rattle.chess_pgn.specs.{LastTags.result_tag_of, Tokens.tokens_from}
+use Rattle.chess_pgn.specs.ResultTags.{result_tag_of}
+use Rattle.pgn_tokens.specs.Tokens.{tokens_from}
 use Rattle.byte_devices.specs.Bytes.{after_byte_order_mark}
-use Rattle.chess_pgn.proofs.shared.Tokens.{split_read}
+use Rattle.pgn_tokens.proofs.shared.Tokens.{split_read}
 use Rattle.pgn_verifier.proofs.FaultsInText.{InText, tag_within}
 use Rattle.pgn_verifier.proofs.contradiction.result_fault.Goals as goal
 

@@ -1,9 +1,10 @@
 -- The reader's contract speaks of some list of tokens that the text is split into; there is only one (split_read).
 use Rattle.std.proofs.Common.{◌≡◌, length, ap, ◌∙◌, arith}
 use Rattle.std.proofs.lemmas.Grind.{common_steps}
-use Rattle.chess_pgn.specs.{UnknownVariants.unknown_variant_in, Tokens.tokens_from}
+use Rattle.chess_pgn.specs.UnknownVariants.{unknown_variant_in}
+use Rattle.pgn_tokens.specs.Tokens.{tokens_from}
 use Rattle.byte_devices.specs.Bytes.{after_byte_order_mark}
-use Rattle.chess_pgn.proofs.shared.Tokens.{split_read}
+use Rattle.pgn_tokens.proofs.shared.Tokens.{split_read}
 use Rattle.pgn_verifier.proofs.end_faults.variant_fault.Goals as goal
 
 pub returns-in_err-offset-clause-fault : goal.returns-in_err-offset-clause-fault

@@ -1,7 +1,7 @@
 -- White space is skipped in the slice of the text from its first byte read; that slice is `drop` of the definition.
 use Rattle.std.proofs.Common.{◌+◌, drop, ap, ◌∙◌}
 use Rattle.std.specs.List.{prefix_len}
-use Rattle.chess_pgn.specs.Tokens.{is_white_space}
+use Rattle.pgn_tokens.specs.Tokens.{is_white_space}
 use Rattle.byte_devices.proofs.shared.Devices.{rest_is}
 use Rattle.pgn_verifier.proofs.label.game_begin.Goals as goal
 

@@ -1,8 +1,0 @@
--- The tags that are left of a game that is being read.
-use Rattle.std.specs.Prelude.{ℕ, List, length}
-use Rattle.chess_pgn.specs.GameTags.{TagPair, game_tags_of}
-use Rattle.chess_pgn.specs.Tokens.{tokens_from}
-
--- the tags of a game from the offset `at` of the text on
-abbrev pub tags_left : List ℕ → ℕ → List TagPair
-tags_left text at = game_tags_of (length text) (tokens_from text at)

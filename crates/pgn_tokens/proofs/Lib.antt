@@ -1,0 +1,26 @@
+pub mod shared
+mod Beginnings
+mod ByteClasses
+mod ByteRuns
+mod Cuts
+mod FirstWords
+mod Gaps
+mod LastTagReads
+mod PassedTags
+mod PlainBytes
+mod Skipped
+mod SkippedTokens
+mod Splits
+mod Strings
+mod TagFronts
+mod TagParts
+mod TagScans
+mod TagSplits
+mod TagsLeft
+mod TokenKinds
+mod TokenPlaces
+mod TokenSplits
+mod VariationInsides
+mod VariationParts
+mod VariationsSought
+mod Walk

@@ -1,0 +1,66 @@
+-- The tags of a game passed over, token by token: the tokens after them stay the same.
+use Rattle.std.proofs.Common.{◌≡◌, ◌≤◌, ℕ, ◌+◌, ◌-◌, Bool, true, false, cond, List, [], ◌∷◌, length, take, drop, refl, sym, ap, ◌∙◌, one-add}
+use Rattle.std.specs.List.{prefix_len}
+use Rattle.pgn_tokens.specs.{LastTags.may_precede_tags, Seen.fault_seen, TagsPassed.IsAfterTags, TagsPassed.after_tags, declared.token.TokenFault.TokenFault}
+use Rattle.pgn_tokens.specs.Tokens.{Token, tokens_from}
+use Rattle.pgn_tokens.specs.declared.token.TokenFault.TheVariants as fault
+
+-- one token more that may come among tags
+pub tags_on : (t : ℕ × Token) (rest : List (ℕ × Token)) → true ≡ may_precede_tags t.1
+    → after_tags (t ∷ rest) ≡ after_tags rest
+tags_on t rest may =
+    let n = prefix_len (λ u. may_precede_tags u.1) rest in
+    ap (λ b. drop (length (take (cond b (1 + n) 0) (t ∷ rest))) (t ∷ rest)) (sym may)
+    ∙ ap (λ k. drop (length (take k (t ∷ rest))) (t ∷ rest)) (one-add n)
+
+-- no more
+pub tags_end : (t : ℕ × Token) (rest : List (ℕ × Token)) → may_precede_tags t.1 ≡ false
+    → after_tags (t ∷ rest) ≡ t ∷ rest
+tags_end t rest h =
+    ap (λ b. drop (length (take (cond b (1 + prefix_len (λ u. may_precede_tags u.1) rest) 0) (t ∷ rest))) (t ∷ rest)) h
+
+-- as code passes over them
+pub record PassesTags (text : List ℕ) (from here : ℕ) : Type 0 where
+  pub offset : here ≤ length text
+  pub whole : after_tags (tokens_from text here) ≡ after_tags (tokens_from text from)
+
+pub passes_on : (text : List ℕ) (from here tail : ℕ) (t : Token) → PassesTags text from here
+    → tokens_from text here ≡ (length text - here, t) ∷ tokens_from text tail → tail ≤ length text
+    → true ≡ may_precede_tags t → PassesTags text from tail
+passes_on text from here tail t r is inside may = record {
+  offset = inside;
+  whole = sym (ap after_tags is ∙ tags_on (length text - here, t) (tokens_from text tail) may) ∙ r.whole;
+}
+
+-- a token ends them
+pub passed_all : (text : List ℕ) (from here : ℕ) (t : Token) (rest : List (ℕ × Token)) → PassesTags text from here
+    → tokens_from text here ≡ (length text - here, t) ∷ rest → may_precede_tags t ≡ false → IsAfterTags text from here
+passed_all text from here t rest r is ends =
+    sym r.whole ∙ ap after_tags is ∙ tags_end (length text - here, t) rest ends ∙ sym is
+
+-- the text's end does
+pub passed_to_end : (text : List ℕ) (from here : ℕ) → PassesTags text from here → tokens_from text here ≡ []
+    → IsAfterTags text from here
+passed_to_end text from here r is = sym r.whole ∙ ap after_tags is ∙ sym is
+
+-- what can't be read does
+pub no_tag : (f : TokenFault) → may_precede_tags (fault_seen f) ≡ false
+no_tag fault.BadTag = refl
+no_tag (fault.UnclosedComment left) = refl
+no_tag fault.UnclosedVariation = refl
+no_tag fault.BadByte = refl
+
+-- the first token after the tags is none of them
+first_by_test : (u : ℕ × Token) (ts : List (ℕ × Token)) (t : ℕ × Token) (rest : List (ℕ × Token))
+    → (after_tags ts ≡ t ∷ rest → may_precede_tags t.1 ≡ false) → (b : Bool) → may_precede_tags u.1 ≡ b
+    → after_tags (u ∷ ts) ≡ t ∷ rest → may_precede_tags t.1 ≡ false
+first_by_test u ts t rest later true may h = later (sym (tags_on u ts (sym may)) ∙ h)
+first_by_test u ts t rest later false ends h =
+    let same = sym (tags_end u ts ends) ∙ h in
+    let first : u ≡ t = cc in sym (ap (λ (v : ℕ × Token). may_precede_tags v.1) first) ∙ ends
+
+pub after_tags-first : (ts : List (ℕ × Token)) (t : ℕ × Token) (rest : List (ℕ × Token)) → after_tags ts ≡ t ∷ rest
+    → may_precede_tags t.1 ≡ false
+after_tags-first [] t rest h = absurd (cc)
+after_tags-first (u ∷ ts) t rest h =
+    first_by_test u ts t rest (after_tags-first ts t rest) (may_precede_tags u.1) refl h

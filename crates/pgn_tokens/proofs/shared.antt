@@ -1,0 +1,4 @@
+-- Lemmas for crates above: all are about definitions, none about functions. They can cite no other module of proofs/.
+pub mod Bytes
+pub mod Tags
+pub mod Tokens

@@ -1,0 +1,14 @@
+-- With its name and string read, a text that lacks the closing bracket is no tag in the definition too
+-- (Strings.tag_unclosed).
+use Rattle.std.proofs.Common.{sym, ap, ◌∙◌}
+use Rattle.pgn_tokens.specs.ties.FirstSeen.{tag_seen}
+use Rattle.pgn_tokens.proofs.Strings.{tag_unclosed}
+use Rattle.pgn_tokens.proofs.tag.read_tag.Goals as goal
+
+pub returns-in_err-rest : goal.returns-in_err-rest
+returns-in_err-rest c =
+    let name = c.split_name.ensures in
+    ap tag_seen c.from_residual-in_err-rest.ensures
+    ∙ sym (tag_unclosed c.args.text.now c.after_gap.result.now c.split_name.result.0.now c.split_name.result.1.now
+    c.in_ok-string.string.now c.in_ok-text.text.now c.in_ok-text.rest.now c.after_gap.ensures name.name name.rest
+    c.in_ok-string.ensures c.in_ok-text.ensures c.in_err-rest.ensures)

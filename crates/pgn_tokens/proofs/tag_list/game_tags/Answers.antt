@@ -1,0 +1,11 @@
+-- The tags are those of the text's split (Splits.read_split).
+use Rattle.pgn_tokens.specs.Tokens.{tokens_from}
+use Rattle.byte_devices.specs.Bytes.{after_byte_order_mark}
+use Rattle.pgn_tokens.proofs.Splits.{read_split}
+use Rattle.std.proofs.Common.{rules}
+use Rattle.pgn_tokens.proofs.tag_list.game_tags.Goals as goal
+
+pub returns : goal.returns
+returns c =
+    let begin = after_byte_order_mark c.args.text.now c.args.at in
+    (tokens_from c.args.text.now begin, read_split c.args.text.now begin, search rules)

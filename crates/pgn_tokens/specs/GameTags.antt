@@ -1,0 +1,27 @@
+-- The tags of a game, in the order of its text.
+use Rattle.std.specs.Prelude.{ℕ, ◌-◌, List, Option, Some, None}
+use Rattle.std.specs.List.{filter_map}
+use Rattle.pgn_tokens.specs.declared.tag_list.PgnTag.{PgnTag}
+use Rattle.pgn_tokens.specs.LastTags.{tag_section}
+use Rattle.pgn_tokens.specs.Tokens.{Token, Tag}
+
+-- a tag of a game
+pub record TagPair : Type 0 where
+  pub name : List ℕ
+  -- the bytes between its quotes as they are
+  pub text : List ℕ
+  -- the offset in the whole text of the first of these bytes
+  pub offset : ℕ
+
+-- the tag that a token of a text of `total` bytes is; none for any other token
+abbrev pub tag_pair : ℕ → Token → Option TagPair
+tag_pair total (Tag name text to_end) = Some (record { name = name; text = text; offset = total - to_end })
+tag_pair total _ = None
+
+-- the tags of a game with these tokens, in order, in a text of `total` bytes: those of its tag section (`tag_section`)
+abbrev pub game_tags_of : ℕ → List (ℕ × Token) → List TagPair
+game_tags_of total tokens = filter_map (λ t. tag_pair total t.1) (tag_section tokens)
+
+-- the tag, as the definitions have it, that the code's tag stands for
+abbrev pub pair_of : PgnTag → TagPair
+pair_of tag = record { name = tag.name.now; text = tag.text.now; offset = tag.offset }

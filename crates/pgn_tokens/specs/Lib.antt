@@ -1,0 +1,10 @@
+pub mod Tokens
+pub mod Split
+pub mod Marks
+pub mod LastTags
+pub mod GameTags
+pub mod TagsPassed
+pub mod VariationTokens
+pub mod Seen
+pub mod shared
+pub mod ties
