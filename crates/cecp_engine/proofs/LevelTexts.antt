@@ -19,7 +19,8 @@ decimals_ascii n h = by_tests (eqb n 0) (eqb (n % 100) 0) (eqb (n % 10) 0) refl 
     by_tests : (a b c : Bool) → eqb n 0 ≡ a → eqb (n % 100) 0 ≡ b → eqb (n % 10) 0 ≡ c → IsAscii (decimals_text n)
     by_tests true b c e f g = rw e IsAscii-nil
     by_tests false true c e f g =
-        rw (e, f) (IsAscii-cons 46 ((48 + n / 100) ∷ []) (omega arith) (digit_ascii (n / 100) [] (omega arith) IsAscii-nil))
+        rw (e, f) (IsAscii-cons 46 ((48 + n / 100) ∷ []) (omega arith)
+        (digit_ascii (n / 100) [] (omega arith) IsAscii-nil))
     by_tests false false true e f g =
         rw (e, f, g) (IsAscii-cons 46 (two_digits (n / 10)) (omega arith) (two_digits_ascii (n / 10) (omega arith)))
     by_tests false false false e f g =
