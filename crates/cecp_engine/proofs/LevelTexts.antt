@@ -9,7 +9,8 @@ digit_ascii : (n : ℕ) (rest : List ℕ) → n < 10 → IsAscii rest → IsAsci
 digit_ascii n rest h is = IsAscii-cons (48 + n) rest (omega arith) is
 
 two_digits_ascii : (n : ℕ) → n < 100 → IsAscii (two_digits n)
-two_digits_ascii n h = digit_ascii (n / 10) _ (omega arith) (digit_ascii (n % 10) [] (omega arith) IsAscii-nil)
+two_digits_ascii n h =
+    digit_ascii (n / 10) ((48 + n % 10) ∷ []) (omega arith) (digit_ascii (n % 10) [] (omega arith) IsAscii-nil)
 
 decimals_ascii : (n : ℕ) → n < 1000 → IsAscii (decimals_text n)
 unfolding decimals_text
@@ -18,12 +19,13 @@ decimals_ascii n h = by_tests (eqb n 0) (eqb (n % 100) 0) (eqb (n % 10) 0) refl 
     by_tests : (a b c : Bool) → eqb n 0 ≡ a → eqb (n % 100) 0 ≡ b → eqb (n % 10) 0 ≡ c → IsAscii (decimals_text n)
     by_tests true b c e f g = rw e IsAscii-nil
     by_tests false true c e f g =
-        rw (e, f) (IsAscii-cons 46 _ (omega arith) (digit_ascii (n / 100) [] (omega arith) IsAscii-nil))
+        rw (e, f) (IsAscii-cons 46 ((48 + n / 100) ∷ []) (omega arith)
+        (digit_ascii (n / 100) [] (omega arith) IsAscii-nil))
     by_tests false false true e f g =
-        rw (e, f, g) (IsAscii-cons 46 _ (omega arith) (two_digits_ascii (n / 10) (omega arith)))
+        rw (e, f, g) (IsAscii-cons 46 (two_digits (n / 10)) (omega arith) (two_digits_ascii (n / 10) (omega arith)))
     by_tests false false false e f g =
-        rw (e, f, g) (IsAscii-cons 46 _ (omega arith)
-        (digit_ascii (n / 100) _ (omega arith) (two_digits_ascii (n % 100) (omega arith))))
+        rw (e, f, g) (IsAscii-cons 46 ((48 + n / 100) ∷ two_digits (n % 100)) (omega arith)
+        (digit_ascii (n / 100) (two_digits (n % 100)) (omega arith) (two_digits_ascii (n % 100) (omega arith))))
 
 base_ascii : (base : ℕ) → base ≤ 59999999 → IsAscii (base_text base)
 unfolding base_text
@@ -32,14 +34,18 @@ base_ascii base h = by_seconds (eqb (base % 60000) 0) refl
     minutes : IsAscii (decimal (base / 60000))
     minutes = IsAscii-decimal (base / 60000) (omega arith)
 
-    seconds : IsAscii (two_digits (base % 60000 / 1000) ++ decimals_text (base % 1000))
-    seconds = IsAscii-append (two_digits (base % 60000 / 1000)) (decimals_text (base % 1000))
+    seconds : List ℕ
+    seconds = two_digits (base % 60000 / 1000) ++ decimals_text (base % 1000)
+
+    seconds_ascii : IsAscii seconds
+    seconds_ascii = IsAscii-append (two_digits (base % 60000 / 1000)) (decimals_text (base % 1000))
         (two_digits_ascii (base % 60000 / 1000) (omega arith)) (decimals_ascii (base % 1000) (omega arith))
 
     by_seconds : (whole : Bool) → eqb (base % 60000) 0 ≡ whole → IsAscii (base_text base)
     by_seconds true e = rw (e, append-nil (decimal (base / 60000))) minutes
     by_seconds false e =
-        rw e (IsAscii-append (decimal (base / 60000)) _ minutes (IsAscii-cons 58 _ (omega arith) seconds))
+        rw e (IsAscii-append (decimal (base / 60000)) (byte ":" ∷ seconds) minutes
+        (IsAscii-cons 58 seconds (omega arith) seconds_ascii))
 
 increment_ascii : (increment : ℕ) → increment ≤ 999999 → IsAscii (increment_text increment)
 unfolding increment_text

@@ -1,5 +1,5 @@
-//! A law of time controls, as cecp_engine parses and writes them. A caller learns it by calling its function, which does
-//! nothing.
+//! A law of time controls, as cecp_engine parses and writes them. A caller learns it by calling its function, which
+//! does nothing.
 
 ghost use Rattle.std.specs.Prelude.{◌≡◌, ◌≤◌, ℕ, List, Some};
 ghost use Rattle.cecp_engine.specs.Levels.{LevelSeen, level_of, level_text};
