@@ -172,8 +172,8 @@ class Lemmas:
                 found.add(self.find(path, name))
         for path, name in re.findall(rf"\bRattle\.([\w.]+)\.({NAME})", text):
             found.add(self.find(path, name))
-        if "do" in words and "◌>>=◌" in file.names:
-            found.add(self.find(*file.names["◌>>=◌"]))
+        if "do" in words:
+            found.add(self.find(*file.names.get("◌>>=◌", (file.module, "◌>>=◌"))))
         return found - {None}
 
     def roots(self):

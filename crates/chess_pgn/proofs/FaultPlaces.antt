@@ -7,7 +7,7 @@ use Rattle.chess_pgn.specs.laws.TokenByToken.{SoFar, Step, On, Stop, step, read_
 use Rattle.pgn_tokens.specs.Tokens.{Token, token_at, tokens_of, begins_line, tokens_from}
 use Rattle.byte_devices.specs.Bytes.{after_byte_order_mark}
 use Rattle.chess_pgn.proofs.GamesByTags.{reads_alike}
-use Rattle.pgn_tokens.proofs.{shared.Bytes.pick, shared.Tokens.within, shared.Tokens.shorter}
+use Rattle.pgn_tokens.proofs.{shared.Bytes.pick, shared.Tokens.not_before, shared.Tokens.within, shared.Tokens.shorter}
 use Rattle.chess_pgn.proofs.StepKinds.{StepIs, passes, stays, plays, starts, stops, finishes, step_is}
 
 -- what was read from an offset on, with `done` half-moves before it and `moves` in the end: a fault is from there to

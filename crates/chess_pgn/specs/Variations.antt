@@ -2,7 +2,7 @@
 -- before it, so its moves begin in the position before that move; a variation in it replaces one of its own moves. A
 -- *line* is a game's own moves, or those of a variation. This project's own: which words are taken; that a result is
 -- passed over in a variation, and a tag there is a fault, since a `)` in its string may end the variation for the game
--- (`Split`); that no draw ends a variation; and how deep they may be nested.
+-- (pgn_tokens' `Split`); that no draw ends a variation; and how deep they may be nested.
 use Rattle.std.specs.Prelude.{ℕ, zero, suc, ◌+◌, ◌-◌, Bool, true, false, ◌||◌, if◌then◌else◌, List, [], ◌∷◌, codes, length, take, drop, Option, Some, None, is_some}
 use Rattle.std.specs.List.{list_all}
 use Rattle.std.specs.Option.{option_map_or, option_or}
@@ -16,6 +16,7 @@ use Rattle.chess_pgn.specs.declared.read.PgnFault.{PgnFault}
 use Rattle.chess_pgn.specs.declared.read.PgnFaultKind.TheVariants.{BadToken, TooLong}
 use Rattle.chess_pgn.specs.declared.variations.TheConstants.{MOST_NESTED}
 use Rattle.pgn_tokens.specs.Tokens.{Token, Skip, Tag, Word, Bad}
+use Rattle.pgn_tokens.specs.VariationTokens.{has_variation, is_variation}
 use Rattle.pgn_tokens.specs.Marks.{is_marks}
 use Rattle.chess_pgn.specs.Words.{word_gives}
 

@@ -1,4 +1,4 @@
--- The end is that of the text's split (Splits.read_split), and in the text (GameEnds.end_in_text).
+-- The end is that of the text's split (read_split), and in the text (GameEnds.end_in_text).
 use Rattle.byte_devices.specs.Bytes.{after_byte_order_mark}
 use Rattle.pgn_tokens.specs.Tokens.{tokens_from}
 use Rattle.chess_pgn.proofs.GameEnds.{is_later, is_within}

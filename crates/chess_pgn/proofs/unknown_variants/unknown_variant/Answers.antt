@@ -1,4 +1,4 @@
--- The tag is the last tag Variant of the text's split (Splits.read_split).
+-- The tag is the last tag Variant of the text's split (read_split).
 use Rattle.pgn_tokens.specs.Tokens.{tokens_from}
 use Rattle.byte_devices.specs.Bytes.{after_byte_order_mark}
 use Rattle.pgn_tokens.proofs.shared.Tokens.{read_split}

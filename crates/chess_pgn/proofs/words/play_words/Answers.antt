@@ -1,4 +1,4 @@
--- A word that is taken is the next token (PgnWords.some_word), and the step of that token is what was done
+-- A word that is taken is the next token (some_word), and the step of that token is what was done
 -- (GameReads.one_more). Where none is taken, the next token is left (LeftTokens.left_at).
 use Rattle.std.proofs.Common.{refl}
 use Rattle.chess_pgn.proofs.{GameReads.one_more, LeftTokens.left_at}

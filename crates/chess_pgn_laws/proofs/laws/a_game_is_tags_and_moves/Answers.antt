@@ -1,4 +1,4 @@
--- The three definitions agree, since a text has only one split into tokens (Games and Tokens of chess_pgn).
+-- The three definitions agree, since a text has only one split into tokens (Games of chess_pgn, Tokens of pgn_tokens).
 use Rattle.std.proofs.Common.{ℕ, Bool, List, refl}
 use Rattle.chess_pgn.specs.GameRead.{IsRead, pgn_read}
 use Rattle.pgn_tokens.specs.Tokens.{tokens_from}
