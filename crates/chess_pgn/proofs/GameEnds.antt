@@ -4,7 +4,7 @@ use Rattle.std.specs.List.{cons_option, filter_map, prefix_len}
 use Rattle.byte_devices.specs.Bytes.{after_byte_order_mark}
 use Rattle.chess_game.specs.declared.results.Outcome.{Outcome}
 use Rattle.chess_pgn.specs.{GameEnds.ends_at, GameEnds.game_end}
-use Rattle.pgn_tokens.specs.{TagsPassed.IsAfterTags, declared.token.TokenFault.TokenFault, shared.Places.IsWithin, Seen.fault_seen}
+use Rattle.pgn_tokens.specs.{LastTags.may_precede_tags, TagsPassed.IsAfterTags, TagsPassed.after_tags, declared.token.TokenFault.TokenFault, shared.Places.IsWithin, Seen.fault_seen}
 use Rattle.pgn_tokens.specs.Tokens.{Token, Skip, Tag, Word, Bad_tag, Unclosed_comment, Unclosed_variation, Bad, token_at, tokens_of, begins_line, tokens_from}
 use Rattle.pgn_tokens.specs.declared.token.TokenFault.TheVariants as fault
 use Rattle.pgn_tokens.proofs.shared.Tokens.{not_before, within, shorter}

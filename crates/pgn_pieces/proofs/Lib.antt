@@ -1,5 +1,4 @@
 pub mod shared
-mod BeyondTags
 mod CutLines
 mod InPlace
 mod Kept

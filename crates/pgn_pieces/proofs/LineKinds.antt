@@ -2,8 +2,7 @@
 use Rattle.std.proofs.Common.{◌≡◌, ◌≤◌, ◌<◌, ℕ, zero, suc, ◌+◌, eqb, leb, Bool, true, false, List, [], ◌∷◌, ◌++◌, length, take, drop, cond, refl, sym, ap, ◌∙◌, length-drop, append_assoc, arith, bytes_eq, if◌then◌else◌, ◌&&◌, ◌||◌, not, nat_lt, codes}
 use Rattle.std.specs.List.{list_any, prefix_len, take_while}
 use Rattle.std.proofs.{lemmas.Bool.and_parts, lemmas.Bool.leb-true, lemmas.Bool.Decides.nat_tests, lemmas.List.take-append-le, lemmas.List.drop-append-le, lemmas.List.take_all, lemmas.List.Folds.prefix_len-append, lemmas.List.Folds.length-prefix_len, lemmas.List.Sums.prefix_len-le-length}
-use Rattle.pgn_pieces.specs.{Places.breaks_line, Pieces.front_of, Pieces.tag_name, Pieces.after_name, Pieces.begins_tag, Pieces.is_beyond_tags, Pieces.is_tag_line, Pieces.is_event_line, Pieces.is_moves_line}
-use Rattle.pgn_tokens.specs.Tokens.{tokens_from}
+use Rattle.pgn_pieces.specs.{Places.breaks_line, Pieces.front_of, Pieces.tag_name, Pieces.after_name, Pieces.begins_tag, Pieces.after_parts, Pieces.has_more, Pieces.is_tag_line, Pieces.is_event_line, Pieces.is_moves_line}
 use Rattle.byte_devices.specs.Bytes.{after_byte_order_mark, is_blank, is_name_byte}
 use Rattle.pgn_pieces.specs.{ties.Fronts.is_empty_front, ties.Fronts.without_blanks, ties.Held.SameKind, ties.Held.SameTag, ties.Held.IsDecided}
 
@@ -16,7 +15,7 @@ same_front : (a b : List ℕ) → front_of a ≡ front_of b → SameKind a b
 same_front a b h = record {
   tag = ap begins_tag h;
   event = ap (λ f. begins_tag f && bytes_eq (tag_name f) (codes "Event")) h;
-  moves = ap (λ f. if begins_tag f then list_any (λ t. is_beyond_tags (list_any breaks_line f) t.1) (tokens_from f 0)
+  moves = ap (λ f. if begins_tag f then has_more (list_any breaks_line f) (after_parts 256 f)
       else not (is_empty_front f)) h;
 }
 

@@ -9,7 +9,7 @@ use Rattle.pgn_pieces.specs.ties.Held.{AreSeen, HasSeen, MayGoOn, IsDecided, IsW
 use Rattle.pgn_pieces.proofs.LineKinds.{decided_on, same_tag, tag_stays}
 use Rattle.pgn_pieces.proofs.CutLines.{whole_line, first_line, concat_more, goes_on, ends_here, begun, last_line, some_bytes, cut_is}
 
-pub or_false : (b : Bool) → (b || false) ≡ b
+or_false : (b : Bool) → (b || false) ≡ b
 or_false true = refl
 or_false false = refl
 

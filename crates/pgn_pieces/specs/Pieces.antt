@@ -1,13 +1,12 @@
 -- A collection of games is cut into pieces: each is read as a text of its own.
-use Rattle.std.specs.Prelude.{◌≡◌, ◌≤◌, ◌^◌, ℕ, zero, suc, ◌+◌, ◌-◌, Bool, true, false, ◌&&◌, ◌||◌, not, ◌==◌, nat_lt, if◌then◌else◌, List, [], ◌∷◌, ◌++◌, length, map, reverse, take, drop, codes}
+use Rattle.std.specs.Prelude.{◌≡◌, ◌≤◌, ◌^◌, ℕ, zero, suc, ◌+◌, ◌-◌, Bool, true, false, ◌&&◌, ◌||◌, not, ◌==◌, nat_lt, if◌then◌else◌, List, [], ◌∷◌, ◌++◌, length, map, reverse, take, drop, codes, Option, Some, None}
 use Rattle.std.specs.Io.KnownBytes.{Consumes, IsAtEnd}
 use Rattle.std.specs.List.{onto_first, take_while, prefix_len, list_any, list_all, concat, fold}
+use Rattle.std.specs.Option.{option_map, option_map_or}
 use Rattle.std.specs.Str.{bytes_eq}
 use Rattle.byte_devices.specs.Bytes.{byte, is_blank, is_name_byte, after_byte_order_mark}
 use Rattle.byte_devices.specs.Devices.{InputState, saturating_increment}
 use Rattle.pgn_pieces.specs.Places.{breaks_line}
-use Rattle.pgn_tokens.specs.Marks.{is_marks}
-use Rattle.pgn_tokens.specs.Tokens.{Token, Word, Bad_tag, Bad, tokens_from}
 use Rattle.pgn_pieces.specs.declared.pieces.PieceFault.{PieceFault}
 use Rattle.pgn_pieces.specs.declared.pieces.PieceFault.TheVariants.{ReadFailed, NoMemory, InputTooLong}
 
@@ -55,22 +54,45 @@ abbrev pub is_empty_line : List ℕ → Bool
 is_empty_line line = bytes_eq (take 1 (front_of line)) (codes "%") || bytes_eq (take 1 (front_of line)) (codes ";")
     || list_all (λ c. is_blank c || (c == 13) || (c == 10)) (front_of line)
 
--- whether a token in the front of a tag line shows that not only tags are on it: it is a word that is no marks, such as
--- a move or a result, or a byte that begins no token; or a `[` that begins no tag, as in `[White "a`. That counts only
--- if the line ends in its front (`ended`): otherwise the tag may be closed after the front
-abbrev pub is_beyond_tags : Bool → Token → Bool
-is_beyond_tags ended (Word word) = not (is_marks word)
-is_beyond_tags ended Bad_tag = ended
-is_beyond_tags ended Bad = true
-is_beyond_tags ended _ = false
+-- a text from the first quote on that no backslash keeps from closing a string; empty if there is none. `kept`: the byte
+-- before the text is such a backslash. Of `a\"b"]` it is `"]`
+abbrev pub from_quote : Bool → List ℕ → List ℕ
+from_quote kept [] = []
+from_quote true (c ∷ rest) = from_quote false rest
+from_quote false (c ∷ rest) = if c == byte "\"" then c ∷ rest else from_quote (c == byte "\\") rest
+
+-- the text after its first byte, if that is `b`
+abbrev pub after_byte : ℕ → List ℕ → Option (List ℕ)
+after_byte b [] = None
+after_byte b (c ∷ rest) = if c == b then Some rest else None
+
+-- what comes after the tag with which a text begins, or after its comment, and any spaces and tabs: `e4` in
+-- `[a "b"] e4`, and in `{x} e4`. `None` if it begins with neither, or if the tag or the comment isn't closed
+abbrev pub after_part : List ℕ → Option (List ℕ)
+after_part text = option_map (drop_while is_blank) (if begins_tag text
+    then after_byte (byte "]") (drop_while is_blank (drop 1 (from_quote false (drop 1 (after_name text)))))
+    else (if bytes_eq (take 1 text) (codes "{") then after_byte (byte "}") (drop_while (λ c. not (c == byte "}")) text)
+    else None))
+
+-- what comes after the tags and comments with which a text begins (`after_part`): the text itself if it begins with
+-- none. At most as many are passed over as the first argument says
+unfoldable pub after_parts : ℕ → List ℕ → List ℕ
+after_parts zero text = text
+after_parts (suc more) text = option_map_or (after_parts more) text (after_part text)
+
+-- whether a tag line has more than tags, from what comes after its tags and comments: a byte that is neither a line end
+-- nor begins a comment, a variation, a glyph, a dot or marks; so maybe a move, or a tag that isn't closed. `ended`: the
+-- line's end was seen; if not, such a tag may be closed further on
+abbrev pub has_more : Bool → List ℕ → Bool
+has_more ended rest = list_any (λ c. not (list_any (λ k. c == k) (codes "\r\n{;($.!?")) && (ended || not (c == byte "[")))
+    (take 1 rest)
 
 -- whether a line counts as one of moves: one that is neither a tag line nor empty (so also one inside a `{` comment,
--- and a tag such as `[ Event "x" ]`); or a tag line in whose front, read as a text, a token is beyond tags
--- (`is_beyond_tags`): `[White "a"] {x} 1. e4`, or `[White "a`
+-- and a tag such as `[ Event "x" ]`); or a tag line whose front has more than tags (`has_more`): `[White "a"] {x} 1. e4`,
+-- or `[White "a`. (256: no front has so many tags and comments)
 abbrev pub is_moves_line : List ℕ → Bool
-is_moves_line line = let front = front_of line in if is_tag_line line
-    then list_any (λ t. is_beyond_tags (list_any breaks_line front) t.1) (tokens_from front 0)
-    else not (is_empty_line line)
+is_moves_line line = let front = front_of line in
+    if is_tag_line line then has_more (list_any breaks_line front) (after_parts 256 front) else not (is_empty_line line)
 
 -- ---- the pieces of a text
 

@@ -10,17 +10,16 @@
 //! The functions that `kind_of` calls are inlined, since `verify --keep-going` calls it for every line of a collection
 //! (the workloads collections and puzzles). What that gains was not measured apart.
 
-ghost use Rattle.std.specs.Prelude.{◌≡◌, ◌≤◌, nat_lt, true, false, ◌&&◌, ◌||◌, ◌==◌, length, take, drop, codes};
+ghost use Rattle.std.specs.Prelude.{◌≡◌, ◌≤◌, nat_lt, true, false, ◌&&◌, ◌||◌, ◌==◌, length, take, drop, codes, Option};
 ghost use Rattle.std.specs.Str.{bytes_eq};
 ghost use Rattle.std.specs.List.{list_all, list_any};
-ghost use Rattle.pgn_pieces.specs.Pieces.{front_of, after_name, tag_name, is_beyond_tags, is_tag_line, is_event_line, is_moves_line};
-ghost use Rattle.byte_devices.specs.Bytes.{after_byte_order_mark, is_blank};
+ghost use Rattle.std.specs.Option.{option_map};
+ghost use Rattle.pgn_pieces.specs.Pieces.{front_of, after_byte, after_name, after_part, after_parts, begins_tag, from_quote, has_more, tag_name, is_tag_line, is_event_line, is_moves_line};
+ghost use Rattle.byte_devices.specs.Bytes.{after_byte_order_mark, byte, is_blank};
 ghost use Rattle.pgn_pieces.specs.Places.{breaks_line, line_ends};
 ghost use Rattle.pgn_pieces.specs.ties.Fronts.{is_empty_front, without_blanks};
-ghost use Rattle.pgn_tokens.specs.Tokens.{tokens_from};
 
-use byte_devices::{after_byte_order_mark, is_blank, is_name_byte, split_while};
-use pgn_tokens::{TokenFault, after_tags, next_token};
+use byte_devices::{after_byte_order_mark, is_blank, is_name_byte, len_before, split_while};
 
 // How many of a line's first bytes decide its kind; the bytes after these are not looked at.
 pub(crate) const FRONT_LEN: usize = 256;
@@ -70,20 +69,93 @@ pub(crate) fn kind_of(line: &[u8], moves: bool) -> Kind
     }
 }
 
-// Whether the front of a tag line has more than tags: a word such as a move after them, a byte that begins no token, or
-// a tag that isn't closed on its line. It is not inlined, since few lines of a collection are tag lines before moves.
+// Whether a tag line with this front has more than tags, such as moves, or a tag that isn't closed on the line. It is
+// not inlined, since few lines of a collection are tag lines before moves.
 #[inline(never)]
 fn has_moves(front: &[u8]) -> bool
-    ensures { result ≡ list_any (λ t. is_beyond_tags (list_any breaks_line front.now) t.1) (tokens_from front.now 0) }
+    ensures { result ≡ has_more (list_any breaks_line front.now) (after_parts 256 front.now) }
 {
-    match next_token(front, after_tags(front, 0)) {
-        Ok(None) => false,
-        Ok(Some(_)) => true,
-        Err(TokenFault::BadTag) => has_line_end(front),
-        Err(TokenFault::BadByte) => true,
-        Err(TokenFault::UnclosedComment { .. }) => false,
-        Err(TokenFault::UnclosedVariation) => false,
+    match after_parts(front) {
+        [b'\r' | b'\n' | b'{' | b';' | b'(' | b'$' | b'.' | b'!' | b'?', ..] | [] => false,
+        [b'[', ..] => has_line_end(front),
+        _ => true,
     }
+}
+
+// The rest of a string, from the quote on that closes it; empty if none does. A quote after a backslash doesn't.
+fn from_quote(text: &[u8]) -> &[u8]
+    ensures { result.now ≡ from_quote false text.now }
+{
+    let mut rest = text;
+    let mut is_kept = false;
+    while let [byte, others @ ..] = rest {
+        if !is_kept && *byte == b'"' {
+            return rest;
+        }
+        is_kept = !is_kept && *byte == b'\\';
+        rest = others;
+    }
+    rest
+}
+
+// The text after its first byte, if that is `byte`.
+fn after_byte(byte: u8, text: &[u8]) -> Option<&[u8]>
+    ensures { option_map (λ r. r.now) result ≡ after_byte byte text.now }
+{
+    match text {
+        [first, rest @ ..] if *first == byte => Some(rest),
+        _ => None,
+    }
+}
+
+// Whether a text begins with a tag, as the front of a tag line does.
+fn begins_tag(text: &[u8]) -> bool
+    ensures { result ≡ begins_tag text.now }
+{
+    if !text.starts_with(b"[") {
+        return false;
+    }
+    let name = tag_name(text);
+    has_tag(name, after_name(text, name))
+}
+
+// What comes after the tag with which a text begins, which has a name and an opening quote; `None` if the tag isn't
+// closed.
+fn after_tag(text: &[u8]) -> Option<&[u8]>
+    ensures { option_map (λ r. r.now) result ≡ after_byte (byte "]")
+        (without_blanks (drop 1 (from_quote false (drop 1 (after_name text.now))))) }
+{
+    let string = without_first(after_name(text, tag_name(text)));
+    after_byte(b']', without_blanks(without_first(from_quote(string))))
+}
+
+// What comes after the tag or the comment with which a text begins, and any spaces and tabs; `None` if it begins with
+// neither, or that isn't closed.
+fn after_part(text: &[u8]) -> Option<&[u8]>
+    ensures { option_map (λ r. r.now) result ≡ after_part text.now }
+{
+    if begins_tag(text) {
+        return Some(without_blanks(after_tag(text)?));
+    }
+    if !text.starts_with(b"{") {
+        return None;
+    }
+    let rest = after_byte(b'}', &text[len_before(text, b'}')..])?;
+    Some(without_blanks(rest))
+}
+
+// What comes after the tags and comments with which a line's front begins. A front has no more than 256 of them.
+fn after_parts(front: &[u8]) -> &[u8]
+    ensures { result.now ≡ after_parts 256 front.now }
+{
+    let mut rest = front;
+    for passed in 0..FRONT_LEN {
+        let Some(next) = after_part(rest) else {
+            return rest;
+        };
+        rest = next;
+    }
+    rest
 }
 
 // Whether a line's end is among these bytes: `\n` or `\r`.
