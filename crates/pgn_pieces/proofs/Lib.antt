@@ -8,5 +8,6 @@ mod PlainLengths
 mod SeenLines
 mod Shards
 mod Steps
+mod StringEnds
 mod Views
 mod WholePieces

@@ -58,8 +58,7 @@ is_empty_line line = bytes_eq (take 1 (front_of line)) (codes "%") || bytes_eq (
 -- before the text is such a backslash. Of `a\"b"]` it is `"]`
 abbrev pub from_quote : Bool → List ℕ → List ℕ
 from_quote kept [] = []
-from_quote true (c ∷ rest) = from_quote false rest
-from_quote false (c ∷ rest) = if c == byte "\"" then c ∷ rest else from_quote (c == byte "\\") rest
+from_quote kept (c ∷ rest) = if not kept && c == byte "\"" then c ∷ rest else from_quote (not kept && c == byte "\\") rest
 
 -- the text after its first byte, if that is `b`
 abbrev pub after_byte : ℕ → List ℕ → Option (List ℕ)
@@ -78,7 +77,7 @@ after_part text = option_map (drop_while is_blank) (if begins_tag text
 -- none. At most as many are passed over as the first argument says
 unfoldable pub after_parts : ℕ → List ℕ → List ℕ
 after_parts zero text = text
-after_parts (suc more) text = option_map_or (after_parts more) text (after_part text)
+after_parts (suc more) text = option_map_or (after_parts more) (after_part text) text
 
 -- whether a tag line has more than tags, from what comes after its tags and comments: a byte that is neither a line end
 -- nor begins a comment, a variation, a glyph, a dot or marks; so maybe a move, or a tag that isn't closed. `ended`: the

@@ -10,7 +10,7 @@
 //! The functions that `kind_of` calls are inlined, since `verify --keep-going` calls it for every line of a collection
 //! (the workloads collections and puzzles). What that gains was not measured apart.
 
-ghost use Rattle.std.specs.Prelude.{◌≡◌, ◌≤◌, nat_lt, true, false, ◌&&◌, ◌||◌, ◌==◌, length, take, drop, codes, Option};
+ghost use Rattle.std.specs.Prelude.{◌≡◌, ◌≤◌, nat_lt, true, false, not, ◌&&◌, ◌||◌, ◌==◌, length, take, drop, codes, Option};
 ghost use Rattle.std.specs.Str.{bytes_eq};
 ghost use Rattle.std.specs.List.{list_all, list_any};
 ghost use Rattle.std.specs.Option.{option_map};
@@ -76,10 +76,29 @@ fn has_moves(front: &[u8]) -> bool
     ensures { result ≡ has_more (list_any breaks_line front.now) (after_parts 256 front.now) }
 {
     match after_parts(front) {
-        [b'\r' | b'\n' | b'{' | b';' | b'(' | b'$' | b'.' | b'!' | b'?', ..] | [] => false,
+        [
+            b'\r' | b'\n' | b'{' | b';' | b'(' | b'$' | b'.' | b'!' | b'?',
+            ..
+        ]
+        | [] => false,
         [b'[', ..] => has_line_end(front),
         _ => true,
     }
+}
+
+// Whether a byte of a string ends it: it is a quote. `is_kept`: the byte before it is a backslash that keeps it from that.
+fn closes(is_kept: bool, byte: u8) -> bool
+    ensures { result ≡ (not is_kept && byte == 34) }
+{
+    !is_kept && byte == b'"'
+}
+
+// Whether a byte of a string is a backslash that keeps the next byte from ending the string; it isn't if it is kept so
+// itself (`is_kept`).
+fn keeps(is_kept: bool, byte: u8) -> bool
+    ensures { result ≡ (not is_kept && byte == 92) }
+{
+    !is_kept && byte == b'\\'
 }
 
 // The rest of a string, from the quote on that closes it; empty if none does. A quote after a backslash doesn't.
@@ -88,11 +107,11 @@ fn from_quote(text: &[u8]) -> &[u8]
 {
     let mut rest = text;
     let mut is_kept = false;
-    while let [byte, others @ ..] = rest {
-        if !is_kept && *byte == b'"' {
+    while let [first, others @ ..] = rest {
+        if closes(is_kept, *first) {
             return rest;
         }
-        is_kept = !is_kept && *byte == b'\\';
+        is_kept = keeps(is_kept, *first);
         rest = others;
     }
     rest

@@ -2,6 +2,7 @@
 use Rattle.std.proofs.Common.{refl}
 use Rattle.std.specs.Fmt.{digits}
 use Rattle.chess_pgn.specs.GameRead.{pgn_read}
+use Rattle.pgn_pieces.specs.Pieces.{after_parts}
 use Rattle.pgn_tokens.specs.Tokens.{token_at, tokens_from, tokens_of}
 use Rattle.pgn_verifier.specs.{Explanations.explanation_line, Reports.counts_line, Reports.report_line, laws.Reported.placed_from}
 use Rattle.pgn_verifier_laws.specs.WorkedReports.{GamesAreFound, PiecesBegin, ReportsAreWritten, TextsAreReadOn}
@@ -29,7 +30,7 @@ unfolding token_at tokens_from tokens_of
 texts_are_read_on = record { marker = refl; later = refl; tags = refl; end = refl; unreadable = refl }
 
 pub pieces_begin : PiecesBegin
-unfolding token_at tokens_from tokens_of
+unfolding after_parts
 pieces_begin = record {
   events = refl;
   event_later = refl;
@@ -39,6 +40,7 @@ pieces_begin = record {
   moves_after_tag = refl;
   moves_after_tags = refl;
   moves_after_comment = refl;
+  quote_in_tag = refl;
   no_token = refl;
   unclosed_tag = refl;
   marks_after_tag = refl;

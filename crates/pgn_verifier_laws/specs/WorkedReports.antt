@@ -135,6 +135,8 @@ pub record PiecesBegin : Type 0 where
   -- and after a string with a quote in it, and a comment
   pub moves_after_comment : AreItsPieces "[Event \"\\\"\"] {a} e4 *\n[White \"b\"]\n"
       (codes "[Event \"\\\"\"] {a} e4 *\n" ∷ codes "[White \"b\"]\n" ∷ [])
+  -- not if nothing comes after that string and its tag
+  pub quote_in_tag : AreItsPieces "[Event \"\\\"\"]\n[White \"b\"]\n" (codes "[Event \"\\\"\"]\n[White \"b\"]\n" ∷ [])
   -- also at one after a tag line with a byte that begins no token, or with a tag that isn't closed
   pub no_token : AreItsPieces "[Event \"a\"] <\n[White \"b\"]\n"
       (codes "[Event \"a\"] <\n" ∷ codes "[White \"b\"]\n" ∷ [])
