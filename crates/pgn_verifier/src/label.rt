@@ -18,8 +18,8 @@ use crate::names::{NamesText, game_names};
 use crate::options::VerifyOptions;
 use arrayvec::ArrayVec;
 use byte_devices::{after_byte_order_mark, append, append_number};
-use pgn_tokens::is_white_space;
 use pgn_pieces::PgnPieces;
+use pgn_tokens::is_white_space;
 
 /// A part of the input.
 #[derive(Clone, Copy)]
