@@ -8,7 +8,7 @@ use std::test::Fail;
 const KEEP_GOING: &[&str] = &["verify", "--keep-going"];
 
 // Collections, what is written of them, and the status.
-const PIECES: [(&[u8], &[u8], u8); 16] = [
+const PIECES: [(&[u8], &[u8], u8); 17] = [
     // Tags without a game.
     (
         b"[Event \"a\"]\n[Site \"b\"]\n",
@@ -53,10 +53,15 @@ const PIECES: [(&[u8], &[u8], u8); 16] = [
         b"game 1: bad tag at byte 0\ngame 2: 1 half-moves, *\ngames 1 half-moves 1 faults 1\n",
         1,
     ),
-    // Without moves between them tags stay together.
     (
         b"[Site \"x\n[Event \"b\"]\n1. d4 *",
-        b"game 1: bad tag at byte 0\ngames 0 half-moves 0 faults 1\n",
+        b"game 1: bad tag at byte 0\ngame 2: 1 half-moves, *\ngames 1 half-moves 1 faults 1\n",
+        1,
+    ),
+    // Without moves between them tags stay together.
+    (
+        b"[Site \"x\"] {\n[Event \"b\"]\n1. d4 *",
+        b"game 1: unclosed comment at byte 11\ngames 0 half-moves 0 faults 1\n",
         1,
     ),
     // In the middle of a line no piece begins.
