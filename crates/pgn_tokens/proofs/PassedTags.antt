@@ -49,18 +49,3 @@ no_tag fault.BadTag = refl
 no_tag (fault.UnclosedComment left) = refl
 no_tag fault.UnclosedVariation = refl
 no_tag fault.BadByte = refl
-
--- the first token after the tags is none of them
-first_by_test : (u : ℕ × Token) (ts : List (ℕ × Token)) (t : ℕ × Token) (rest : List (ℕ × Token))
-    → (after_tags ts ≡ t ∷ rest → may_precede_tags t.1 ≡ false) → (b : Bool) → may_precede_tags u.1 ≡ b
-    → after_tags (u ∷ ts) ≡ t ∷ rest → may_precede_tags t.1 ≡ false
-first_by_test u ts t rest later true may h = later (sym (tags_on u ts (sym may)) ∙ h)
-first_by_test u ts t rest later false ends h =
-    let same = sym (tags_end u ts ends) ∙ h in
-    let first : u ≡ t = cc in sym (ap (λ (v : ℕ × Token). may_precede_tags v.1) first) ∙ ends
-
-pub after_tags-first : (ts : List (ℕ × Token)) (t : ℕ × Token) (rest : List (ℕ × Token)) → after_tags ts ≡ t ∷ rest
-    → may_precede_tags t.1 ≡ false
-after_tags-first [] t rest h = absurd (cc)
-after_tags-first (u ∷ ts) t rest h =
-    first_by_test u ts t rest (after_tags-first ts t rest) (may_precede_tags u.1) refl h

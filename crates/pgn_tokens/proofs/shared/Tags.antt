@@ -1,6 +1,6 @@
 -- For crates that look into tags: how a tag begins, its string, its parts, and the last tag of a name.
 pub use Rattle.pgn_tokens.proofs.Gaps.{gap_same}
-pub use Rattle.pgn_tokens.proofs.PassedTags.{after_tags-first, tags_end, tags_on}
+pub use Rattle.pgn_tokens.proofs.PassedTags.{tags_end, tags_on}
 pub use Rattle.pgn_tokens.proofs.Strings.{string_other, string_quote}
 pub use Rattle.pgn_tokens.proofs.TagFronts.{NameIs, OpeningRead, name_after_gap, name_comes, name_is, opening_is, opening_read}
 pub use Rattle.pgn_tokens.proofs.TagParts.{parts_are}
