@@ -1,5 +1,5 @@
 -- The tags of a game passed over, token by token: the tokens after them stay the same.
-use Rattle.std.proofs.Common.{◌≡◌, ◌≤◌, ℕ, ◌+◌, ◌-◌, Bool, true, false, cond, List, [], ◌∷◌, length, take, drop, refl, sym, ap, ◌∙◌, one-add}
+use Rattle.std.proofs.Common.{◌≡◌, ◌≤◌, ℕ, ◌+◌, ◌-◌, true, false, cond, List, [], ◌∷◌, length, take, drop, refl, sym, ap, ◌∙◌, one-add}
 use Rattle.std.specs.List.{prefix_len}
 use Rattle.pgn_tokens.specs.{LastTags.may_precede_tags, Seen.fault_seen, TagsPassed.IsAfterTags, TagsPassed.after_tags, declared.token.TokenFault.TokenFault}
 use Rattle.pgn_tokens.specs.Tokens.{Token, tokens_from}
