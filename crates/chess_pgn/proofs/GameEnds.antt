@@ -7,6 +7,7 @@ use Rattle.chess_pgn.specs.{GameEnds.ends_at, GameEnds.game_end}
 use Rattle.pgn_tokens.specs.{LastTags.may_precede_tags, TagsPassed.IsAfterTags, TagsPassed.after_tags, declared.token.TokenFault.TokenFault, shared.Places.IsWithin, Seen.fault_seen}
 use Rattle.pgn_tokens.specs.Tokens.{Token, Skip, Tag, Word, Bad_tag, Unclosed_comment, Unclosed_variation, Bad, token_at, tokens_of, begins_line, tokens_from}
 use Rattle.pgn_tokens.specs.declared.token.TokenFault.TheVariants as fault
+use Rattle.pgn_tokens.proofs.shared.Tags.{tags_end, tags_on}
 use Rattle.pgn_tokens.proofs.shared.Tokens.{not_before, within, shorter}
 use Rattle.pgn_writer.specs.Outcomes.{outcome_of}
 
