@@ -2,7 +2,7 @@
 //! at the top of whose lib.rt it is.
 
 use anyhow::Result;
-use byte_devices::{Counted, Output, put};
+use byte_devices::{Counted, Output};
 use chess_base::{Move, Position};
 use chess_bits::{AttackTables, Bits};
 use chess_fen::{Fen, read_fen, write_fen};
