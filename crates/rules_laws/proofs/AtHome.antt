@@ -2,7 +2,7 @@
 use Rattle.std.proofs.Common.{◌≡◌, ℕ, ◌≤◌, Bool, true, false, ◌&&◌, ◌==◌, Option, Some, None, refl, sym, ◌∙◌, subst, arith}
 use Rattle.std.specs.Option.{option_map_or}
 use Rattle.std.proofs.lemmas.Bool.{and_parts, and_from, eqb-true, eq-eqb}
-use Rattle.chess_base.specs.{declared.man.Colour.Colour, declared.man.Colour.TheVariants.White, declared.man.Colour.TheVariants.Black, declared.man.CastlingSide.CastlingSide, declared.man.CastlingSide.TheVariants.KingSide, declared.man.CastlingSide.TheVariants.QueenSide, declared.man.Kind.TheVariants.King, declared.man.Kind.TheVariants.Rook, declared.man.Variant.Variant, declared.man.Variant.TheVariants.Fischerandom, declared.setup.Setup.Setup, Squares.rank, Sound.has_one_king, shared.Splits.right_is_sound_at}
+use Rattle.chess_base.specs.{declared.man.Colour.Colour, declared.man.Colour.TheVariants.White, declared.man.Colour.TheVariants.Black, declared.man.CastlingSide.CastlingSide, declared.man.CastlingSide.TheVariants.KingSide, declared.man.CastlingSide.TheVariants.QueenSide, declared.man.Kind.TheVariants.Rook, declared.man.Variant.Variant, declared.man.Variant.TheVariants.Fischerandom, declared.setup.Setup.Setup, Squares.rank, shared.Splits.right_is_sound_at}
 use Rattle.chess_base.specs.Men.{Men, man_at, is_man, first_rank}
 use Rattle.chess_base.specs.Castling.{are_placed_for_castling, is_to_side, king_square, right_is_sound, right_of}
 use Rattle.chess_base.proofs.{shared.Castling.placed_for_right, shared.Kings.king_square-at, shared.Kings.king_square-king}
@@ -53,14 +53,16 @@ at_home p c w rook placed =
     let found = there (begins c w rook) (king_square p.men c) both.0 in
     let king = found.0 in
     let ranks_and_side = and_parts _ (is_to_side w king rook) found.2 in
-    let ranks = and_parts (rank king == first_rank c) (rank rook == first_rank c) ranks_and_side.0 in
-    (king, record {
-      is_king = king_square-king p.men c king found.1;
-      is_rook = both.1;
-      king_rank = on_first_rank c king ranks.0;
-      rook_rank = on_first_rank c rook ranks.1;
-      side = sym (to_side w king rook) ∙ ranks_and_side.1;
-    })
+    let ranks = and_parts (rank king == first_rank c) (rank rook == first_rank c) ranks_and_side.0 in (
+      king,
+      record {
+        is_king = king_square-king p.men c king found.1;
+        is_rook = both.1;
+        king_rank = on_first_rank c king ranks.0;
+        rook_rank = on_first_rank c rook ranks.1;
+        side = sym (to_side w king rook) ∙ ranks_and_side.1;
+      },
+    )
 
 placed_at_home : (p : Setup) (c : Colour) (w : CastlingSide) (king rook : ℕ) → king_square p.men c ≡ Some king
     → AreAtHome p c w king rook → are_placed_for_castling Fischerandom p.men c w rook ≡ true
@@ -78,9 +80,10 @@ of_right v men c w (Some s) rook e h = let here : s ≡ rook = cc in rw here h
 
 pub rights_are_at_home : FischerandomRightsAreAtHome
 unfolding right_is_sound
-rights_are_at_home p c w rook variant board one right =
-    (λ sound. at_home p c w rook (subst (λ (v : Variant). are_placed_for_castling v p.men c w rook ≡ true) variant
-    (placed_for_right p.variant p.men c w (right_of p.rights c w) rook sound right)),
-    λ home. of_right p.variant p.men c w (right_of p.rights c w) rook right
-    (subst (λ (v : Variant). are_placed_for_castling v p.men c w rook ≡ true) (sym variant)
-    (placed_at_home p c w home.0 rook (king_square-at p.men c home.0 board one home.1.is_king) home.1)))
+rights_are_at_home p c w rook variant board one right = (
+  λ sound. at_home p c w rook (subst (λ (v : Variant). are_placed_for_castling v p.men c w rook ≡ true) variant
+      (placed_for_right p.variant p.men c w (right_of p.rights c w) rook sound right)),
+  λ home. of_right p.variant p.men c w (right_of p.rights c w) rook right
+      (subst (λ (v : Variant). are_placed_for_castling v p.men c w rook ≡ true) (sym variant)
+      (placed_at_home p c w home.0 rook (king_square-at p.men c home.0 board one home.1.is_king) home.1)),
+)
