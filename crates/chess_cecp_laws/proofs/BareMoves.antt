@@ -1,4 +1,4 @@
--- A move alone gets the response of `usermove` with the move.
+-- A bare move gets the response of `usermove` with the move.
 use Rattle.std.proofs.Common.{◌≡◌, ◌∙◌, ℕ, Bool, true, false, ◌==◌, List, [], ◌∷◌, ◌++◌, length, Option, None, refl, sym, ap, bytes_eq, codes, if◌then◌else◌, unwrap_or}
 use Rattle.std.specs.List.{list_any}
 use Rattle.std.proofs.lemmas.Bool.{or_parts}
