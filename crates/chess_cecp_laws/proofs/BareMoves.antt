@@ -4,7 +4,7 @@ use Rattle.std.specs.List.{list_any}
 use Rattle.std.proofs.lemmas.Bool.{ne_eqb, or_parts}
 use Rattle.byte_devices.specs.Bytes.{is_blank}
 use Rattle.chess_text.specs.Moves.{shape}
-use Rattle.text_lines.specs.{Lines.LineSeen, Lines.without_front_blanks, Words.argument_of, Words.word_of}
+use Rattle.text_lines.specs.{Lines.without_front_blanks, Words.argument_of, Words.word_of}
 use Rattle.chess_cecp.specs.Commands.{command_of, is_ignored, named_command}
 use Rattle.chess_cecp.specs.{Held.SessionSeen, Serving.Response, Session.move_row, Session.session_response, declared.command.Command.Command, declared.command.Command.TheVariants.BareMove, declared.command.Command.TheVariants.Unknown, declared.command.Command.TheVariants.UserMove}
 use Rattle.chess_cecp_laws.specs.{GameLines.BareMovesAreMoves, SessionLines.known_words}
