@@ -1,10 +1,10 @@
--- A move alone gets the response of `usermove` with the move.
-use Rattle.std.proofs.Common.{◌≡◌, ◌∙◌, ℕ, Bool, true, false, ◌==◌, List, [], ◌∷◌, ◌++◌, length, Option, None, refl, sym, ap, bytes_eq, codes, if◌then◌else◌, unwrap_or}
+-- A bare move gets the response of `usermove` with the move.
+use Rattle.std.proofs.Common.{◌≡◌, ◌∙◌, ℕ, suc, Bool, true, false, ◌==◌, List, [], ◌∷◌, ◌++◌, length, Option, None, refl, sym, ap, arith, bytes_eq, codes, if◌then◌else◌, unwrap_or}
 use Rattle.std.specs.List.{list_any}
-use Rattle.std.proofs.lemmas.Bool.{or_parts}
+use Rattle.std.proofs.lemmas.Bool.{ne_eqb, or_parts}
 use Rattle.byte_devices.specs.Bytes.{is_blank}
 use Rattle.chess_text.specs.Moves.{shape}
-use Rattle.text_lines.specs.{Lines.LineSeen, Lines.without_front_blanks, Words.argument_of, Words.word_of}
+use Rattle.text_lines.specs.{Lines.without_front_blanks, Words.argument_of, Words.word_of}
 use Rattle.chess_cecp.specs.Commands.{command_of, is_ignored, named_command}
 use Rattle.chess_cecp.specs.{Held.SessionSeen, Serving.Response, Session.move_row, Session.session_response, declared.command.Command.Command, declared.command.Command.TheVariants.BareMove, declared.command.Command.TheVariants.Unknown, declared.command.Command.TheVariants.UserMove}
 use Rattle.chess_cecp_laws.specs.{GameLines.BareMovesAreMoves, SessionLines.known_words}
@@ -21,9 +21,12 @@ kept [] e = refl
 kept (c ∷ cs) e =
     if_false (is_blank c) (without_front_blanks cs) (c ∷ cs) (word_by (is_blank c) (c ∷ word_of cs) e)
 
+more_than_none : (n : ℕ) → (suc n == 0) ≡ false
+more_than_none n = ne_eqb (suc n) 0 (λ e. omega (arith, e))
+
 filled : (text : List ℕ) → bytes_eq (word_of text) [] ≡ false → (length text == 0) ≡ false
 filled [] e = absurd (cc)
-filled (c ∷ cs) e = refl
+filled (c ∷ cs) e = more_than_none (length cs)
 
 -- no known word is empty, since the first of them is
 word_there : (text : List ℕ) → list_any (bytes_eq (word_of text)) known_words ≡ false

@@ -138,7 +138,7 @@ GameLinesAreAnswered = (session : SessionSeen) → ByTheGame session
 
 -- ---- moves without `usermove`
 
--- in every session: a line that is a move alone, such as `e4`, gets the response of `usermove` with this move. Its first
+-- in every session: a line that is only a move, such as `e4`, gets the response of `usermove` with this move. Its first
 -- word is none of `known_words`, and it has a move's shape
 abbrev pub BareMovesAreMoves : Type 0
 BareMovesAreMoves = (session : SessionSeen) (bare named : LineSeen) → bare.too_long ≡ false → named.too_long ≡ false

@@ -26,7 +26,7 @@ pub fn session_lines_are_answered()
 /// answers: a move while the game is on, moves and `claim` after the end, a move beyond the limit, `undo` and `remove`
 /// of one or two half-moves, `variant normal`, `claim`, `result`, `setboard` of two FENs that are refused and of a
 /// stalemate's, and what is shown of a game that has just begun, of one of a single half-move, and of the draws that
-/// can be claimed. And a line that is a move alone, such as `e4`, is answered as `usermove e4` is.
+/// can be claimed. And a bare move, such as `e4`, is answered as `usermove e4` is.
 ///
 /// It refuses a result against the board's verdict that is taken, a move more than the limit, a mate or a stalemate
 /// that is not answered, an `undo` that keeps a declared result, a brace that stays in a comment, and a move that needs

@@ -3,11 +3,11 @@ use Rattle.std.proofs.Common.{◌≡◌, ℕ, zero, suc, ◌+◌, ◌-◌, ◌<�
 use Rattle.std.proofs.lemmas.Bool.{cases_Bool, cases_eq, both_ways, leb-true, le-leb, or_parts, or_from}
 use Rattle.std.proofs.lemmas.List.Sums.{sum_by-cons}
 use Rattle.std.specs.List.{AllPairs, AllByRecursion, slice_get}
-use Rattle.chess_base.specs.{declared.man.Colour.Colour, declared.man.Kind.TheVariants.Pawn, declared.man.Move.Move, declared.setup.Setup.Setup, Attacks.is_in_check, Moves.after, Moves.halfmove_after, Moves.resets_clock}
+use Rattle.chess_base.specs.{declared.man.Colour.Colour, declared.man.Colour.TheVariants.White, declared.man.Colour.TheVariants.Black, ByColour.by_colour, declared.man.Kind.TheVariants.Pawn, declared.man.Move.Move, declared.setup.Setup.Setup, Attacks.is_in_check, Moves.after, Moves.halfmove_after, Moves.resets_clock}
 use Rattle.chess_base.specs.Men.{man_at, is_man, is_of, other}
 use Rattle.chess_base.proofs.shared.Captures.{resets_clock_is}
 use Rattle.chess_game.specs.{declared.verdicts.Verdict.TheVariants.FivefoldRepetition, declared.verdicts.Verdict.TheVariants.SeventyFiveMoves, Ends.has_insufficient_material, Ends.verdict, Line.positions_of, Line.position_after, Same.is_same_position, Same.repetition_count}
-use Rattle.rules_laws.specs.Endings.{position_at, IsThere, IsQuiet, IsQuietFor, ClocksCountQuietMoves, CountingEnds}
+use Rattle.rules_laws.specs.Endings.{position_at, IsThere, IsQuiet, IsQuietFor, ClocksCountQuietMoves, CountersStop, CountingEnds}
 use Rattle.rules_laws.proofs.NoMove.{judged, judged_at, has_none}
 
 -- ---- numbers that rise, from k on
@@ -263,6 +263,25 @@ clock_from n start (m ∷ ms) l h =
   where
     cases_le : (a b : ℕ) → (a ≤ b) ⊎ (b < a)
     cases_le a b = grind arith
+
+-- ---- counters at their limit
+
+number_of_white : (p : Setup) (m : Move) → p.side ≡ White → (after p m).fullmove ≡ p.fullmove
+unfolding after
+number_of_white p m e = ap (λ (c : Colour). by_colour p.fullmove (min (p.fullmove + 1) 999999) c) e
+
+number_of_black : (p : Setup) (m : Move) → p.side ≡ Black → (after p m).fullmove ≡ min (p.fullmove + 1) 999999
+unfolding after
+number_of_black p m e = ap (λ (c : Colour). by_colour p.fullmove (min (p.fullmove + 1) 999999) c) e
+
+pub counters_stop : CountersStop
+counters_stop p m = record {
+  quiet = λ h low. (let is = clock_goes_on p m (not_reset p m h) in omega (arith, is, low));
+  full_clock = λ h full. (let is = clock_goes_on p m (not_reset p m h) in omega (arith, is, full));
+  white = number_of_white p m;
+  black = λ e low. (let is = number_of_black p m e in omega (arith, is, low));
+  full_number = λ e full. (let is = number_of_black p m e in omega (arith, is, full));
+}
 
 -- ---- verdicts
 

@@ -2,31 +2,12 @@
 use Rattle.std.proofs.Common.{refl}
 use Rattle.std.specs.Fmt.{digits}
 use Rattle.chess_base.specs.Attacks.{is_clear, could_capture, attacks, is_attacked, is_in_check}
-use Rattle.chess_base.specs.Castling.{king_square, right_is_sound, is_castling_to, castling, castle_of, castling_needs_empty, castling_way_is_empty, castling_way_is_safe, castles}
-use Rattle.chess_base.specs.{Faults.rights_are_sound, Initial.initial_setup, Initial.initial_setup_of, Men.is_of, Men.is_man}
+use Rattle.chess_base.specs.Castling.{is_castling_to, castling, castle_of, castling_needs_empty, castling_way_is_empty, castling_way_is_safe, castles}
+use Rattle.chess_base.specs.{Initial.initial_setup, Initial.initial_setup_of, Men.is_of, Men.is_man}
 use Rattle.chess_base.specs.Moves.{is_double_advance, is_en_passant, pawn_advances, pawn_captures, pawn_moves, man_moves, is_pseudo_legal, captured_square, men_after, rights_after, target_after, resets_clock, halfmove_after, after, is_legal}
-use Rattle.chess_base.specs.Sound.{has_one_king, no_pawn_on_end_ranks, has_at_most_16, target_is_sound}
 use Rattle.chess_base.specs.Squares.{squares, some_square, each_square, is_between}
-use Rattle.chess_fen.specs.{Texts.may_name_right, Writing.placement_text}
-use Rattle.rules_laws.specs.KnownGames.{move_by}
-use Rattle.rules_laws.specs.KnownPositions.{Becomes, LinesLeadToFens}
-
--- clock and number reach their limit, and stay at it
-last_counts : Becomes "4k3/8/8/8/8/8/8/4K3 b - - 999998 999998" (move_by "e8" "d8")
-    "3k4/8/8/8/8/8/8/4K3 w - - 999999 999999"
-unfolding squares some_square each_square is_between is_of is_man is_clear could_capture attacks is_attacked is_in_check
-    is_castling_to castling castle_of king_square right_is_sound rights_are_sound has_one_king no_pawn_on_end_ranks
-    has_at_most_16 target_is_sound may_name_right is_double_advance is_en_passant captured_square men_after rights_after
-    target_after resets_clock halfmove_after after placement_text digits
-last_counts = refl
-
-full_counts : Becomes "4k3/8/8/8/8/8/8/4K3 b - - 999999 999999" (move_by "e8" "d8")
-    "3k4/8/8/8/8/8/8/4K3 w - - 999999 999999"
-unfolding squares some_square each_square is_between is_of is_man is_clear could_capture attacks is_attacked is_in_check
-    is_castling_to castling castle_of king_square right_is_sound rights_are_sound has_one_king no_pawn_on_end_ranks
-    has_at_most_16 target_is_sound may_name_right is_double_advance is_en_passant captured_square men_after rights_after
-    target_after resets_clock halfmove_after after placement_text digits
-full_counts = refl
+use Rattle.chess_fen.specs.Writing.{placement_text}
+use Rattle.rules_laws.specs.KnownPositions.{LinesLeadToFens}
 
 pub lines_lead_to_fens : LinesLeadToFens
 unfolding squares some_square each_square is_between is_of is_man is_clear could_capture attacks is_attacked is_in_check
@@ -43,6 +24,4 @@ lines_lead_to_fens = record {
   promotion = ((refl, (refl, (refl, (refl, (refl, (refl, (refl, (refl, (refl, tt))))))))), refl);
   rook_moved = ((refl, (refl, (refl, tt))), refl);
   rook_captured = ((refl, (refl, (refl, (refl, (refl, tt))))), refl);
-  last_counts = last_counts;
-  full_counts = full_counts;
 }

@@ -8,7 +8,7 @@ use Rattle.chess_base.specs.declared.setup.Setup.{Setup}
 use Rattle.chess_base.specs.declared.setup.TheConstants.{COUNTER_LIMIT}
 use Rattle.chess_base.specs.Attacks.{is_in_check}
 use Rattle.chess_base.specs.Men.{man_at, is_of, is_man, other}
-use Rattle.chess_base.specs.Moves.{is_legal}
+use Rattle.chess_base.specs.Moves.{is_legal, after}
 use Rattle.chess_base.specs.Sound.{IsSound}
 use Rattle.chess_game.specs.declared.verdicts.Verdict.TheVariants.{WhiteMates, BlackMates, Stalemate, FivefoldRepetition, SeventyFiveMoves}
 use Rattle.chess_game.specs.Ends.{claims, has_insufficient_material, verdict}
@@ -79,6 +79,19 @@ pub record IsQuietFor (n : ℕ) (start : Setup) (ms : List Move) : Type 0 where
 abbrev pub ClocksCountQuietMoves : Type 0
 ClocksCountQuietMoves = (n : ℕ) (start : Setup) (ms : List Move) → n ≤ COUNTER_LIMIT
     → ((n ≤ (position_after start ms).halfmove) ↔ IsQuietFor n start ms)
+
+-- what the counters are after move m of position p: the halfmove clock one more after a quiet move, the fullmove number
+-- one more after a move of Black; but each stays at 999,999
+pub record CountsOn (p : Setup) (m : Move) : Type 0 where
+  pub quiet : IsQuiet p m → p.halfmove < 999999 → (after p m).halfmove ≡ p.halfmove + 1
+  pub full_clock : IsQuiet p m → p.halfmove ≡ 999999 → (after p m).halfmove ≡ 999999
+  pub white : p.side ≡ White → (after p m).fullmove ≡ p.fullmove
+  pub black : p.side ≡ Black → p.fullmove < 999999 → (after p m).fullmove ≡ p.fullmove + 1
+  pub full_number : p.side ≡ Black → p.fullmove ≡ 999999 → (after p m).fullmove ≡ 999999
+
+-- `CountsOn` holds of each move of each position
+abbrev pub CountersStop : Type 0
+CountersStop = (p : Setup) (m : Move) → CountsOn p m
 
 -- ---- what follows from both
 

@@ -12,7 +12,6 @@ use Rattle.chess_base.specs.declared.man.Variant.TheVariants.{Normal, Fischerand
 use Rattle.chess_base.specs.declared.setup.Setup.{Setup}
 use Rattle.chess_base.specs.Initial.{initial_setup}
 use Rattle.chess_base.specs.Men.{man_at}
-use Rattle.chess_base.specs.Moves.{after}
 use Rattle.chess_fen.specs.Reading.{fen_reading_as}
 use Rattle.chess_fen.specs.Writing.{fen}
 use Rattle.chess_game.specs.Line.{IsLine, position_after}
@@ -29,11 +28,6 @@ LeadsTo ms text = IsLine initial_setup ms × (fen (position_after initial_setup 
 -- the move between two named squares, with the promotion to a queen
 abbrev pub promotes : Text → Text → Move
 promotes from to = record { from = square from; to = square to; promotion = Some Queen }
-
--- by this move the position of a FEN of normal chess becomes that of the FEN `next`
-abbrev pub Becomes : Text → Move → Text → Type 0
-Becomes text m next =
-    option_map (λ p. fen (after p m)) (result_ok (fen_reading_as Normal (codes text))) ≡ Some (codes next)
 
 -- known lines and the FENs that they lead to
 pub record LinesLeadToFens : Type 0 where
@@ -60,11 +54,6 @@ pub record LinesLeadToFens : Type 0 where
   -- 1 b3 g6 2 Bb2 a6 3 Bxh8: Black's right on the king side is lost with the rook
   pub rook_captured : LeadsTo (move_by "b2" "b3" ∷ move_by "g7" "g6" ∷ move_by "c1" "b2" ∷ move_by "a7" "a6" ∷
       move_by "b2" "h8" ∷ []) "rnbqkbnB/1ppppp1p/p5p1/8/8/1P6/P1PPPPPP/RN1QKBNR b KQq - 0 3"
-  -- clock and number rise to 999,999, and stay there
-  pub last_counts : Becomes "4k3/8/8/8/8/8/8/4K3 b - - 999998 999998" (move_by "e8" "d8")
-      "3k4/8/8/8/8/8/8/4K3 w - - 999999 999999"
-  pub full_counts : Becomes "4k3/8/8/8/8/8/8/4K3 b - - 999999 999999" (move_by "e8" "d8")
-      "3k4/8/8/8/8/8/8/4K3 w - - 999999 999999"
 
 -- ---- the same position
 

@@ -1,7 +1,7 @@
 //! Laws of how a game ends. A caller learns one by calling its function, which does nothing. What a law refuses are
 //! wrong definitions: with one of them it can't be proved.
 
-ghost use Rattle.rules_laws.specs.Endings.{ClocksCountQuietMoves, CountingEnds, InsufficientNeverMates, NoMoveEnds};
+ghost use Rattle.rules_laws.specs.Endings.{ClocksCountQuietMoves, CountersStop, CountingEnds, InsufficientNeverMates, NoMoveEnds};
 
 /// A law: the contract says it, and the function does nothing. A game ends by mate exactly if the side on move is in
 /// check and no move is legal, and by stalemate exactly if it is not in check and no move is legal (FIDE Laws of Chess
@@ -34,9 +34,12 @@ pub fn insufficient_material_never_mates()
 
 /// A law: the contract says it, and the function does nothing. The halfmove clock counts the half-moves since the last
 /// capture or pawn move, as FEN has it: it is at least n exactly if the last n half-moves were neither. Where the game
-/// has fewer half-moves, those before its start are counted by the start's clock.
+/// has fewer half-moves, those before its start are counted by the start's clock. The fullmove number counts Black's
+/// moves. Both counters stay at 999,999.
 ///
-/// It refuses a clock that some capture or pawn move leaves on, or that counts full moves.
+/// It refuses a clock that some capture or pawn move leaves on, or that counts full moves, and counters with another
+/// limit or without one.
 pub fn halfmove_clocks_count_quiet_moves()
-    ensures { ClocksCountQuietMoves }
+    ensures quiet { ClocksCountQuietMoves }
+    ensures limits { CountersStop }
 {}

@@ -6,11 +6,10 @@ ghost use Rattle.rules_laws.specs.KnownCounts.{EndingsAreJudged, MovesAreAsMany}
 ghost use Rattle.rules_laws.specs.KnownPositions.{FensAreRefused, LinesLeadToFens, PositionsAreTheSame, TheSameHaveTheSamePieces};
 
 /// A law: the contract says it, and the function does nothing. Known lines are legal, and lead to positions with these
-/// FENs (PGN standard of 1994, section 16.1.4, has three of them). Clock and move number rise to 999,999, and stay
-/// there.
+/// FENs (PGN standard of 1994, section 16.1.4, has three of them).
 ///
 /// It refuses a right to castle that is lost without a reason, a target that is missing, a move number that rises after
-/// White's move, castling or a promotion that leaves other pieces, and counters without a limit.
+/// White's move, and castling or a promotion that leaves other pieces.
 pub fn known_lines_lead_to_these_fens()
     ensures { LinesLeadToFens }
 {}

@@ -1,4 +1,4 @@
--- The answers to some lines, by what the session's game is, and how claims are shown (GameLines); and a move alone
+-- The answers to some lines, by what the session's game is, and how claims are shown (GameLines); and bare moves
 -- (BareMoves).
 use Rattle.chess_cecp_laws.proofs.BareMoves.{bare_moves_are_moves}
 use Rattle.chess_cecp_laws.proofs.GameLines.{claims_are_shown, game_lines_are_answered}
