@@ -4,6 +4,7 @@ mod InPlace
 mod Kept
 mod LineEnds
 mod LineKinds
+mod Parts
 mod PlainLengths
 mod SeenLines
 mod Shards

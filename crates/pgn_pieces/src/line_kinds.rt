@@ -10,16 +10,18 @@
 //! The functions that `kind_of` calls are inlined, since `verify --keep-going` calls it for every line of a collection
 //! (the workloads collections and puzzles). What that gains was not measured apart.
 
-ghost use Rattle.std.specs.Prelude.{◌≡◌, ◌≤◌, nat_lt, true, false, not, ◌&&◌, ◌||◌, ◌==◌, length, take, drop, codes, Option};
+ghost use Rattle.std.specs.Prelude.{◌≡◌, ◌≤◌, nat_lt, true, false, ◌&&◌, ◌||◌, ◌==◌, length, take, drop, codes, Option, [], ◌∷◌};
 ghost use Rattle.std.specs.Str.{bytes_eq};
 ghost use Rattle.std.specs.List.{list_all, list_any};
 ghost use Rattle.std.specs.Option.{option_map};
 ghost use Rattle.pgn_pieces.specs.Pieces.{front_of, after_byte, after_name, after_part, after_parts, begins_tag, from_quote, has_more, tag_name, is_tag_line, is_event_line, is_moves_line};
-ghost use Rattle.byte_devices.specs.Bytes.{after_byte_order_mark, byte, is_blank};
+ghost use Rattle.byte_devices.specs.Bytes.{after_byte_order_mark, is_blank};
 ghost use Rattle.pgn_pieces.specs.Places.{breaks_line, line_ends};
-ghost use Rattle.pgn_pieces.specs.ties.Fronts.{is_empty_front, without_blanks};
+ghost use Rattle.pgn_pieces.specs.ties.Fronts.{after_value, from_mark, is_empty_front, without_blanks};
 
-use byte_devices::{after_byte_order_mark, is_blank, is_name_byte, len_before, split_while};
+use byte_devices::{
+    after_byte_order_mark, is_blank, is_name_byte, len_before, len_before_any, split_while,
+};
 
 // How many of a line's first bytes decide its kind; the bytes after these are not looked at.
 pub(crate) const FRONT_LEN: usize = 256;
@@ -62,20 +64,22 @@ pub(crate) fn kind_of(line: &[u8], moves: bool) -> Kind
         is_event: is_tag && name == b"Event".as_slice(),
         moves: moves
             || if is_tag {
-                has_moves(front)
+                has_moves(front, after_name)
             } else {
                 !is_empty_front(front)
             },
     }
 }
 
-// Whether a tag line with this front has more than tags, such as moves, or a tag that isn't closed on the line. It is
-// not inlined, since few lines of a collection are tag lines before moves.
+// Whether a tag line with this front has more than tags, such as moves, or a tag that isn't closed on the line.
+// `value` is the front from its first tag's value on: `"Oslo"]` for `[Event "Oslo"]`.
 #[inline(never)]
-fn has_moves(front: &[u8]) -> bool
+fn has_moves(front: &[u8], value: &[u8]) -> bool
+    requires value { value.now ≡ after_name front.now }
+    requires tag { begins_tag front.now ≡ true }
     ensures { result ≡ has_more (list_any breaks_line front.now) (after_parts 256 front.now) }
 {
-    match after_parts(front) {
+    match after_parts(front, value) {
         [
             b'\r' | b'\n' | b'{' | b';' | b'(' | b'$' | b'.' | b'!' | b'?',
             ..
@@ -86,38 +90,37 @@ fn has_moves(front: &[u8]) -> bool
     }
 }
 
-// Whether a byte of a string ends it: it is a quote. `is_kept`: the byte before it is a backslash that keeps it from that.
-fn closes(is_kept: bool, byte: u8) -> bool
-    ensures { result ≡ (not is_kept && byte == 34) }
-{
-    !is_kept && byte == b'"'
-}
-
-// Whether a byte of a string is a backslash that keeps the next byte from ending the string; it isn't if it is kept so
-// itself (`is_kept`).
-fn keeps(is_kept: bool, byte: u8) -> bool
-    ensures { result ≡ (not is_kept && byte == 92) }
-{
-    !is_kept && byte == b'\\'
-}
-
 // The rest of a string, from the quote on that closes it; empty if none does. A quote after a backslash doesn't.
+#[inline(always)]
 fn from_quote(text: &[u8]) -> &[u8]
     ensures { result.now ≡ from_quote false text.now }
 {
-    let mut rest = text;
-    let mut is_kept = false;
-    while let [first, others @ ..] = rest {
-        if closes(is_kept, *first) {
-            return rest;
-        }
-        is_kept = keeps(is_kept, *first);
-        rest = others;
+    let mut rest = from_mark(text);
+    // Most strings have no backslash.
+    while begins_with(rest, b'\\') {
+        rest = from_mark(without_first(without_first(rest)));
     }
     rest
 }
 
+// Whether this is a text's first byte.
+#[inline(always)]
+fn begins_with(text: &[u8], byte: u8) -> bool
+    ensures { result ≡ bytes_eq (take 1 text.now) (byte ∷ []) }
+{
+    text.starts_with(&[byte])
+}
+
+// The text from its first quote or backslash on; empty if it has neither.
+#[inline(always)]
+fn from_mark(text: &[u8]) -> &[u8]
+    ensures { result.now ≡ from_mark text.now }
+{
+    &text[len_before_any(text, b'"', b'\\', b'\\')..]
+}
+
 // The text after its first byte, if that is `byte`.
+#[inline(always)]
 fn after_byte(byte: u8, text: &[u8]) -> Option<&[u8]>
     ensures { option_map (λ r. r.now) result ≡ after_byte byte text.now }
 {
@@ -138,14 +141,15 @@ fn begins_tag(text: &[u8]) -> bool
     has_tag(name, after_name(text, name))
 }
 
-// What comes after the tag with which a text begins, which has a name and an opening quote; `None` if the tag isn't
-// closed.
-fn after_tag(text: &[u8]) -> Option<&[u8]>
-    ensures { option_map (λ r. r.now) result ≡ after_byte (byte "]")
-        (without_blanks (drop 1 (from_quote false (drop 1 (after_name text.now))))) }
+// What comes after a tag and any spaces and tabs, from the tag's value on: `e4` for `"Oslo"] e4`; `None` if the tag
+// isn't closed.
+#[inline(always)]
+fn after_value(value: &[u8]) -> Option<&[u8]>
+    ensures { option_map (λ r. r.now) result ≡ after_value value.now }
 {
-    let string = without_first(after_name(text, tag_name(text)));
-    after_byte(b']', without_blanks(without_first(from_quote(string))))
+    let rest = from_quote(without_first(value));
+    let rest = after_byte(b']', without_blanks(without_first(rest)))?;
+    Some(without_blanks(rest))
 }
 
 // What comes after the tag or the comment with which a text begins, and any spaces and tabs; `None` if it begins with
@@ -154,7 +158,7 @@ fn after_part(text: &[u8]) -> Option<&[u8]>
     ensures { option_map (λ r. r.now) result ≡ after_part text.now }
 {
     if begins_tag(text) {
-        return Some(without_blanks(after_tag(text)?));
+        return after_value(after_name(text, tag_name(text)));
     }
     if !text.starts_with(b"{") {
         return None;
@@ -163,12 +167,40 @@ fn after_part(text: &[u8]) -> Option<&[u8]>
     Some(without_blanks(rest))
 }
 
-// What comes after the tags and comments with which a line's front begins. A front has no more than 256 of them.
-fn after_parts(front: &[u8]) -> &[u8]
+// What comes after the tags and comments with which the front of a tag line begins. `value` is the front from its first
+// tag's value on.
+#[inline(always)]
+fn after_parts<'t>(front: &'t [u8], value: &'t [u8]) -> &'t [u8]
+    requires value { value.now ≡ after_name front.now }
+    requires tag { begins_tag front.now ≡ true }
     ensures { result.now ≡ after_parts 256 front.now }
 {
-    let mut rest = front;
-    for passed in 0..FRONT_LEN {
+    let Some(rest) = after_value(value) else {
+        return front;
+    };
+    // Most lines have one tag and nothing else.
+    if !begins_like_part(rest) {
+        return rest;
+    }
+    after_more_parts(rest)
+}
+
+// Whether a text begins as a tag or a comment does.
+#[inline(always)]
+fn begins_like_part(text: &[u8]) -> bool
+    ensures { result ≡ (bytes_eq (take 1 text.now) (codes "[") || bytes_eq (take 1 text.now) (codes "{")) }
+{
+    begins_with(text, b'[') || begins_with(text, b'{')
+}
+
+// What comes after the tags and comments with which a text begins that comes after the first tag of a line's front. A
+// front has no more than 256 of them.
+#[inline(never)]
+fn after_more_parts(text: &[u8]) -> &[u8]
+    ensures { result.now ≡ after_parts 255 text.now }
+{
+    let mut rest = text;
+    for passed in 1..FRONT_LEN {
         let Some(next) = after_part(rest) else {
             return rest;
         };

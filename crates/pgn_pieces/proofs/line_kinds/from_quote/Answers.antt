@@ -1,26 +1,30 @@
--- Where the first byte closes the string, and where the rest goes on (StringEnds).
-use Rattle.std.proofs.Common.{sym, ◌∙◌, refl}
-use Rattle.pgn_pieces.proofs.StringEnds.{from_quote-closed, from_quote-none, from_quote-on, tail_of-short}
+-- From mark to mark (StringEnds): a quote ends the loop, and a backslash keeps the byte after it.
+use Rattle.std.proofs.Common.{◌≡◌, ◌∙◌, ◌<◌, List, ℕ, false, length, drop, ap, sym}
+use Rattle.pgn_pieces.specs.{Pieces.from_quote, ties.Fronts.from_mark}
+use Rattle.pgn_pieces.proofs.StringEnds.{begins_with_mark, closed, kept_on, mark_first, quote_after_mark, shorter_on}
 use Rattle.pgn_pieces.proofs.line_kinds.from_quote.Goals as goal
 
 pub loop-rest-init : goal.loop-rest-init
-loop-rest-init c = refl
-
-pub returns-then-closes : goal.returns-then-closes
-returns-then-closes c =
-    sym (from_quote-closed c.loop-rest.is_kept c.loop-rest.rest.now c.in-len1-up.len_at_least
-    (sym c.closes.ensures ∙ c.if-closes.true))
-    ∙ c.loop-rest.invariant
+loop-rest-init c = record {
+  mark = ap begins_with_mark c.from_mark-rest.ensures ∙ mark_first c.args.text.now;
+  same = ap (from_quote false) c.from_mark-rest.ensures ∙ quote_after_mark c.args.text.now;
+}
 
 pub loop-rest-smaller : goal.loop-rest-smaller
-loop-rest-smaller c = tail_of-short c.loop-rest.rest.now c.in-len1-up.len_at_least
+loop-rest-smaller c =
+    rw c.from_mark-rest-in-loop-rest.ensures (rw c.without_first-in-loop-rest.ensures (rw c.without_first.ensures
+    (shorter_on c.loop-rest.rest.now (sym c.loop-rest-test.ensures))))
 
 pub loop-rest-preserved : goal.loop-rest-preserved
 loop-rest-preserved c =
-    from_quote-on c.loop-rest.is_kept c.keeps-is_kept.result c.loop-rest.rest.now c.in-len1-up.len_at_least
-    (sym c.closes.ensures ∙ c.if-closes.false) c.keeps-is_kept.ensures
-    ∙ c.loop-rest.invariant
+    let rest' = drop 1 (drop 1 c.loop-rest.rest.now) in
+    let next : c.from_mark-rest-in-loop-rest.result.now ≡ from_mark rest' =
+    c.from_mark-rest-in-loop-rest.ensures ∙ ap from_mark c.without_first-in-loop-rest.ensures
+    ∙ ap (λ t. from_mark (drop 1 t)) c.without_first.ensures in record {
+      mark = ap begins_with_mark next ∙ mark_first rest';
+      same = ap (from_quote false) next ∙ kept_on c.loop-rest.rest.now (sym c.loop-rest-test.ensures) ∙ c.loop-rest.invariant.same;
+    }
 
 pub returns : goal.returns
 returns c =
-    from_quote-none c.loop-rest.is_kept c.loop-rest.rest.now c.in_default.len_below ∙ c.loop-rest.invariant
+    closed c.loop-rest.rest.now c.loop-rest.invariant.mark (sym c.loop-rest-test.ensures) ∙ c.loop-rest.invariant.same

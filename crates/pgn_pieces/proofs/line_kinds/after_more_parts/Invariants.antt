@@ -1,8 +1,8 @@
 -- The loop's invariant: what comes after the tags and comments of the rest, so many fewer of them, comes after those of
--- the front.
+-- the text.
 use Rattle.std.proofs.Common.{◌≡◌, ◌-◌}
 use Rattle.pgn_pieces.specs.Pieces.{after_parts}
-use Rattle.pgn_pieces.proofs.line_kinds.after_parts.Given as goal
+use Rattle.pgn_pieces.proofs.line_kinds.after_more_parts.Given as goal
 
 abbrev pub invariant-loop-passed : goal.invariant-loop-passed
-invariant-loop-passed l = after_parts (256 - l.passed) l.rest ≡ after_parts 256 l.front
+invariant-loop-passed l = after_parts (256 - l.passed) l.rest ≡ after_parts 255 l.text
