@@ -193,8 +193,8 @@ fn begins_like_part(text: &[u8]) -> bool
     begins_with(text, b'[') || begins_with(text, b'{')
 }
 
-// What comes after the tags and comments with which a text begins that comes after the first tag of a line's front. A
-// front has no more than 256 of them.
+// What comes after the tags and comments with which `text` begins. `text` is a line's front after its first tag. The
+// loop never reaches its bound, since a front of at most 256 bytes has fewer tags and comments than 256.
 #[inline(never)]
 fn after_more_parts(text: &[u8]) -> &[u8]
     ensures { result.now ≡ after_parts 255 text.now }

@@ -33,8 +33,8 @@ pub data Token : Type 0 where
 abbrev pub is_white_space : ℕ → Bool
 is_white_space c = c == space || (c == tab || (c == new_line || c == carriage_return))
 
--- whether a byte may be in a word (`Nf3+`, `O-O`, `1/2-1/2`): letters, digits, `_`, `+`, `#`, `=`, `-`, `/`, `!`, `?`
--- and `:`
+-- whether a byte may be in a word (`Nf3+`, `O-O`, `1/2-1/2`): a byte of PGN's symbols (section 7: letters, digits, `_`,
+-- `+`, `#`, `=`, `-` and `:`), or one that this project adds to them, `/`, `!` or `?`
 abbrev pub is_word_byte : ℕ → Bool
 is_word_byte c = is_name_byte c || list_any (λ b. c == b) (codes "+#=-/!?:")
 

@@ -1,5 +1,5 @@
--- An officer reaches the square from where it is reached from there, if no own piece is on it (starts_plain,
--- own_on_end of ByKind).
+-- Nothing goes to an own piece's square (own_on_end). To another square a piece can go if its kind would attack it from
+-- there (starts_plain), and the starts are where such a move is legal (officer_starts_are). All three are of ByKind.
 use Rattle.std.proofs.Common.{◌≡◌, ◌<◌, true, false, sym, ap, subst, ◌∙◌}
 use Rattle.chess_base.specs.Men.{man_at, is_of}
 use Rattle.chess_moves.specs.Sets.{contains}
