@@ -13,8 +13,8 @@ use Rattle.chess_game.specs.{declared.results.Outcome.Outcome, Ends.verdict, Gam
 use Rattle.chess_game.proofs.shared.Lines.{variant-position_after}
 use Rattle.pgn_writer.specs.{declared.tags.Tags.Tags, Terminations.termination_text, Terminations.termination_of, Written.tag_line, Written.ended, Written.lines_of}
 use Rattle.pgn_writer.specs.GameText.{tag_lines, move_tokens, game_tokens, pgn}
-use Rattle.chess_cecp.specs.laws.NormalGame.{normal_initial, normal_line, normal_last, normal_legal_en_passant_square, normal_same, normal_rep, normal_verdict, normal_outcome_now}
-use Rattle.chess_cecp.specs.laws.NormalPgn.{normal_is_initial, normal_tag_lines, normal_move_tokens, normal_game_tokens, normal_pgn}
+use Rattle.chess_cecp_laws.specs.NormalGame.{normal_initial, normal_line, normal_last, normal_legal_en_passant_square, normal_same, normal_rep, normal_verdict, normal_outcome_now}
+use Rattle.chess_cecp_laws.specs.NormalPgn.{normal_is_initial, normal_tag_lines, normal_move_tokens, normal_game_tokens, normal_pgn}
 
 pub initial_kept : initial_setup ≡ normal_initial
 unfolding initial_setup initial_setup_of normal_initial
