@@ -1,8 +1,9 @@
 -- In a game of normal chess the rows are those of normal chess, but for `variant` and `protover`.
 use Rattle.std.proofs.Common.{◌≡◌, ℕ, true, List, [], ◌∷◌, codes, Option, None, Some, Result, Ok, Err, refl, ap, ◌∙◌, IfOk, flat_map}
 use Rattle.chess_base.specs.{declared.fen_fault.FenFault.FenFault, declared.man.Move.Move, declared.man.Variant.TheVariants.Normal, declared.setup.Setup.Setup, Coordinates.coordinate, MoveList.moves}
-use Rattle.chess_fen.specs.{Reading.fen_reading_as, Writing.fen, laws.Normal.normal_fen, laws.Normal.normal_fen_reading}
-use Rattle.chess_fen.proofs.shared.Normal.{reading_kept, reading_is_normal, fen_kept}
+use Rattle.chess_fen.specs.{Reading.fen_reading_as, Writing.fen}
+use Rattle.chess_fen_laws.specs.Normal.{normal_fen, normal_fen_reading}
+use Rattle.chess_fen_laws.proofs.shared.Normal.{reading_kept, reading_is_normal, fen_kept}
 use Rattle.chess_text.specs.{declared.reading.Reading.Reading, San.shown_move, laws.Normal.normal_moves, laws.Normal.normal_reading}
 use Rattle.chess_text.specs.declared.reading.Reading.TheVariants as reads
 use Rattle.chess_text.proofs.shared.Normal.{normal_kept as texts_kept}

@@ -10,7 +10,7 @@ use Rattle.chess_base.specs.declared.man.Move.{Move}
 use Rattle.chess_base.specs.declared.setup.Setup.{Setup}
 use Rattle.chess_base.specs.Coordinates.{coordinate}
 use Rattle.byte_devices.specs.Bytes.{new_line, space}
-use Rattle.chess_fen.specs.laws.Normal.{normal_fen, normal_fen_reading}
+use Rattle.chess_fen_laws.specs.Normal.{normal_fen, normal_fen_reading}
 use Rattle.chess_text.specs.declared.reading.Reading.{Reading}
 use Rattle.chess_text.specs.declared.reading.Reading.TheVariants as reads
 use Rattle.chess_text.specs.laws.Normal.{normal_moves, normal_reading}

@@ -8,7 +8,7 @@ use Rattle.chess_base.specs.declared.setup.Setup.{Setup}
 use Rattle.chess_base.specs.Men.{same_colour}
 use Rattle.chess_base.specs.Options.{list_if}
 use Rattle.chess_base.specs.laws.Normal.{normal_after}
-use Rattle.chess_fen.specs.laws.Normal.{normal_fen}
+use Rattle.chess_fen_laws.specs.Normal.{normal_fen}
 use Rattle.chess_text.specs.laws.Normal.{normal_san}
 use Rattle.chess_game.specs.Game.{State}
 use Rattle.chess_game.specs.Results.{outcome_text}
