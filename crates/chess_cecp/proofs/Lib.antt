@@ -1,10 +1,8 @@
+pub mod shared
 mod Words
 mod Comments
 mod Responses
 mod LinesOn
 mod RunLemmas
-mod KnownInputs
 mod Rows
 mod OwnRows
-mod NormalGames
-mod NormalRows

@@ -4,5 +4,4 @@ pub mod Declaring
 pub mod Held
 pub mod Session
 pub mod Served
-pub mod laws
 pub mod ties

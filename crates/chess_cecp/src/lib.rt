@@ -9,13 +9,11 @@
 
 mod answer;
 mod command;
-mod laws;
 mod result_command;
 mod run;
 mod session;
 
 pub use command::{Command, read_command};
-pub use laws::{normal_chess_keeps_its_rows, reads_change_no_answer, refusals_change_nothing};
 pub use run::{End, Fault, LineServer, run_session, serve_lines};
 pub use session::{COMMAND_LEN, Go, Session};
 pub use text_lines::{Line, Lines};

@@ -6,3 +6,6 @@ mod SessionLines
 mod BareMoves
 mod ShownLines
 mod GameLines
+mod KnownInputs
+mod NormalGames
+mod NormalRows

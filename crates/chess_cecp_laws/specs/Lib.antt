@@ -3,3 +3,7 @@ pub mod Undo
 pub mod SetBoard
 pub mod SessionLines
 pub mod GameLines
+pub mod KnownInput
+pub mod NormalGame
+pub mod NormalPgn
+pub mod Normal

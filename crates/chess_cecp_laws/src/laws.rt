@@ -1,6 +1,46 @@
-//! A law of the definitions. A caller learns it by calling its function, which does nothing.
+//! Laws of the definitions. A caller learns one by calling its function, which does nothing.
 
+ghost use Rattle.std.specs.Prelude.{◌≡◌, ℕ, true, List, Ok};
+ghost use Rattle.byte_devices.specs.Transfers.{Devices, FromInput, InputGave, Ran};
+ghost use Rattle.chess_base.specs.declared.man.Variant.TheVariants.{Normal};
+ghost use Rattle.chess_cecp.specs.declared.command.Command.{Command};
+ghost use Rattle.chess_cecp.specs.declared.run.End.{End};
+ghost use Rattle.chess_cecp.specs.Held.{SessionSeen};
+ghost use Rattle.chess_cecp.specs.Served.{Served};
+ghost use Rattle.chess_cecp.specs.Session.{row, session_response, IsRefusal};
 ghost use Rattle.chess_cecp_laws.specs.Accepted.{ReadGamesAreAccepted};
+ghost use Rattle.chess_cecp_laws.specs.KnownInput.{AnswersInput, AreFirstLines};
+ghost use Rattle.chess_cecp_laws.specs.Normal.{normal_row_of, has_normal_row};
+ghost use Rattle.chess_game.specs.Game.{State};
+ghost use Rattle.pgn_writer.specs.declared.tags.Tags.{Tags};
+ghost use Rattle.text_lines.specs.Lines.{LineSeen};
+
+use chess_cecp::LineServer;
+
+/// States a law and does nothing: a line that is refused (`Error ..`, `Illegal move ..`, `tellusererror ..`) leaves
+/// start, moves and declared result as they were.
+pub fn refusals_change_nothing()
+    ensures { (session : SessionSeen) (line : LineSeen) → IsRefusal (session_response session line).text
+        → (session_response session line).state ≡ session }
+{}
+
+/// States a law and does nothing: in a game of normal chess each command except `variant` and `protover` does what a
+/// table of commands says that is only for normal chess.
+pub fn normal_chess_keeps_its_rows()
+    ensures { (tags : Tags) (limit : ℕ) (s : State) (text argument : List ℕ) (command : Command)
+        → s.start.variant ≡ Normal → has_normal_row command ≡ true
+        → row tags limit s text argument command ≡ normal_row_of tags limit s text argument command }
+{}
+
+/// States a law and does nothing: if the bytes that the input will give are known, the lines that are read are the
+/// first lines of these bytes, and a server of lines (a session, the stub, or any other `LineServer`) that ends without
+/// a fault answers these lines, up to the first with which it ends, such as `quit`. So the way in which reads cut the
+/// bytes changes no answer.
+pub fn reads_change_no_answer<S: LineServer>()
+    ensures lines { (d d2 : Devices) (i : FromInput) → InputGave d.input d2.input i → AreFirstLines d i }
+    ensures answers { (s s2 : S) (end : End) (d d2 : Devices)
+        → Ran (Served S.respond s s2 (Ok end)) d d2 → AnswersInput S.respond s s2 d d2 }
+{}
 
 /// States a law and does nothing: the moves of a game whose text `read_pgn` of chess_pgn reads without a fault are
 /// accepted, by the table of commands, in a session that is at the game's start and has the same limit of

@@ -4,7 +4,8 @@ use Rattle.std.specs.{List.AllByRecursion, Str.Parse.digits_value}
 use Rattle.std.proofs.{lemmas.Bool.Decides.nat_tests, lemmas.Fmt.digits_decimal, lemmas.Str.IsUtf8-from_ascii, lemmas.Str.Parse.IsNumeralModel, lemmas.Str.Parse.IsDigitsTest, lemmas.Str.Parse.numerals_by_value}
 use Rattle.chess_base.specs.{declared.man.Man.Man, declared.man.Kind.Kind, declared.man.Colour.Colour, declared.man.Colour.TheVariants.White, declared.man.Colour.TheVariants.Black, declared.man.CastlingSide.CastlingSide, declared.man.CastlingSide.TheVariants.KingSide, declared.man.CastlingSide.TheVariants.QueenSide, declared.man.Rights.Rights, declared.man.Variant.Variant, declared.man.Variant.TheVariants.Normal, declared.man.Variant.TheVariants.Fischerandom, declared.setup.Setup.Setup, Letters.white_letter, Letters.letter, Letters.letter_by, Men.Men, Sound.IsSound, shared.Parts.target_is_sound_at}
 use Rattle.chess_fen.specs.shared.Rows.{run_text, row_text}
-use Rattle.chess_fen.specs.ties.Loops.{or_dash, right_text, ranks_down}
+use Rattle.chess_fen.specs.shared.RightTexts.{or_dash, right_text}
+use Rattle.chess_fen.specs.ties.Loops.{ranks_down}
 use Rattle.chess_fen.proofs.{RightLetters.rights_are, WrittenRanks.row_is}
 use Rattle.chess_base.proofs.shared.Parts.{target_is_sound_is}
 use Rattle.chess_fen.specs.RightNames.{right_letter}

@@ -17,8 +17,6 @@ mod DenotedFields
 mod RoundTrip
 mod Steps
 mod DenotedFen
-mod NormalWritten
-mod NormalRead
 mod WrittenFen
 mod RightsAlike
 mod OneInitial

@@ -2,7 +2,7 @@
 use Rattle.std.proofs.Common.{◌≡◌, ℕ, ◌+◌, ◌%◌, true, [], ◌∷◌, ◌++◌, get_or, Option, Some, None, refl, sym, ap, ◌∙◌, arith, ◌↔◌, Ok}
 use Rattle.std.proofs.lemmas.Slice.Eq.{bytes_eq-Decides}
 use Rattle.chess_base.specs.{declared.man.CastlingSide.TheVariants.KingSide, declared.man.CastlingSide.TheVariants.QueenSide, declared.man.Colour.TheVariants.White, declared.man.Colour.TheVariants.Black, declared.man.Variant.Variant, declared.man.Variant.TheVariants.Normal, declared.man.Variant.TheVariants.Fischerandom, declared.setup.Setup.Setup, Initial.initial_setup, Initial.initial_setup_of, Sound.IsSound}
-use Rattle.chess_fen.specs.{ties.Loops.or_dash, ties.Loops.right_text, Reading.fen_reading_as, Texts.fields_of, Writing.rights_text, Writing.fen, Writing.is_initial}
+use Rattle.chess_fen.specs.{shared.RightTexts.or_dash, shared.RightTexts.right_text, Reading.fen_reading_as, Texts.fields_of, Writing.rights_text, Writing.fen, Writing.is_initial}
 use Rattle.chess_fen.proofs.{RightLetters.rights_are, DenotedFen.reading-denoted, RoundTrip.fen_fields, WrittenFen.fen-denoted}
 
 -- the rights of Chess960 are not written as those of the initial position of normal chess, KQkq

@@ -3,7 +3,7 @@ use Rattle.std.proofs.Common.{◌≡◌, ℕ, false, List, [], ◌∷◌, ◌++�
 use Rattle.std.specs.List.{cons_option, filter_map}
 use Rattle.std.proofs.lemmas.Bool.Decides.{nat_tests}
 use Rattle.chess_base.specs.{Castling.right_of, declared.man.CastlingSide.CastlingSide, declared.man.CastlingSide.TheVariants.KingSide, declared.man.CastlingSide.TheVariants.QueenSide, declared.man.Colour.Colour, declared.man.Colour.TheVariants.White, declared.man.Colour.TheVariants.Black, declared.man.Rights.Rights, declared.man.Variant.Variant}
-use Rattle.chess_fen.specs.{RightNames.all_rights, RightNames.right_letter, Writing.rights_text, ties.Loops.or_dash, ties.Loops.right_text}
+use Rattle.chess_fen.specs.{RightNames.all_rights, RightNames.right_letter, Writing.rights_text, shared.RightTexts.or_dash, shared.RightTexts.right_text}
 
 -- the four letters
 abbrev pub letters : Variant → Rights → List ℕ

@@ -5,7 +5,7 @@ use Rattle.std.proofs.{lemmas.Bool.and_parts, lemmas.Bool.eqb-true, lemmas.Bool.
 use Rattle.chess_base.specs.{declared.man.Colour.Colour, declared.man.Colour.TheVariants.White, declared.man.Colour.TheVariants.Black, declared.man.CastlingSide.CastlingSide, declared.man.CastlingSide.TheVariants.KingSide, declared.man.CastlingSide.TheVariants.QueenSide, declared.man.Kind.TheVariants.Rook, declared.man.Rights.Rights, declared.man.Variant.Variant, declared.man.Variant.TheVariants.Fischerandom, Squares.file, Squares.rank, shared.Parts.is_on_side_of_king, shared.Splits.right_is_sound_at}
 use Rattle.chess_base.specs.Men.{Men, man_at, is_man, other, first_rank}
 use Rattle.chess_base.specs.Castling.{home_square, king_square, is_to_side, right_of}
-use Rattle.chess_fen.specs.{ties.Loops.or_dash, ties.Loops.right_text, ties.Reader.times, ties.Reader.names_once, Writing.rights_text}
+use Rattle.chess_fen.specs.{shared.RightTexts.or_dash, shared.RightTexts.right_text, ties.Reader.times, ties.Reader.names_once, Writing.rights_text}
 use Rattle.chess_fen.proofs.{RightLetters.rights_are, RooksNamed.option_by, RooksNamed.option_in, RooksNamed.in_chess960, Joined.all_append}
 use Rattle.chess_fen.specs.Texts.{first_letter, names_file, may_name_right, is_castling_field}
 use Rattle.chess_fen.specs.RightNames.{side_letter, is_towards, names_right, rook_by}

@@ -12,7 +12,8 @@ use Rattle.chess_fen.specs.Texts.{from_top, placement_of, occurs, may_name_right
 use Rattle.chess_fen.specs.Writing.{fen_rank, placement_text, side_text, rights_text, target_text, fen}
 use Rattle.chess_fen.specs.{Denotation.DenotesSquares, Denotation.DenotesRank, ties.Reader.right_named}
 use Rattle.chess_fen.specs.shared.Rows.{run_text, row_text}
-use Rattle.chess_fen.specs.ties.Loops.{or_dash, ranks_down, ranks_text}
+use Rattle.chess_fen.specs.shared.RightTexts.{or_dash}
+use Rattle.chess_fen.specs.ties.Loops.{ranks_down, ranks_text}
 use Rattle.chess_fen.proofs.{DenotedFields.placement-denoted, DenotedFields.side-text, DenotedFields.target-denoted, RightLetters.letters, RightLetters.rights_are, RightsBack.Stand, RightsBack.right_back, RightsBack.text_is_castling, WrittenRanks.moved, WrittenRanks.row_is, Lengths.short_decimal, Joined.each_weaker, Joined.slice_split-join, Joined.fields_of-join, Steps.denoted_in, Steps.third}
 use Rattle.chess_fen.proofs.RooksNamed.{option_in, options_are_well, rook_is, wells_as_options}
 use Rattle.chess_fen.proofs.FenBytes.{target_fits, rows_plain, fields, counters_fit, fields_plain}

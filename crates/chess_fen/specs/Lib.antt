@@ -4,6 +4,5 @@ pub mod Writing
 pub mod Reading
 pub mod Denotation
 pub mod FenFaults
-pub mod laws
 pub mod shared
 pub mod ties

@@ -3,8 +3,8 @@
 ghost use Rattle.std.specs.Prelude.{◌≡◌, ℕ, ◌+◌, ◌*◌, ◌<◌, ◌≤◌, ◌^◌, ◌∷◌, [], ◌++◌, length, decimal};
 ghost use Rattle.arrayvec.specs.ArrayVec.{array_vec_len};
 ghost use Rattle.chess_fen.specs.Writing.{fen_rank, placement_text, side_text, rights_text, target_text, fen};
+ghost use Rattle.chess_fen.specs.shared.RightTexts.{right_text};
 ghost use Rattle.chess_fen.specs.shared.Rows.{run_text};
-ghost use Rattle.chess_fen.specs.ties.Loops.{right_text};
 
 use crate::castling_rights::right_letter;
 use arrayvec::ArrayVec;

@@ -1,3 +1,6 @@
+pub mod shared
 mod EqualFens
 mod NamedRooks
 mod OneRankText
+mod NormalRead
+mod NormalWritten

@@ -14,9 +14,9 @@ ghost use Rattle.chess_fen.specs.Reading.{fen_reading_as};
 ghost use Rattle.chess_fen.specs.RightNames.{Absent, At, Wrong, right_in, names_rights_well};
 ghost use Rattle.chess_fen.specs.Texts.{fields_of};
 ghost use Rattle.chess_fen.specs.Writing.{fen, fen_rank};
-ghost use Rattle.chess_fen.specs.laws.Normal.{normal_fen, normal_fen_reading};
 ghost use Rattle.chess_fen_laws.specs.Examples.{kings_and_pawn, three_rooks};
 ghost use Rattle.chess_fen_laws.specs.Laws.{WrittenIsDenoted, WrittenDenotesNoOther, WrittenIsReadBack, RightsAreNamed};
+ghost use Rattle.chess_fen_laws.specs.Normal.{normal_fen, normal_fen_reading};
 ghost use Rattle.chess_fen_laws.specs.RankTexts.{IsRankText};
 
 /// A law: the contract says it, and the function does nothing. The FEN that is written for a sound position denotes

@@ -3,7 +3,7 @@ use Rattle.std.proofs.Common.{◌≡◌, ◌<◌, ℕ, Bool, true, false, List, 
 use Rattle.std.specs.List.{onto_first, concat, list_any, fold}
 use Rattle.std.proofs.{lemmas.Bool.and_parts, lemmas.Bool.or_parts, lemmas.List.reverse-append}
 use Rattle.pgn_pieces.specs.Pieces.{lines_of, begins_piece, is_tag_line, is_event_line, is_moves_line, with_line, cut}
-use Rattle.pgn_pieces.specs.{Places.breaks_line, ties.Cutting.piece_of, ties.Cutting.cut_lines, ties.Held.has_line_end, ties.Held.IsWhole}
+use Rattle.pgn_pieces.specs.{Places.breaks_line, shared.Cutting.piece_of, shared.Cutting.cut_lines, ties.Held.has_line_end, ties.Held.IsWhole}
 
 -- ---- lines
 

@@ -2,7 +2,7 @@
 use Rattle.std.proofs.Common.{◌≡◌, ℕ, ◌+◌, ◌-◌, Bool, true, false, List, [], ◌∷◌, ◌++◌, length, map, reverse, take, drop, Some, None, cond, refl, sym, ap, subst, ◌∙◌, append_assoc, append-nil, length-append, arith, ap₂, if◌then◌else◌, nat_le, not}
 use Rattle.std.specs.List.{onto_first, concat, sum_by, prefix_len, suffix_len}
 use Rattle.std.proofs.{lemmas.List.take-append-drop, lemmas.List.reverse-append, lemmas.List.Sums.sum_by_push, Math.Seq.take-append_seam, Math.Seq.drop-append_seam, lemmas.List.Folds.concat-append}
-use Rattle.pgn_pieces.specs.{declared.pieces.TheConstants.PIECE_LEN, Pieces.lines_of, Pieces.cut, ties.Cutting.cut_lines, ties.Cutting.piece_of, Places.breaks_line, Places.line_ends, laws.Places.IsInPlace, laws.Places.PiecesAreInPlace}
+use Rattle.pgn_pieces.specs.{declared.pieces.TheConstants.PIECE_LEN, Pieces.lines_of, Pieces.cut, shared.Cutting.cut_lines, shared.Cutting.piece_of, Places.breaks_line, Places.line_ends, laws.Places.IsInPlace, laws.Places.PiecesAreInPlace}
 use Rattle.pgn_pieces.specs.Stream.{Piece, with_offsets, pieces, PieceSeen, piece_at}
 use Rattle.pgn_pieces.proofs.{LineEnds.count_append, CutLines.concat_more, CutLines.cut_is}
 use Rattle.pgn_pieces.proofs.WholePieces.{AreLines, no_texts, last_text, next_text, cut_ends}

@@ -7,7 +7,6 @@ mod LineKinds
 mod Parts
 mod PlainLengths
 mod SeenLines
-mod Shards
 mod Steps
 mod StringEnds
 mod Views

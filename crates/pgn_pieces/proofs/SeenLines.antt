@@ -3,7 +3,7 @@
 use Rattle.std.proofs.Common.{◌≡◌, ◌≤◌, ◌<◌, ℕ, ◌+◌, Bool, true, false, List, [], ◌∷◌, ◌++◌, length, take, drop, refl, sym, ap, subst, ◌∙◌, inl, inr, append_assoc, append-nil, length-append, length-drop, arith, ◌&&◌, ◌||◌, take-append-drop, take_all}
 use Rattle.std.specs.List.{list_any, concat}
 use Rattle.std.proofs.{Math.Seq.take-length, Math.Seq.take-add, lemmas.Bool.and_parts, lemmas.Bool.or_cases, lemmas.List.Folds.list_any-append}
-use Rattle.pgn_pieces.specs.{declared.line_kinds.Kind.Kind, declared.piece_end.Seen.Seen, declared.piece_end.Step.TheVariants.Begins, declared.piece_end.Step.TheVariants.Waits, declared.piece_end.Step.TheVariants.Belongs, Places.breaks_line, ties.Cutting.cut_lines, ties.Cutting.piece_of}
+use Rattle.pgn_pieces.specs.{declared.line_kinds.Kind.Kind, declared.piece_end.Seen.Seen, declared.piece_end.Step.TheVariants.Begins, declared.piece_end.Step.TheVariants.Waits, declared.piece_end.Step.TheVariants.Belongs, Places.breaks_line, shared.Cutting.cut_lines, shared.Cutting.piece_of}
 use Rattle.pgn_pieces.specs.Pieces.{lines_of, is_tag_line, is_event_line, is_moves_line, begins_piece, cut}
 use Rattle.pgn_pieces.specs.ties.Held.{AreSeen, HasSeen, MayGoOn, IsDecided, IsWhole, SameTag, Ends, Steps, Looks, has_line_end}
 use Rattle.pgn_pieces.proofs.LineKinds.{decided_on, same_tag, tag_stays}

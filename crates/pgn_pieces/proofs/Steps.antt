@@ -5,7 +5,7 @@ use Rattle.std.specs.List.{concat}
 use Rattle.std.proofs.{lemmas.Bool.Decides.nat_tests, Math.Seq.take-length, Math.Seq.drop-length, lemmas.List.take-append-drop, lemmas.List.nil_from_length}
 use Rattle.pgn_pieces.proofs.{LineEnds.count_append, LineEnds.take_append, CutLines.piece_of_some, InPlace.cut_is_all, shared.Inputs.read_on, shared.Inputs.broke_off}
 use Rattle.byte_devices.specs.Devices.{InputState, GavePiece}
-use Rattle.pgn_pieces.specs.{declared.piece_end.Seen.Seen, declared.pieces.PieceFault.PieceFault, declared.pieces.PieceFault.TheVariants.ReadFailed, declared.pieces.PieceFault.TheVariants.NoMemory, declared.pieces.PieceFault.TheVariants.InputTooLong, Pieces.cut, Pieces.HasRead, Pieces.IsCause, Places.line_ends, ties.Cutting.piece_of}
+use Rattle.pgn_pieces.specs.{declared.piece_end.Seen.Seen, declared.pieces.PieceFault.PieceFault, declared.pieces.PieceFault.TheVariants.ReadFailed, declared.pieces.PieceFault.TheVariants.NoMemory, declared.pieces.PieceFault.TheVariants.InputTooLong, Pieces.cut, Pieces.HasRead, Pieces.IsCause, Places.line_ends, shared.Cutting.piece_of}
 use Rattle.pgn_pieces.specs.Stream.{Piece, with_offsets, pieces, State, IsStateOf, Next, MayFollow, PieceSeen, piece_at, pieces_seen, past_piece, current, pieces_held}
 use Rattle.pgn_pieces.specs.ties.Held.{HasSeen, Ends, FindsEnd, SameCounts, IsLike, LetGo, Adds, passed, with_more}
 

@@ -1,7 +1,7 @@
 -- Each piece of a text but the last ends with a line.
 use Rattle.std.proofs.Common.{◌≡◌, ℕ, Bool, true, false, List, [], ◌∷◌, ◌++◌, refl, sym, ap, subst, ◌∙◌, inl, inr, ◌⊎◌, append_assoc, append-nil, if◌then◌else◌}
 use Rattle.std.specs.List.{onto_first, concat}
-use Rattle.pgn_pieces.specs.{Pieces.lines_of, Pieces.begins_piece, Pieces.cut, Places.breaks_line, ties.Cutting.cut_lines, ties.Cutting.piece_of}
+use Rattle.pgn_pieces.specs.{Pieces.lines_of, Pieces.begins_piece, Pieces.cut, Places.breaks_line, shared.Cutting.cut_lines, shared.Cutting.piece_of}
 use Rattle.pgn_pieces.proofs.CutLines.{concat_more, first_begins, cut_is}
 
 -- texts of which each but perhaps the last ends with a byte that ends a line

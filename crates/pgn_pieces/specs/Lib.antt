@@ -2,4 +2,5 @@ pub mod Pieces
 pub mod Places
 pub mod Stream
 pub mod laws
+pub mod shared
 pub mod ties

@@ -1,4 +1,3 @@
 -- Claims about the definitions: each is the contract of a function that does nothing.
 pub mod HandedOut
 pub mod Places
-pub mod Shards

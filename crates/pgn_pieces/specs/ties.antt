@@ -1,4 +1,3 @@
 -- What only joins code to the definitions: no claim rests on it.
-pub mod Cutting
 pub mod Fronts
 pub mod Held

@@ -1,7 +1,6 @@
 //! Laws of the definitions, each the contract of a function that does nothing. A piece is a part of a collection that
 //! is read as a text of its own, mostly one game.
 
-ghost use Rattle.pgn_pieces.specs.laws.Shards.{ShardsAreCut};
 ghost use Rattle.pgn_pieces.specs.laws.HandedOut.{PiecesAreCut};
 ghost use Rattle.pgn_pieces.specs.laws.Places.{PiecesAreInPlace};
 
@@ -10,13 +9,6 @@ ghost use Rattle.pgn_pieces.specs.laws.Places.{PiecesAreInPlace};
 /// So the calls together return just the pieces of the text, in order.
 pub fn pieces_are_cut()
     ensures { PiecesAreCut }
-{}
-
-/// States a law and does nothing: if a text is divided in two after a line of moves and any empty lines, and before a
-/// tag line, its pieces are those of the first part and then those of the second. So a large collection may be divided
-/// there into parts (shards), which are verified one by one.
-pub fn shards_are_cut()
-    ensures { ShardsAreCut }
 {}
 
 /// States a law and does nothing: each piece of a text has the bytes that are at its offset in the text, and begins

@@ -22,6 +22,6 @@ mod line_kinds;
 mod piece_end;
 mod pieces;
 
-pub use laws::{pieces_are_cut, pieces_are_in_place, shards_are_cut};
+pub use laws::{pieces_are_cut, pieces_are_in_place};
 pub use line_kinds::line_ends;
 pub use pieces::{PIECE_LEN, PgnPieces, PieceFault};

@@ -4,13 +4,15 @@ use Rattle.std.specs.List.{onto_first, concat, flat_map, sum_by}
 use Rattle.std.specs.Option.{option_map_or, unwrap_or}
 use Rattle.std.proofs.{Math.Path.fun_ext, lemmas.List.map-append, lemmas.List.Concat.flat_map-append, lemmas.List.Sums.sum_by-append, lemmas.List.Sums.sum_by-cons}
 use Rattle.chess_pgn.specs.{GameRead.ending, declared.read.PgnEnd.PgnEnd}
-use Rattle.pgn_pieces.specs.{Pieces.cut, Pieces.lines_of, Places.breaks_line, Stream.with_offsets, declared.pieces.TheConstants.PIECE_LEN, laws.Shards.begins_in_tag, laws.Shards.ends_in_moves, laws.Shards.ShardsAreCut}
-use Rattle.pgn_pieces.proofs.shared.Cuts.{cut_is_all, lines_joined}
+use Rattle.pgn_pieces.specs.{Pieces.cut, Pieces.lines_of, Places.breaks_line, Stream.with_offsets, declared.pieces.TheConstants.PIECE_LEN}
+use Rattle.pgn_pieces.proofs.shared.Cuts.{cut_is_all}
 use Rattle.pgn_verifier.specs.{declared.options.Strictness.Strictness, Collection.AreCollectionReports, Explanations.explanation, Explanations.wrong_part, declared.game_fault.GameFault.GameFault, laws.Reasons.reason}
 use Rattle.pgn_verifier.specs.Reports.{Report, Game, Faulty, Placed, game_begin, is_game, plies_of, counts_of}
 use Rattle.pgn_verifier.specs.laws.Reported.{names_at, next_at, read_at, judged_at, game_placed, fault_placed, placed_then, placed_from, placed_of, placed_in, too_long_placed}
 use Rattle.pgn_verifier_laws.specs.Files.{AreCutWherePiecesBegin, moved, one_after_another, IsSumOf, FilesAreVerifiedAlike}
+use Rattle.pgn_verifier_laws.specs.Shards.{begins_in_tag, ends_in_moves}
 use Rattle.pgn_verifier_laws.proofs.OnlyReports.{only_all}
+use Rattle.pgn_verifier_laws.proofs.Shards.{lines_joined, shards_are_cut}
 
 -- ---- the pieces of the files
 
@@ -46,18 +48,17 @@ tag_begins file (next ∷ files) h tag =
     ∙ tag_first ends.before (concat (next ∷ files))
     (sym (ap (λ text. begins_in_tag (lines_of text)) ends.whole_lines) ∙ tag)
 
-pieces_of_files : ShardsAreCut → (files : List (List ℕ)) → AreCutWherePiecesBegin files
-    → cut (concat files) ≡ flat_map cut files
-pieces_of_files law [] h = refl
-pieces_of_files law (file ∷ []) h = ap cut (append-nil file) ∙ sym (append-nil (cut file))
-pieces_of_files law (file ∷ next ∷ files) h =
+pieces_of_files : (files : List (List ℕ)) → AreCutWherePiecesBegin files → cut (concat files) ≡ flat_map cut files
+pieces_of_files [] h = refl
+pieces_of_files (file ∷ []) h = ap cut (append-nil file) ∙ sym (append-nil (cut file))
+pieces_of_files (file ∷ next ∷ files) h =
     let ends = h.0 in
     let rest : List ℕ = concat (next ∷ files) in
     ap (λ text. cut (text ++ rest)) ends.whole_lines
-    ∙ law ends.before rest (sym (ap (λ text. ends_in_moves (lines_of text)) ends.whole_lines) ∙ ends.moves)
+    ∙ shards_are_cut ends.before rest (sym (ap (λ text. ends_in_moves (lines_of text)) ends.whole_lines) ∙ ends.moves)
     (tag_begins next files h.2 h.1)
     ∙ sym (ap (λ text. cut text ++ cut rest) ends.whole_lines)
-    ∙ ap (λ ps. cut file ++ ps) (pieces_of_files law (next ∷ files) h.2)
+    ∙ ap (λ ps. cut file ++ ps) (pieces_of_files (next ∷ files) h.2)
 
 -- ---- reports at another offset
 
@@ -240,11 +241,11 @@ module _ (strict : Strictness) (reports : List ℕ → List Placed)
   fault_kept by (Game plies outcome termination) = refl
   fault_kept by (Faulty fault names wrong_at part why is_unread) = refl
 
-  pub sum_of_files : ShardsAreCut → (files : List (List ℕ)) → AreCutWherePiecesBegin files → IsSumOf reports files
-  sum_of_files law files h =
+  pub sum_of_files : (files : List (List ℕ)) → AreCutWherePiecesBegin files → IsSumOf reports files
+  sum_of_files files h =
       let alike : reports (concat files) ≡ one_after_another reports 0 files =
       only_all (are (concat files))
-      ∙ ap (λ ps. flat_map (placed_in strict) (with_offsets 0 ps)) (pieces_of_files law files h)
+      ∙ ap (λ ps. flat_map (placed_in strict) (with_offsets 0 ps)) (pieces_of_files files h)
       ∙ file_after_file 0 files in record {
         alike = alike;
         games = summed as_game game_kept (λ rs. (counts_of rs).games) (λ rs. refl) files alike;
@@ -252,5 +253,5 @@ module _ (strict : Strictness) (reports : List ℕ → List Placed)
         faults = summed as_fault fault_kept (λ rs. (counts_of rs).faults) (λ rs. refl) files alike;
       }
 
-pub files_alike : ShardsAreCut → FilesAreVerifiedAlike
-files_alike law strict reports are files h = sum_of_files strict reports are law files h
+pub files_alike : FilesAreVerifiedAlike
+files_alike strict reports are files h = sum_of_files strict reports are files h

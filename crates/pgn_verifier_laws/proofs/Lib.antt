@@ -12,6 +12,7 @@ mod BlanksSkipped
 mod SpansFound
 mod SoundStarts
 mod CountedGames
+mod Shards
 mod FilesAlike
 mod FaultOrder
 mod WorkedReports

@@ -3,6 +3,7 @@ pub mod Parts
 pub mod Spans
 pub mod WrittenGames
 pub mod Counted
+pub mod Shards
 pub mod Files
 pub mod FaultOrder
 pub mod WorkedReports

@@ -16,6 +16,7 @@ ghost use Rattle.pgn_verifier_laws.specs.FaultOrder.{FaultsAreInOrder};
 ghost use Rattle.pgn_verifier_laws.specs.Files.{FilesAreVerifiedAlike};
 ghost use Rattle.pgn_verifier_laws.specs.NoFaults.{FaultlessTextsAreReportedAlike};
 ghost use Rattle.pgn_verifier_laws.specs.Parts.{GamesAreInParts, WholeGamesAreReportedAlike, PiecesAreReportedAlike, TextsAreReportedInParts};
+ghost use Rattle.pgn_verifier_laws.specs.Shards.{ShardsAreCut};
 ghost use Rattle.pgn_verifier_laws.specs.Spans.{SpansMakeUpTheText, SpansMakeUpTheCollection};
 ghost use Rattle.pgn_verifier_laws.specs.WorkedReports.{GamesAreFound, PiecesBegin, ReportsAreWritten, TextsAreReadOn};
 ghost use Rattle.pgn_verifier_laws.specs.WrittenGames.{WrittenGamesHaveNoFault, WrittenTextsHaveNoFault};
@@ -23,7 +24,6 @@ ghost use Rattle.pgn_verifier_laws.specs.WrittenGames.{WrittenGamesHaveNoFault, 
 use chess_base::{Position, Variant};
 use chess_pgn_laws::{a_game_is_tags_and_moves, games_are_of_tokens, pgn_is_read_back};
 use chess_text::read_moves_are_legal;
-use pgn_pieces::shards_are_cut;
 
 /// States a law and does nothing: a game is judged in one way, and a text and a collection have one list of reports. It
 /// is the one that is made by reading games one after another. Without their spans (`Plain`) the reports are those of
@@ -126,18 +126,22 @@ pub fn counted_games_are_games()
     let _fischerandom_sound = fischerandom.setup();
 }
 
-/// States a law: a collection may be cut into files where pieces begin, and these verified by themselves, in any order.
-/// `verify --keep-going` reports the same of each game, but that numbers and offsets count from the beginning of its
-/// file. The counts of the collection are the sums of those of its files.
+/// States a law and does nothing: if a text is divided in two after a line of moves and any empty lines, and before a
+/// tag line, its pieces are those of the first part and then those of the second. So a large collection may be divided
+/// there into parts (shards), which are verified one by one.
+pub fn shards_are_cut()
+    ensures { ShardsAreCut }
+{}
+
+/// States a law and does nothing: a collection may be cut into files where pieces begin, and these verified by
+/// themselves, in any order. `verify --keep-going` reports the same of each game, but that numbers and offsets count
+/// from the beginning of its file. The counts of the collection are the sums of those of its files.
 ///
 /// Each file but the last is to end in a line of moves, perhaps with empty lines after it, and with a `\n`; each but
 /// the first is to begin with a tag line, such as `[Event "..."]`, perhaps with a byte order mark before it.
 pub fn files_are_verified_alike()
     ensures { FilesAreVerifiedAlike }
-{
-    // The prover wants this law: a text that is cut there has the pieces of its parts.
-    shards_are_cut();
-}
+{}
 
 /// States a law and does nothing: of a game that has several faults at its end the first of these is reported that is
 /// looked for: a fault in a variation, a variant that isn't known, a tag Result that differs from the marker, a verdict

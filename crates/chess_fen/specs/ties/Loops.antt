@@ -1,12 +1,9 @@
 -- The definitions that loops compute, from any step of the loop on.
-use Rattle.std.specs.Prelude.{ℕ, codes, zero, suc, ◌-◌, ◌*◌, List, [], ◌∷◌, map, take, drop, Option, if◌then◌else◌}
+use Rattle.std.specs.Prelude.{ℕ, zero, suc, ◌-◌, ◌*◌, List, [], ◌∷◌, map, take, drop, Option, if◌then◌else◌}
 use Rattle.std.specs.List.{join_with_byte}
-use Rattle.std.specs.Option.{option_map_or}
 use Rattle.chess_base.specs.declared.man.Colour.{Colour}
 use Rattle.chess_base.specs.declared.man.CastlingSide.{CastlingSide}
 use Rattle.chess_base.specs.declared.man.Man.{Man}
-use Rattle.chess_base.specs.declared.man.Variant.{Variant}
-use Rattle.chess_fen.specs.RightNames.{right_letter}
 use Rattle.chess_base.specs.declared.man.CastlingSide.TheVariants.{KingSide, QueenSide}
 use Rattle.chess_base.specs.declared.man.Kind.TheVariants.{Rook}
 use Rattle.chess_base.specs.Men.{Men, man_at, is_man}
@@ -27,15 +24,6 @@ abbrev pub rook_among : Men → Colour → CastlingSide → ℕ → ℕ
 rook_among men c w zero = nowhere
 rook_among men c w (suc k) = if is_man c Rook (man_at men (home_square c (edge_file w k))) then home_square c
     (edge_file w k) else rook_among men c w k
-
--- the text, or a dash if it is empty
-abbrev pub or_dash : List ℕ → List ℕ
-or_dash [] = codes "-"
-or_dash (c ∷ cs) = c ∷ cs
-
--- the letter of a castling right, given as its rook's square, as text; nothing if there is no right
-abbrev pub right_text : Variant → Colour → CastlingSide → Option ℕ → List ℕ
-right_text v c w right = option_map_or (λ s. right_letter v c w s ∷ []) right []
 
 -- the n lowest ranks of the board (the first argument is n), each as its eight squares, the highest of them first
 abbrev pub ranks_down : ℕ → List (Option Man) → List (List (Option Man))

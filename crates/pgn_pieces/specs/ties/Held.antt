@@ -9,7 +9,7 @@ use Rattle.pgn_pieces.specs.declared.pieces.PieceFault.{PieceFault}
 use Rattle.pgn_pieces.specs.declared.pieces.PieceFault.TheVariants.{ReadFailed, NoMemory, InputTooLong}
 use Rattle.pgn_pieces.specs.declared.pieces.TheConstants.{PIECE_LEN}
 use Rattle.pgn_pieces.specs.Pieces.{lines_of, is_tag_line, is_event_line, is_moves_line, begins_piece, cut}
-use Rattle.pgn_pieces.specs.ties.Cutting.{cut_lines, piece_of}
+use Rattle.pgn_pieces.specs.shared.Cutting.{cut_lines, piece_of}
 use Rattle.pgn_pieces.specs.Places.{breaks_line, line_ends}
 use Rattle.pgn_pieces.specs.Stream.{State}
 

@@ -1,5 +1,5 @@
--- In normal chess FENs are read and written as by the definitions for normal chess alone, which chess_fen shows.
-use Rattle.chess_fen.proofs.shared.Normal.{reading_kept, fen_kept}
+-- In normal chess FENs are read and written as by the definitions for normal chess alone (NormalRead, NormalWritten).
+use Rattle.chess_fen_laws.proofs.{NormalRead.reading_kept, NormalWritten.fen_kept}
 use Rattle.chess_fen_laws.proofs.laws.normal_is_kept.Goals as goal
 
 pub returns-clause-read : goal.returns-clause-read

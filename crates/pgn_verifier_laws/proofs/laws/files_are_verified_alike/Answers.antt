@@ -1,7 +1,7 @@
--- A text cut where pieces begin has the pieces of its parts (the law that is called), so the reports on the files, one
--- after another, are those on the collection (FilesAlike).
+-- A text cut where pieces begin has the pieces of its parts (Shards), so the reports on the files, one after another, are
+-- those on the collection (FilesAlike).
 use Rattle.pgn_verifier_laws.proofs.FilesAlike.{files_alike}
 use Rattle.pgn_verifier_laws.proofs.laws.files_are_verified_alike.Goals as goal
 
 pub returns : goal.returns
-returns c = files_alike c.shards_are_cut.ensures
+returns c = files_alike

@@ -1,8 +1,9 @@
 -- In a game of normal chess the rows are those of normal chess, but for `variant` and `protover`.
 use Rattle.std.proofs.Common.{◌≡◌, ℕ, true, List, [], ◌∷◌, codes, Option, None, Some, Result, Ok, Err, refl, ap, ◌∙◌, IfOk, flat_map}
 use Rattle.chess_base.specs.{declared.fen_fault.FenFault.FenFault, declared.man.Move.Move, declared.man.Variant.TheVariants.Normal, declared.setup.Setup.Setup, Coordinates.coordinate, MoveList.moves}
-use Rattle.chess_fen.specs.{Reading.fen_reading_as, Writing.fen, laws.Normal.normal_fen, laws.Normal.normal_fen_reading}
-use Rattle.chess_fen.proofs.shared.Normal.{reading_kept, reading_is_normal, fen_kept}
+use Rattle.chess_fen.specs.{Reading.fen_reading_as, Writing.fen}
+use Rattle.chess_fen_laws.specs.Normal.{normal_fen, normal_fen_reading}
+use Rattle.chess_fen_laws.proofs.shared.Normal.{reading_kept, reading_is_normal, fen_kept}
 use Rattle.chess_text.specs.{declared.reading.Reading.Reading, San.shown_move, laws.Normal.normal_moves, laws.Normal.normal_reading}
 use Rattle.chess_text.specs.declared.reading.Reading.TheVariants as reads
 use Rattle.chess_text.proofs.shared.Normal.{normal_kept as texts_kept}
@@ -10,11 +11,12 @@ use Rattle.chess_game.specs.declared.results.Declared.{Declared}
 use Rattle.chess_game.specs.Game.{State, from_start, played, current}
 use Rattle.chess_game.proofs.shared.Lines.{variant-position_after}
 use Rattle.pgn_writer.specs.declared.tags.Tags.{Tags}
-use Rattle.chess_cecp.specs.{declared.command.Command.Command, Declaring.read_result, Declaring.state_text, Serving.says, Serving.becomes, laws.NormalGame.normal_current}
+use Rattle.chess_cecp.specs.{declared.command.Command.Command, Declaring.read_result, Declaring.state_text, Serving.says, Serving.becomes}
 use Rattle.chess_cecp.specs.declared.command.Command.TheVariants.{New, SetBoard, UserMove, BareMove, Declare, Claim, Protover, Variant, ShowFen, ShowMoves, ShowState, ShowPgn}
 use Rattle.chess_cecp.specs.Session.{row, answers, becomes_judged, setboard_row, reading_row, move_row, result_row, claim_row, moves_text}
-use Rattle.chess_cecp.specs.laws.Normal.{normal_becomes_judged, normal_setboard_row, normal_reading_row, normal_move_row, normal_result_row, normal_claim_row, normal_moves_text, normal_state_text, normal_row_of, has_normal_row}
-use Rattle.chess_cecp.proofs.NormalGames.{initial_kept, last_kept, rep_kept, verdict_kept, pgn_kept}
+use Rattle.chess_cecp_laws.specs.NormalGame.{normal_current}
+use Rattle.chess_cecp_laws.specs.Normal.{normal_becomes_judged, normal_setboard_row, normal_reading_row, normal_move_row, normal_result_row, normal_claim_row, normal_moves_text, normal_state_text, normal_row_of, has_normal_row}
+use Rattle.chess_cecp_laws.proofs.NormalGames.{initial_kept, last_kept, rep_kept, verdict_kept, pgn_kept}
 
 judged_kept : (s : State) → s.start.variant ≡ Normal → becomes_judged s ≡ normal_becomes_judged s
 judged_kept s e = rw (verdict_kept s.start e s.moves)

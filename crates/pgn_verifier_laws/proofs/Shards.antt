@@ -1,12 +1,19 @@
 -- A text that is cut in two where a piece begins has the pieces of the one part and then those of the other.
-use Rattle.std.proofs.Common.{◌≡◌, ℕ, eqb, Bool, true, false, List, [], ◌∷◌, ◌++◌, length, take, refl, sym, ap, ap₂, ◌∙◌, arith, bytes_eq, if◌then◌else◌, ◌&&◌, ◌||◌, nat_lt, codes}
+use Rattle.std.proofs.Common.{◌≡◌, ℕ, eqb, Bool, true, false, List, [], ◌∷◌, ◌++◌, length, take, refl, sym, ap, ap₂, ◌∙◌, arith, bytes_eq, if◌then◌else◌, ◌&&◌, ◌||◌, nat_lt, ◌==◌, codes}
 use Rattle.std.specs.List.{onto_first, concat, list_any, list_all}
 use Rattle.std.proofs.{lemmas.Bool.and_left, lemmas.Bool.or_left, lemmas.Bool.eqb-true, lemmas.List.Folds.list_any-append}
+use Rattle.byte_devices.specs.Bytes.{is_blank}
 use Rattle.pgn_pieces.specs.Pieces.{lines_of, front_of, tag_name, after_name, begins_tag, is_tag_line, is_event_line, is_empty_line, is_moves_line, begins_piece}
-use Rattle.pgn_pieces.specs.{Places.breaks_line, ties.Cutting.cut_lines, ties.Cutting.piece_of, ties.Fronts.is_empty_front, laws.Shards.ends_in_moves, laws.Shards.begins_in_tag, laws.Shards.ShardsAreCut}
-use Rattle.pgn_pieces.proofs.CutLines.{some_line, ends_here, begun, some_bytes, piece_of_some, cut_is}
+use Rattle.pgn_pieces.specs.{Places.breaks_line, shared.Cutting.cut_lines, shared.Cutting.piece_of}
+use Rattle.pgn_pieces.proofs.shared.Cuts.{some_line, ends_here, begun, some_bytes, piece_of_some, cut_is}
+use Rattle.pgn_verifier_laws.specs.Shards.{ends_in_moves, begins_in_tag, ShardsAreCut}
 
 -- ---- no line is of two kinds
+
+-- what `is_empty_line` says of a line with this front
+abbrev is_empty_front : List ℕ → Bool
+is_empty_front front = bytes_eq (take 1 front) (codes "%") || bytes_eq (take 1 front) (codes ";")
+    || list_all (λ c. is_blank c || (c == 13) || (c == 10)) front
 
 front_kind : (front : List ℕ) → is_empty_front front ≡ true → begins_tag front ≡ false
 front_kind [] h = refl

@@ -3,9 +3,10 @@ use Rattle.std.proofs.Common.{◌≡◌, ℕ, [], ◌∷◌, ◌++◌, Option, S
 use Rattle.std.specs.List.{join_with_byte}
 use Rattle.byte_devices.specs.Bytes.{byte, space}
 use Rattle.chess_base.specs.{declared.man.Colour.Colour, declared.man.Colour.TheVariants.White, declared.man.Colour.TheVariants.Black, declared.man.CastlingSide.CastlingSide, declared.man.CastlingSide.TheVariants.KingSide, declared.man.CastlingSide.TheVariants.QueenSide, declared.man.Rights.Rights, declared.man.Variant.TheVariants.Normal, declared.setup.Setup.Setup}
-use Rattle.chess_fen.specs.{ties.Loops.right_text, RightNames.side_letter, laws.Normal.letter_if, laws.Normal.normal_rights_text, laws.Normal.normal_fen}
-use Rattle.chess_fen.proofs.RightLetters.{dashed, rights_are}
+use Rattle.chess_fen.specs.{shared.RightTexts.right_text, RightNames.side_letter}
 use Rattle.chess_fen.specs.Writing.{fen, placement_text, side_text, rights_text, target_text}
+use Rattle.chess_fen.proofs.shared.RightLetters.{dashed, rights_are}
+use Rattle.chess_fen_laws.specs.Normal.{letter_if, normal_rights_text, normal_fen}
 
 one_written : (c : Colour) (w : CastlingSide) (o : Option ℕ) → right_text Normal c w o ≡ letter_if o (side_letter c w)
 one_written c w None = refl

@@ -6,15 +6,15 @@ use Rattle.std.proofs.lemmas.List.Sums.{sum_by-cons}
 use Rattle.chess_base.specs.{declared.man.Move.Move, declared.man.Variant.Variant, declared.man.Variant.TheVariants.Normal, declared.setup.Setup.Setup, Initial.initial_setup, Initial.initial_setup_of, Moves.after, Moves.is_en_passant, Options.list_if, laws.Normal.normal_after}
 use Rattle.chess_base.proofs.{shared.Normal.normal_kept as rules_kept, shared.After.variant-after}
 use Rattle.chess_fen.specs.Writing.{fen, is_initial}
-use Rattle.chess_fen.proofs.shared.Normal.{fen_kept}
+use Rattle.chess_fen_laws.proofs.shared.Normal.{fen_kept}
 use Rattle.chess_text.specs.San.{is_fischerandom}
 use Rattle.chess_text.proofs.shared.Normal.{normal_kept as texts_kept}
 use Rattle.chess_game.specs.{declared.results.Outcome.Outcome, Ends.verdict, Game.State, Game.outcome_now, Line.positions_of, Line.position_after, Results.outcome_text, Same.legal_en_passant_square, Same.is_same_position, Same.repetition_count}
 use Rattle.chess_game.proofs.shared.Lines.{variant-position_after}
 use Rattle.pgn_writer.specs.{declared.tags.Tags.Tags, Terminations.termination_text, Terminations.termination_of, Written.tag_line, Written.ended, Written.lines_of}
 use Rattle.pgn_writer.specs.GameText.{tag_lines, move_tokens, game_tokens, pgn}
-use Rattle.chess_cecp.specs.laws.NormalGame.{normal_initial, normal_line, normal_last, normal_legal_en_passant_square, normal_same, normal_rep, normal_verdict, normal_outcome_now}
-use Rattle.chess_cecp.specs.laws.NormalPgn.{normal_is_initial, normal_tag_lines, normal_move_tokens, normal_game_tokens, normal_pgn}
+use Rattle.chess_cecp_laws.specs.NormalGame.{normal_initial, normal_line, normal_last, normal_legal_en_passant_square, normal_same, normal_rep, normal_verdict, normal_outcome_now}
+use Rattle.chess_cecp_laws.specs.NormalPgn.{normal_is_initial, normal_tag_lines, normal_move_tokens, normal_game_tokens, normal_pgn}
 
 pub initial_kept : initial_setup ≡ normal_initial
 unfolding initial_setup initial_setup_of normal_initial

@@ -1,6 +1,6 @@
 -- In a game of normal chess each row is that of normal chess, command by command (NormalRows.normal_rows).
-use Rattle.chess_cecp.proofs.NormalRows.{normal_rows}
-use Rattle.chess_cecp.proofs.laws.normal_chess_keeps_its_rows.Goals as goal
+use Rattle.chess_cecp_laws.proofs.NormalRows.{normal_rows}
+use Rattle.chess_cecp_laws.proofs.laws.normal_chess_keeps_its_rows.Goals as goal
 
 pub returns : goal.returns
 returns c = normal_rows

@@ -1,5 +1,5 @@
 -- A game as it is defined for normal chess alone: each of these is the definition of the same name without `normal_`,
--- over the rules of normal chess alone (laws/Normal of chess_base and of chess_text). Nothing here takes a variant.
+-- over the rules of normal chess alone (the files Normal of other crates). Nothing here takes a variant.
 use Rattle.std.specs.Prelude.{ℕ, ◌==◌, nat_le, Bool, ◌&&◌, ◌||◌, if◌then◌else◌, List, [], ◌∷◌, length, count_by, Option, None, Some, is_some}
 use Rattle.std.specs.List.{list_any}
 use Rattle.std.specs.Option.{option_map, option_map_or, option_or}

@@ -5,8 +5,9 @@ use Rattle.std.specs.Io.KnownBytes.{Consumes}
 use Rattle.byte_devices.specs.Transfers.{FromInput, Devices, InputGave, OutputTook, Ran}
 use Rattle.byte_devices.proofs.shared.Transfers.{all_for, some_for}
 use Rattle.text_lines.specs.Lines.{LineSeen, stream_lines}
-use Rattle.chess_cecp.specs.{Serving.Response, Serving.Server, Serving.responses, Served.Served, Served.lines_read, laws.KnownInput.AreFirstLines, laws.KnownInput.AnswersInput, laws.KnownInput.lines_of, declared.run.End.End, declared.run.End.TheVariants.Quit, declared.run.End.TheVariants.InputEnded, declared.session.TheConstants.COMMAND_LEN}
-use Rattle.chess_cecp.proofs.LinesOn.{first_lines, stays_ended}
+use Rattle.chess_cecp.specs.{Serving.Response, Serving.Server, Serving.responses, Served.Served, Served.lines_read, declared.run.End.End, declared.run.End.TheVariants.Quit, declared.run.End.TheVariants.InputEnded, declared.session.TheConstants.COMMAND_LEN}
+use Rattle.chess_cecp.proofs.shared.Lines.{first_lines, stays_ended}
+use Rattle.chess_cecp_laws.specs.KnownInput.{AreFirstLines, AnswersInput, lines_of}
 
 -- what holds of the bytes that were read, however they go on, holds of the known bytes
 known_front : (a b : Option (List ℕ)) (bs : List ℕ) (P : List ℕ → Type 0) → Consumes a b bs

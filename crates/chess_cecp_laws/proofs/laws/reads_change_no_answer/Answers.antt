@@ -1,7 +1,7 @@
 -- What was read is the beginning of the known bytes (KnownInputs.are_first), so their lines were answered
 -- (KnownInputs.answers_input).
-use Rattle.chess_cecp.proofs.KnownInputs.{are_first, answers_input}
-use Rattle.chess_cecp.proofs.laws.reads_change_no_answer.Goals as goal
+use Rattle.chess_cecp_laws.proofs.KnownInputs.{are_first, answers_input}
+use Rattle.chess_cecp_laws.proofs.laws.reads_change_no_answer.Goals as goal
 
 pub returns-clause-lines : goal.returns-clause-lines
 returns-clause-lines g c = are_first

@@ -7,9 +7,9 @@ use Rattle.chess_base.proofs.shared.Normal.{normal_kept}
 use Rattle.chess_fen.specs.{Reading.◌>>=◌, Reading.side_of, Reading.fen_reading_as, RightNames.names_rights_well}
 use Rattle.text_lines.specs.Words.{short_number}
 use Rattle.chess_fen.specs.Texts.{may_name_right, placement_of, target_of, fields_of, is_castling_field}
-use Rattle.chess_fen.specs.laws.Normal.{normal_rights_named, normal_setup_by, normal_setup_in, normal_rights_are_sound, normal_fault, normal_sound, normal_fen_reading}
-use Rattle.chess_fen.proofs.{DenotedFen.reading_in_variant, RooksNamed.rights_as_options, RooksNamed.wells_as_options}
-use Rattle.chess_fen.proofs.Steps.{steps_to, steps, denoted_by, unless_fault, if_fit, denoted_in, third, reading-steps}
+use Rattle.chess_fen.proofs.shared.Steps.{rights_as_options, wells_as_options, steps_to, steps, denoted_by, unless_fault, if_fit, denoted_in, third, reading-steps}
+use Rattle.chess_fen.proofs.shared.Variants.{reading_in_variant}
+use Rattle.chess_fen_laws.specs.Normal.{normal_rights_named, normal_setup_by, normal_setup_in, normal_rights_are_sound, normal_fault, normal_sound, normal_fen_reading}
 
 stand_kept : (p : Setup) → p.variant ≡ Normal → rights_are_sound p ≡ normal_rights_are_sound p
 unfolding rights_are_sound

@@ -8,14 +8,14 @@ use Rattle.chess_base.specs.declared.setup.Setup.{Setup}
 use Rattle.chess_base.specs.Men.{same_colour}
 use Rattle.chess_base.specs.Options.{list_if}
 use Rattle.chess_base.specs.laws.Normal.{normal_after}
-use Rattle.chess_fen.specs.laws.Normal.{normal_fen}
+use Rattle.chess_fen_laws.specs.Normal.{normal_fen}
 use Rattle.chess_text.specs.laws.Normal.{normal_san}
 use Rattle.chess_game.specs.Game.{State}
 use Rattle.chess_game.specs.Results.{outcome_text}
 use Rattle.pgn_writer.specs.declared.tags.Tags.{Tags}
 use Rattle.pgn_writer.specs.Terminations.{termination_text, termination_of}
 use Rattle.pgn_writer.specs.Written.{tag_line, ended, lines_of}
-use Rattle.chess_cecp.specs.laws.NormalGame.{normal_initial, normal_outcome_now}
+use Rattle.chess_cecp_laws.specs.NormalGame.{normal_initial, normal_outcome_now}
 
 -- whether `start` is the initial position of normal chess; for normal chess alone
 abbrev pub normal_is_initial : Setup → Bool

@@ -1,7 +1,6 @@
 -- The table of commands as it is defined for normal chess alone. Nothing here takes a variant: positions, their FEN,
--- the texts of moves and of games are those of normal chess alone (laws/Normal of chess_base, chess_fen and chess_text;
--- NormalGame and NormalPgn). Without Chess960 `variant` and `protover` have other rows than with it; all others have
--- the same.
+-- the texts of moves and of games are those of normal chess alone (NormalGame, NormalPgn, and the files Normal of other
+-- crates). Without Chess960 `variant` and `protover` have other rows than with it; all others have the same.
 use Rattle.std.specs.Prelude.{ℕ, nat_le, nat_lt, Bool, true, false, if◌then◌else◌, List, [], ◌∷◌, ◌++◌, length, codes, decimal, Option, None, Some, Result, Ok, Err}
 use Rattle.std.specs.List.{flat_map}
 use Rattle.std.specs.Option.{option_map_or}
@@ -11,7 +10,7 @@ use Rattle.chess_base.specs.declared.man.Move.{Move}
 use Rattle.chess_base.specs.declared.setup.Setup.{Setup}
 use Rattle.chess_base.specs.Coordinates.{coordinate}
 use Rattle.byte_devices.specs.Bytes.{new_line, space}
-use Rattle.chess_fen.specs.laws.Normal.{normal_fen, normal_fen_reading}
+use Rattle.chess_fen_laws.specs.Normal.{normal_fen, normal_fen_reading}
 use Rattle.chess_text.specs.declared.reading.Reading.{Reading}
 use Rattle.chess_text.specs.declared.reading.Reading.TheVariants as reads
 use Rattle.chess_text.specs.laws.Normal.{normal_moves, normal_reading}
@@ -26,8 +25,8 @@ use Rattle.chess_cecp.specs.Declaring.{read_result, claims_text}
 use Rattle.chess_cecp.specs.Serving.{Response, says, becomes}
 use Rattle.chess_base.specs.Faults.{fen_fault_name}
 use Rattle.chess_cecp.specs.Session.{answers, declares, take_back_row}
-use Rattle.chess_cecp.specs.laws.NormalGame.{normal_initial, normal_current, normal_rep, normal_claims, normal_verdict_now, normal_is_over}
-use Rattle.chess_cecp.specs.laws.NormalPgn.{normal_pgn}
+use Rattle.chess_cecp_laws.specs.NormalGame.{normal_initial, normal_current, normal_rep, normal_claims, normal_verdict_now, normal_is_over}
+use Rattle.chess_cecp_laws.specs.NormalPgn.{normal_pgn}
 
 -- the game becomes `s`, and the answer is the board's verdict on it, if there is one; for normal chess alone
 abbrev pub normal_becomes_judged : State → Response State

@@ -1,0 +1,3 @@
+-- Lemmas for crates above: all are about definitions, none about functions. They can cite no other module of proofs/.
+pub mod Lines
+pub mod Refusals

@@ -1,2 +1,0 @@
--- Claims about the definitions: each is the contract of a function that does nothing.
-pub mod Normal
