@@ -135,7 +135,7 @@ pub record TagsAreFound : Type 0 where
   -- after a number a tag is the next game's, also one that can't be read
   pub late : FailsAt "12[A \"b\"]*" NoResult 2
   pub late_bad : FailsAt "12[*" NoResult 2
-  -- marks and comments alone are no game, but a tag alone is one without a result
+  -- only marks and comments are no game, but a tag is one without a result
   pub only_marks : (read_of "!? {a}").answer ≡ Ok None
   pub only_tag : FailsAt "[A \"b\"]" NoResult 7
   -- of several tags with a name the last counts, also if it names nothing
