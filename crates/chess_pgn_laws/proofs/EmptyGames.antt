@@ -18,11 +18,11 @@ use Rattle.chess_text.specs.Moves.{denotes, one_of, reading, shape}
 use Rattle.chess_text.specs.{Parts.unmarked, declared.reading.Reading.Reading, laws.CastlingTexts.is_castling_text, laws.Laws.ShapedByText}
 use Rattle.chess_text.specs.declared.reading.Reading.TheVariants as reads
 use Rattle.chess_pgn.specs.GameRead.{GameRead, closed_by, declared_after, failed, moves_read, pgn_read}
-use Rattle.pgn_tokens.specs.Tokens.{Word, token_at, tokens_from, tokens_of}
+use Rattle.pgn_tokens.specs.Tokens.{Word, after_gap_lines, token_at, tokens_from, tokens_of}
 use Rattle.chess_pgn.specs.Words.{word_gives}
 use Rattle.chess_pgn.specs.{declared.read.PgnEnd.PgnEnd, declared.read.PgnFault.PgnFault, declared.read.PgnFaultKind.TheVariants.AfterEnd, declared.read.PgnFaultKind.TheVariants.BadFen, declared.read.PgnFaultKind.TheVariants.IllegalMove}
 use Rattle.pgn_writer.specs.Terminations.{termination_named}
-use Rattle.chess_pgn_laws.specs.EmptyGames.{EmptyGamesAreRead, read_of}
+use Rattle.chess_pgn_laws.specs.EmptyGames.{EmptyGamesAreRead, PercentLinesAreSkipped, StringsEnd, TagsAreFound, TokensEnd, read_of}
 
 -- the initial position has no verdict
 no_verdict : verdict (initial_setup_of Normal) [] ≡ None
@@ -113,6 +113,86 @@ late_word p is mate none =
     ∙ ap (λ (r : Reading). (by_word p r).answer) none
     ∙ ap (λ (o : Option Verdict). by_end (is_some o)) mate
 
+-- ---- row by row
+
+strings_end : StringsEnd
+unfolding pgn_read termination_named after_gap_lines token_at tokens_of tokens_from
+strings_end = record {
+  empty = refl;
+  quote = refl;
+  backslash = refl;
+  both = refl;
+  others = refl;
+  line_end = refl;
+  kept_line_end = refl;
+  unclosed_line = refl;
+  unclosed = refl;
+  kept_quote = refl;
+  backslash_stays = refl;
+  after_quote = refl;
+  outside = refl;
+}
+
+percent_lines_are_skipped : PercentLinesAreSkipped
+unfolding pgn_read termination_named after_gap_lines token_at tokens_of tokens_from
+percent_lines_are_skipped = record {
+  later = refl;
+  both = refl;
+  to_end = refl;
+  in_line = refl;
+  after_blank = refl;
+  after_return = refl;
+  after_comment = refl;
+  in_comment = refl;
+  in_variation = refl;
+  return_in_variation = refl;
+  in_tag = refl;
+  in_line_of_tag = refl;
+  after_bracket = refl;
+  return_in_tag = refl;
+  second = refl;
+  second_in_line = refl;
+  order_mark = refl;
+  after_order_mark = refl;
+}
+
+tokens_end : TokensEnd
+unfolding pgn_read termination_named after_gap_lines token_at tokens_of tokens_from
+tokens_end = record {
+  blanks = refl;
+  brace_in_comment = refl;
+  semicolon_in_comment = refl;
+  brace_in_line = refl;
+  nested = refl;
+  comment_inside = refl;
+  unclosed_comment = refl;
+  unclosed_variation = refl;
+  unclosed_inside = refl;
+  no_digits = refl;
+  glyph = refl;
+  word = refl;
+  draw = refl;
+}
+
+tags_are_found : TagsAreFound
+unfolding pgn_read termination_named after_gap_lines token_at tokens_of tokens_from
+tags_are_found = record {
+  gaps = refl;
+  no_name = refl;
+  second_bad = refl;
+  after_marks = refl;
+  late = refl;
+  late_bad = refl;
+  only_marks = refl;
+  only_tag = refl;
+  last_known = refl;
+  last_unknown = refl;
+  first_bad_fen = refl;
+  small_name = refl;
+}
+
+-- ---- all
+
 pub empty_games_are_read : ShapedByText → EmptyGamesAreRead
 unfolding pgn_read termination_named token_at tokens_of tokens_from
 empty_games_are_read law = record {
@@ -130,4 +210,8 @@ empty_games_are_read law = record {
   variant = refl;
   termination = refl;
   after_mate = late_word mated fen_is_read is_mate (none_read mated (codes "O-O") none_legal (is_shaped law));
+  strings = strings_end;
+  percent_lines = percent_lines_are_skipped;
+  tokens = tokens_end;
+  tags = tags_are_found;
 }

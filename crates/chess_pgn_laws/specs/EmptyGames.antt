@@ -1,14 +1,18 @@
 -- Texts of games without a move, in which a number, a comment or a variation could be taken for moves or for a result;
--- what tags and a result say without one (PGN standard of 1994, sections 5, 6, 8.1, 8.2 and 9.8.1); and what a word is
+-- what tags and a result say without one (PGN standard of 1994, sections 5 to 7, 8.1, 8.2 and 9.8.1); and what a word is
 -- where the game has ended before a move.
-use Rattle.std.specs.Prelude.{◌≡◌, ℕ, true, [], codes, Some, None, Ok, Err}
+use Rattle.std.specs.Prelude.{◌≡◌, ℕ, true, [], ◌∷◌, codes, Some, None, Ok, Err}
 use Prim.Native.String.{String as Text}
+use Rattle.byte_devices.specs.Bytes.{tab}
 use Rattle.chess_base.specs.Initial.{initial_setup_of}
 use Rattle.chess_base.specs.declared.man.Variant.TheVariants.{Fischerandom}
-use Rattle.chess_game.specs.declared.results.Outcome.TheVariants.{WhiteWins, Unfinished}
+use Rattle.chess_base.specs.declared.fen_fault.FenFault.TheVariants.{Fields}
+use Rattle.chess_game.specs.declared.results.Outcome.TheVariants.{WhiteWins, Draw, Unfinished}
 use Rattle.chess_pgn.specs.GameRead.{GameRead, pgn_read}
 use Rattle.chess_pgn.specs.declared.read.PgnEnd.{PgnEnd}
-use Rattle.chess_pgn.specs.declared.read.PgnFaultKind.TheVariants.{AfterEnd, NoResult}
+use Rattle.chess_pgn.specs.declared.read.PgnFaultKind.{PgnFaultKind}
+use Rattle.chess_pgn.specs.declared.read.PgnFaultKind.TheVariants.{BadTag, BadFen, BadToken, AfterEnd, UnclosedComment, UnclosedVariation, NoResult}
+use Rattle.pgn_tokens.specs.Tokens.{Skip, Word, tokens_from}
 use Rattle.pgn_writer.specs.declared.termination.Termination.TheVariants.{TimeForfeit}
 
 -- what is read of a text from its first byte on, as a game of at most one half-move
@@ -24,6 +28,126 @@ unfinished_at end = record { outcome = Unfinished; termination = None; offset = 
 abbrev pub IsEmptyGame : Text → ℕ → Type 0
 IsEmptyGame text end = ((read_of text).state.moves ≡ []) × ((read_of text).state.declared ≡ None)
     × ((read_of text).answer ≡ Ok (Some (unfinished_at end)))
+
+-- the text is read, from its first byte on, as a game with the marker `*`, which ends at this offset
+abbrev pub EndsAt : Text → ℕ → Type 0
+EndsAt text end = (read_of text).answer ≡ Ok (Some (unfinished_at end))
+
+-- the first fault of the text, read from its first byte on, is of this kind and at this offset
+abbrev pub FailsAt : Text → PgnFaultKind → ℕ → Type 0
+FailsAt text kind at = (read_of text).answer ≡ Err (record { kind = kind; offset = at })
+
+-- ---- strings (section 7)
+
+-- where the string of a tag ends
+pub record StringsEnd : Type 0 where
+  -- it may be empty
+  pub empty : EndsAt "[A \"\"]*" 7
+  -- not at a quote after a backslash
+  pub quote : EndsAt "[A \"\\\"\"]*" 9
+  -- at a quote after two backslashes, which are one that is kept, but not at a quote after three
+  pub backslash : EndsAt "[A \"\\\\\"]*" 9
+  pub both : EndsAt "[A \"\\\\\\\"\"]*" 11
+  -- not at bytes that mean something elsewhere
+  pub others : EndsAt "[A \"%[]{(;\"]*" 13
+  -- not at a line's end, also after a backslash: there the tag can't be read
+  pub line_end : FailsAt "[A \"b\n\"]*" BadTag 0
+  pub kept_line_end : FailsAt "[A \"b\\\n\"]*" BadTag 0
+  pub unclosed_line : FailsAt "[A \"b\n]*" BadTag 0
+  -- nor can a tag whose string has no closing quote, or only one that a backslash keeps
+  pub unclosed : FailsAt "[A \"b]*" BadTag 0
+  pub kept_quote : FailsAt "[A \"\\\"]*" BadTag 0
+  -- a tag's text is what comes between its quotes, with the backslashes: this names no termination
+  pub backslash_stays : EndsAt "[Termination \"time\\ forfeit\"]*" 30
+  -- the fault of a FEN is at the first byte after its quote, whatever string came before
+  pub after_quote : FailsAt "[A \"\\\"\"][FEN \"x\"]*" (BadFen Fields) 14
+  -- among moves there are no strings
+  pub outside : FailsAt "12 \"*\"" BadToken 3
+
+-- ---- `%` lines (section 6)
+
+-- where a `%` skips the rest of its line, and where it doesn't
+pub record PercentLinesAreSkipped : Type 0 where
+  -- in each line that it begins, also in the last
+  pub later : EndsAt "12\n%1-0\n*" 9
+  pub both : EndsAt "%0-1\n%1-0\n*" 11
+  pub to_end : (read_of "%*").answer ≡ Ok None
+  -- within a line it begins no token
+  pub in_line : FailsAt "12 %\n*" BadToken 3
+  pub after_blank : FailsAt " %\n*" BadToken 1
+  -- a line ends with a line feed, not with a carriage return alone, and not with a comment
+  pub after_return : FailsAt "\r%\n*" BadToken 1
+  pub after_comment : FailsAt "{\n}%\n*" BadToken 3
+  -- in a comment it skips nothing
+  pub in_comment : EndsAt "{\n%}*" 5
+  -- nor does it within a line of a variation
+  pub in_variation : EndsAt "(%)*" 4
+  pub return_in_variation : EndsAt "(\r%)*" 5
+  -- in a tag it does as elsewhere
+  pub in_tag : EndsAt "[A\n%]\n\"b\"]*" 11
+  pub in_line_of_tag : FailsAt "[A %\n\"b\"]*" BadTag 0
+  pub after_bracket : FailsAt "[%\nA \"b\"]*" BadTag 0
+  pub return_in_tag : FailsAt "[A\r%\n\"b\"]*" BadTag 0
+  -- a game that is read from inside a line on begins no line
+  pub second : (pgn_read true 1 (codes "*\n%1-0\n*") 2).answer ≡ Ok (Some (unfinished_at 8))
+  pub second_in_line : (pgn_read true 1 (codes "*%\n*") 1).answer ≡ Err (record { kind = BadToken; offset = 1 })
+  -- a byte order mark is skipped, and no line begins after it
+  pub order_mark : (pgn_read true 1 (239 ∷ 187 ∷ 191 ∷ codes "*") 0).answer ≡ Ok (Some (unfinished_at 4))
+  pub after_order_mark : (pgn_read true 1 (239 ∷ 187 ∷ 191 ∷ codes "%\n*") 0).answer
+      ≡ Err (record { kind = BadToken; offset = 3 })
+
+-- ---- other tokens (sections 5, 7 and 8.2)
+
+-- where other tokens end
+pub record TokensEnd : Type 0 where
+  -- white space and dots
+  pub blanks : (pgn_read true 1 (tab ∷ codes "\r\n .*") 0).answer ≡ Ok (Some (unfinished_at 6))
+  -- a comment at its first `}`, whatever it has
+  pub brace_in_comment : EndsAt "{{}*" 4
+  pub semicolon_in_comment : EndsAt "{;}*" 4
+  -- one from `;` on with its line
+  pub brace_in_line : EndsAt ";{\n*" 4
+  -- a variation at its own `)`, and not at one in a comment
+  pub nested : EndsAt "((1-0)0-1)*" 11
+  pub comment_inside : EndsAt "({)})*" 6
+  -- those that aren't closed; a comment in a variation is the fault itself
+  pub unclosed_comment : FailsAt "12 {*" UnclosedComment 3
+  pub unclosed_variation : FailsAt "12 (a(b)" UnclosedVariation 3
+  pub unclosed_inside : FailsAt "12 (a({)" UnclosedComment 6
+  -- a glyph with its digits, maybe none
+  pub no_digits : EndsAt "$*" 2
+  pub glyph : tokens_from (codes "$14a") 0 ≡ (4, Skip) ∷ (1, Word (codes "a")) ∷ []
+  -- a word after the last byte that may be in one; `*` is a word by itself
+  pub word : tokens_from (codes "aZ09_+#=-/!?:*") 0 ≡ (14, Word (codes "aZ09_+#=-/!?:")) ∷ (1, Word (codes "*")) ∷ []
+  pub draw : (read_of "1/2-1/2").answer ≡ Ok (Some (record { outcome = Draw; termination = None; offset = 7 }))
+
+-- ---- tags (section 8.1)
+
+-- what is a tag of a game, and which of its tags count
+pub record TagsAreFound : Type 0 where
+  -- lines may end in a tag
+  pub gaps : EndsAt "[ A\n\"b\"\n]*" 10
+  -- one without a name, or a second one that can't be read, is the fault
+  pub no_name : FailsAt "[\"b\"]*" BadTag 0
+  pub second_bad : FailsAt "[A \"b\"][A]*" BadTag 7
+  -- tags may come after marks
+  pub after_marks : EndsAt "!?[A \"b\"]*" 10
+  -- after a number a tag is the next game's, also one that can't be read
+  pub late : FailsAt "12[A \"b\"]*" NoResult 2
+  pub late_bad : FailsAt "12[*" NoResult 2
+  -- only marks and comments are no game, but a tag is one without a result
+  pub only_marks : (read_of "!? {a}").answer ≡ Ok None
+  pub only_tag : FailsAt "[A \"b\"]" NoResult 7
+  -- of several tags with a name the last counts, also if it names nothing
+  pub last_known : (read_of "[Termination \"x\"][Termination \"time forfeit\"]*").answer
+      ≡ Ok (Some (record { outcome = Unfinished; termination = Some TimeForfeit; offset = 46 }))
+  pub last_unknown : EndsAt "[Termination \"time forfeit\"][Termination \"x\"]*" 46
+  -- but the first FEN that can't be read is the fault
+  pub first_bad_fen : FailsAt "[FEN \"x\"][FEN \"y\"]*" (BadFen Fields) 6
+  -- a name in small letters is another name
+  pub small_name : EndsAt "[fen \"x\"]*" 10
+
+-- ---- all
 
 -- these texts are such games
 pub record EmptyGamesAreRead : Type 0 where
@@ -51,3 +175,8 @@ pub record EmptyGamesAreRead : Type 0 where
   -- a word where a mate has ended the game: no move is legal there, but this is a move after the end, no illegal one
   pub after_mate : (read_of "[FEN \"7k/6Q1/6K1/8/8/8/8/8 b - - 0 1\"] O-O").answer
       ≡ Err (record { kind = AfterEnd; offset = 39 })
+  -- strings, `%` lines, other tokens and tags, row by row
+  pub strings : StringsEnd
+  pub percent_lines : PercentLinesAreSkipped
+  pub tokens : TokensEnd
+  pub tags : TagsAreFound
