@@ -1,4 +1,4 @@
--- How many moves known positions have, by computation.
+-- How many moves known positions have, and in which of Chess960 the king may castle, by computation.
 use Rattle.std.proofs.Common.{refl}
 use Rattle.chess_base.specs.Attacks.{is_clear, could_capture, attacks, is_attacked, is_in_check}
 use Rattle.chess_base.specs.Castling.{king_square, right_is_sound, is_castling_to, castling, castle_of, castling_needs_empty, castling_way_is_empty, castling_way_is_safe, castles}
@@ -7,7 +7,7 @@ use Rattle.chess_base.specs.Moves.{is_double_advance, is_en_passant, pawn_advanc
 use Rattle.chess_base.specs.Sound.{has_one_king, no_pawn_on_end_ranks, has_at_most_16, target_is_sound}
 use Rattle.chess_base.specs.Squares.{squares, some_square, each_square, is_between}
 use Rattle.chess_fen.specs.Texts.{may_name_right}
-use Rattle.rules_laws.specs.KnownCounts.{HasMoves, MovesAreAsMany, castles_onto_rook, may_castle, pawn_blocked, rooks_beside, third_position, with_promotions}
+use Rattle.rules_laws.specs.KnownCounts.{CastlingIsKnown, HasMoves, MovesAreAsMany, castles_onto_rook, may_castle, pawn_blocked, rooks_beside, third_position, with_promotions}
 
 third : HasMoves Normal third_position 14
 unfolding squares some_square each_square is_between is_of is_man is_clear could_capture attacks is_attacked is_in_check
@@ -65,4 +65,19 @@ moves_are_as_many = record {
   castles = castled;
   castles_onto = castled_onto;
   blocked = blocked;
+}
+
+pub castling_is_known : CastlingIsKnown
+unfolding squares some_square each_square is_between is_of is_man is_clear could_capture attacks is_attacked is_in_check
+    king_square right_is_sound rights_are_sound has_one_king no_pawn_on_end_ranks has_at_most_16 target_is_sound
+    may_name_right is_castling_to castling castle_of castling_needs_empty castling_way_is_empty castling_way_is_safe
+    castles is_double_advance is_en_passant pawn_advances pawn_captures pawn_moves man_moves is_pseudo_legal
+    captured_square men_after rights_after target_after resets_clock halfmove_after after is_legal
+castling_is_known = record {
+  king_on_c1 = refl;
+  king_on_g1 = refl;
+  rook_on_d1 = refl;
+  way_attacked = refl;
+  way_blocked = refl;
+  uncovered = refl;
 }

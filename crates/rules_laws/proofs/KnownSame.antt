@@ -20,13 +20,15 @@ use Rattle.rules_laws.specs.KnownPositions.{PositionsAreTheSame, TheSameHaveTheS
 fens : (are_same_fens "4k3/4r3/8/4Pp2/8/8/8/4K3 w - f6 0 1" "4k3/4r3/8/4Pp2/8/8/8/4K3 w - - 0 1" ≡ Some true)
     × (are_same_fens "4k3/8/8/4Pp2/8/8/8/4K3 w - f6 0 1" "4k3/8/8/4Pp2/8/8/8/4K3 w - - 0 1" ≡ Some false)
     × (are_same_fens "4k3/8/8/8/8/8/8/R3K2R w KQ - 0 1" "4k3/8/8/8/8/8/8/R3K2R w K - 0 1" ≡ Some false)
+    × (are_same_fens "4k3/8/8/8/8/8/8/R3K2R w KQ - 0 1" "4k3/8/8/8/8/8/8/R3K2R w Q - 0 1" ≡ Some false)
+    × (are_same_fens "r3k2r/8/8/8/8/8/8/4K3 w kq - 0 1" "r3k2r/8/8/8/8/8/8/4K3 w k - 0 1" ≡ Some false)
 unfolding squares some_square each_square is_between is_of is_man is_clear could_capture attacks is_attacked is_in_check
     is_castling_to castling castle_of castling_needs_empty castling_way_is_empty castling_way_is_safe castles
     is_double_advance is_en_passant pawn_advances pawn_captures pawn_moves man_moves is_pseudo_legal captured_square
     men_after rights_after target_after resets_clock halfmove_after after is_legal all_moves moves king_square
     right_is_sound rights_are_sound has_one_king no_pawn_on_end_ranks has_at_most_16 target_is_sound may_name_right
     same_men same_rights legal_en_passant_square is_same_position
-fens = (refl, refl, refl)
+fens = (refl, refl, refl, refl, refl)
 
 rights : are_same_after open_game (open_game ++ move_by "e1" "e2" ∷ move_by "e8" "e7" ∷ move_by "e2" "e1"
     ∷ move_by "e7" "e8" ∷ []) ≡ false
@@ -52,6 +54,8 @@ positions_are_the_same = record {
   side = refl;
   rights = rights;
   queen_side = fens.2;
+  king_side = fens.3;
+  black = fens.4;
 }
 
 -- ---- the pieces

@@ -12,7 +12,7 @@ use Rattle.chess_game.specs.Ends.{has_bishop_on, has_insufficient_material, resu
 use Rattle.chess_game.specs.Same.{is_same_position, legal_en_passant_square, repetition_count, same_men, same_rights}
 use Rattle.chess_text.specs.{Parts.unmarked, Moves.denotes, Moves.denotes_described, Moves.described, San.rival_starts, San.check_mark, San.san, San.shown_move}
 use Rattle.rules_laws.specs.KnownGames.{move_by}
-use Rattle.rules_laws.specs.KnownTexts.{IsWritten, MovesAreNumbered, MovesAreShown, MovesAreWritten, ResultsAreWorded, TagsAreInOrder, TextsDenoteMoves, tokens_from}
+use Rattle.rules_laws.specs.KnownTexts.{becomes_knight, IsWritten, MovesAreNumbered, MovesAreShown, MovesAreWritten, ResultsAreWorded, TagsAreInOrder, TextsDenoteMoves, tokens_from}
 
 castling_check : IsWritten "5k2/8/8/8/8/8/8/4K2R w K - 0 1" (move_by "e1" "g1") "O-O+"
 unfolding squares some_square each_square is_between is_of is_man is_clear could_capture attacks is_attacked is_in_check
@@ -32,6 +32,17 @@ unfolding squares some_square each_square is_between is_of is_man is_clear could
     described rival_starts check_mark san
 stalemate = refl
 
+captures : IsWritten "4k3/8/8/4p3/8/5N2/8/4K3 w - - 0 1" (move_by "f3" "e5") "Nxe5"
+    × IsWritten "4k3/8/8/3pP3/8/8/8/4K3 w - d6 0 1" (move_by "e5" "d6") "exd6"
+    × IsWritten "1r2k3/P7/8/8/8/8/8/4K3 w - - 0 1" (becomes_knight "a7" "b8") "axb8=N"
+unfolding squares some_square each_square is_between is_of is_man is_clear could_capture attacks is_attacked is_in_check
+    is_castling_to castling castle_of castling_needs_empty castling_way_is_empty castling_way_is_safe castles
+    king_square right_is_sound rights_are_sound has_one_king no_pawn_on_end_ranks has_at_most_16 target_is_sound
+    may_name_right all_moves moves is_double_advance is_en_passant pawn_advances pawn_captures pawn_moves man_moves
+    is_pseudo_legal captured_square men_after rights_after target_after resets_clock halfmove_after after is_legal
+    described rival_starts check_mark san
+captures = (refl, refl, refl)
+
 pub moves_are_written : MovesAreWritten
 unfolding squares some_square each_square is_between is_of is_man is_clear could_capture attacks is_attacked is_in_check
     is_castling_to castling castle_of castling_needs_empty castling_way_is_empty castling_way_is_safe castles
@@ -50,6 +61,9 @@ moves_are_written = record {
   castling_check = castling_check;
   mate = refl;
   stalemate = stalemate;
+  knight_captures = captures.0;
+  en_passant = captures.1;
+  to_knight = captures.2;
 }
 
 pub moves_are_shown : MovesAreShown
@@ -63,7 +77,17 @@ unfolding squares some_square each_square is_between is_of is_man is_clear could
     is_in_check is_castling_to castling king_square right_is_sound rights_are_sound has_one_king no_pawn_on_end_ranks
     has_at_most_16 target_is_sound may_name_right is_en_passant captured_square described denotes denotes_described
     unmarked
-texts_denote_moves = record { capture = refl; knight = refl; promotion = refl; castling = refl }
+texts_denote_moves = record {
+  capture = refl;
+  knight = refl;
+  promotion = refl;
+  castling = refl;
+  king_side = refl;
+  chess960 = refl;
+  knight_captures = refl;
+  en_passant = refl;
+  to_knight = refl;
+}
 
 pub results_are_worded : ResultsAreWorded
 unfolding result_text
@@ -117,4 +141,5 @@ tags_are_in_order = record {
   lost_on_time = refl;
   drawn_on_time = refl;
   against_the_rules = refl;
+  unfinished = refl;
 }

@@ -1,14 +1,16 @@
--- How many moves known positions have, and how small endings are judged.
-use Rattle.std.specs.Prelude.{◌≡◌, ℕ, [], codes, length, option_map, Option, Some}
+-- How many moves known positions have, in which of Chess960 the king may castle, and how small endings are judged.
+use Rattle.std.specs.Prelude.{◌≡◌, ℕ, Bool, true, false, [], codes, length, option_map, Option, Some, None}
 use Prim.Native.String.{String as Text}
 use Rattle.std.specs.Result.{result_ok}
 use Rattle.chess_base.specs.declared.man.Variant.{Variant}
 use Rattle.chess_base.specs.declared.man.Variant.TheVariants.{Normal, Fischerandom}
 use Rattle.chess_base.specs.MoveList.{moves}
+use Rattle.chess_base.specs.Moves.{is_legal}
 use Rattle.chess_fen.specs.Reading.{fen_reading_as}
 use Rattle.chess_game.specs.Ends.{verdict}
 use Rattle.chess_game.specs.declared.verdicts.Verdict.{Verdict}
-use Rattle.chess_game.specs.declared.verdicts.Verdict.TheVariants.{WhiteMates, Stalemate, InsufficientMaterial}
+use Rattle.chess_game.specs.declared.verdicts.Verdict.TheVariants.{WhiteMates, Stalemate, InsufficientMaterial, SeventyFiveMoves}
+use Rattle.rules_laws.specs.KnownGames.{move_by}
 
 -- ---- counts
 
@@ -57,6 +59,35 @@ pub record MovesAreAsMany : Type 0 where
   pub castles_onto : HasMoves Fischerandom castles_onto_rook 13
   pub blocked : HasMoves Normal pawn_blocked 2
 
+-- ---- castling in Chess960 (Guidelines II)
+
+-- whether the king on one named square may castle with the rook on another, in the position that a FEN of Chess960
+-- denotes; `None` if the FEN is refused
+abbrev pub castling_in : Text → Text → Text → Option Bool
+castling_in text king rook =
+    option_map (λ p. is_legal p (move_by king rook)) (result_ok (fen_reading_as Fischerandom (codes text)))
+
+-- the king on the first square may castle with the rook on the second
+abbrev pub MayCastleIn : Text → Text → Text → Type 0
+MayCastleIn text king rook = castling_in text king rook ≡ Some true
+
+-- the king on the first square may not castle with the rook on the second
+abbrev pub MayNotCastleIn : Text → Text → Text → Type 0
+MayNotCastleIn text king rook = castling_in text king rook ≡ Some false
+
+-- in which positions of Chess960 the king may castle
+pub record CastlingIsKnown : Type 0 where
+  -- the king stays where it is, or the rook does
+  pub king_on_c1 : MayCastleIn "4k3/8/8/8/8/8/8/R1K5 w Q - 0 1" "c1" "a1"
+  pub king_on_g1 : MayCastleIn "4k3/8/8/8/8/8/8/6KR w K - 0 1" "g1" "h1"
+  pub rook_on_d1 : MayCastleIn "4k3/8/8/8/8/8/8/3RK3 w Q - 0 1" "e1" "d1"
+  -- the king goes from b1 to g1, and the enemy rook attacks e1
+  pub way_attacked : MayNotCastleIn "4r1k1/8/8/8/8/8/8/1K5R w K - 0 1" "b1" "h1"
+  -- the rook goes from a1 to d1, and a knight is on b1
+  pub way_blocked : MayNotCastleIn "4k3/8/8/8/8/8/8/RN1K4 w Q - 0 1" "d1" "a1"
+  -- the rook goes from b1 to d1, and uncovers the attack of the enemy rook on a1
+  pub uncovered : MayNotCastleIn "4k3/8/8/8/8/8/8/rRK5 w B - 0 1" "c1" "b1"
+
 -- ---- ends
 
 -- the board's verdict on the position that a FEN of normal chess denotes, `Some None` if it has none; `None` if the FEN
@@ -77,3 +108,9 @@ pub record EndingsAreJudged : Type 0 where
   pub knight : IsJudged "4kn2/8/8/8/8/8/8/4K3 w - - 0 1" InsufficientMaterial
   -- bishops of either side on squares of one colour
   pub bishops : IsJudged "4kb2/8/8/8/8/8/8/2B1K3 w - - 0 1" InsufficientMaterial
+  pub three_bishops : IsJudged "4kb2/8/8/8/8/8/8/B1B1K3 w - - 0 1" InsufficientMaterial
+  pub on_white_squares : IsJudged "4k1b1/8/8/8/8/8/8/4KB2 w - - 0 1" InsufficientMaterial
+  -- after 150 half-moves the game is drawn by the 75-move rule, after 149 it isn't; but insufficient material comes first
+  pub after_150 : IsJudged "4k3/8/8/8/8/8/8/R3K3 w - - 150 1" SeventyFiveMoves
+  pub after_149 : judged_fen "4k3/8/8/8/8/8/8/R3K3 w - - 149 1" ≡ Some None
+  pub kings_after_150 : IsJudged "4k3/8/8/8/8/8/8/4K3 w - - 150 1" InsufficientMaterial

@@ -97,6 +97,8 @@ pub record PositionsAreTheSame : Type 0 where
       ∷ move_by "e7" "e8" ∷ []) ≡ false
   -- only one right to castle differs
   pub queen_side : are_same_fens "4k3/8/8/8/8/8/8/R3K2R w KQ - 0 1" "4k3/8/8/8/8/8/8/R3K2R w K - 0 1" ≡ Some false
+  pub king_side : are_same_fens "4k3/8/8/8/8/8/8/R3K2R w KQ - 0 1" "4k3/8/8/8/8/8/8/R3K2R w Q - 0 1" ≡ Some false
+  pub black : are_same_fens "r3k2r/8/8/8/8/8/8/4K3 w kq - 0 1" "r3k2r/8/8/8/8/8/8/4K3 w k - 0 1" ≡ Some false
 
 -- positions that are the same have the same piece, or none, on each square
 abbrev pub TheSameHaveTheSamePieces : Type 0
@@ -109,6 +111,10 @@ TheSameHaveTheSamePieces = (p q : Setup) (s : ℕ) → IsTrue (is_same_position 
 abbrev pub IsRefused : Text → FenFault → Type 0
 IsRefused text fault = fen_reading_as Normal (codes text) ≡ Err fault
 
+-- a FEN of Chess960 is refused for this fault
+abbrev pub IsRefused960 : Text → FenFault → Type 0
+IsRefused960 text fault = fen_reading_as Fischerandom (codes text) ≡ Err fault
+
 -- a FEN of normal chess is accepted
 abbrev pub IsTaken : Text → Type 0
 IsTaken text = is_some (result_ok (fen_reading_as Normal (codes text))) ≡ true
@@ -120,15 +126,21 @@ IsWrittenAs text written = option_map fen (result_ok (fen_reading_as Fischerando
 -- FENs that are refused, each for the first of its faults, and neighbours that are accepted
 pub record FensAreRefused : Type 0 where
   pub no_king : IsRefused "8/8/8/8/8/8/8/4K3 w - - 0 1" Kings
+  pub no_white_king : IsRefused "4k3/8/8/8/8/8/8/8 w - - 0 1" Kings
   pub two_kings : IsRefused "k6k/8/8/8/8/8/8/4K3 w - - 0 1" Kings
   pub pawn_on_8 : IsRefused "k6P/8/8/8/8/8/8/4K3 w - - 0 1" Pawns
   pub pawn_on_1 : IsRefused "k7/8/8/8/8/8/8/4K2p w - - 0 1" Pawns
+  pub white_pawn_on_1 : IsRefused "k7/8/8/8/8/8/8/4K2P w - - 0 1" Pawns
+  pub black_pawn_on_8 : IsRefused "k6p/8/8/8/8/8/8/4K3 w - - 0 1" Pawns
   pub seventeen : IsRefused "k7/8/8/8/8/P7/PPPPPPPP/NNNNNNNK w - - 0 1" Men
   pub sixteen : IsTaken "k7/8/8/8/8/8/PPPPPPPP/NNNNNNNK w - - 0 1"
+  pub black_seventeen : IsRefused "nnnnnnnk/pppppppp/p7/8/8/8/8/4K3 w - - 0 1" Men
   -- rights to castle with a knight on h1, and with the king on d1
   pub no_rook : IsRefused "4k3/8/8/8/8/8/8/4K2N w K - 0 1" Castling
   pub no_king_on_e1 : IsRefused "4k3/8/8/8/8/8/8/3K3R w K - 0 1" Castling
   pub right : IsTaken "4k3/8/8/8/8/8/8/4K2R w K - 0 1"
+  pub no_black_rook : IsRefused "4k3/8/8/8/8/8/8/4K3 w q - 0 1" Castling
+  pub all_rights : IsTaken "r3k2r/8/8/8/8/8/8/R3K2R w KQkq - 0 1"
   -- targets without a pawn that went over them, with a piece where it started or on the target, and of the side on move
   pub no_pawn : IsRefused "4k3/8/8/8/8/8/8/4K3 w - e6 0 1" EnPassant
   pub start_taken : IsRefused "4k3/4q3/8/4p3/8/8/8/4K3 w - e6 0 1" EnPassant
@@ -138,16 +150,23 @@ pub record FensAreRefused : Type 0 where
   -- a target on rank 3 is Black's to capture on, and not White's, even if a black pawn is below it
   pub target_on_3 : IsTaken "4k3/8/8/8/4P3/8/8/4K3 b - e3 0 1"
   pub other_side : IsRefused "4k3/8/8/8/8/8/4p3/6K1 w - e3 0 1" EnPassant
+  pub no_white_pawn : IsRefused "4k3/8/8/8/8/8/8/4K3 b - e3 0 1" EnPassant
   -- the side that is not on move is in check
   pub check : IsRefused "4k3/8/8/8/8/8/8/K3R3 w - - 0 1" Check
   pub in_check : IsTaken "4k3/8/8/8/8/8/8/K3R3 b - - 0 1"
+  pub white_in_check : IsRefused "k3r3/8/8/8/8/8/8/4K3 b - - 0 1" Check
   -- fields that denote nothing
   pub nine_squares : IsRefused "4k4/8/8/8/8/8/8/4K3 w - - 0 1" Placement
+  pub seven_squares : IsRefused "4k2/8/8/8/8/8/8/4K3 w - - 0 1" Placement
+  pub seven_ranks : IsRefused "4k3/8/8/8/8/8/4K3 w - - 0 1" Placement
+  pub digit_0 : IsRefused "4k30/8/8/8/8/8/8/4K3 w - - 0 1" Placement
   pub no_side : IsRefused "4k3/8/8/8/8/8/8/4K3 W - - 0 1" Side
   pub letter_twice : IsRefused "4k3/8/8/8/8/8/8/4K2R w KK - 0 1" Castling
+  pub file_letter : IsRefused "4k3/8/8/8/8/8/8/4K2R w H - 0 1" Castling
   pub target_on_4 : IsRefused "4k3/8/8/8/4P3/8/8/4K3 b - e4 0 1" EnPassant
   pub counter : IsRefused "4k3/8/8/8/8/8/8/4K3 w - - 0 x" Counters
   pub one_counter : IsRefused "4k3/8/8/8/8/8/8/4K3 w - - 0" Fields
+  pub seven_fields : IsRefused "4k3/8/8/8/8/8/8/4K3 w - - 0 1 1" Fields
   pub no_counters : IsTaken "4k3/8/8/8/8/8/8/4K3 w - -"
   -- they are then 0 and 1
   pub counters_added : IsWrittenAs "4k3/8/8/8/8/8/8/4K3 w - -" "4k3/8/8/8/8/8/8/4K3 w - - 0 1"
@@ -166,10 +185,23 @@ pub record FensAreRefused : Type 0 where
   pub pieces_before_castling : IsRefused "k7/8/8/8/8/P7/PPPPPPPP/NNNNNNNK w K - 0 1" Men
   pub castling_before_target : IsRefused "4k3/8/8/8/8/8/8/4K3 w K e6 0 1" Castling
   pub target_before_check : IsRefused "4k3/8/8/8/8/8/8/4RK2 w - e6 0 1" EnPassant
-  -- a fullmove number of 0 is taken, and counters have at most six digits
+  -- a fullmove number of 0 is taken as 1, leading zeros don't matter, and counters have at most six digits
   pub number_0 : IsTaken "4k3/8/8/8/8/8/8/4K3 w - - 0 0"
+  pub number_1 : IsWrittenAs "4k3/8/8/8/8/8/8/4K3 w - - 007 00" "4k3/8/8/8/8/8/8/4K3 w - - 7 1"
   pub six_digits : IsTaken "4k3/8/8/8/8/8/8/4K3 w - - 100000 1"
   pub seven_digits : IsRefused "4k3/8/8/8/8/8/8/4K3 w - - 0000000 1" Counters
+  pub number_of_six : IsTaken "4k3/8/8/8/8/8/8/4K3 w - - 0 999999"
+  pub number_of_seven : IsRefused "4k3/8/8/8/8/8/8/4K3 w - - 0 0000001" Counters
   -- in Chess960 a side's letter names the outermost rook on that side, and rights are written by the rooks' files
   pub outermost : IsWrittenAs "4k3/8/8/8/8/8/8/RR2K1RR w KQ - 0 1" "4k3/8/8/8/8/8/8/RR2K1RR w HA - 0 1"
   pub inner : IsWrittenAs "4k3/8/8/8/8/8/8/RR2K1RR w GB - 0 1" "4k3/8/8/8/8/8/8/RR2K1RR w GB - 0 1"
+  -- White's right on the king side comes first, Black's on the queen side last, in whatever order they were read
+  pub four_rights : IsWrittenAs "r3k2r/8/8/8/8/8/8/R3K2R w qkQK - 0 1" "r3k2r/8/8/8/8/8/8/R3K2R w HAha - 0 1"
+  -- wrong are a side's letter without a rook, two letters for one right, two rights on one side, the king's own file,
+  -- and a letter that is no file's; only the last of these is the fault of its field
+  pub no_such_rook : IsRefused960 "4k3/8/8/8/8/8/8/4K3 w k - 0 1" Castling
+  pub named_twice : IsRefused960 "4k3/8/8/8/8/8/8/4K2R w HK - 0 1" Castling
+  pub two_on_one_side : IsRefused960 "4k3/8/8/8/8/8/8/4K1RR w GH - 0 1" Castling
+  pub kings_file : IsRefused960 "4k3/8/8/8/8/8/8/4K2R w E - 0 1" Castling
+  pub kings_before_rights : IsRefused960 "8/8/8/8/8/8/8/8 w HK - 0 1" Kings
+  pub letter_before_kings : IsRefused960 "8/8/8/8/8/8/8/8 w I - 0 1" Castling

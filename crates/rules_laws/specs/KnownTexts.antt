@@ -3,6 +3,7 @@ use Rattle.std.specs.Prelude.{◌≡◌, ℕ, Bool, true, false, not, ◌&&◌, 
 use Prim.Native.String.{String as Text}
 use Rattle.std.specs.List.{list_all, list_any}
 use Rattle.std.specs.Result.{result_ok}
+use Rattle.chess_base.specs.declared.man.Kind.TheVariants.{Knight}
 use Rattle.chess_base.specs.declared.man.Move.{Move}
 use Rattle.chess_base.specs.declared.man.Variant.{Variant}
 use Rattle.chess_base.specs.declared.man.Variant.TheVariants.{Normal, Fischerandom}
@@ -11,7 +12,7 @@ use Rattle.chess_fen.specs.Reading.{fen_reading_as}
 use Rattle.chess_game.specs.Ends.{draw_claim, result_text, verdict_result}
 use Rattle.chess_game.specs.Game.{State, from_start}
 use Rattle.chess_game.specs.declared.results.Outcome.{Outcome}
-use Rattle.chess_game.specs.declared.results.Outcome.TheVariants.{WhiteWins, BlackWins, Draw}
+use Rattle.chess_game.specs.declared.results.Outcome.TheVariants.{WhiteWins, BlackWins, Draw, Unfinished}
 use Rattle.chess_game.specs.declared.tags.HowEnded.{HowEnded}
 use Rattle.chess_game.specs.declared.tags.HowEnded.TheVariants as how
 use Rattle.chess_game.specs.declared.verdicts.DrawClaim.{DrawClaim}
@@ -25,6 +26,7 @@ use Rattle.pgn_writer.specs.Terminations.{termination_of, termination_text}
 use Rattle.pgn_writer.specs.declared.tags.Tags.{Tags}
 use Rattle.rules_laws.specs.KnownGames.{fools_mate, move_by}
 use Rattle.rules_laws.specs.KnownPositions.{promotes}
+use Rattle.rules_laws.specs.Names.{square}
 
 -- ---- SAN
 
@@ -35,6 +37,10 @@ san_in text m = option_map (λ p. san p m) (result_ok (fen_reading_as Normal (co
 -- in the position of a FEN the move's SAN is `written`
 abbrev pub IsWritten : Text → Move → Text → Type 0
 IsWritten text m written = san_in text m ≡ Some (codes written)
+
+-- the move between two named squares, with the promotion to a knight
+abbrev pub becomes_knight : Text → Text → Move
+becomes_knight from to = record { from = square from; to = square to; promotion = Some Knight }
 
 -- moves and their SAN (section 8.2.3)
 pub record MovesAreWritten : Type 0 where
@@ -52,6 +58,10 @@ pub record MovesAreWritten : Type 0 where
   pub mate : IsWritten "6k1/5ppp/8/8/8/8/8/R3K3 w - - 0 1" (move_by "a1" "a8") "Ra8#"
   -- no legal move is left, but there is no check
   pub stalemate : IsWritten "7k/8/6K1/8/8/8/8/5Q2 w - - 0 1" (move_by "f1" "f7") "Qf7"
+  -- a capture of another piece than a pawn, one en passant, and one with a promotion to a knight
+  pub knight_captures : IsWritten "4k3/8/8/4p3/8/5N2/8/4K3 w - - 0 1" (move_by "f3" "e5") "Nxe5"
+  pub en_passant : IsWritten "4k3/8/8/3pP3/8/8/8/4K3 w - d6 0 1" (move_by "e5" "d6") "exd6"
+  pub to_knight : IsWritten "1r2k3/P7/8/8/8/8/8/4K3 w - - 0 1" (becomes_knight "a7" "b8") "axb8=N"
 
 -- the text of a move by its squares, in the position that a FEN of variant v denotes; `None` if the FEN is refused
 abbrev pub shown_in : Variant → Text → Move → Option (List ℕ)
@@ -70,11 +80,15 @@ pub record MovesAreShown : Type 0 where
   pub queen_side : IsShown Fischerandom "3rk3/8/8/8/8/8/8/RK6 w Q - 0 1" (move_by "b1" "a1") "O-O-O"
   pub king : IsShown Fischerandom "5k2/8/8/8/8/8/8/4K2R w K - 0 1" (move_by "e1" "f1") "e1f1"
 
--- in the position of a FEN each of the first texts denotes the move, and none of the others
-abbrev pub AreItsTexts : Text → Move → List (List ℕ) → List (List ℕ) → Type 0
-AreItsTexts text m texts others = option_map
+-- in the position of a FEN of variant v each of the first texts denotes the move, and none of the others
+abbrev pub AreTextsAs : Variant → Text → Move → List (List ℕ) → List (List ℕ) → Type 0
+AreTextsAs v text m texts others = option_map
     (λ p. list_all (λ w. denotes p w m) texts && not (list_any (λ w. denotes p w m) others))
-    (result_ok (fen_reading_as Normal (codes text))) ≡ Some true
+    (result_ok (fen_reading_as v (codes text))) ≡ Some true
+
+-- the same in normal chess
+abbrev pub AreItsTexts : Text → Move → List (List ℕ) → List (List ℕ) → Type 0
+AreItsTexts = AreTextsAs Normal
 
 -- texts that denote a move, beside its SAN, and others that don't
 pub record TextsDenoteMoves : Type 0 where
@@ -90,6 +104,19 @@ pub record TextsDenoteMoves : Type 0 where
       (codes "a8" ∷ codes "a7a8" ∷ codes "a8=N" ∷ codes "a8==Q" ∷ [])
   pub castling : AreItsTexts "4k3/8/8/8/8/8/8/R3K3 w Q - 0 1" (move_by "e1" "c1")
       (codes "O-O-O" ∷ codes "0-0-0" ∷ codes "e1c1" ∷ []) (codes "O-O" ∷ codes "o-o-o" ∷ codes "Kc1" ∷ [])
+  pub king_side : AreItsTexts "4k3/8/8/8/8/8/8/4K2R w K - 0 1" (move_by "e1" "g1")
+      (codes "O-O" ∷ codes "0-0" ∷ codes "e1g1" ∷ []) (codes "O-O-O" ∷ codes "0-0-0" ∷ codes "Kg1" ∷ [])
+  -- in Chess960 castling is named by the squares of king and rook
+  pub chess960 : AreTextsAs Fischerandom "4k3/8/8/8/8/8/8/4K2R w K - 0 1" (move_by "e1" "h1")
+      (codes "O-O" ∷ codes "0-0" ∷ codes "e1h1" ∷ []) (codes "O-O-O" ∷ codes "e1g1" ∷ codes "Kh1" ∷ [])
+  pub knight_captures : AreItsTexts "4k3/8/8/4p3/8/5N2/8/4K3 w - - 0 1" (move_by "f3" "e5")
+      (codes "Nxe5" ∷ codes "Ne5" ∷ codes "Nfxe5" ∷ codes "N3xe5" ∷ codes "Nf3xe5" ∷ codes "f3e5" ∷ [])
+      (codes "xe5" ∷ codes "fxe5" ∷ codes "f3xe5" ∷ codes "Bxe5" ∷ [])
+  pub en_passant : AreItsTexts "4k3/8/8/3pP3/8/8/8/4K3 w - d6 0 1" (move_by "e5" "d6")
+      (codes "exd6" ∷ codes "ed6" ∷ codes "e5xd6" ∷ codes "e5d6" ∷ []) (codes "d6" ∷ codes "exd5" ∷ [])
+  pub to_knight : AreItsTexts "1r2k3/P7/8/8/8/8/8/4K3 w - - 0 1" (becomes_knight "a7" "b8")
+      (codes "axb8=N" ∷ codes "axb8N" ∷ codes "ab8=n" ∷ codes "a7xb8=N" ∷ codes "a7b8n" ∷ [])
+      (codes "b8=N" ∷ codes "axb8" ∷ codes "axb8=Q" ∷ codes "axb8=K" ∷ [])
 
 -- ---- results
 
@@ -175,3 +202,5 @@ pub record TagsAreInOrder : Type 0 where
   pub lost_on_time : IsTermination how.TimeForfeit BlackWins "time forfeit"
   pub drawn_on_time : IsTermination how.TimeForfeit Draw "time forfeit"
   pub against_the_rules : IsTermination how.RulesInfraction WhiteWins "rules infraction"
+  -- and one without a result
+  pub unfinished : IsTermination how.TimeForfeit Unfinished "unterminated"

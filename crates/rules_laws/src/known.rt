@@ -2,7 +2,7 @@
 //! calling its function, which does nothing. What a law refuses are wrong definitions: with one of them it can't be
 //! proved.
 
-ghost use Rattle.rules_laws.specs.KnownCounts.{EndingsAreJudged, MovesAreAsMany};
+ghost use Rattle.rules_laws.specs.KnownCounts.{CastlingIsKnown, EndingsAreJudged, MovesAreAsMany};
 ghost use Rattle.rules_laws.specs.KnownPositions.{FensAreRefused, LinesLeadToFens, PositionsAreTheSame, TheSameHaveTheSamePieces};
 
 /// A law: the contract says it, and the function does nothing. Known lines are legal, and lead to positions with these
@@ -30,18 +30,22 @@ pub fn known_positions_are_the_same()
 {}
 
 /// A law: the contract says it, and the function does nothing. Known positions, some of Chess960 among them, have so
-/// many legal moves; of the first two these are published counts (chessprogramming.org, Perft Results).
+/// many legal moves; of the first two these are published counts (chessprogramming.org, Perft Results). In others of
+/// Chess960 the king may castle, or may not (`castling`).
 ///
-/// It refuses a pawn that captures straight ahead, goes past a piece or promotes to a queen alone, and a king of
-/// Chess960 that can't castle because its own rook stands in its way.
+/// It refuses a pawn that captures straight ahead, goes past a piece or promotes to a queen alone, a king of Chess960
+/// that can't castle because its own rook stands in its way or because it stays where it is, and one that castles though
+/// its rook uncovers an attack.
 pub fn known_positions_have_so_many_moves()
-    ensures { MovesAreAsMany }
+    ensures count { MovesAreAsMany }
+    ensures castling { CastlingIsKnown }
 {}
 
 /// A law: the contract says it, and the function does nothing. Small positions are mate, stalemate, or drawn for
-/// insufficient material.
+/// insufficient material or by the 75-move rule.
 ///
-/// It refuses a king and a bishop against a king, or bishops on squares of one colour, that play on.
+/// It refuses a king and a bishop against a king, or bishops on squares of one colour, that play on, and the 75-move
+/// rule before insufficient material.
 pub fn known_endings_are_judged()
     ensures { EndingsAreJudged }
 {}
