@@ -1,5 +1,5 @@
 -- Small positions by which the law `fens_are_worked_out` shows what the definitions of FEN mean.
-use Rattle.std.specs.Prelude.{◌∷◌, ◌++◌, replicate, None}
+use Rattle.std.specs.Prelude.{[], ◌∷◌, ◌++◌, replicate, None}
 use Rattle.chess_base.specs.declared.man.Colour.TheVariants.{White, Black}
 use Rattle.chess_base.specs.declared.man.Kind.TheVariants.{Pawn, Rook, King}
 use Rattle.chess_base.specs.declared.man.Variant.TheVariants.{Normal}
@@ -26,7 +26,12 @@ kings_and_pawn = record {
   fullmove = 39;
 }
 
--- White's king on c1 and rooks on b1, f1 and h1
+-- White's king on c1 and rooks on b1, f1 and h1, and nothing else
 abbrev pub three_rooks : Men
 three_rooks = None ∷ man_of White Rook ∷ man_of White King ∷ None ∷ None ∷ man_of White Rook ∷ None ∷ man_of White Rook
     ∷ replicate 56 None
+
+-- Black's king on c8 and rooks on b8, f8 and h8, and nothing else
+abbrev pub black_rooks : Men
+black_rooks = replicate 56 None ++ (None ∷ man_of Black Rook ∷ man_of Black King ∷ None ∷ None ∷ man_of Black Rook
+    ∷ None ∷ man_of Black Rook ∷ [])

@@ -14,7 +14,7 @@ ghost use Rattle.chess_fen.specs.Reading.{fen_reading_as};
 ghost use Rattle.chess_fen.specs.RightNames.{Absent, At, Wrong, right_in, names_rights_well};
 ghost use Rattle.chess_fen.specs.Texts.{fields_of};
 ghost use Rattle.chess_fen.specs.Writing.{fen, fen_rank};
-ghost use Rattle.chess_fen_laws.specs.Examples.{kings_and_pawn, three_rooks};
+ghost use Rattle.chess_fen_laws.specs.Examples.{black_rooks, kings_and_pawn, three_rooks};
 ghost use Rattle.chess_fen_laws.specs.Laws.{WrittenIsDenoted, WrittenDenotesNoOther, WrittenIsReadBack, RightsAreNamed};
 ghost use Rattle.chess_fen_laws.specs.Normal.{normal_fen, normal_fen_reading};
 ghost use Rattle.chess_fen_laws.specs.RankTexts.{IsRankText};
@@ -57,7 +57,9 @@ pub fn a_rank_has_one_text()
 
 /// A law: the contract says it, and the function does nothing. Small texts worked out: what a text of six fields is
 /// read as; a rank's text; and how letters name rights of Chess960, where White's king is on c1 and White's rooks are
-/// on b1, f1 and h1.
+/// on b1, f1 and h1, or Black's are on these files of rank 8.
+///
+/// It refuses a right named wrongly that is only noticed for one colour, or on one side.
 pub fn fens_are_worked_out()
     // The third field names no right, and no right wrongly.
     ensures fields { (fields_of (codes "4k3/8/8/8/8/8/4P3/4K3 b - - 5 39")
@@ -78,4 +80,13 @@ pub fn fens_are_worked_out()
     // So these letters name each right well, or one of them wrongly.
     ensures well { names_rights_well Fischerandom three_rooks (codes "FB") ≡ true }
     ensures wrongly { names_rights_well Fischerandom three_rooks (codes "FK") ≡ false }
+    ensures queen_side_wrongly { names_rights_well Fischerandom three_rooks (codes "BQ") ≡ false }
+    ensures no_black_rook { names_rights_well Fischerandom three_rooks (codes "k") ≡ false }
+    // The same with Black's letters.
+    ensures black_side { right_in Fischerandom black_rooks (codes "kq") Black KingSide ≡ At 63 }
+    ensures black_other_side { right_in Fischerandom black_rooks (codes "kq") Black QueenSide ≡ At 57 }
+    ensures black_file { right_in Fischerandom black_rooks (codes "fb") Black KingSide ≡ At 61 }
+    ensures black_well { names_rights_well Fischerandom black_rooks (codes "fb") ≡ true }
+    ensures black_wrongly { names_rights_well Fischerandom black_rooks (codes "fk") ≡ false }
+    ensures black_queen_side_wrongly { names_rights_well Fischerandom black_rooks (codes "bq") ≡ false }
 {}

@@ -59,3 +59,35 @@ returns-clause-well c = refl
 pub returns-clause-wrongly : goal.returns-clause-wrongly
 unfolding king_square is_man
 returns-clause-wrongly c = refl
+
+pub returns-clause-queen_side_wrongly : goal.returns-clause-queen_side_wrongly
+unfolding king_square is_man
+returns-clause-queen_side_wrongly c = refl
+
+pub returns-clause-no_black_rook : goal.returns-clause-no_black_rook
+unfolding king_square is_man
+returns-clause-no_black_rook c = refl
+
+pub returns-clause-black_side : goal.returns-clause-black_side
+unfolding king_square is_man
+returns-clause-black_side c = refl
+
+pub returns-clause-black_other_side : goal.returns-clause-black_other_side
+unfolding king_square is_man
+returns-clause-black_other_side c = refl
+
+pub returns-clause-black_file : goal.returns-clause-black_file
+unfolding king_square is_man
+returns-clause-black_file c = refl
+
+pub returns-clause-black_well : goal.returns-clause-black_well
+unfolding king_square is_man
+returns-clause-black_well c = refl
+
+pub returns-clause-black_wrongly : goal.returns-clause-black_wrongly
+unfolding king_square is_man
+returns-clause-black_wrongly c = refl
+
+pub returns-clause-black_queen_side_wrongly : goal.returns-clause-black_queen_side_wrongly
+unfolding king_square is_man
+returns-clause-black_queen_side_wrongly c = refl
