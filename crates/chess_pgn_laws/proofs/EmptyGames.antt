@@ -13,7 +13,7 @@ use Rattle.chess_fen.specs.{Reading.fen_reading_as, Texts.may_name_right}
 use Rattle.chess_game.specs.Ends.{has_bishop_on, has_insufficient_material, verdict}
 use Rattle.chess_game.specs.Game.{from_start, played}
 use Rattle.chess_game.specs.Same.{is_same_position, legal_en_passant_square, repetition_count, same_men, same_rights}
-use Rattle.chess_game.specs.{declared.results.Outcome.TheVariants.WhiteWins, declared.results.Outcome.TheVariants.Unfinished, declared.verdicts.Verdict.Verdict, declared.verdicts.Verdict.TheVariants.WhiteMates}
+use Rattle.chess_game.specs.{declared.results.Outcome.TheVariants.WhiteWins, declared.results.Outcome.TheVariants.BlackWins, declared.results.Outcome.TheVariants.Draw, declared.results.Outcome.TheVariants.Unfinished, declared.verdicts.Verdict.Verdict, declared.verdicts.Verdict.TheVariants.WhiteMates}
 use Rattle.chess_text.specs.Moves.{denotes, one_of, reading, shape}
 use Rattle.chess_text.specs.{Parts.unmarked, declared.reading.Reading.Reading, laws.CastlingTexts.is_castling_text, laws.Laws.ShapedByText}
 use Rattle.chess_text.specs.declared.reading.Reading.TheVariants as reads
@@ -22,7 +22,7 @@ use Rattle.pgn_tokens.specs.Tokens.{Word, after_gap_lines, token_at, tokens_from
 use Rattle.chess_pgn.specs.Words.{word_gives}
 use Rattle.chess_pgn.specs.{declared.read.PgnEnd.PgnEnd, declared.read.PgnFault.PgnFault, declared.read.PgnFaultKind.TheVariants.AfterEnd, declared.read.PgnFaultKind.TheVariants.BadFen, declared.read.PgnFaultKind.TheVariants.IllegalMove}
 use Rattle.pgn_writer.specs.Terminations.{termination_named}
-use Rattle.chess_pgn_laws.specs.EmptyGames.{EmptyGamesAreRead, PercentLinesAreSkipped, StringsEnd, TagsAreFound, TokensEnd, read_of}
+use Rattle.chess_pgn_laws.specs.EmptyGames.{EmptyGamesAreRead, NamesAreKnown, PercentLinesAreSkipped, StringsEnd, TagsAreFound, TokensEnd, read_of}
 
 -- the initial position has no verdict
 no_verdict : verdict (initial_setup_of Normal) [] ≡ None
@@ -172,12 +172,16 @@ tokens_end = record {
   glyph = refl;
   word = refl;
   draw = refl;
+  lost = refl;
+  no_token = refl;
 }
 
 tags_are_found : TagsAreFound
 unfolding pgn_read termination_named after_gap_lines token_at tokens_of tokens_from
 tags_are_found = record {
   gaps = refl;
+  name = refl;
+  hyphen = refl;
   no_name = refl;
   second_bad = refl;
   after_marks = refl;
@@ -189,6 +193,21 @@ tags_are_found = record {
   last_unknown = refl;
   first_bad_fen = refl;
   small_name = refl;
+}
+
+names_are_known : NamesAreKnown
+unfolding termination_named after_gap_lines token_at tokens_of tokens_from
+names_are_known = record {
+  normal = refl;
+  chess960 = refl;
+  other_variants = refl;
+  atomic = refl;
+  standard = refl;
+  terminations = refl;
+  outcomes = refl;
+  lost = refl;
+  no_outcome = refl;
+  of_2014 = refl;
 }
 
 -- ---- all
@@ -207,6 +226,9 @@ empty_games_are_read law = record {
   marks = (refl, none_declared, refl);
   no_result = refl;
   won = ap (λ (over : Option Verdict). declared_after (is_some over) WhiteWins) no_verdict;
+  lost = ap (λ (over : Option Verdict). declared_after (is_some over) BlackWins) no_verdict;
+  drawn = ap (λ (over : Option Verdict). declared_after (is_some over) Draw) no_verdict;
+  no_move_before = refl;
   variant = refl;
   termination = refl;
   after_mate = late_word mated fen_is_read is_mate (none_read mated (codes "O-O") none_legal (is_shaped law));
@@ -214,4 +236,5 @@ empty_games_are_read law = record {
   percent_lines = percent_lines_are_skipped;
   tokens = tokens_end;
   tags = tags_are_found;
+  names = names_are_known;
 }

@@ -1,19 +1,27 @@
 -- Texts of games without a move, in which a number, a comment or a variation could be taken for moves or for a result;
 -- what tags and a result say without one (PGN standard of 1994, sections 5 to 7, 8.1, 8.2 and 9.8.1); and what a word is
 -- where the game has ended before a move.
-use Rattle.std.specs.Prelude.{◌≡◌, ℕ, true, [], ◌∷◌, codes, Some, None, Ok, Err}
+use Rattle.std.specs.Prelude.{◌≡◌, ℕ, true, List, [], ◌∷◌, codes, length, map, replicate, Option, Some, None, Ok, Err}
 use Prim.Native.String.{String as Text}
 use Rattle.byte_devices.specs.Bytes.{tab}
 use Rattle.chess_base.specs.Initial.{initial_setup_of}
-use Rattle.chess_base.specs.declared.man.Variant.TheVariants.{Fischerandom}
+use Rattle.chess_base.specs.declared.man.Variant.TheVariants.{Normal, Fischerandom}
 use Rattle.chess_base.specs.declared.fen_fault.FenFault.TheVariants.{Fields}
-use Rattle.chess_game.specs.declared.results.Outcome.TheVariants.{WhiteWins, Draw, Unfinished}
-use Rattle.chess_pgn.specs.GameRead.{GameRead, pgn_read}
+use Rattle.chess_game.specs.declared.results.Outcome.TheVariants.{WhiteWins, BlackWins, Draw, Unfinished}
+use Rattle.chess_game.specs.declared.verdicts.Verdict.TheVariants.{WhiteMates, BlackMates, Stalemate, InsufficientMaterial, FivefoldRepetition, SeventyFiveMoves}
+use Rattle.chess_pgn.specs.GameRead.{GameRead, known_variant, not_of_2014, pgn_read}
+use Rattle.chess_pgn.specs.ResultTags.{result_tag_of}
+use Rattle.chess_pgn.specs.UnknownVariants.{unknown_variant_in}
+use Rattle.chess_pgn.specs.Variations.{variations_fault}
 use Rattle.chess_pgn.specs.declared.read.PgnEnd.{PgnEnd}
 use Rattle.chess_pgn.specs.declared.read.PgnFaultKind.{PgnFaultKind}
 use Rattle.chess_pgn.specs.declared.read.PgnFaultKind.TheVariants.{BadTag, BadFen, BadToken, AfterEnd, UnclosedComment, UnclosedVariation, NoResult}
-use Rattle.pgn_tokens.specs.Tokens.{Skip, Word, tokens_from}
+use Rattle.chess_pgn.specs.declared.tagged_result.ResultTag.{ResultTag}
+use Rattle.pgn_tokens.specs.Tokens.{Skip, Word, Bad, tokens_from}
+use Rattle.pgn_writer.specs.Outcomes.{outcome_of}
+use Rattle.pgn_writer.specs.Terminations.{termination_named}
 use Rattle.pgn_writer.specs.declared.termination.Termination.TheVariants.{TimeForfeit}
+use Rattle.pgn_writer.specs.declared.termination.Termination.TheVariants as how
 
 -- what is read of a text from its first byte on, as a game of at most one half-move
 abbrev pub read_of : Text → GameRead
@@ -120,6 +128,9 @@ pub record TokensEnd : Type 0 where
   -- a word after the last byte that may be in one; `*` is a word by itself
   pub word : tokens_from (codes "aZ09_+#=-/!?:*") 0 ≡ (14, Word (codes "aZ09_+#=-/!?:")) ∷ (1, Word (codes "*")) ∷ []
   pub draw : (read_of "1/2-1/2").answer ≡ Ok (Some (record { outcome = Draw; termination = None; offset = 7 }))
+  pub lost : (read_of "0-1").answer ≡ Ok (Some (record { outcome = BlackWins; termination = None; offset = 3 }))
+  -- no token begins with any of these bytes: a vertical tab (11), a form feed (12), and others
+  pub no_token : map (λ c. tokens_from (c ∷ []) 0) (11 ∷ 12 ∷ codes ")}]<>,@~'") ≡ replicate 11 ((1, Bad) ∷ [])
 
 -- ---- tags (section 8.1)
 
@@ -127,6 +138,9 @@ pub record TokensEnd : Type 0 where
 pub record TagsAreFound : Type 0 where
   -- lines may end in a tag
   pub gaps : EndsAt "[ A\n\"b\"\n]*" 10
+  -- a name has letters, digits and `_`, and nothing else
+  pub name : EndsAt "[A_1 \"b\"]*" 10
+  pub hyphen : FailsAt "[A-1 \"b\"]*" BadTag 0
   -- one without a name, or a second one that can't be read, is the fault
   pub no_name : FailsAt "[\"b\"]*" BadTag 0
   pub second_bad : FailsAt "[A \"b\"][A]*" BadTag 7
@@ -146,6 +160,43 @@ pub record TagsAreFound : Type 0 where
   pub first_bad_fen : FailsAt "[FEN \"x\"][FEN \"y\"]*" (BadFen Fields) 6
   -- a name in small letters is another name
   pub small_name : EndsAt "[fen \"x\"]*" 10
+
+-- ---- names (sections 8.1.1.7, 8.2.6 and 9.8.1)
+
+-- the offset at which the text of the last tag Variant begins, if it names no known variant
+abbrev pub unknown_at : Text → Option ℕ
+unknown_at text = unknown_variant_in (length (codes text)) (tokens_from (codes text) 0)
+
+-- what the last tag Result of the text says
+abbrev pub result_tag : Text → Option ResultTag
+result_tag text = result_tag_of (length (codes text)) (tokens_from (codes text) 0)
+
+-- what texts name, in capital or small letters where a tag has them
+pub record NamesAreKnown : Type 0 where
+  pub normal : map known_variant
+      (codes "normal" ∷ codes "Standard" ∷ codes "CHESS" ∷ codes "Classical" ∷ codes "From Position" ∷ [])
+      ≡ replicate 5 (Some Normal)
+  pub chess960 : map known_variant (codes "fischerandom" ∷ codes "Fischerrandom" ∷ codes "CHESS960" ∷ [])
+      ≡ replicate 3 (Some Fischerandom)
+  pub other_variants : map known_variant (codes "Atomic" ∷ codes "chess 960" ∷ [] ∷ []) ≡ replicate 3 None
+  -- the fault of a tag with another name is where its text begins; a known one has none
+  pub atomic : unknown_at "[Variant \"Atomic\"]*" ≡ Some 10
+  pub standard : unknown_at "[Variant \"Standard\"]*" ≡ None
+  pub terminations : map termination_named (codes "Abandoned" ∷ codes "adjudication" ∷ codes "death"
+      ∷ codes "emergency" ∷ codes "NORMAL" ∷ codes "rules infraction" ∷ codes "time forfeit" ∷ codes "unterminated"
+      ∷ codes "lost on time" ∷ [])
+      ≡ Some how.Abandoned ∷ Some how.Adjudication ∷ Some how.Death
+      ∷ Some how.Emergency ∷ Some how.Normal ∷ Some how.RulesInfraction
+      ∷ Some how.TimeForfeit ∷ Some how.Unterminated ∷ None ∷ []
+  pub outcomes : map outcome_of (codes "1-0" ∷ codes "0-1" ∷ codes "1/2-1/2" ∷ codes "*" ∷ codes "1/2" ∷ codes "0-0"
+      ∷ []) ≡ Some WhiteWins ∷ Some BlackWins ∷ Some Draw ∷ Some Unfinished ∷ None ∷ None ∷ []
+  -- a tag Result with an outcome, and one with none
+  pub lost : result_tag "[Result \"0-1\"]*" ≡ Some (record { outcome = Some BlackWins; offset = 9; len = 3 })
+  pub no_outcome : result_tag "[Result \"lost\"]*" ≡ Some (record { outcome = None; offset = 9; len = 4 })
+  -- the Laws have had fivefold repetition and the 75-move rule only since 2014, and the other verdicts before
+  pub of_2014 : map not_of_2014
+      (WhiteMates ∷ BlackMates ∷ Stalemate ∷ InsufficientMaterial ∷ FivefoldRepetition ∷ SeventyFiveMoves ∷ [])
+      ≡ Some WhiteMates ∷ Some BlackMates ∷ Some Stalemate ∷ Some InsufficientMaterial ∷ None ∷ None ∷ []
 
 -- ---- all
 
@@ -168,6 +219,11 @@ pub record EmptyGamesAreRead : Type 0 where
   pub no_result : (read_of "12...").answer ≡ Err (record { kind = NoResult; offset = 5 })
   -- another marker than `*` is declared, without a comment
   pub won : (read_of "1-0").state.declared ≡ Some (record { outcome = WhiteWins; comment = [] })
+  pub lost : (read_of "0-1").state.declared ≡ Some (record { outcome = BlackWins; comment = [] })
+  pub drawn : (read_of "1/2-1/2").state.declared ≡ Some (record { outcome = Draw; comment = [] })
+  -- where variations are read, one before the first move is a fault, since there is no move that it replaces
+  pub no_move_before : variations_fault tokens_from (codes "1. (e4) *") (initial_setup_of Normal) 0
+      ≡ Some (record { kind = BadToken; offset = 3 })
   -- what a tag names may be in capital or small letters: a variant, and how the game ended
   pub variant : (read_of "[Variant \"Chess960\"] *").state.start ≡ initial_setup_of Fischerandom
   pub termination : (read_of "[Termination \"Time forfeit\"] *").answer
@@ -175,8 +231,9 @@ pub record EmptyGamesAreRead : Type 0 where
   -- a word where a mate has ended the game: no move is legal there, but this is a move after the end, no illegal one
   pub after_mate : (read_of "[FEN \"7k/6Q1/6K1/8/8/8/8/8 b - - 0 1\"] O-O").answer
       ≡ Err (record { kind = AfterEnd; offset = 39 })
-  -- strings, `%` lines, other tokens and tags, row by row
+  -- strings, `%` lines, other tokens, tags and names, row by row
   pub strings : StringsEnd
   pub percent_lines : PercentLinesAreSkipped
   pub tokens : TokensEnd
   pub tags : TagsAreFound
+  pub names : NamesAreKnown
