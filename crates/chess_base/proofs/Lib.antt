@@ -12,5 +12,4 @@ mod CountsAfter
 mod ReserveAfter
 mod InitialIsSound
 mod NormalKept
-mod MovesRise
 mod MoveTexts

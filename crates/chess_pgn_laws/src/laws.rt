@@ -20,7 +20,8 @@ ghost use Rattle.chess_pgn_laws.specs.PgnLaw.{PgnIsReadBack, ResultIsWritten, Va
 ghost use Rattle.pgn_writer.specs.PgnText.{IsPgn};
 ghost use Rattle.pgn_tokens.specs.Split.{IsSplit};
 
-use chess_base::{Position, Variant, after_is_sound};
+use chess_base::{Position, Variant};
+use chess_base_laws::after_is_sound;
 use chess_fen_laws::written_is_denoted;
 use chess_text::{read_moves_are_legal, texts_have_parts};
 
