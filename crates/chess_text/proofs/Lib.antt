@@ -22,7 +22,6 @@ mod PromotionLetters
 mod UsualForms
 mod WrittenBytes
 mod SanLaw
-mod ShownLaw
 mod Origins
 mod DenotedStart
 mod MovesFromStarts

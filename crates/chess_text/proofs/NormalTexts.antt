@@ -4,7 +4,7 @@ use Rattle.std.proofs.Math.Path.{fun_ext}
 use Rattle.std.specs.Option.{option_map, option_map_or}
 use Rattle.chess_base.specs.{declared.man.CastlingSide.CastlingSide, declared.man.Man.Man, declared.man.Move.Move, declared.man.Variant.TheVariants.Normal, declared.setup.Setup.Setup, Attacks.is_in_check, Coordinates.coordinate, shared.Parts.optional, Castling.castling, Men.man_at, Men.same_kind, Moves.after, MoveList.all_moves, MoveList.moves, laws.Normal.normal_after, Options.list_if}
 use Rattle.chess_base.proofs.{shared.Normal.normal_kept as rules_kept, shared.Normal.castling_kept, shared.After.variant-after}
-use Rattle.chess_text.specs.{ties.SanParts.unmarked_san, ties.Forms.captures, ties.Fitting.passes, declared.described.Described.Described, declared.reading.Reading.TheVariants.NotAMove}
+use Rattle.chess_text.specs.{ties.SanParts.unmarked_san, ties.Forms.captures, shared.Fitting.passes, declared.described.Described.Described, declared.reading.Reading.TheVariants.NotAMove}
 use Rattle.chess_text.specs.Moves.{described, shape, denotes, denotes_described, one_of, reading}
 use Rattle.chess_text.specs.San.{rival_starts, check_mark, san, castling_text, is_fischerandom, shown_move}
 use Rattle.chess_text.specs.laws.Normal.{NormalIsKept, normal_moves, normal_described, normal_denotes, normal_reading, normal_rival_starts, normal_check_mark, normal_san}

@@ -4,7 +4,7 @@ use Rattle.std.specs.Option.{option_map_or}
 use Rattle.chess_base.specs.{declared.man.CastlingSide.CastlingSide, declared.man.Move.Move, declared.man.Variant.Variant, declared.man.Variant.TheVariants.Normal, declared.man.Variant.TheVariants.Fischerandom, declared.setup.Setup.Setup, Coordinates.coordinate, Castling.castling, Moves.is_legal, Sound.IsSound}
 use Rattle.chess_text.specs.declared.reading.Reading.TheVariants as reads
 use Rattle.chess_text.specs.{laws.Laws.DenotesAlone, Moves.shape, Moves.reading, San.castling_text, San.is_fischerandom, San.shown_move}
-use Rattle.chess_text.proofs.{OneMoveFits.read_alone, CoordinateLaw.coordinate_alone, CoordinateLaw.coordinate_shape, Legal.legal_move, SanLaw.Law, SanLaw.castling_law, Solid.bare_castling}
+use Rattle.chess_text.proofs.shared.Denoting.{read_alone, coordinate_alone, coordinate_shape, legal_move, Law, castling_law, bare_castling}
 
 by_squares : (p : Setup) (m : Move) → IsTrue (is_legal p m) → Law p m (coordinate m)
 by_squares p m legal = record { has_shape = coordinate_shape p m legal; alone = coordinate_alone p m legal }

@@ -1,7 +1,7 @@
 -- The text is that of the coordinates, which denotes its move alone, or in Chess960 that of castling to a side, which
--- is one move (ShownLaw, from CoordinateLaw and castling_law of SanLaw).
-use Rattle.chess_text.proofs.ShownLaw.{shown_alone, shown_shape, shown_read}
-use Rattle.chess_text.proofs.laws.move_text_denotes_its_move.Goals as goal
+-- is one move (ShownLaw).
+use Rattle.chess_text_laws.proofs.ShownLaw.{shown_alone, shown_shape, shown_read}
+use Rattle.chess_text_laws.proofs.laws.move_text_denotes_its_move.Goals as goal
 
 pub returns-clause-denotes : goal.returns-clause-denotes
 returns-clause-denotes c = shown_alone

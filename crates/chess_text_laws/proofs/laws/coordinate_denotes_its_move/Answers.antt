@@ -1,7 +1,7 @@
--- The text names start, end and promotion, so its parts fit one legal move alone (CoordinateLaw); a text that denotes
--- one alone is read as it (read_alone of OneMoveFits).
-use Rattle.chess_text.proofs.CoordinateLaw.{coordinate_alone, coordinate_shape, coordinate_read}
-use Rattle.chess_text.proofs.laws.coordinate_denotes_its_move.Goals as goal
+-- The text names start, end and promotion, so its parts fit one legal move alone; a text that denotes one alone is
+-- read as it (CoordinateLaw of chess_text).
+use Rattle.chess_text.proofs.shared.Denoting.{coordinate_alone, coordinate_shape, coordinate_read}
+use Rattle.chess_text_laws.proofs.laws.coordinate_denotes_its_move.Goals as goal
 
 pub returns-clause-denotes : goal.returns-clause-denotes
 returns-clause-denotes c = λ p m sound legal. coordinate_alone p m legal

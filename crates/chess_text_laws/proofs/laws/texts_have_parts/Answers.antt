@@ -1,7 +1,8 @@
 -- Each part shows by its first byte, but for a file, which is the start's just where a square follows: so parts and
--- their texts fit one to one (Grammar). Else a text denotes castling or nothing (OneMoveFits).
-use Rattle.chess_text.proofs.{OneMoveFits.shaped_by_text, Denotations.denoted_by_text, Grammar.denoted-parts, Grammar.parts-denoted}
-use Rattle.chess_text.proofs.laws.texts_have_parts.Goals as goal
+-- their texts fit one to one (Grammar of chess_text). Else a text denotes castling or nothing (PartsOfTexts).
+use Rattle.chess_text.proofs.shared.Parts.{denoted-parts, parts-denoted}
+use Rattle.chess_text_laws.proofs.PartsOfTexts.{denoted_by_text, shaped_by_text}
+use Rattle.chess_text_laws.proofs.laws.texts_have_parts.Goals as goal
 
 pub returns-clause-read : goal.returns-clause-read
 returns-clause-read c = denoted-parts

@@ -16,7 +16,7 @@ use Rattle.chess_text.specs.declared.parts.Promotion.{Promotion}
 use Rattle.chess_base.specs.Options.{list_if}
 use Rattle.chess_text.specs.Parts.{unmarked, kind_text, file_text, rank_text}
 use Rattle.chess_text.specs.laws.CastlingTexts.{is_castling_text}
-use Rattle.chess_text.specs.ties.Reader.{parts_at}
+use Rattle.chess_text.specs.shared.Reader.{parts_at}
 
 -- the optional value `o` is there, and the test holds for it
 abbrev pub passes : {A : Type 0} → (A → Bool) → Option A → Bool

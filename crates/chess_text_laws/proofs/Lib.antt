@@ -1,0 +1,2 @@
+mod PartsOfTexts
+mod ShownLaw
