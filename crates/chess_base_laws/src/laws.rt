@@ -3,9 +3,12 @@
 ghost use Rattle.std.specs.Prelude.{◌≡◌};
 ghost use Rattle.chess_base.specs.declared.man.Colour.{Colour};
 ghost use Rattle.chess_base.specs.declared.man.Kind.{Kind};
+ghost use Rattle.chess_base.specs.declared.man.Variant.TheVariants.{Normal};
+ghost use Rattle.chess_base.specs.declared.setup.Setup.{Setup};
 ghost use Rattle.chess_base.specs.Men.{same_colour, same_kind};
 ghost use Rattle.chess_base_laws.specs.Castles.{CastlingIsNamed};
 ghost use Rattle.chess_base_laws.specs.Laws.{AfterIsSound, BeforeUndoesAfter, MovesGoInSteps, MovesRise};
+ghost use Rattle.chess_base_laws.specs.Normal.{NormalIsKept};
 
 /// A law: the contract says it, and the function does nothing. A legal move of a sound position gives a sound position.
 pub fn after_is_sound()
@@ -31,6 +34,13 @@ pub fn moves_go_in_steps()
 /// right's rook. Whether the way is empty and not attacked is not asked.
 pub fn castling_is_named()
     ensures { CastlingIsNamed }
+{}
+
+/// A law: the contract says it, and the function does nothing. On positions of normal chess the rules, which are
+/// defined for both variants together, agree with those defined for normal chess alone: on which castling rights are
+/// sound, which moves are legal, and the position after each.
+pub fn normal_is_kept()
+    ensures { (p : Setup) → p.variant ≡ Normal → NormalIsKept p }
 {}
 
 /// A law: the contract says it, and the function does nothing. The equalities of colours and of kinds of piece that the

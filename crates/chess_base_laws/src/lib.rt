@@ -6,5 +6,5 @@ mod laws;
 
 pub use laws::{
     after_is_sound, before_undoes_after, castling_is_named, equalities_are_derived,
-    moves_go_in_steps, moves_rise,
+    moves_go_in_steps, moves_rise, normal_is_kept,
 };

@@ -28,4 +28,3 @@ mod MovesFromStarts
 mod Rivals
 mod Promoting
 mod Shapes
-mod NormalTexts

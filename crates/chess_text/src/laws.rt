@@ -1,10 +1,6 @@
 //! Laws of the texts. A caller learns one by calling its function, which does nothing.
 
-ghost use Rattle.std.specs.Prelude.{◌≡◌};
-ghost use Rattle.chess_base.specs.declared.man.Variant.TheVariants.{Normal};
-ghost use Rattle.chess_base.specs.declared.setup.Setup.{Setup};
 ghost use Rattle.chess_text.specs.laws.Laws.{SanIsShort, SanHasBytes, SanBeginsWithLetter, ReadMovesAreLegal};
-ghost use Rattle.chess_text.specs.laws.Normal.{NormalIsKept};
 
 /// A law: the contract says it, and the function does nothing. The SAN of a legal move of a sound position has two to
 /// seven bytes, all of them letters, digits, `+`, `#`, `=` and `-`, and begins with a letter: so in PGN it is one
@@ -18,10 +14,4 @@ pub fn san_is_a_word()
 /// A law: the contract says it, and the function does nothing. If a text is read as a move, this move is legal.
 pub fn read_moves_are_legal()
     ensures { ReadMovesAreLegal }
-{}
-
-/// A law: the contract says it, and the function does nothing. On positions of normal chess the legal moves,
-/// `read_move` and `san` agree with definitions for normal chess alone, and `move_text` is `coordinate`.
-pub fn normal_is_kept()
-    ensures { (p : Setup) → p.variant ≡ Normal → NormalIsKept p }
 {}

@@ -22,7 +22,7 @@ mod usual;
 mod writing;
 
 pub use coordinates::{CoordinateText, coordinate, move_text};
-pub use laws::{normal_is_kept, read_moves_are_legal, san_is_a_word};
+pub use laws::{read_moves_are_legal, san_is_a_word};
 pub use reading::{Reading, has_move_shape, read_move};
 pub use san_text::San;
 pub use writing::{SanText, add_check_mark, make_san, san, unmarked_san};

@@ -1,6 +1,10 @@
 //! Laws of the texts. A caller learns one by calling its function, which does nothing.
 
+ghost use Rattle.std.specs.Prelude.{◌≡◌};
+ghost use Rattle.chess_base.specs.declared.man.Variant.TheVariants.{Normal};
+ghost use Rattle.chess_base.specs.declared.setup.Setup.{Setup};
 ghost use Rattle.chess_text_laws.specs.Laws.{SanDenotesItsMove, SanHasShape, SanIsReadBack, CoordinateDenotesItsMove, CoordinateHasShape, CoordinateIsReadBack, ShownMoveDenotesItsMove, ShownMoveHasShape, ShownMoveIsReadBack, PartsAreTheTexts, PartsAreRead, DenotedByText, ShapedByText};
+ghost use Rattle.chess_text_laws.specs.Normal.{NormalIsKept};
 
 /// A law: the contract says it, and the function does nothing. The SAN of a legal move of a sound position denotes that
 /// move and no other legal move, and is read as it.
@@ -37,4 +41,10 @@ pub fn texts_have_parts()
     ensures written { PartsAreRead }
     ensures denoted { DenotedByText }
     ensures shaped { ShapedByText }
+{}
+
+/// A law: the contract says it, and the function does nothing. On positions of normal chess the legal moves,
+/// `read_move` and `san` agree with definitions for normal chess alone, and `move_text` is `coordinate`.
+pub fn normal_is_kept()
+    ensures { (p : Setup) → p.variant ≡ Normal → NormalIsKept p }
 {}

@@ -5,5 +5,6 @@
 mod laws;
 
 pub use laws::{
-    coordinate_denotes_its_move, move_text_denotes_its_move, san_denotes_its_move, texts_have_parts,
+    coordinate_denotes_its_move, move_text_denotes_its_move, normal_is_kept, san_denotes_its_move,
+    texts_have_parts,
 };

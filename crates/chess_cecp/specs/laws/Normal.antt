@@ -1,6 +1,6 @@
 -- The table of commands as it is defined for normal chess alone. Nothing here takes a variant: positions, their FEN,
--- the texts of moves and of games are those of normal chess alone (laws/Normal of chess_base, chess_fen and chess_text;
--- NormalGame and NormalPgn). Without Chess960 `variant` and `protover` have other rows than with it; all others have
+-- the texts of moves and of games are those of normal chess alone (Normal of chess_base_laws and chess_text_laws, FEN's
+-- Normal; NormalGame and NormalPgn). Without Chess960 `variant` and `protover` have other rows than with it; all others have
 -- the same.
 use Rattle.std.specs.Prelude.{ℕ, nat_le, nat_lt, Bool, true, false, if◌then◌else◌, List, [], ◌∷◌, ◌++◌, length, codes, decimal, Option, None, Some, Result, Ok, Err}
 use Rattle.std.specs.List.{flat_map}
@@ -14,7 +14,7 @@ use Rattle.byte_devices.specs.Bytes.{new_line, space}
 use Rattle.chess_fen.specs.laws.Normal.{normal_fen, normal_fen_reading}
 use Rattle.chess_text.specs.declared.reading.Reading.{Reading}
 use Rattle.chess_text.specs.declared.reading.Reading.TheVariants as reads
-use Rattle.chess_text.specs.laws.Normal.{normal_moves, normal_reading}
+use Rattle.chess_text_laws.specs.Normal.{normal_moves, normal_reading}
 use Rattle.chess_game.specs.declared.results.Declared.{Declared}
 use Rattle.chess_game.specs.declared.results.Outcome.TheVariants.{Draw}
 use Rattle.chess_game.specs.Ends.{verdict_result, result_text, draw_claim, claim_comment}

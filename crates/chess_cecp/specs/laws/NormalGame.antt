@@ -1,5 +1,5 @@
 -- A game as it is defined for normal chess alone: each of these is the definition of the same name without `normal_`,
--- over the rules of normal chess alone (laws/Normal of chess_base and of chess_text). Nothing here takes a variant.
+-- over the rules of normal chess alone (Normal of chess_base_laws and chess_text_laws). Nothing here takes a variant.
 use Rattle.std.specs.Prelude.{ℕ, ◌==◌, nat_le, Bool, ◌&&◌, ◌||◌, if◌then◌else◌, List, [], ◌∷◌, length, count_by, Option, None, Some, is_some}
 use Rattle.std.specs.List.{list_any}
 use Rattle.std.specs.Option.{option_map, option_map_or, option_or}
@@ -12,8 +12,8 @@ use Rattle.chess_base.specs.ByColour.{by_colour}
 use Rattle.chess_base.specs.Initial.{initial_men}
 use Rattle.chess_base.specs.Men.{other, same_colour}
 use Rattle.chess_base.specs.Moves.{is_en_passant}
-use Rattle.chess_base.specs.laws.Normal.{normal_after}
-use Rattle.chess_text.specs.laws.Normal.{normal_moves}
+use Rattle.chess_base_laws.specs.Normal.{normal_after}
+use Rattle.chess_text_laws.specs.Normal.{normal_moves}
 use Rattle.chess_game.specs.declared.verdicts.Claims.{Claims}
 use Rattle.chess_game.specs.declared.verdicts.Verdict.{Verdict}
 use Rattle.chess_game.specs.declared.verdicts.Verdict.TheVariants.{WhiteMates, BlackMates, Stalemate, InsufficientMaterial, FivefoldRepetition, SeventyFiveMoves}

@@ -1,5 +1,5 @@
 -- The texts of moves as they are defined for normal chess alone: each of these is the definition of the same name
--- without `normal_`, over the rules of normal chess alone (laws/Normal of chess_base). Nothing here takes a variant.
+-- without `normal_`, over the rules of normal chess alone (Normal of chess_base_laws). Nothing here takes a variant.
 -- What a text is, and which described moves it denotes, is shared.
 use Rattle.std.specs.Prelude.{◌≡◌, ℕ, ◌==◌, Bool, false, not, ◌&&◌, List, [], ◌++◌, length, map, filter, codes, Option, is_some, if◌then◌else◌}
 use Rattle.std.specs.Option.{option_map, option_map_or}
@@ -10,7 +10,7 @@ use Rattle.chess_base.specs.Coordinates.{coordinate}
 use Rattle.chess_base.specs.Men.{man_at, same_kind}
 use Rattle.chess_base.specs.MoveList.{all_moves, moves}
 use Rattle.chess_base.specs.Moves.{captured_square}
-use Rattle.chess_base.specs.laws.Normal.{normal_is_legal, normal_castling, normal_after}
+use Rattle.chess_base_laws.specs.Normal.{normal_is_legal, normal_castling, normal_after}
 use Rattle.chess_text.specs.declared.described.Described.{Described}
 use Rattle.chess_text.specs.declared.reading.Reading.{Reading}
 use Rattle.chess_text.specs.declared.reading.Reading.TheVariants.{NotAMove}

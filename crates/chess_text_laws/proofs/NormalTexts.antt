@@ -1,13 +1,15 @@
 -- On positions of normal chess the texts are those of normal chess.
-use Rattle.std.proofs.Common.{◌≡◌, ℕ, Bool, not, ◌&&◌, ◌==◌, List, ◌++◌, length, map, filter, codes, Option, Some, None, refl, ap, ◌∙◌, if◌then◌else◌}
+use Rattle.std.proofs.Common.{◌≡◌, ℕ, Bool, not, ◌&&◌, ◌==◌, List, ◌++◌, length, map, filter, codes, Option, Some, None, is_some, refl, ap, ◌∙◌, if◌then◌else◌}
 use Rattle.std.proofs.Math.Path.{fun_ext}
 use Rattle.std.specs.Option.{option_map, option_map_or}
-use Rattle.chess_base.specs.{declared.man.CastlingSide.CastlingSide, declared.man.Man.Man, declared.man.Move.Move, declared.man.Variant.TheVariants.Normal, declared.setup.Setup.Setup, Attacks.is_in_check, Coordinates.coordinate, shared.Parts.optional, Castling.castling, Men.man_at, Men.same_kind, Moves.after, MoveList.all_moves, MoveList.moves, laws.Normal.normal_after, Options.list_if}
-use Rattle.chess_base.proofs.{shared.Normal.normal_kept as rules_kept, shared.Normal.castling_kept, shared.After.variant-after}
-use Rattle.chess_text.specs.{ties.SanParts.unmarked_san, ties.Forms.captures, shared.Fitting.passes, declared.described.Described.Described, declared.reading.Reading.TheVariants.NotAMove}
+use Rattle.chess_base.specs.{declared.man.CastlingSide.CastlingSide, declared.man.Man.Man, declared.man.Move.Move, declared.man.Variant.TheVariants.Normal, declared.setup.Setup.Setup, Attacks.is_in_check, Coordinates.coordinate, shared.Parts.optional, Castling.castling, Men.man_at, Men.same_kind, Moves.captured_square, Moves.after, MoveList.all_moves, MoveList.moves, Options.list_if}
+use Rattle.chess_base.proofs.shared.After.{variant-after}
+use Rattle.chess_base_laws.specs.Normal.{normal_after}
+use Rattle.chess_base_laws.proofs.shared.Normal.{normal_kept as rules_kept, castling_kept}
+use Rattle.chess_text.specs.{shared.Fitting.passes, declared.described.Described.Described, declared.reading.Reading.TheVariants.NotAMove}
 use Rattle.chess_text.specs.Moves.{described, shape, denotes, denotes_described, one_of, reading}
-use Rattle.chess_text.specs.San.{rival_starts, check_mark, san, castling_text, is_fischerandom, shown_move}
-use Rattle.chess_text.specs.laws.Normal.{NormalIsKept, normal_moves, normal_described, normal_denotes, normal_reading, normal_rival_starts, normal_check_mark, normal_san}
+use Rattle.chess_text.specs.San.{rival_starts, check_mark, san, castling_text, piece_text, is_fischerandom, shown_move}
+use Rattle.chess_text_laws.specs.Normal.{NormalIsKept, normal_moves, normal_described, normal_denotes, normal_reading, normal_rival_starts, normal_check_mark, normal_san}
 
 pub moves_kept : (p : Setup) → p.variant ≡ Normal → moves p ≡ normal_moves p
 unfolding moves normal_moves
@@ -22,7 +24,7 @@ with_castles p m man o =
       from = m.from;
       to = m.to;
       promotion = m.promotion;
-      captures = captures p m;
+      captures = is_some (captured_square p m);
       castles = o;
     }) man
 
@@ -68,19 +70,23 @@ mark_after : (p : Setup) → p.variant ≡ Normal → (m : Move)
     → check_mark (after p m) ≡ normal_check_mark (normal_after p m)
 mark_after p e m = mark_kept (after p m) (variant-after p m ∙ e) ∙ ap normal_check_mark ((rules_kept p e).after m)
 
+-- the SAN of a described move, with these rivals, without its mark
+abbrev bare_san : List ℕ → Described → List ℕ
+bare_san rivals d = option_map_or castling_text d.castles (piece_text rivals d)
+
 san_by : (p : Setup) → p.variant ≡ Normal → (m : Move) (o : Option Described)
-    → optional (λ d. unmarked_san (rival_starts p (moves p) d) d ++ check_mark (after p m)) o
-    ≡ optional (λ d. unmarked_san (normal_rival_starts p d) d ++ normal_check_mark (normal_after p m)) o
+    → optional (λ d. bare_san (rival_starts p (moves p) d) d ++ check_mark (after p m)) o
+    ≡ optional (λ d. bare_san (normal_rival_starts p d) d ++ normal_check_mark (normal_after p m)) o
 san_by p e m None = refl
 san_by p e m (Some d) =
-    ap (λ starts. unmarked_san starts d ++ check_mark (after p m)) (rivals_kept p e d)
-    ∙ ap (λ mark. unmarked_san (normal_rival_starts p d) d ++ mark) (mark_after p e m)
+    ap (λ starts. bare_san starts d ++ check_mark (after p m)) (rivals_kept p e d)
+    ∙ ap (λ mark. bare_san (normal_rival_starts p d) d ++ mark) (mark_after p e m)
 
 san_kept : (p : Setup) → p.variant ≡ Normal → (m : Move) → san p m ≡ normal_san p m
 unfolding san normal_san
 san_kept p e m =
     san_by p e m (described p m)
-    ∙ ap (optional (λ d. unmarked_san (normal_rival_starts p d) d ++ normal_check_mark (normal_after p m)))
+    ∙ ap (optional (λ d. bare_san (normal_rival_starts p d) d ++ normal_check_mark (normal_after p m)))
     (described_kept p e m)
 
 shown_kept : (p : Setup) → p.variant ≡ Normal → (m : Move) → shown_move p m ≡ coordinate m

@@ -5,7 +5,7 @@ use Rattle.chess_base.specs.Men.{Men, man_at, is_man, same_colour, same_kind, ot
 use Rattle.chess_base.specs.Moves.{moves_as, is_pseudo_legal, pawn_moves, after_castling, after_moving, men_after, rights_after, target_after, halfmove_after, fullmove_after, is_legal, after}
 use Rattle.chess_base.specs.Castling.{is_castling_to, castling, castle_of, castled_king_file, right_of, right_is_sound, home_square, king_home_file}
 use Rattle.std.specs.Option.{option_map_or}
-use Rattle.chess_base.specs.laws.Normal.{normal_right_is_sound_at, normal_says_castling, normal_castling, normal_castle_of, normal_moves_as, normal_has_pattern, normal_men_after, normal_after, normal_is_legal, NormalIsKept}
+use Rattle.chess_base_laws.specs.Normal.{normal_right_is_sound_at, normal_says_castling, normal_castling, normal_castle_of, normal_moves_as, normal_has_pattern, normal_men_after, normal_after, normal_is_legal, NormalIsKept}
 
 in_turn : (a b c : Bool) → (a && (b && c)) ≡ (true && a && b && c)
 in_turn a b c = grind arith
