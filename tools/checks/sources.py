@@ -14,6 +14,7 @@ WORD = r"[A-Za-z_]\w*'*"
 SHORT = {
     "devices": "byte_devices",
     "base": "chess_base",
+    "base_laws": "chess_base_laws",
     "lines": "text_lines",
     "tokens": "pgn_tokens",
     "fen": "chess_fen",
@@ -22,6 +23,7 @@ SHORT = {
     "bits": "chess_bits",
     "game": "chess_game",
     "text": "chess_text",
+    "text_laws": "chess_text_laws",
     "writer": "pgn_writer",
     "pgn": "chess_pgn",
     "pgn_laws": "chess_pgn_laws",
