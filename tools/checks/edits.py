@@ -62,7 +62,8 @@ def where(edit, crate):
     files = [file.split("/", 2) for file in edit.files]
     names = [
         "the law" if below == crate and crate.endswith("_laws") else f"{short_name(below)}/{Path(rest).stem}"
-        for below, _, rest in files
+        for below, folder, rest in files
+        if folder == "specs"
     ]
     return ", ".join(dict.fromkeys(names))
 
