@@ -63,6 +63,11 @@ SHORT = {
 }
 
 
+def short_name(crate):
+    """The name by which the documents call a crate."""
+    return next(short for short, whole in SHORT.items() if whole == crate)
+
+
 @dataclass(frozen=True)
 class Name:
     """A definition: the crate, the file in its specs/ and the definition's name."""
