@@ -160,7 +160,7 @@ percent_lines_are_skipped = record {
 tokens_end : TokensEnd
 unfolding pgn_read termination_named after_gap_lines token_at tokens_of tokens_from
 tokens_end = record {
-  blanks = refl;
+  white_space = refl;
   brace_in_comment = refl;
   semicolon_in_comment = refl;
   brace_in_line = refl;

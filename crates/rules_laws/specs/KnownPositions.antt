@@ -117,6 +117,10 @@ IsTaken text = is_some (result_ok (fen_reading_as Normal (codes text))) ≡ true
 abbrev pub IsWrittenAs : Text → Text → Type 0
 IsWrittenAs text written = option_map fen (result_ok (fen_reading_as Fischerandom (codes text))) ≡ Some (codes written)
 
+-- a FEN of Chess960 is refused for its castling field
+abbrev pub HasWrongRights : Text → Type 0
+HasWrongRights text = fen_reading_as Fischerandom (codes text) ≡ Err Castling
+
 -- FENs that are refused, each for the first of its faults, and neighbours that are accepted
 pub record FensAreRefused : Type 0 where
   pub no_king : IsRefused "8/8/8/8/8/8/8/4K3 w - - 0 1" Kings
@@ -129,6 +133,10 @@ pub record FensAreRefused : Type 0 where
   pub no_rook : IsRefused "4k3/8/8/8/8/8/8/4K2N w K - 0 1" Castling
   pub no_king_on_e1 : IsRefused "4k3/8/8/8/8/8/8/3K3R w K - 0 1" Castling
   pub right : IsTaken "4k3/8/8/8/8/8/8/4K2R w K - 0 1"
+  -- the other three rights without their rooks
+  pub no_rook_on_a1 : IsRefused "4k3/8/8/8/8/8/8/4K3 w Q - 0 1" Castling
+  pub no_rook_on_h8 : IsRefused "4k3/8/8/8/8/8/8/4K3 w k - 0 1" Castling
+  pub no_rook_on_a8 : IsRefused "4k3/8/8/8/8/8/8/4K3 w q - 0 1" Castling
   -- targets without a pawn that went over them, with a piece where it started or on the target, and of the side on move
   pub no_pawn : IsRefused "4k3/8/8/8/8/8/8/4K3 w - e6 0 1" EnPassant
   pub start_taken : IsRefused "4k3/4q3/8/4p3/8/8/8/4K3 w - e6 0 1" EnPassant
@@ -143,8 +151,10 @@ pub record FensAreRefused : Type 0 where
   pub in_check : IsTaken "4k3/8/8/8/8/8/8/K3R3 b - - 0 1"
   -- fields that denote nothing
   pub nine_squares : IsRefused "4k4/8/8/8/8/8/8/4K3 w - - 0 1" Placement
+  pub nine_ranks : IsRefused "4k3/8/8/8/8/8/8/8/4K3 w - - 0 1" Placement
   pub no_side : IsRefused "4k3/8/8/8/8/8/8/4K3 W - - 0 1" Side
   pub letter_twice : IsRefused "4k3/8/8/8/8/8/8/4K2R w KK - 0 1" Castling
+  pub files_letter : IsRefused "4k3/8/8/8/8/8/8/4K2R w H - 0 1" Castling
   pub target_on_4 : IsRefused "4k3/8/8/8/4P3/8/8/4K3 b - e4 0 1" EnPassant
   pub counter : IsRefused "4k3/8/8/8/8/8/8/4K3 w - - 0 x" Counters
   pub one_counter : IsRefused "4k3/8/8/8/8/8/8/4K3 w - - 0" Fields
@@ -173,3 +183,8 @@ pub record FensAreRefused : Type 0 where
   -- in Chess960 a side's letter names the outermost rook on that side, and rights are written by the rooks' files
   pub outermost : IsWrittenAs "4k3/8/8/8/8/8/8/RR2K1RR w KQ - 0 1" "4k3/8/8/8/8/8/8/RR2K1RR w HA - 0 1"
   pub inner : IsWrittenAs "4k3/8/8/8/8/8/8/RR2K1RR w GB - 0 1" "4k3/8/8/8/8/8/8/RR2K1RR w GB - 0 1"
+  pub on_edges : IsWrittenAs "4k3/8/8/8/8/8/8/R3K2R w HA - 0 1" "4k3/8/8/8/8/8/8/R3K2R w HA - 0 1"
+  -- a right without its rook, one that is named twice, and two rights on one side
+  pub no_rook_of_chess960 : HasWrongRights "4k3/8/8/8/8/8/8/4K3 w K - 0 1"
+  pub named_twice : HasWrongRights "4k3/8/8/8/8/8/8/4K2R w KH - 0 1"
+  pub two_on_one_side : HasWrongRights "4k3/8/8/8/8/8/8/4K1RR w HG - 0 1"
