@@ -4,6 +4,8 @@ in the head of definition_edits."""
 from dataclasses import dataclass, field
 from pathlib import Path
 
+from sources import short_name
+
 
 @dataclass
 class Edit:
@@ -42,14 +44,14 @@ PAGE = """# Wrong definitions
 
 Where a definition and the code are wrong alike, every contract still holds: only a law that says the same in other words \
 can notice. Each edit here makes a definition wrong, and names the law whose proof is to refuse it, also if the code is \
-changed alike, since a law rests only on definitions. In brackets is the file of specs/ that they are in (`CRATE/FILE`), \
-or *the law* where its own words were made wrong. `tools/checks/mutations --definitions` tries them, and prints what \
+changed alike, since a law rests only on definitions. In brackets is the [file of definitions](definitions.md), or *the \
+law* where its own words were made wrong. `tools/checks/mutations --definitions` tries them, and prints what \
 refuses each. [Which were tried, and what no law refuses](README.md#held-only-by-the-definition-and-by-tests)
 
-The rows *a proof of the crate* show less. If they don't name *the law*, only one definition was made wrong, and the code \
+The lines *a proof of the crate* show less. If they don't name *the law*, only one definition was made wrong, and the code \
 was left as it is. So the code's proof refuses it, or a second definition of the same: a text's tokens are defined by \
 Tokens (one after another) and by Split (which splits there are), a written line by Written and by PgnText. If both of \
-them and the code were wrong alike, these rows don't say that anything would notice.
+them and the code were wrong alike, these lines don't say that anything would notice.
 
 `tools/checks/theorems --fill` writes this page, from crates/*/definition-edits.
 """
@@ -59,7 +61,9 @@ def where(edit, crate):
     """In which files of specs/ an edit is, as the page has it."""
     files = [file.split("/", 2) for file in edit.files]
     names = [
-        "the law" if below == crate and crate.endswith("_laws") else f"{below}/{Path(rest).stem}" for below, _, rest in files
+        "the law" if below == crate and crate.endswith("_laws") else f"{short_name(below)}/{Path(rest).stem}"
+        for below, folder, rest in files
+        if folder == "specs"
     ]
     return ", ".join(dict.fromkeys(names))
 
@@ -72,9 +76,9 @@ def page(folder):
         for edit in read_edits(Path(folder) / "crates" / crate):
             text = edit.name.removeprefix("twin_").replace("_", " ")
             by_law.setdefault(edit.law.split("::")[-1], {}).setdefault(where(edit, crate), []).append(text)
-        lines += [f"## {crate}", "| refused by | what is wrong |", "|---|---|"]
+        lines += [f"## {crate}", ""]
         for law, by_file in sorted(by_law.items()):
             texts = "; ".join(f"{', '.join(texts)} ({files})" for files, texts in by_file.items())
-            lines.append(f"| {f'`{law}`' if law else 'a proof of the crate'} | {texts} |")
+            lines.append(f"- {f'`{law}`' if law else '*a proof of the crate*'}: {texts}")
         lines.append("")
     return "\n".join(lines)

@@ -14,6 +14,7 @@ WORD = r"[A-Za-z_]\w*'*"
 SHORT = {
     "devices": "byte_devices",
     "base": "chess_base",
+    "base_laws": "chess_base_laws",
     "lines": "text_lines",
     "tokens": "pgn_tokens",
     "fen": "chess_fen",
@@ -22,6 +23,7 @@ SHORT = {
     "bits": "chess_bits",
     "game": "chess_game",
     "text": "chess_text",
+    "text_laws": "chess_text_laws",
     "writer": "pgn_writer",
     "pgn": "chess_pgn",
     "pgn_laws": "chess_pgn_laws",
@@ -59,6 +61,11 @@ SHORT = {
     "arbiter_tests": "chess_arbiter_tests",
     "match_tests": "chess_match_tests",
 }
+
+
+def short_name(crate):
+    """The name by which the documents call a crate."""
+    return next(short for short, whole in SHORT.items() if whole == crate)
 
 
 @dataclass(frozen=True)

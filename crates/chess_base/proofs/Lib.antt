@@ -11,6 +11,4 @@ mod TakesBack
 mod CountsAfter
 mod ReserveAfter
 mod InitialIsSound
-mod NormalKept
-mod MovesRise
 mod MoveTexts

@@ -11,7 +11,6 @@ pub mod LegalMoves
 pub mod Men
 pub mod MenAfter
 pub mod MoveKinds
-pub mod Normal
 pub mod Parts
 pub mod Sound
 pub mod Squares

@@ -2,4 +2,3 @@
 pub mod Reserve
 pub mod Laws
 pub mod Castles
-pub mod Normal

@@ -31,10 +31,7 @@ mod steps;
 
 pub use by_colour::ByColour;
 pub use fen_fault::FenFault;
-pub use laws::{
-    after_is_sound, before_undoes_after, castling_is_named, equalities_are_derived,
-    moves_go_in_steps, moves_rise, normal_is_kept, orders_are_derived, reserve_never_grows,
-};
+pub use laws::{orders_are_derived, reserve_never_grows};
 pub use man::{CastlingSide, Colour, ColourRights, Kind, Man, Move, Rights, Variant, same_colour};
 pub use parsing::{ParseMoveError, ParseSquareError};
 pub use position::Position;

@@ -155,7 +155,7 @@ impl Position {
         is_legal(&self.setup, &m)
     }
 
-    /// The position after a legal move. It is sound too, by the law `after_is_sound`.
+    /// The position after a legal move. It is sound too, by the law `after_is_sound` of chess_base_laws.
     #[tactic(auto, unfolding(crate::specs::Moves::after))]
     pub fn after(&self, m: Move) -> Self
         requires { IsTrue (is_legal self.now m) }

@@ -1,8 +1,9 @@
-//! Each law of chess_base can be called, without a condition.
+//! Each law of chess_base and chess_base_laws can be called, without a condition.
 
-use chess_base::{
+use chess_base::{orders_are_derived, reserve_never_grows, squares_are_named};
+use chess_base_laws::{
     after_is_sound, before_undoes_after, castling_is_named, equalities_are_derived,
-    moves_go_in_steps, moves_rise, normal_is_kept, reserve_never_grows,
+    moves_go_in_steps, moves_rise, normal_is_kept,
 };
 
 #[test]
@@ -14,5 +15,7 @@ fn laws_are_called() {
     moves_go_in_steps();
     moves_rise();
     normal_is_kept();
+    orders_are_derived();
     reserve_never_grows();
+    squares_are_named();
 }

@@ -1,10 +1,7 @@
 //! Names of squares, pieces and faults.
 
 use crate::playing::is_equal;
-use chess_base::{
-    Colour, FenFault, Kind, Move, Position, Square, equalities_are_derived, moves_rise,
-    orders_are_derived, squares_are_named,
-};
+use chess_base::{Colour, FenFault, Kind, Move, Position, Square};
 use std::test::Fail;
 
 const NAMES: [(&[u8], u8); 6] = [
@@ -115,14 +112,6 @@ fn values_are_ordered(rt: HostRuntime) -> Result<(), Fail> {
         last = m;
     }
     Ok(())
-}
-
-#[test]
-fn laws_are_called() {
-    equalities_are_derived();
-    moves_rise();
-    orders_are_derived();
-    squares_are_named();
 }
 
 #[test]

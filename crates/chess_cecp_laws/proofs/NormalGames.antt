@@ -3,12 +3,14 @@
 use Rattle.std.proofs.Common.{◌≡◌, ℕ, cond, Bool, ◌||◌, List, [], ◌∷◌, ◌++◌, codes, None, refl, ap, ◌∙◌, if◌then◌else◌, count_by, not}
 use Rattle.std.specs.List.{list_any}
 use Rattle.std.proofs.lemmas.List.Sums.{sum_by-cons}
-use Rattle.chess_base.specs.{declared.man.Move.Move, declared.man.Variant.Variant, declared.man.Variant.TheVariants.Normal, declared.setup.Setup.Setup, Initial.initial_setup, Initial.initial_setup_of, Moves.after, Moves.is_en_passant, Options.list_if, laws.Normal.normal_after}
-use Rattle.chess_base.proofs.{shared.Normal.normal_kept as rules_kept, shared.After.variant-after}
+use Rattle.chess_base.specs.{declared.man.Move.Move, declared.man.Variant.Variant, declared.man.Variant.TheVariants.Normal, declared.setup.Setup.Setup, Initial.initial_setup, Initial.initial_setup_of, Moves.after, Moves.is_en_passant, Options.list_if}
+use Rattle.chess_base.proofs.shared.After.{variant-after}
+use Rattle.chess_base_laws.specs.Normal.{normal_after}
+use Rattle.chess_base_laws.proofs.shared.Normal.{normal_kept as rules_kept}
 use Rattle.chess_fen.specs.Writing.{fen, is_initial}
 use Rattle.chess_fen_laws.proofs.shared.Normal.{fen_kept}
 use Rattle.chess_text.specs.San.{is_fischerandom}
-use Rattle.chess_text.proofs.shared.Normal.{normal_kept as texts_kept}
+use Rattle.chess_text_laws.proofs.shared.Normal.{normal_kept as texts_kept}
 use Rattle.chess_game.specs.{declared.results.Outcome.Outcome, Ends.verdict, Game.State, Game.outcome_now, Line.positions_of, Line.position_after, Results.outcome_text, Same.legal_en_passant_square, Same.is_same_position, Same.repetition_count}
 use Rattle.chess_game.proofs.shared.Lines.{variant-position_after}
 use Rattle.pgn_writer.specs.{declared.tags.Tags.Tags, Terminations.termination_text, Terminations.termination_of, Written.tag_line, Written.ended, Written.lines_of}

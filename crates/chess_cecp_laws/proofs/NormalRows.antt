@@ -4,9 +4,10 @@ use Rattle.chess_base.specs.{declared.fen_fault.FenFault.FenFault, declared.man.
 use Rattle.chess_fen.specs.{Reading.fen_reading_as, Writing.fen}
 use Rattle.chess_fen_laws.specs.Normal.{normal_fen, normal_fen_reading}
 use Rattle.chess_fen_laws.proofs.shared.Normal.{reading_kept, reading_is_normal, fen_kept}
-use Rattle.chess_text.specs.{declared.reading.Reading.Reading, San.shown_move, laws.Normal.normal_moves, laws.Normal.normal_reading}
+use Rattle.chess_text.specs.{declared.reading.Reading.Reading, San.shown_move}
+use Rattle.chess_text_laws.specs.Normal.{normal_moves, normal_reading}
 use Rattle.chess_text.specs.declared.reading.Reading.TheVariants as reads
-use Rattle.chess_text.proofs.shared.Normal.{normal_kept as texts_kept}
+use Rattle.chess_text_laws.proofs.shared.Normal.{normal_kept as texts_kept}
 use Rattle.chess_game.specs.declared.results.Declared.{Declared}
 use Rattle.chess_game.specs.Game.{State, from_start, played, current}
 use Rattle.chess_game.proofs.shared.Lines.{variant-position_after}

@@ -13,7 +13,7 @@ use Rattle.byte_devices.specs.Bytes.{new_line, space}
 use Rattle.chess_fen_laws.specs.Normal.{normal_fen, normal_fen_reading}
 use Rattle.chess_text.specs.declared.reading.Reading.{Reading}
 use Rattle.chess_text.specs.declared.reading.Reading.TheVariants as reads
-use Rattle.chess_text.specs.laws.Normal.{normal_moves, normal_reading}
+use Rattle.chess_text_laws.specs.Normal.{normal_moves, normal_reading}
 use Rattle.chess_game.specs.declared.results.Declared.{Declared}
 use Rattle.chess_game.specs.declared.results.Outcome.TheVariants.{Draw}
 use Rattle.chess_game.specs.Ends.{verdict_result, result_text, draw_claim, claim_comment}

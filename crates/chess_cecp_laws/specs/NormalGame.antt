@@ -12,8 +12,8 @@ use Rattle.chess_base.specs.ByColour.{by_colour}
 use Rattle.chess_base.specs.Initial.{initial_men}
 use Rattle.chess_base.specs.Men.{other, same_colour}
 use Rattle.chess_base.specs.Moves.{is_en_passant}
-use Rattle.chess_base.specs.laws.Normal.{normal_after}
-use Rattle.chess_text.specs.laws.Normal.{normal_moves}
+use Rattle.chess_base_laws.specs.Normal.{normal_after}
+use Rattle.chess_text_laws.specs.Normal.{normal_moves}
 use Rattle.chess_game.specs.declared.verdicts.Claims.{Claims}
 use Rattle.chess_game.specs.declared.verdicts.Verdict.{Verdict}
 use Rattle.chess_game.specs.declared.verdicts.Verdict.TheVariants.{WhiteMates, BlackMates, Stalemate, InsufficientMaterial, FivefoldRepetition, SeventyFiveMoves}

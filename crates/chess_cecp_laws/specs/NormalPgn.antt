@@ -7,9 +7,9 @@ use Rattle.chess_base.specs.declared.man.Move.{Move}
 use Rattle.chess_base.specs.declared.setup.Setup.{Setup}
 use Rattle.chess_base.specs.Men.{same_colour}
 use Rattle.chess_base.specs.Options.{list_if}
-use Rattle.chess_base.specs.laws.Normal.{normal_after}
+use Rattle.chess_base_laws.specs.Normal.{normal_after}
 use Rattle.chess_fen_laws.specs.Normal.{normal_fen}
-use Rattle.chess_text.specs.laws.Normal.{normal_san}
+use Rattle.chess_text_laws.specs.Normal.{normal_san}
 use Rattle.chess_game.specs.Game.{State}
 use Rattle.chess_game.specs.Results.{outcome_text}
 use Rattle.pgn_writer.specs.declared.tags.Tags.{Tags}

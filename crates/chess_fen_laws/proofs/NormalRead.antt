@@ -3,7 +3,7 @@ use Rattle.std.proofs.Common.{◌≡◌, ℕ, Bool, true, false, List, [], ◌�
 use Rattle.chess_base.specs.{declared.fen_fault.FenFault.FenFault, declared.man.Colour.Colour, declared.man.Colour.TheVariants.White, declared.man.Colour.TheVariants.Black, declared.man.CastlingSide.TheVariants.KingSide, declared.man.CastlingSide.TheVariants.QueenSide, declared.man.Rights.Rights, declared.man.Variant.TheVariants.Normal, declared.setup.Setup.Setup, Men.Men}
 use Rattle.chess_base.specs.declared.fen_fault.FenFault.TheVariants as faults
 use Rattle.chess_base.specs.Faults.{conditions, conditions_if, rights_are_sound, first_failing, setup_fault}
-use Rattle.chess_base.proofs.shared.Normal.{normal_kept}
+use Rattle.chess_base_laws.proofs.shared.Normal.{normal_kept}
 use Rattle.chess_fen.specs.{Reading.◌>>=◌, Reading.side_of, Reading.fen_reading_as, RightNames.names_rights_well}
 use Rattle.text_lines.specs.Words.{short_number}
 use Rattle.chess_fen.specs.Texts.{may_name_right, placement_of, target_of, fields_of, is_castling_field}

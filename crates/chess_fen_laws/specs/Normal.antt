@@ -19,7 +19,7 @@ use Rattle.chess_base.specs.Faults.{first_failing}
 use Rattle.byte_devices.specs.Bytes.{byte, space}
 use Rattle.chess_base.specs.Men.{other}
 use Rattle.chess_base.specs.Sound.{has_one_king, no_pawn_on_end_ranks, has_at_most_16, target_is_sound}
-use Rattle.chess_base.specs.laws.Normal.{normal_right_is_sound_at}
+use Rattle.chess_base_laws.specs.Normal.{normal_right_is_sound_at}
 use Rattle.text_lines.specs.Words.{short_number}
 use Rattle.chess_fen.specs.Reading.{◌>>=◌, side_of}
 use Rattle.chess_fen.specs.Texts.{placement_of, target_of, fields_of, occurs}

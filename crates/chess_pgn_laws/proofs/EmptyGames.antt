@@ -1,4 +1,4 @@
--- Texts of games without a move, by computation. That a word has the shape of a move is a law of chess_text.
+-- Texts of games without a move, by computation. That a word has the shape of a move is a law of chess_text_laws.
 use Rattle.std.proofs.Common.{◌≡◌, ◌∙◌, ℕ, inl, Bool, true, false, List, [], ◌∷◌, Option, None, Some, Result, Ok, Err, is_some, slice_get, codes, if◌then◌else◌, refl, ap}
 use Rattle.std.specs.List.{filter, filter_map, last_or}
 use Rattle.std.specs.Option.{option_map_or, unwrap_or}
@@ -15,7 +15,8 @@ use Rattle.chess_game.specs.Game.{from_start, played}
 use Rattle.chess_game.specs.Same.{is_same_position, legal_en_passant_square, repetition_count, same_men, same_rights}
 use Rattle.chess_game.specs.{declared.results.Outcome.TheVariants.WhiteWins, declared.results.Outcome.TheVariants.BlackWins, declared.results.Outcome.TheVariants.Draw, declared.results.Outcome.TheVariants.Unfinished, declared.verdicts.Verdict.Verdict, declared.verdicts.Verdict.TheVariants.WhiteMates}
 use Rattle.chess_text.specs.Moves.{denotes, one_of, reading, shape}
-use Rattle.chess_text.specs.{Parts.unmarked, declared.reading.Reading.Reading, laws.CastlingTexts.is_castling_text, laws.Laws.ShapedByText}
+use Rattle.chess_text.specs.{Parts.unmarked, declared.reading.Reading.Reading, laws.CastlingTexts.is_castling_text}
+use Rattle.chess_text_laws.specs.Laws.{ShapedByText}
 use Rattle.chess_text.specs.declared.reading.Reading.TheVariants as reads
 use Rattle.chess_pgn.specs.GameRead.{GameRead, closed_by, declared_after, failed, moves_read, pgn_read}
 use Rattle.pgn_tokens.specs.Tokens.{Word, after_gap_lines, token_at, tokens_from, tokens_of}
@@ -159,7 +160,7 @@ percent_lines_are_skipped = record {
 tokens_end : TokensEnd
 unfolding pgn_read termination_named after_gap_lines token_at tokens_of tokens_from
 tokens_end = record {
-  blanks = refl;
+  white_space = refl;
   brace_in_comment = refl;
   semicolon_in_comment = refl;
   brace_in_line = refl;

@@ -1,7 +1,8 @@
 -- Reading the moves of a game's text, which are in filled lines, plays them one after another.
 use Rattle.std.proofs.Common.{◌≡◌, ℕ, suc, ◌+◌, ◌-◌, ◌<◌, ◌≤◌, Bool, true, false, not, ◌&&◌, cond, eqb, leb, List, [], ◌∷◌, ◌++◌, length, take, Option, None, refl, sym, ap, ◌∙◌, append_assoc, append-nil, arith, leb-true, length-append, codes, decimal}
 use Rattle.std.proofs.{Math.Seq.take-append_seam, lemmas.Bool.Decides.nat_tests}
-use Rattle.chess_base.specs.{declared.man.Colour.Colour, declared.man.Colour.TheVariants.White, declared.man.Colour.TheVariants.Black, declared.man.Move.Move, declared.setup.Setup.Setup, laws.Laws.AfterIsSound, Moves.after, Sound.IsSound}
+use Rattle.chess_base.specs.{declared.man.Colour.Colour, declared.man.Colour.TheVariants.White, declared.man.Colour.TheVariants.Black, declared.man.Move.Move, declared.setup.Setup.Setup, Moves.after, Sound.IsSound}
+use Rattle.chess_base_laws.specs.Laws.{AfterIsSound}
 use Rattle.chess_game.specs.{Ends.verdict, Line.position_after, Line.IsLine, Results.outcome_text, declared.results.Outcome.Outcome}
 use Rattle.chess_game.specs.declared.results.Outcome.TheVariants.{WhiteWins, BlackWins, Draw, Unfinished}
 use Rattle.pgn_writer.specs.{declared.termination.Termination.Termination, shared.NumberedMoves.number_if_due, shared.NumberedMoves.numbered_moves}

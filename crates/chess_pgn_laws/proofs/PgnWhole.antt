@@ -1,7 +1,8 @@
 -- The whole text of a game: what is written is read back.
 use Rattle.std.proofs.Common.{◌≡◌, ℕ, suc, ◌+◌, ◌-◌, ◌<◌, ◌≤◌, Bool, true, false, eqb, List, [], ◌∷◌, ◌++◌, length, drop, Option, Some, None, refl, sym, ap, subst, ◌∙◌, append_assoc, arith, length-append, drop_at, codes, not, Ok, is_some, if◌then◌else◌, option_and_then}
 use Rattle.std.proofs.{lemmas.Bool.Decides.nat_tests, lemmas.Slice.Eq.bytes_eq-Decides}
-use Rattle.chess_base.specs.{declared.man.Variant.Variant, declared.man.Variant.TheVariants.Normal, declared.man.Variant.TheVariants.Fischerandom, declared.setup.Setup.Setup, Initial.initial_setup, Initial.initial_setup_of, Options.list_if, laws.Laws.AfterIsSound, Sound.IsSound}
+use Rattle.chess_base.specs.{declared.man.Variant.Variant, declared.man.Variant.TheVariants.Normal, declared.man.Variant.TheVariants.Fischerandom, declared.setup.Setup.Setup, Initial.initial_setup, Initial.initial_setup_of, Options.list_if, Sound.IsSound}
+use Rattle.chess_base_laws.specs.Laws.{AfterIsSound}
 use Rattle.chess_fen.specs.{Reading.fen_reading_as, Writing.fen, Writing.is_initial}
 use Rattle.chess_fen_laws.specs.Laws.{WrittenIsReadBack}
 use Rattle.chess_game.specs.{declared.verdicts.Verdict.Verdict, Ends.verdict_result, Results.outcome_text, declared.results.Declared.Declared, declared.results.Outcome.Outcome}

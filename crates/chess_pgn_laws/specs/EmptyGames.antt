@@ -109,7 +109,7 @@ pub record PercentLinesAreSkipped : Type 0 where
 -- where other tokens end
 pub record TokensEnd : Type 0 where
   -- white space and dots
-  pub blanks : (pgn_read true 1 (tab ∷ codes "\r\n .*") 0).answer ≡ Ok (Some (unfinished_at 6))
+  pub white_space : (pgn_read true 1 (tab ∷ codes "\r\n .*") 0).answer ≡ Ok (Some (unfinished_at 6))
   -- a comment at its first `}`, whatever it has
   pub brace_in_comment : EndsAt "{{}*" 4
   pub semicolon_in_comment : EndsAt "{;}*" 4

@@ -20,9 +20,11 @@ ghost use Rattle.chess_pgn_laws.specs.PgnLaw.{PgnIsReadBack, ResultIsWritten, Va
 ghost use Rattle.pgn_writer.specs.PgnText.{IsPgn};
 ghost use Rattle.pgn_tokens.specs.Split.{IsSplit};
 
-use chess_base::{Position, Variant, after_is_sound};
+use chess_base::{Position, Variant};
+use chess_base_laws::after_is_sound;
 use chess_fen_laws::written_is_denoted;
-use chess_text::{read_moves_are_legal, texts_have_parts};
+use chess_text::read_moves_are_legal;
+use chess_text_laws::texts_have_parts;
 
 /// States a law and does nothing: if a game is written without a prefix, and its text is read where it begins, the
 /// start, the moves, the outcome and the termination that are read are the written ones, whatever text comes before and

@@ -3,7 +3,7 @@ use Rattle.std.proofs.Common.{◌≡◌, ℕ, inl, inr, Bool, true, false, List,
 use Rattle.std.proofs.{lemmas.Bool.or_cases, lemmas.Slice.Eq.bytes_eq-Decides}
 use Rattle.std.specs.List.{list_any}
 use Rattle.chess_base.specs.{declared.man.CastlingSide.CastlingSide, declared.man.CastlingSide.TheVariants.KingSide, declared.man.CastlingSide.TheVariants.QueenSide}
-use Rattle.chess_text.specs.{ties.Reader.parts_at, Moves.castling_texts, ties.Forms.same_side}
+use Rattle.chess_text.specs.{shared.Reader.parts_at, Moves.castling_texts, ties.Forms.same_side}
 
 abbrev pub names_side : List ℕ → CastlingSide → Bool
 names_side text w = list_any (bytes_eq text) (castling_texts w)

@@ -4,7 +4,7 @@ use Rattle.std.proofs.{lemmas.Bool.Decides.nat_tests, lemmas.Bool.eq-eqb, lemmas
 use Rattle.chess_base.specs.{declared.man.Kind.Kind, declared.man.Move.Move, declared.setup.Setup.Setup, Coordinates.small_letter_text, Coordinates.coordinate, shared.Parts.optional, Moves.is_legal, MoveList.moves, Squares.file, Squares.rank}
 use Rattle.chess_text.specs.{declared.parts.Parts.Parts, laws.Laws.DenotesAlone, laws.Laws.AreParts, Parts.unmarked}
 use Rattle.chess_text.specs.declared.reading.Reading.TheVariants as reads
-use Rattle.chess_text.specs.ties.Fitting.{promotion_text, parts_text, has_equals, is_form, parts_fit, is_by_squares, is_by_letter, is_straight, is_by_file}
+use Rattle.chess_text.specs.shared.Fitting.{promotion_text, parts_text, has_equals, is_form, parts_fit, is_by_squares, is_by_letter, is_straight, is_by_file}
 use Rattle.chess_text.specs.Moves.{shape, reading, denotes, one_of}
 use Rattle.chess_text.proofs.{FormFacts.legal_agree, Legal.IsMove, Legal.legal_move, Legal.described_as, Solid.bare_parts, WrittenStarts.same_square}
 use Rattle.chess_text.proofs.OneMoveFits.{read_alone, denoted_parts, shape_parts, denotes_move, move_is, written, promotion_part, promotes-self, promotes-same}

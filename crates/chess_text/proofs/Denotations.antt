@@ -1,15 +1,15 @@
 -- The texts that the definition lists for a move are those of the parts that fit it. Proofs go through the lists of
 -- this file, which are equal to those of the definition (`texts_alike`).
-use Rattle.std.proofs.Common.{◌≡◌, ℕ, ◌<◌, ◌↔◌, IsTrue, inl, inr, Bool, true, false, not, ◌||◌, ◌==◌, Option, Some, None, List, [], ◌∷◌, ◌++◌, append_assoc, refl, sym, ap, subst, ◌∙◌, arith, if◌then◌else◌, bytes_eq, IfSome, is_some, is_none}
+use Rattle.std.proofs.Common.{◌≡◌, ℕ, ◌<◌, inl, inr, Bool, true, false, not, ◌||◌, ◌==◌, Option, Some, None, List, [], ◌∷◌, ◌++◌, append_assoc, refl, sym, ap, subst, ◌∙◌, arith, if◌then◌else◌, bytes_eq, IfSome, is_some, is_none}
 use Rattle.std.specs.{List.AllByRecursion, List.list_any, List.flat_map, Option.option_map_or}
 use Rattle.std.proofs.{lemmas.Bool.Decides.nat_tests, lemmas.List.Folds.list_any-append, lemmas.Slice.Eq.bytes_eq-Decides}
 use Rattle.std.proofs.lemmas.Bool.{or_cases, or_left, or_right, eq-eqb, eqb-true}
 use Rattle.chess_base.specs.{declared.man.CastlingSide.CastlingSide, declared.man.Kind.Kind, shared.Parts.optional, Letters.square_text, Men.same_kind, Squares.file, Squares.rank, Options.list_if}
 use Rattle.chess_base.specs.declared.man.Kind.TheVariants.{King, Queen, Rook, Bishop, Knight, Pawn}
-use Rattle.chess_text.specs.{declared.described.Described.Described, declared.parts.Parts.Parts, declared.parts.Promotion.Promotion, laws.CastlingTexts.is_castling_text, ties.Reader.parts_at}
+use Rattle.chess_text.specs.{declared.described.Described.Described, declared.parts.Parts.Parts, declared.parts.Promotion.Promotion, laws.CastlingTexts.is_castling_text, shared.Reader.parts_at}
 use Rattle.chess_text.specs.Parts.{unmarked, kind_text, file_text, rank_text, ◌·◌}
 use Rattle.chess_text.specs.Moves.{denotes_described, castling_texts, start_texts, capture_texts, promotion_texts, texts_by_squares, texts_by_letter, texts_of_pawn}
-use Rattle.chess_text.specs.ties.Fitting.{passes, promotion_text, parts_text, admits, names, names_kind, promotes_so, has_equals, is_by_squares, is_by_letter, is_straight, is_by_file, parts_fit, has_parts, fits_text}
+use Rattle.chess_text.specs.shared.Fitting.{passes, promotion_text, parts_text, admits, names, names_kind, promotes_so, has_equals, is_by_squares, is_by_letter, is_straight, is_by_file, parts_fit, has_parts, fits_text}
 use Rattle.chess_text.specs.laws.Laws.{HasLetter, CanPromote, AreParts, IsDenoted}
 use Rattle.chess_text.proofs.Lists.{IsIn, in-flat_map, in-one, in-append-left, in-append-right, each-append, each-flat_map, each-one, found}
 use Rattle.chess_text.proofs.Grammar.{denoted-parts, parts-denoted}
@@ -485,7 +485,7 @@ listed text d =
     by_side None = refl
     by_side (Some w) = refl
 
-is_denoted_so : (text : Text) (d : Described) → denotes_described text d ≡ true → IsDenoted text d
+pub is_denoted_so : (text : Text) (d : Described) → denotes_described text d ≡ true → IsDenoted text d
 is_denoted_so text d e =
     elim (or_cases (passes (is_castling_text text) d.castles) (list_any (bytes_eq (unmarked text)) (texts_of d))
     (sym (listed text d) ∙ e)) [
@@ -512,9 +512,6 @@ parts_denote text d q has is fit =
 pub denoted_so : (text : Text) (d : Described) → IsDenoted text d → denotes_described text d ≡ true
 denoted_so text d (inl h) = castling_denotes text d h.0 h.1 h.2
 denoted_so text d (inr h) = parts_denote text d h.0 h.1 h.2 h.3
-
-pub denoted_by_text : (text : Text) (d : Described) → IsTrue (denotes_described text d) ↔ IsDenoted text d
-denoted_by_text text d = (is_denoted_so text d, denoted_so text d)
 
 -- ---- by the parts that are read
 

@@ -5,7 +5,7 @@ use Rattle.std.proofs.{lemmas.Bool.and_parts, lemmas.Bool.false_from_ne_true, le
 use Rattle.chess_base.specs.{declared.man.CastlingSide.CastlingSide, declared.man.CastlingSide.TheVariants.KingSide, declared.man.CastlingSide.TheVariants.QueenSide, declared.man.Man.Man, declared.man.Move.Move, declared.setup.Setup.Setup, Men.man_at, Moves.is_legal, Castling.right_of, Squares.squares}
 use Rattle.chess_base.specs.MoveList.{promotions, move_of, all_moves, moves}
 use Rattle.chess_moves.proofs.shared.MovesBySquares.{filter-flat_map}
-use Rattle.chess_text.specs.{ties.Fitting.passes, declared.form.Form.Form, declared.form.Form.TheVariants.Castling, declared.form.Form.TheVariants.Piece, Moves.described}
+use Rattle.chess_text.specs.{shared.Fitting.passes, declared.form.Form.Form, declared.form.Form.TheVariants.Castling, declared.form.Form.TheVariants.Piece, Moves.described}
 use Rattle.chess_text.specs.ties.Forms.{same_side, form_fits, is_denoted, castling_end, end_square, denoted_with}
 use Rattle.chess_text.proofs.Denotations.{facts, passing}
 use Rattle.chess_text.proofs.AllMoves.{filter-both, none-kept, kept, alone-square}

@@ -7,7 +7,7 @@ use Rattle.chess_base.specs.declared.man.Kind.TheVariants.{King, Queen, Rook, Bi
 use Rattle.chess_base.specs.Men.{man_at, is_man, same_colour, same_kind}
 use Rattle.chess_base.proofs.shared.Men.{same_kind-true, same_kind-self}
 use Rattle.chess_text.specs.{declared.described.Described.Described, declared.form.Form.TheVariants.Piece, declared.parts.Parts.Parts, declared.parts.Promotion.Promotion, laws.Laws.HasLetter}
-use Rattle.chess_text.specs.ties.Fitting.{is_by_squares, is_by_letter, is_straight, is_by_file, parts_fit}
+use Rattle.chess_text.specs.shared.Fitting.{is_by_squares, is_by_letter, is_straight, is_by_file, parts_fit}
 use Rattle.chess_text.specs.ties.Forms.{is_denoted, is_denoted_by_letter, is_denoted_by_pawn, is_denoted_of, kind_by, named_square, one_kind}
 use Rattle.chess_text.proofs.Legal.{castling_says, legal_move, IsMove, described_as, described_is}
 use Rattle.chess_text.proofs.Origins.{named_is}

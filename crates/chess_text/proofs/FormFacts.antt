@@ -3,11 +3,11 @@ use Rattle.std.proofs.Common.{◌≡◌, ℕ, inl, inr, Bool, true, false, ◌&&
 use Rattle.std.proofs.{lemmas.Bool.and_parts, lemmas.Bool.cases_Bool, lemmas.List.Elements.filter_agree}
 use Rattle.std.specs.{List.list_any, List.filter, Option.option_map_or}
 use Rattle.chess_base.specs.{declared.man.CastlingSide.CastlingSide, declared.man.CastlingSide.TheVariants.KingSide, declared.man.CastlingSide.TheVariants.QueenSide, declared.man.Move.Move, declared.setup.Setup.Setup, Moves.is_legal, MoveList.all_moves, MoveList.moves}
-use Rattle.chess_text.specs.{declared.described.Described.Described, declared.form.Form.Form, declared.form.Form.TheVariants.Piece, declared.parts.Parts.Parts, declared.reading.Reading.Reading, Parts.unmarked, ties.Reader.parts_at, laws.CastlingTexts.is_castling_text}
+use Rattle.chess_text.specs.{declared.described.Described.Described, declared.form.Form.Form, declared.form.Form.TheVariants.Piece, declared.parts.Parts.Parts, declared.reading.Reading.Reading, Parts.unmarked, shared.Reader.parts_at, laws.CastlingTexts.is_castling_text}
 use Rattle.chess_text.specs.declared.reading.Reading.TheVariants as reads
 use mathlib.Core.Bool.{or-false}
 use Rattle.chess_text.specs.Moves.{castling_texts, described, shape, denotes_described, denotes, one_of, reading, IsLegalReading}
-use Rattle.chess_text.specs.ties.Fitting.{passes, is_form, parts_fit, has_parts, has_form, fits_text}
+use Rattle.chess_text.specs.shared.Fitting.{passes, is_form, parts_fit, has_parts, has_form, fits_text}
 use Rattle.chess_text.specs.ties.Forms.{form_of_parts, form_at, form_of, same_side, form_fits, is_denoted}
 use Rattle.chess_text.proofs.{AllMoves.filter-both, Legal.legal_move, Legal.described_as, Legal.described_is, ShapeByForm.no_form, ShapeByForm.shape_is, Denotations.denotes_is, CastlingTexts.IsCastling, CastlingTexts.castling_from_name}
 

@@ -6,8 +6,8 @@ use Rattle.chess_base.specs.declared.man.Kind.TheVariants.{Pawn, Knight, Bishop,
 use Rattle.chess_base.specs.Letters.{white_letter, square_text, is_file_letter, is_rank_digit}
 use Rattle.chess_base.proofs.shared.Choices.{chosen, mapped}
 use Rattle.chess_text.specs.{declared.parts.Parts.Parts, declared.parts.End.End, declared.parts.Promotion.Promotion, Parts.kind_text, laws.Laws.CanPromote, laws.Laws.HasLetter, laws.Laws.AreParts}
-use Rattle.chess_text.specs.ties.Fitting.{promotion_letter, promotion_text, end_text, parts_text}
-use Rattle.chess_text.specs.ties.Reader.{lettered_kinds, promoted, kind_from, or_else, promotion_by, promotion_at, end_at, takes_at, rank_at, with_parts, file_at, at_letter, parts_at}
+use Rattle.chess_text.specs.shared.Fitting.{promotion_letter, promotion_text, end_text, parts_text}
+use Rattle.chess_text.specs.shared.Reader.{lettered_kinds, promoted, kind_from, or_else, promotion_by, promotion_at, end_at, takes_at, rank_at, with_parts, file_at, at_letter, parts_at}
 
 either : {A : Type 0} (o p : Option A) (x : A) → or_else o p ≡ Some x → (o ≡ Some x) ⊎ (p ≡ Some x)
 either (Some y) p x e = inl e

@@ -22,11 +22,9 @@ mod PromotionLetters
 mod UsualForms
 mod WrittenBytes
 mod SanLaw
-mod ShownLaw
 mod Origins
 mod DenotedStart
 mod MovesFromStarts
 mod Rivals
 mod Promoting
 mod Shapes
-mod NormalTexts

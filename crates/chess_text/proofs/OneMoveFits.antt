@@ -1,13 +1,13 @@
 -- A text whose parts one move alone fits is read as this move.
-use Rattle.std.proofs.Common.{◌≡◌, ℕ, inl, inr, IsTrue, ◌↔◌, Bool, true, false, ◌||◌, List, Option, Some, None, refl, sym, ap, ◌∙◌, IfSome, option_map}
-use Rattle.std.proofs.lemmas.Bool.{false_from_ne_true, or_cases}
+use Rattle.std.proofs.Common.{◌≡◌, ℕ, Bool, true, false, ◌||◌, List, Option, Some, None, refl, sym, ap, ◌∙◌, IfSome, option_map}
+use Rattle.std.proofs.lemmas.Bool.{false_from_ne_true}
 use Rattle.chess_base.specs.{declared.man.CastlingSide.CastlingSide, declared.man.CastlingSide.TheVariants.KingSide, declared.man.CastlingSide.TheVariants.QueenSide, declared.man.Kind.Kind, declared.man.Move.Move, declared.setup.Setup.Setup, Moves.is_legal}
-use Rattle.chess_text.specs.{declared.described.Described.Described, declared.parts.Parts.Parts, declared.parts.Promotion.Promotion, Parts.unmarked, laws.CastlingTexts.is_castling_text, ties.Reader.parts_at, ties.Forms.same_side}
+use Rattle.chess_text.specs.{declared.described.Described.Described, declared.parts.Parts.Parts, declared.parts.Promotion.Promotion, Parts.unmarked, laws.CastlingTexts.is_castling_text, shared.Reader.parts_at, ties.Forms.same_side}
 use Rattle.chess_text.specs.declared.reading.Reading.TheVariants as reads
-use Rattle.chess_text.specs.laws.Laws.{DenotesAlone, IsShaped, AreParts, CanPromote}
-use Rattle.chess_text.specs.ties.Fitting.{passes, parts_text, has_parts, is_form, parts_fit, promotes_so, has_form, fits_text}
+use Rattle.chess_text.specs.laws.Laws.{DenotesAlone, AreParts, CanPromote}
+use Rattle.chess_text.specs.shared.Fitting.{passes, parts_text, has_parts, is_form, parts_fit, promotes_so, has_form, fits_text}
 use Rattle.chess_text.specs.Moves.{shape, denotes_described, denotes, one_of, reading}
-use Rattle.chess_text.proofs.{AllMoves.only-move, CastlingTexts.IsCastling, CastlingTexts.names_side, CastlingTexts.castling_from_name, FormFacts.has-read, FormFacts.denoted_castling as castling_denoted, ShapeByForm.castling_has, ShapeByForm.shape_is, Denotations.denotes_is, Denotations.passing, Grammar.denoted-parts, Grammar.parts-denoted, Legal.IsMove, Legal.described_as, Legal.described_is}
+use Rattle.chess_text.proofs.{AllMoves.only-move, CastlingTexts.IsCastling, CastlingTexts.names_side, CastlingTexts.castling_from_name, FormFacts.has-read, FormFacts.denoted_castling as castling_denoted, ShapeByForm.shape_is, Denotations.denotes_is, Grammar.parts-denoted, Legal.IsMove, Legal.described_as, Legal.described_is}
 use Rattle.chess_base.proofs.shared.Men.{same_kind-self, same_kind-true}
 
 -- ---- what is read
@@ -102,31 +102,3 @@ promotes-same equals small None None e = refl
 promotes-same equals small None (Some k) e = absurd cc
 promotes-same equals small (Some k) None e = absurd cc
 promotes-same equals small (Some k) (Some l) e = ap Some (sym (same_kind-true k l e))
-
--- ---- which texts have a move's shape, with no list of parts
-
-either_side : (text : List ℕ) → (is_castling_text text KingSide || is_castling_text text QueenSide) ≡ true
-    → (w : CastlingSide) × (is_castling_text text w ≡ true)
-either_side text e =
-    elim (or_cases (is_castling_text text KingSide) (is_castling_text text QueenSide) e) [
-      | inl h ↦ (KingSide, h)
-      | inr h ↦ (QueenSide, h)
-    ]
-
-is_formed_so : (text : List ℕ) → has_form text ≡ true → IsShaped text
-unfolding has_form
-is_formed_so text e =
-    elim (or_cases (is_castling_text text KingSide || is_castling_text text QueenSide) (has_parts is_form text) e) [
-      | inl h ↦ inl (either_side text h)
-      | inr h ↦
-          let of = passing is_form (parts_at (unmarked text)) (sym (has-read is_form text) ∙ h) in
-          let is = denoted-parts (unmarked text) of.0 of.1 in
-          inr (of.0, is.0, is.1, of.2)
-    ]
-
-shaped_so : (text : List ℕ) → IsShaped text → shape text ≡ true
-shaped_so text (inl h) = shape_is text ∙ castling_has text h.0 h.1
-shaped_so text (inr h) = shape_parts text h.0 h.2 h.1 h.3
-
-pub shaped_by_text : (text : List ℕ) → IsTrue (shape text) ↔ IsShaped text
-shaped_by_text text = (λ e. is_formed_so text (sym (shape_is text) ∙ e), shaped_so text)

@@ -8,7 +8,7 @@ use Rattle.chess_moves.specs.Sets.{contains, members, HasOrigins}
 use Rattle.chess_moves.proofs.shared.Members.{flat_map_members}
 use Rattle.chess_text.specs.{declared.described.Described.Described, declared.form.Form.Form, declared.form.Form.TheVariants.Castling, declared.form.Form.TheVariants.Piece, declared.parts.Parts.Parts, declared.reading.Reading.Reading, Moves.one_of, Moves.described}
 use Rattle.chess_text.specs.declared.reading.Reading.TheVariants as reads
-use Rattle.chess_text.specs.ties.Fitting.{passes, names, admits, is_by_squares, is_by_letter, is_straight, is_by_file, parts_fit}
+use Rattle.chess_text.specs.shared.Fitting.{passes, names, admits, is_by_squares, is_by_letter, is_straight, is_by_file, parts_fit}
 use Rattle.chess_text.specs.ties.Forms.{same_side, form_fits, is_denoted, end_square, denoted_with, with_move, with_moves, named_square, IsStart}
 use Rattle.chess_text.proofs.Denotations.{FitsBy, FitSquares, FitLetter, FitStraight, FitFile, form_of_fit, passing}
 use Rattle.chess_text.proofs.{AllMoves.none-kept, DenotedMoves.denoted_ends, DenotedMoves.all_denoted}

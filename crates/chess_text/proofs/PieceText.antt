@@ -2,7 +2,7 @@
 use Rattle.std.proofs.Common.{◌≡◌, ℕ, Bool, true, false, not, cond, List, [], ◌∷◌, ◌++◌, Option, Some, None, refl, ap, ◌∙◌, if◌then◌else◌, option_map}
 use Rattle.chess_base.specs.{declared.man.Kind.Kind, declared.man.Kind.TheVariants.Pawn, shared.Parts.optional, Letters.square_text, Men.same_kind, Squares.file, Squares.rank, Options.list_if}
 use Rattle.byte_devices.specs.Bytes.{byte}
-use Rattle.chess_text.specs.{declared.described.Described.Described, declared.parts.Promotion.Promotion, declared.writing.Disambiguation.Disambiguation, Parts.kind_text, Parts.file_text, Parts.rank_text, ties.Fitting.promotion_text, ties.Fitting.parts_text, San.start_text, San.piece_text}
+use Rattle.chess_text.specs.{declared.described.Described.Described, declared.parts.Promotion.Promotion, declared.writing.Disambiguation.Disambiguation, Parts.kind_text, Parts.file_text, Parts.rank_text, shared.Fitting.promotion_text, shared.Fitting.parts_text, San.start_text, San.piece_text}
 use Rattle.chess_text.specs.ties.SanParts.{some_on_file, some_on_rank, distinction, disambiguate, if_written, pawn_parts, lettered_parts, piece_parts}
 
 -- `=` and the capital letter

@@ -3,7 +3,7 @@ use Rattle.std.proofs.Common.{◌≡◌, ℕ, Bool, true, false, cond, eqb, List
 use Rattle.std.proofs.lemmas.Bool.Decides.{nat_tests}
 use Rattle.chess_base.specs.{declared.man.Colour.Colour, declared.man.Kind.Kind, declared.man.Man.Man}
 use Rattle.chess_base.specs.Letters.{letter, letter_by, all_men, man_with_letter}
-use Rattle.chess_text.specs.{declared.parts.Promotion.Promotion, laws.Laws.CanPromote, ties.Fitting.promotion_letter, ties.Reader.promotion_by, ties.Reader.promotion_to}
+use Rattle.chess_text.specs.{declared.parts.Promotion.Promotion, laws.Laws.CanPromote, shared.Fitting.promotion_letter, shared.Reader.promotion_by, shared.Reader.promotion_to}
 use Rattle.chess_text.proofs.Grammar.{promotion_is}
 
 abbrev man_from : List Man → ℕ → Option Man

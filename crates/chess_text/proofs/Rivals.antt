@@ -12,7 +12,7 @@ use Rattle.chess_base.proofs.{shared.Squares.some_square_same, shared.Men.same_k
 use Rattle.chess_base.specs.MoveList.{promotions, move_of, all_moves, moves}
 use Rattle.chess_moves.specs.Sets.{contains, members, HasLegalStarts}
 use Rattle.chess_moves.proofs.{shared.Members.by_range, shared.Members.members_none, shared.Members.of_range, shared.MovesBySquares.filter-flat_map, shared.AnyMove.any-filter}
-use Rattle.chess_text.specs.{ties.Fitting.passes, declared.described.Described.Described, Moves.described, San.rival_starts}
+use Rattle.chess_text.specs.{shared.Fitting.passes, declared.described.Described.Described, Moves.described, San.rival_starts}
 use Rattle.chess_text.specs.ties.SanParts.{is_rival, distinction, some_on_file, some_on_rank, disambiguate}
 use Rattle.chess_text.proofs.AllMoves.{filter-both, none-kept, kept, alone-square}
 use Rattle.chess_text.proofs.Legal.{IsMove, MovesAs, unpromoted, legal_move, described_is}

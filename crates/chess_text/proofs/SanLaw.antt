@@ -11,7 +11,7 @@ use Rattle.chess_text.specs.declared.reading.Reading.TheVariants as reads
 use mathlib.Core.Bool.{not-or_self}
 use Rattle.chess_moves.proofs.shared.AnyMove.{any-filter}
 use Rattle.chess_text.specs.laws.Laws.{DenotesAlone, is_san_byte, begins_with_letter, AreParts, HasLetter, CanPromote}
-use Rattle.chess_text.specs.ties.Fitting.{passes, parts_text, admits, is_form, parts_fit, is_by_squares, is_by_letter, is_straight, is_by_file}
+use Rattle.chess_text.specs.shared.Fitting.{passes, parts_text, admits, is_form, parts_fit, is_by_squares, is_by_letter, is_straight, is_by_file}
 use Rattle.chess_text.specs.San.{castling_text, rival_starts, piece_text, check_mark, san}
 use Rattle.chess_text.specs.ties.SanParts.{is_rival, unmarked_san, disambiguate, if_written, lettered_parts, piece_parts}
 use Rattle.chess_text.proofs.OneMoveFits.{read_alone, denoted_parts, shape_parts, denoted_castling, shape_castling, denotes_move, move_is, written, promotion_part, promotes-self, promotes-same}

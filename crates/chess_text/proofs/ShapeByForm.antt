@@ -4,8 +4,8 @@ use Rattle.std.specs.List.{AllByRecursion, flat_map}
 use Rattle.std.proofs.lemmas.Bool.{and_right, or_cases, or_right, eq-eqb, both_ways}
 use Rattle.chess_base.specs.{declared.man.CastlingSide.CastlingSide, declared.man.CastlingSide.TheVariants.KingSide, declared.man.CastlingSide.TheVariants.QueenSide, declared.man.Kind.Kind, MoveList.promotions, MoveList.move_of, MoveList.all_moves, Squares.file, Squares.rank, Squares.squares, declared.man.Move.Move}
 use Rattle.chess_base.specs.declared.man.Kind.TheVariants.{King, Queen, Rook, Bishop, Knight, Pawn}
-use Rattle.chess_text.specs.{declared.described.Described.Described, declared.parts.Parts.Parts, declared.parts.Promotion.Promotion, Parts.unmarked, Moves.denotes_described, Moves.all_described, Moves.shape, laws.CastlingTexts.is_castling_text, ties.Reader.parts_at, laws.Laws.CanPromote, laws.Laws.AreParts, laws.Laws.IsDenoted}
-use Rattle.chess_text.specs.ties.Fitting.{passes, parts_text, admits, promotes_so, is_by_squares, is_by_letter, is_straight, is_by_file, parts_fit, is_form, has_parts, has_form, fits_text}
+use Rattle.chess_text.specs.{declared.described.Described.Described, declared.parts.Parts.Parts, declared.parts.Promotion.Promotion, Parts.unmarked, Moves.denotes_described, Moves.all_described, Moves.shape, laws.CastlingTexts.is_castling_text, shared.Reader.parts_at, laws.Laws.CanPromote, laws.Laws.AreParts, laws.Laws.IsDenoted}
+use Rattle.chess_text.specs.shared.Fitting.{passes, parts_text, admits, promotes_so, is_by_squares, is_by_letter, is_straight, is_by_file, parts_fit, is_form, has_parts, has_form, fits_text}
 use Rattle.chess_text.proofs.Grammar.{denoted-parts, parts-denoted}
 use Rattle.chess_base.proofs.shared.Men.{same_kind-self}
 use Rattle.chess_text.proofs.Lists.{IsIn, promotion_in, in-flat_map, in-map, each-flat_map, each-below, found}

@@ -4,7 +4,7 @@ use Rattle.std.proofs.lemmas.Bool.Decides.{nat_tests}
 use Rattle.chess_base.specs.{declared.man.CastlingSide.CastlingSide, declared.man.CastlingSide.TheVariants.KingSide, declared.man.CastlingSide.TheVariants.QueenSide, declared.man.Kind.Kind, declared.setup.Setup.Setup, Attacks.is_in_check, shared.Parts.optional, Letters.white_letter, Letters.square_text, MoveList.moves, Squares.file, Squares.rank, Options.list_if}
 use Rattle.chess_text.specs.{declared.parts.Parts.Parts, declared.parts.Promotion.Promotion, San.castling_text, San.check_mark}
 use Rattle.chess_text.specs.Parts.{is_mark, unmarked, kind_text, file_text, rank_text}
-use Rattle.chess_text.specs.ties.Fitting.{promotion_letter, promotion_text, end_text, parts_text}
+use Rattle.chess_text.specs.shared.Fitting.{promotion_letter, promotion_text, end_text, parts_text}
 use Rattle.chess_text.proofs.Marks.{unmarked-solid, unmarked-marked}
 
 -- the text ends with a byte that is no mark

@@ -2,7 +2,7 @@
 use Rattle.std.proofs.Common.{◌≡◌, ℕ, Bool, true, false, cond, eqb, Option, Some, None, refl, sym, ap, ◌∙◌}
 use Rattle.chess_base.specs.{declared.man.Kind.Kind, Letters.kind_with_letter}
 use Rattle.chess_base.specs.declared.man.Kind.TheVariants.{King, Queen, Rook, Bishop, Knight, Pawn}
-use Rattle.chess_text.specs.ties.Reader.{kind_from, lettered_kinds}
+use Rattle.chess_text.specs.shared.Reader.{kind_from, lettered_kinds}
 
 -- the same kind, but none for the pawn
 abbrev pub without_pawn : Option Kind → Option Kind

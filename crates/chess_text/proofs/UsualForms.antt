@@ -3,7 +3,7 @@ use Rattle.std.proofs.Common.{◌≡◌, ℕ, suc, ◌+◌, ◌-◌, ◌*◌, �
 use Rattle.std.proofs.{Math.Seq.take-suc, Math.Seq.take-length, lemmas.Bool.Decides.nat_tests}
 use Rattle.chess_base.specs.{shared.Parts.optional, declared.man.CastlingSide.TheVariants.KingSide, declared.man.CastlingSide.TheVariants.QueenSide, declared.man.Kind.Kind, Options.list_if, Letters.is_file_letter}
 use Rattle.chess_base.proofs.shared.Choices.{chosen}
-use Rattle.chess_text.specs.{declared.form.Form.TheVariants.Piece, declared.parts.Parts.Parts, laws.Laws.HasLetter, laws.Laws.AreParts, ties.Fitting.parts_text, ties.Fitting.is_form, ties.Reader.kind_from, ties.Reader.lettered_kinds, ties.Reader.parts_at}
+use Rattle.chess_text.specs.{declared.form.Form.TheVariants.Piece, declared.parts.Parts.Parts, laws.Laws.HasLetter, laws.Laws.AreParts, shared.Fitting.parts_text, shared.Fitting.is_form, shared.Reader.kind_from, shared.Reader.lettered_kinds, shared.Reader.parts_at}
 use Rattle.chess_text.specs.Parts.{is_mark, unmarked, kind_text, file_text}
 use Rattle.chess_text.specs.ties.Forms.{castling_named, form_of_parts, form_at, form_of, one_kind}
 use Rattle.chess_text.specs.ties.Usual.{names_square, parts_to, lettered_to, four_at, usual_at, usual_kind}

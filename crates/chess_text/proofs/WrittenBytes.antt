@@ -4,7 +4,7 @@ use Rattle.std.proofs.{lemmas.List.Folds.list_all-append, lemmas.Bool.Decides.na
 use Rattle.std.specs.List.{list_all}
 use Rattle.chess_base.specs.{declared.man.CastlingSide.CastlingSide, declared.man.CastlingSide.TheVariants.KingSide, declared.man.CastlingSide.TheVariants.QueenSide, declared.man.Kind.Kind, declared.setup.Setup.Setup, Attacks.is_in_check, shared.Parts.optional, Letters.white_letter, Letters.square_text, MoveList.moves, Squares.file, Squares.rank, Options.list_if}
 use Rattle.byte_devices.specs.Bytes.{is_letter}
-use Rattle.chess_text.specs.{declared.parts.Parts.Parts, declared.parts.Promotion.Promotion, laws.Laws.is_san_byte, laws.Laws.begins_with_letter, laws.Laws.AreParts, Parts.kind_text, Parts.file_text, Parts.rank_text, ties.Fitting.promotion_letter, ties.Fitting.promotion_text, ties.Fitting.parts_text, San.castling_text, San.check_mark}
+use Rattle.chess_text.specs.{declared.parts.Parts.Parts, declared.parts.Promotion.Promotion, laws.Laws.is_san_byte, laws.Laws.begins_with_letter, laws.Laws.AreParts, Parts.kind_text, Parts.file_text, Parts.rank_text, shared.Fitting.promotion_letter, shared.Fitting.promotion_text, shared.Fitting.parts_text, San.castling_text, San.check_mark}
 
 -- a text before its mark; with it
 pub record IsWord (text : List ℕ) : Type 0 where

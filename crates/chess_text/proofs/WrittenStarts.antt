@@ -1,7 +1,7 @@
 -- What is written of a start square fits it, and no other of the start squares from which it must be distinguished.
 use Rattle.std.proofs.Common.{◌≡◌, ◌≢◌, ℕ, Bool, true, false, not, cond, List, [], ◌∷◌, refl, ap, arith, eqb-true, eq-eqb}
 use Rattle.chess_base.specs.Squares.{file, rank}
-use Rattle.chess_text.specs.ties.Fitting.{admits}
+use Rattle.chess_text.specs.shared.Fitting.{admits}
 use Rattle.chess_text.specs.ties.SanParts.{some_on_file, some_on_rank, distinction, disambiguate, if_written}
 
 -- the start itself is as written

@@ -1,3 +1,4 @@
 -- Lemmas for crates above: all are about definitions, none about functions. They can cite no other module of proofs/.
-pub mod Normal
+pub mod Denoting
+pub mod Parts
 pub mod San

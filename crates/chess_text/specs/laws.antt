@@ -1,4 +1,3 @@
 -- Claims about the definitions: each is the contract of a function that does nothing.
 pub mod CastlingTexts
 pub mod Laws
-pub mod Normal

@@ -3,7 +3,7 @@
 ghost use Rattle.std.specs.Prelude.{◌≡◌, ◌==◌};
 ghost use Rattle.chess_text.specs.Moves.{described};
 ghost use Rattle.chess_text.specs.ties.Forms.{captures};
-ghost use Rattle.chess_text.specs.ties.Fitting.{admits, names, names_kind, promotes_so, has_equals, is_by_squares, is_by_letter, is_straight, is_by_file, parts_fit, is_form};
+ghost use Rattle.chess_text.specs.shared.Fitting.{admits, names, names_kind, promotes_so, has_equals, is_by_squares, is_by_letter, is_straight, is_by_file, parts_fit, is_form};
 
 use crate::parts::{Parts, Promotion};
 use chess_base::rules::{castling, is_en_passant, is_of};
@@ -100,7 +100,7 @@ fn has_equals(named: Option<Promotion>) -> bool
 }
 
 // Whether the parts denote the move by its squares, as `e2e4` or `e7e8q`: any piece's move, castling too.
-#[tactic(auto, unfolding(crate::specs::ties::Fitting::is_by_squares))]
+#[tactic(auto, unfolding(crate::specs::shared::Fitting::is_by_squares))]
 fn is_by_squares(parts: &Parts, d: &Described) -> bool
     ensures { result ≡ is_by_squares parts.now d.now }
 {
@@ -115,7 +115,7 @@ fn is_by_squares(parts: &Parts, d: &Described) -> bool
 
 // Whether the parts denote the move, no pawn's and not castling, by its piece's letter and its end square, as `Nf3` or
 // `Nbxd2`. A file or rank that they name is the start square's; with `x` it is a capture.
-#[tactic(auto, unfolding(crate::specs::ties::Fitting::is_by_letter))]
+#[tactic(auto, unfolding(crate::specs::shared::Fitting::is_by_letter))]
 fn is_by_letter(parts: &Parts, d: &Described) -> bool
     ensures { result ≡ is_by_letter parts.now d.now }
 {
@@ -129,7 +129,7 @@ fn is_by_letter(parts: &Parts, d: &Described) -> bool
 }
 
 // Whether the parts denote the move by its end square alone, as `e4` or `e8=Q`: a pawn's move straight ahead.
-#[tactic(auto, unfolding(crate::specs::ties::Fitting::is_straight))]
+#[tactic(auto, unfolding(crate::specs::shared::Fitting::is_straight))]
 fn is_straight(parts: &Parts, d: &Described) -> bool
     ensures { result ≡ is_straight parts.now d.now }
 {
@@ -145,7 +145,7 @@ fn is_straight(parts: &Parts, d: &Described) -> bool
 
 // Whether the parts denote the move, a pawn's, by its start file and its end square, as `exd5` or `exd8=Q`. A start
 // rank that they name is the pawn's, with `x` it is a capture, and the promotions agree.
-#[tactic(auto, unfolding(crate::specs::ties::Fitting::is_by_file))]
+#[tactic(auto, unfolding(crate::specs::shared::Fitting::is_by_file))]
 fn is_by_file(parts: &Parts, d: &Described) -> bool
     ensures { result ≡ is_by_file parts.now d.now }
 {
@@ -160,7 +160,7 @@ fn is_by_file(parts: &Parts, d: &Described) -> bool
 
 // Whether the parts of a text denote the move: by its two squares, by its piece's letter, or as a pawn's, by its end
 // square alone or from its start file.
-#[tactic(auto, unfolding(crate::specs::ties::Fitting::parts_fit))]
+#[tactic(auto, unfolding(crate::specs::shared::Fitting::parts_fit))]
 pub(crate) fn parts_fit(parts: &Parts, d: &Described) -> bool
     ensures { result ≡ parts_fit parts.now d.now }
 {
@@ -172,7 +172,7 @@ pub(crate) fn parts_fit(parts: &Parts, d: &Described) -> bool
 
 // Whether the parts can be those of a move's text: a letter and no promotion (`Nf3`), or no letter and either a start
 // file (`exd5`) or an end square alone (`e4`). The parts of `xd5` can't.
-#[tactic(auto, unfolding(crate::specs::ties::Fitting::is_form))]
+#[tactic(auto, unfolding(crate::specs::shared::Fitting::is_form))]
 pub(crate) fn is_form(parts: &Parts) -> bool
     ensures { result ≡ is_form parts.now }
 {

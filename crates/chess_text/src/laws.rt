@@ -1,18 +1,6 @@
 //! Laws of the texts. A caller learns one by calling its function, which does nothing.
 
-ghost use Rattle.chess_text.specs.laws.Laws.{SanDenotesItsMove, SanHasShape, SanIsReadBack, SanIsShort, SanHasBytes, SanBeginsWithLetter, ReadMovesAreLegal, CoordinateDenotesItsMove, CoordinateHasShape, CoordinateIsReadBack, ShownMoveDenotesItsMove, ShownMoveHasShape, ShownMoveIsReadBack, PartsAreTheTexts, PartsAreRead, DenotedByText, ShapedByText};
-ghost use Rattle.std.specs.Prelude.{◌≡◌};
-ghost use Rattle.chess_base.specs.declared.man.Variant.TheVariants.{Normal};
-ghost use Rattle.chess_base.specs.declared.setup.Setup.{Setup};
-ghost use Rattle.chess_text.specs.laws.Normal.{NormalIsKept};
-
-/// A law: the contract says it, and the function does nothing. The SAN of a legal move of a sound position denotes that
-/// move and no other legal move, and is read as it.
-pub fn san_denotes_its_move()
-    ensures denotes { SanDenotesItsMove }
-    ensures shape { SanHasShape }
-    ensures read_back { SanIsReadBack }
-{}
+ghost use Rattle.chess_text.specs.laws.Laws.{SanIsShort, SanHasBytes, SanBeginsWithLetter, ReadMovesAreLegal};
 
 /// A law: the contract says it, and the function does nothing. The SAN of a legal move of a sound position has two to
 /// seven bytes, all of them letters, digits, `+`, `#`, `=` and `-`, and begins with a letter: so in PGN it is one
@@ -26,39 +14,4 @@ pub fn san_is_a_word()
 /// A law: the contract says it, and the function does nothing. If a text is read as a move, this move is legal.
 pub fn read_moves_are_legal()
     ensures { ReadMovesAreLegal }
-{}
-
-/// A law: the contract says it, and the function does nothing. The coordinate text (`e2e4`) of a legal move of a sound
-/// position denotes that move and no other legal move, and is read as it.
-pub fn coordinate_denotes_its_move()
-    ensures denotes { CoordinateDenotesItsMove }
-    ensures shape { CoordinateHasShape }
-    ensures read_back { CoordinateIsReadBack }
-{}
-
-/// A law: the contract says it, and the function does nothing. The `move_text` of a legal move of a sound position,
-/// castling in Chess960 too, denotes that move and no other legal move, and is read as it.
-pub fn move_text_denotes_its_move()
-    ensures denotes { ShownMoveDenotesItsMove }
-    ensures shape { ShownMoveHasShape }
-    ensures read_back { ShownMoveIsReadBack }
-{}
-
-/// A law: the contract says it, and the function does nothing. The definitions compare a text with lists of all texts
-/// of a move; the law says the same by parts. Splitting a text gives certain parts exactly if these can be the parts of
-/// a text, and writing them out, as `[letter][file][rank][x]square[[=]promotion]`, gives the text. A text denotes a
-/// move exactly if it names the move's castling or is, but for marks at its end, written out from parts that fit the
-/// move. It has the shape of a move exactly if it names castling or is, but for such marks, written out from parts in
-/// one of the forms of a move's text.
-pub fn texts_have_parts()
-    ensures read { PartsAreTheTexts }
-    ensures written { PartsAreRead }
-    ensures denoted { DenotedByText }
-    ensures shaped { ShapedByText }
-{}
-
-/// A law: the contract says it, and the function does nothing. On positions of normal chess the legal moves,
-/// `read_move` and `san` agree with definitions for normal chess alone, and `move_text` is `coordinate`.
-pub fn normal_is_kept()
-    ensures { (p : Setup) → p.variant ≡ Normal → NormalIsKept p }
 {}

@@ -22,10 +22,7 @@ mod usual;
 mod writing;
 
 pub use coordinates::{CoordinateText, coordinate, move_text};
-pub use laws::{
-    coordinate_denotes_its_move, move_text_denotes_its_move, normal_is_kept, read_moves_are_legal,
-    san_denotes_its_move, san_is_a_word, texts_have_parts,
-};
+pub use laws::{read_moves_are_legal, san_is_a_word};
 pub use reading::{Reading, has_move_shape, read_move};
 pub use san_text::San;
 pub use writing::{SanText, add_check_mark, make_san, san, unmarked_san};

@@ -2,7 +2,7 @@
 
 ghost use Rattle.std.specs.Prelude.{◌≡◌};
 ghost use Rattle.chess_text.specs.Parts.{is_mark, unmarked};
-ghost use Rattle.chess_text.specs.ties.Reader.{kind_from, lettered_kinds, promotion_to, promotion_by, promotion_at, end_at, takes_at, rank_at, file_at, parts_at};
+ghost use Rattle.chess_text.specs.shared.Reader.{kind_from, lettered_kinds, promotion_to, promotion_by, promotion_at, end_at, takes_at, rank_at, file_at, parts_at};
 
 use chess_base::{Colour, Kind, Man, Square};
 

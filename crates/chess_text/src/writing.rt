@@ -10,7 +10,7 @@ ghost use Rattle.chess_base.specs.Moves.{is_legal, after};
 ghost use Rattle.chess_moves.specs.Made.{WasMade};
 ghost use Rattle.chess_moves.specs.Sets.{members};
 ghost use Rattle.chess_base.specs.Options.{list_if};
-ghost use Rattle.chess_text.specs.ties.Fitting.{parts_text};
+ghost use Rattle.chess_text.specs.shared.Fitting.{parts_text};
 ghost use Rattle.chess_text.specs.San.{castling_text, rival_starts, check_mark, san};
 ghost use Rattle.chess_text.specs.ties.Forms.{promotes_as_a_pawn};
 ghost use Rattle.chess_text.specs.ties.SanParts.{unmarked_san, some_on_file, some_on_rank, distinction, disambiguate, pawn_parts, lettered_parts};

@@ -3,9 +3,12 @@ use chess_bits::{AttackTables, Bits};
 use chess_fen::{read_fen_as, write_fen};
 use chess_moves::{Board, Plain};
 use chess_text::{
-    Reading, San, coordinate, coordinate_denotes_its_move, has_move_shape, move_text,
-    move_text_denotes_its_move, normal_is_kept, read_move, read_moves_are_legal, san,
-    san_denotes_its_move, san_is_a_word, texts_have_parts,
+    Reading, San, coordinate, has_move_shape, move_text, read_move, read_moves_are_legal, san,
+    san_is_a_word,
+};
+use chess_text_laws::{
+    coordinate_denotes_its_move, move_text_denotes_its_move, normal_is_kept, san_denotes_its_move,
+    texts_have_parts,
 };
 use std::alloc::Global;
 use std::process::Abort;

@@ -1,5 +1,6 @@
-//! Laws of the reports on games that pgn_verifier makes, and one of the pieces that pgn_pieces cuts. Each is the contract
-//! of a function that does nothing. They are in a crate of their own so that no other crate waits for their proofs.
+//! Laws of the reports on games that pgn_verifier makes, and one of the pieces that pgn_pieces cuts. Each is the
+//! contract of a function that does nothing. They are in a crate of their own so that no other crate waits for their
+//! proofs.
 #![tactic(auto)]
 
 mod laws;

@@ -111,10 +111,6 @@ TheSameHaveTheSamePieces = (p q : Setup) (s : ℕ) → IsTrue (is_same_position 
 abbrev pub IsRefused : Text → FenFault → Type 0
 IsRefused text fault = fen_reading_as Normal (codes text) ≡ Err fault
 
--- a FEN of Chess960 is refused for this fault
-abbrev pub IsRefused960 : Text → FenFault → Type 0
-IsRefused960 text fault = fen_reading_as Fischerandom (codes text) ≡ Err fault
-
 -- a FEN of normal chess is accepted
 abbrev pub IsTaken : Text → Type 0
 IsTaken text = is_some (result_ok (fen_reading_as Normal (codes text))) ≡ true
@@ -122,6 +118,10 @@ IsTaken text = is_some (result_ok (fen_reading_as Normal (codes text))) ≡ true
 -- a FEN of Chess960 is accepted, and `written` is the FEN that is written of its position
 abbrev pub IsWrittenAs : Text → Text → Type 0
 IsWrittenAs text written = option_map fen (result_ok (fen_reading_as Fischerandom (codes text))) ≡ Some (codes written)
+
+-- a FEN of Chess960 is refused for its castling field
+abbrev pub HasWrongRights : Text → Type 0
+HasWrongRights text = fen_reading_as Fischerandom (codes text) ≡ Err Castling
 
 -- FENs that are refused, each for the first of its faults, and neighbours that are accepted
 pub record FensAreRefused : Type 0 where
@@ -139,7 +139,10 @@ pub record FensAreRefused : Type 0 where
   pub no_rook : IsRefused "4k3/8/8/8/8/8/8/4K2N w K - 0 1" Castling
   pub no_king_on_e1 : IsRefused "4k3/8/8/8/8/8/8/3K3R w K - 0 1" Castling
   pub right : IsTaken "4k3/8/8/8/8/8/8/4K2R w K - 0 1"
-  pub no_black_rook : IsRefused "4k3/8/8/8/8/8/8/4K3 w q - 0 1" Castling
+  -- the other three rights without their rooks
+  pub no_rook_on_a1 : IsRefused "4k3/8/8/8/8/8/8/4K3 w Q - 0 1" Castling
+  pub no_rook_on_h8 : IsRefused "4k3/8/8/8/8/8/8/4K3 w k - 0 1" Castling
+  pub no_rook_on_a8 : IsRefused "4k3/8/8/8/8/8/8/4K3 w q - 0 1" Castling
   pub all_rights : IsTaken "r3k2r/8/8/8/8/8/8/R3K2R w KQkq - 0 1"
   -- targets without a pawn that went over them, with a piece where it started or on the target, and of the side on move
   pub no_pawn : IsRefused "4k3/8/8/8/8/8/8/4K3 w - e6 0 1" EnPassant
@@ -157,12 +160,13 @@ pub record FensAreRefused : Type 0 where
   pub white_in_check : IsRefused "k3r3/8/8/8/8/8/8/4K3 b - - 0 1" Check
   -- fields that denote nothing
   pub nine_squares : IsRefused "4k4/8/8/8/8/8/8/4K3 w - - 0 1" Placement
+  pub nine_ranks : IsRefused "4k3/8/8/8/8/8/8/8/4K3 w - - 0 1" Placement
   pub seven_squares : IsRefused "4k2/8/8/8/8/8/8/4K3 w - - 0 1" Placement
   pub seven_ranks : IsRefused "4k3/8/8/8/8/8/4K3 w - - 0 1" Placement
   pub digit_0 : IsRefused "4k30/8/8/8/8/8/8/4K3 w - - 0 1" Placement
   pub no_side : IsRefused "4k3/8/8/8/8/8/8/4K3 W - - 0 1" Side
   pub letter_twice : IsRefused "4k3/8/8/8/8/8/8/4K2R w KK - 0 1" Castling
-  pub file_letter : IsRefused "4k3/8/8/8/8/8/8/4K2R w H - 0 1" Castling
+  pub files_letter : IsRefused "4k3/8/8/8/8/8/8/4K2R w H - 0 1" Castling
   pub target_on_4 : IsRefused "4k3/8/8/8/4P3/8/8/4K3 b - e4 0 1" EnPassant
   pub counter : IsRefused "4k3/8/8/8/8/8/8/4K3 w - - 0 x" Counters
   pub one_counter : IsRefused "4k3/8/8/8/8/8/8/4K3 w - - 0" Fields
@@ -195,13 +199,16 @@ pub record FensAreRefused : Type 0 where
   -- in Chess960 a side's letter names the outermost rook on that side, and rights are written by the rooks' files
   pub outermost : IsWrittenAs "4k3/8/8/8/8/8/8/RR2K1RR w KQ - 0 1" "4k3/8/8/8/8/8/8/RR2K1RR w HA - 0 1"
   pub inner : IsWrittenAs "4k3/8/8/8/8/8/8/RR2K1RR w GB - 0 1" "4k3/8/8/8/8/8/8/RR2K1RR w GB - 0 1"
+  pub on_edges : IsWrittenAs "4k3/8/8/8/8/8/8/R3K2R w HA - 0 1" "4k3/8/8/8/8/8/8/R3K2R w HA - 0 1"
   -- White's right on the king side comes first, Black's on the queen side last, in whatever order they were read
   pub four_rights : IsWrittenAs "r3k2r/8/8/8/8/8/8/R3K2R w qkQK - 0 1" "r3k2r/8/8/8/8/8/8/R3K2R w HAha - 0 1"
-  -- wrong are a side's letter without a rook, two letters for one right, two rights on one side, the king's own file,
-  -- and a letter that is no file's; only the last of these is the fault of its field
-  pub no_such_rook : IsRefused960 "4k3/8/8/8/8/8/8/4K3 w k - 0 1" Castling
-  pub named_twice : IsRefused960 "4k3/8/8/8/8/8/8/4K2R w HK - 0 1" Castling
-  pub two_on_one_side : IsRefused960 "4k3/8/8/8/8/8/8/4K1RR w GH - 0 1" Castling
-  pub kings_file : IsRefused960 "4k3/8/8/8/8/8/8/4K2R w E - 0 1" Castling
-  pub kings_before_rights : IsRefused960 "8/8/8/8/8/8/8/8 w HK - 0 1" Kings
-  pub letter_before_kings : IsRefused960 "8/8/8/8/8/8/8/8 w I - 0 1" Castling
+  -- a right without its rook, one that is named twice, and two rights on one side
+  pub no_rook_of_chess960 : HasWrongRights "4k3/8/8/8/8/8/8/4K3 w K - 0 1"
+  pub named_twice : HasWrongRights "4k3/8/8/8/8/8/8/4K2R w KH - 0 1"
+  pub two_on_one_side : HasWrongRights "4k3/8/8/8/8/8/8/4K1RR w HG - 0 1"
+  pub no_black_rook : HasWrongRights "4k3/8/8/8/8/8/8/4K3 w k - 0 1"
+  -- the file of the king itself
+  pub kings_file : HasWrongRights "4k3/8/8/8/8/8/8/4K2R w E - 0 1"
+  -- a letter that is no file's is the fault of its field, so it comes before kings; the others come after them
+  pub letter_before_kings : HasWrongRights "8/8/8/8/8/8/8/8 w I - 0 1"
+  pub kings_before_rights : fen_reading_as Fischerandom (codes "8/8/8/8/8/8/8/8 w HK - 0 1") ≡ Err Kings

@@ -1,5 +1,5 @@
 -- Castling by the squares of king and rook: which move names it.
-use Rattle.std.specs.Prelude.{◌≡◌, ℕ, ◌==◌, Bool, false, ◌&&◌, Option, [], ◌∷◌, option_and_then, find}
+use Rattle.std.specs.Prelude.{ℕ, ◌==◌, Bool, false, ◌&&◌, Option, [], ◌∷◌, option_and_then, find}
 use Rattle.std.specs.Option.{option_map, option_map_or}
 use Rattle.chess_base.specs.declared.castling.Castle.{Castle}
 use Rattle.chess_base.specs.declared.man.CastlingSide.{CastlingSide}
@@ -8,8 +8,7 @@ use Rattle.chess_base.specs.declared.man.Move.{Move}
 use Rattle.chess_base.specs.declared.man.Variant.{Variant}
 use Rattle.chess_base.specs.declared.man.Variant.TheVariants.{Normal, Fischerandom}
 use Rattle.chess_base.specs.declared.setup.Setup.{Setup}
-use Rattle.chess_base.specs.Castling.{right_of, king_square, castle_from, castling, castle_of}
-use Rattle.chess_base.specs.Sound.{IsSound}
+use Rattle.chess_base.specs.Castling.{right_of, king_square, castle_from}
 
 -- the four squares of castling on side w, by the side on move: where its king and the rook of its right are, and where
 -- they go; none without the right, or without a king
@@ -32,13 +31,3 @@ is_castling_by v m k = (k.king_from == m.from) && (named_square v k == m.to)
 unfoldable pub castling_named : Setup → Move → Option CastlingSide
 castling_named p m =
     find (λ w. option_map_or (is_castling_by p.variant m) (castling_on p w) false) (KingSide ∷ QueenSide ∷ [])
-
--- on position p move m castles on the side that its squares name (`castling_named`), and its castling has the squares
--- of that one (`castling_on`)
-pub record CastlesByName (p : Setup) (m : Move) : Type 0 where
-  pub side : castling p m ≡ castling_named p m
-  pub squares : castle_of p m ≡ option_and_then (castling_on p) (castling_named p m)
-
--- in each sound position each move castles on the side that its squares name, if any: `CastlesByName`
-abbrev pub CastlingIsNamed : Type 0
-CastlingIsNamed = (p : Setup) → (m : Move) → IsSound p → CastlesByName p m

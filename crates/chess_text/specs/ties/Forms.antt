@@ -22,12 +22,12 @@ use Rattle.chess_text.specs.declared.form.Form.{Form}
 use Rattle.chess_text.specs.declared.form.Form.TheVariants.{Castling, Piece}
 use Rattle.chess_text.specs.declared.parts.Parts.{Parts}
 use Rattle.chess_text.specs.Parts.{unmarked}
-use Rattle.chess_text.specs.ties.Reader.{parts_at}
+use Rattle.chess_text.specs.shared.Reader.{parts_at}
 use Rattle.chess_moves.specs.Sets.{contains}
 use Rattle.chess_text.specs.declared.reading.Reading.{Reading}
 use Rattle.chess_text.specs.declared.reading.Reading.TheVariants as reads
 use Rattle.chess_text.specs.Moves.{castling_texts, described}
-use Rattle.chess_text.specs.ties.Fitting.{passes, admits, parts_fit, is_form, names}
+use Rattle.chess_text.specs.shared.Fitting.{passes, admits, parts_fit, is_form, names}
 
 -- the side to which a text, already without marks, denotes castling: O-O, 0-0, O-O-O or 0-0-0; none for any other text
 abbrev pub castling_named : List ℕ → Option CastlingSide

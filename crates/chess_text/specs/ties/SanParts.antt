@@ -12,7 +12,7 @@ use Rattle.chess_text.specs.declared.parts.End.{End}
 use Rattle.chess_text.specs.declared.parts.Parts.{Parts}
 use Rattle.chess_text.specs.Moves.{described}
 use Rattle.chess_text.specs.San.{castling_text, piece_text}
-use Rattle.chess_text.specs.ties.Fitting.{passes}
+use Rattle.chess_text.specs.shared.Fitting.{passes}
 use Rattle.chess_text.specs.declared.writing.Disambiguation.{Disambiguation}
 
 -- move m of position p is a rival of the described move d: it goes to d's end square with a piece of d's kind, but from

@@ -6,7 +6,7 @@ use Rattle.byte_devices.specs.Bytes.{byte}
 use Rattle.chess_base.specs.declared.man.Kind.{Kind}
 use Rattle.chess_base.specs.declared.man.Kind.TheVariants.{Pawn}
 use Rattle.chess_text.specs.declared.parts.Parts.{Parts}
-use Rattle.chess_text.specs.ties.Reader.{lettered_kinds, kind_from}
+use Rattle.chess_text.specs.shared.Reader.{lettered_kinds, kind_from}
 
 -- the bytes f and r name a square: a file's letter and a rank's digit
 abbrev pub names_square : ℕ → ℕ → Bool

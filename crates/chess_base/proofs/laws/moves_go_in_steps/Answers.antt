@@ -1,6 +1,0 @@
--- The steps of a move give the pieces after it, and the steps back those before it, square by square (MenAfter).
-use Rattle.chess_base.proofs.shared.MenAfter.{men_after_by_steps, men_before_by_steps}
-use Rattle.chess_base.proofs.laws.moves_go_in_steps.Goals as goal
-
-pub returns : goal.returns
-returns c = λ p m. record { on = men_after_by_steps p m; back = λ s. men_before_by_steps p m s }

@@ -1,6 +1,0 @@
--- The list of legal moves rises by start square, end square and promotion (MovesRise).
-use Rattle.chess_base.proofs.MovesRise.{moves_rise}
-use Rattle.chess_base.proofs.laws.moves_rise.Goals as goal
-
-pub returns : goal.returns
-returns c = moves_rise

@@ -1,0 +1,3 @@
+pub mod shared
+mod MovesRise
+mod NormalKept

@@ -1,2 +1,0 @@
--- For laws of normal chess in crates above: texts of moves in its positions.
-pub use Rattle.chess_text.proofs.NormalTexts.{normal_kept}

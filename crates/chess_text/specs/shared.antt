@@ -1,0 +1,5 @@
+-- Definitions for private contracts and proofs of this crate and of crates above: equal to those at the top of specs/,
+-- or parts of them. Of the claims only that of `texts_have_parts` (chess_text_laws) speaks of them, by the parts of a
+-- text.
+pub mod Reader
+pub mod Fitting

@@ -1,0 +1,4 @@
+pub mod shared
+mod NormalTexts
+mod PartsOfTexts
+mod ShownLaw
