@@ -142,4 +142,6 @@ tags_are_in_order = record {
   drawn_on_time = refl;
   against_the_rules = refl;
   unfinished = refl;
+  sixty = refl;
+  printable = refl;
 }

@@ -150,6 +150,8 @@ pub record FensAreRefused : Type 0 where
   pub target_taken : IsRefused "4k3/8/4n3/4p3/8/8/8/4K3 w - e6 0 1" EnPassant
   pub own_pawn : IsRefused "4k3/8/8/8/4P3/8/8/4K3 w - e3 0 1" EnPassant
   pub target : IsTaken "4k3/8/8/4p3/8/8/8/4K3 w - e6 0 1"
+  pub target_on_a6 : IsTaken "4k3/8/8/p7/8/8/8/4K3 w - a6 0 1"
+  pub target_on_h6 : IsTaken "4k3/8/8/7p/8/8/8/4K3 w - h6 0 1"
   -- a target on rank 3 is Black's to capture on, and not White's, even if a black pawn is below it
   pub target_on_3 : IsTaken "4k3/8/8/8/4P3/8/8/4K3 b - e3 0 1"
   pub other_side : IsRefused "4k3/8/8/8/8/8/4p3/6K1 w - e3 0 1" EnPassant
@@ -183,6 +185,7 @@ pub record FensAreRefused : Type 0 where
   -- a target is a square on rank 3 or 6; another one is the fault of its field
   pub rank_4_before_kings : IsRefused "8/8/8/8/8/8/8/8 w - e4 0 1" EnPassant
   pub rank_5_before_kings : IsRefused "8/8/8/8/8/8/8/8 w - e5 0 1" EnPassant
+  pub file_i_before_kings : IsRefused "8/8/8/8/8/8/8/8 w - i6 0 1" EnPassant
   pub kings_before_rank_3 : IsRefused "8/8/8/8/8/8/8/8 w - e3 0 1" Kings
   pub kings_before_pawns : IsRefused "P7/8/8/8/8/8/8/4K3 w - - 0 1" Kings
   pub pawns_before_pieces : IsRefused "k6P/8/8/8/8/8/PPPPPPPP/NNNNNNNK w - - 0 1" Pawns

@@ -1,8 +1,9 @@
 -- Moves and games that chess players know, as SAN and PGN write them (PGN standard of 1994).
-use Rattle.std.specs.Prelude.{◌≡◌, ℕ, Bool, true, false, not, ◌&&◌, List, [], ◌∷◌, codes, option_map, take, drop, Option, None, Some}
+use Rattle.std.specs.Prelude.{◌≡◌, ℕ, Bool, true, false, not, ◌&&◌, List, [], ◌∷◌, codes, option_map, replicate, take, drop, Option, None, Some}
 use Prim.Native.String.{String as Text}
 use Rattle.std.specs.List.{list_all, list_any}
 use Rattle.std.specs.Result.{result_ok}
+use Rattle.byte_devices.specs.Bytes.{byte}
 use Rattle.chess_base.specs.declared.man.Kind.TheVariants.{Knight}
 use Rattle.chess_base.specs.declared.man.Move.{Move}
 use Rattle.chess_base.specs.declared.man.Variant.{Variant}
@@ -11,6 +12,7 @@ use Rattle.chess_base.specs.Initial.{initial_setup, initial_setup_of}
 use Rattle.chess_fen.specs.Reading.{fen_reading_as}
 use Rattle.chess_game.specs.Ends.{draw_claim, result_text, verdict_result}
 use Rattle.chess_game.specs.Game.{State, from_start}
+use Rattle.chess_game.specs.Results.{cut_tag}
 use Rattle.chess_game.specs.declared.results.Outcome.{Outcome}
 use Rattle.chess_game.specs.declared.results.Outcome.TheVariants.{WhiteWins, BlackWins, Draw, Unfinished}
 use Rattle.chess_game.specs.declared.tags.HowEnded.{HowEnded}
@@ -204,3 +206,6 @@ pub record TagsAreInOrder : Type 0 where
   pub against_the_rules : IsTermination how.RulesInfraction WhiteWins "rules infraction"
   -- and one without a result
   pub unfinished : IsTermination how.TimeForfeit Unfinished "unterminated"
+  -- a tag's text is cut to 60 bytes, and has `?` for each that is not printable ASCII (32 to 126)
+  pub sixty : cut_tag (replicate 61 (byte "a")) ≡ replicate 60 (byte "a")
+  pub printable : cut_tag (31 ∷ 32 ∷ 126 ∷ 127 ∷ []) ≡ codes "? ~?"

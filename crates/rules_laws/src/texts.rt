@@ -38,7 +38,7 @@ pub fn moves_are_numbered()
 /// A law: the contract says it, and the function does nothing. The first six tags of a game are these, in this order;
 /// and so are the others of three games: one from the initial position, one from another, and one of Chess960 (PGN
 /// standard of 1994, sections 8.1.1, 9.7 and 9.8.1). The tag Termination of a game that was lost on time or against the
-/// rules says so.
+/// rules says so. A tag's text is cut to 60 bytes of printable ASCII.
 pub fn tags_are_in_order()
     ensures { TagsAreInOrder }
 {}
