@@ -1,7 +1,7 @@
 -- Texts of games without a move, in which a number, a comment or a variation could be taken for moves or for a result;
 -- what tags and a result say without one (PGN standard of 1994, sections 5 to 7, 8.1, 8.2 and 9.8.1); and what a word is
 -- where the game has ended before a move.
-use Rattle.std.specs.Prelude.{◌≡◌, ℕ, true, List, [], ◌∷◌, codes, length, map, replicate, Option, Some, None, Ok, Err}
+use Rattle.std.specs.Prelude.{◌≡◌, ℕ, true, [], ◌∷◌, codes, length, map, replicate, Option, Some, None, Ok, Err}
 use Prim.Native.String.{String as Text}
 use Rattle.byte_devices.specs.Bytes.{tab}
 use Rattle.chess_base.specs.Initial.{initial_setup_of}
