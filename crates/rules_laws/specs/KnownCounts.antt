@@ -110,7 +110,8 @@ pub record EndingsAreJudged : Type 0 where
   pub bishops : IsJudged "4kb2/8/8/8/8/8/8/2B1K3 w - - 0 1" InsufficientMaterial
   pub three_bishops : IsJudged "4kb2/8/8/8/8/8/8/B1B1K3 w - - 0 1" InsufficientMaterial
   pub on_white_squares : IsJudged "4k1b1/8/8/8/8/8/8/4KB2 w - - 0 1" InsufficientMaterial
-  -- after 150 half-moves the game is drawn by the 75-move rule, after 149 it isn't; but insufficient material comes first
+  -- after 150 half-moves the game is drawn by the 75-move rule, after 149 it isn't; but insufficient material comes
+  -- first
   pub after_150 : IsJudged "4k3/8/8/8/8/8/8/R3K3 w - - 150 1" SeventyFiveMoves
   pub after_149 : judged_fen "4k3/8/8/8/8/8/8/R3K3 w - - 149 1" ≡ Some None
   pub kings_after_150 : IsJudged "4k3/8/8/8/8/8/8/4K3 w - - 150 1" InsufficientMaterial

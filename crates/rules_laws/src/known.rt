@@ -34,8 +34,8 @@ pub fn known_positions_are_the_same()
 /// Chess960 the king may castle, or may not (`castling`).
 ///
 /// It refuses a pawn that captures straight ahead, goes past a piece or promotes to a queen alone, a king of Chess960
-/// that can't castle because its own rook stands in its way or because it stays where it is, and one that castles though
-/// its rook uncovers an attack.
+/// that can't castle because its own rook is in its way or because it doesn't move, and one that castles though its
+/// rook uncovers an attack.
 pub fn known_positions_have_so_many_moves()
     ensures count { MovesAreAsMany }
     ensures castling { CastlingIsKnown }

@@ -1,4 +1,5 @@
--- How many legal moves known positions have, and in which of Chess960 the king may castle, by computation (KnownCounts).
+-- How many legal moves known positions have, and in which of Chess960 the king may castle, by computation
+-- (KnownCounts).
 use Rattle.rules_laws.proofs.KnownCounts.{castling_is_known, moves_are_as_many}
 use Rattle.rules_laws.proofs.known.known_positions_have_so_many_moves.Goals as goal
 
