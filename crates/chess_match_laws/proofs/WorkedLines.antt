@@ -8,6 +8,7 @@ use Rattle.text_lines.specs.Words.{argument_of, command_number}
 use Rattle.cecp_engine.specs.EngineLines.{kind_of}
 use Rattle.cecp_engine.specs.Items.{has_word, item_of, items_of, plays_fischerandom, takes}
 use Rattle.cecp_engine.specs.Levels.{allotted, base_of, base_text, decimals_text, increment_text, level_reading, level_text, milliseconds_of, thousandths_of}
+use Rattle.chess_match_laws.proofs.WorkedSan.{in_san}
 use Rattle.chess_match_laws.specs.Worked.{ClocksGoOn, EndsAreOfKinds, EndsAreWorded, FaultsAreReported, FeaturesAreOn, ItemsAreRead, KingsAreBare, LevelsGive, LinesAreSent, LinesSay, LosersLose}
 
 pub lines_say : LinesSay
@@ -21,11 +22,18 @@ lines_say = record {
   white_wins = refl;
   black_wins = refl;
   illegal = refl;
+  bare_move = refl;
   pong = refl;
+  zeros = refl;
+  nine_digits = refl;
+  ten_digits = refl;
+  two_numbers = refl;
   thinking = refl;
   remark = refl;
   capital = refl;
   no_draw = refl;
+  unfinished = refl;
+  complaint = refl;
   no_number = refl;
 }
 
@@ -47,6 +55,12 @@ features_are_on = record {
   draws = refl;
   no_times = refl;
   no_draws = refl;
+  setboard = refl;
+  san = refl;
+  usermove = refl;
+  two_digits = refl;
+  no_blank = refl;
+  no_value = refl;
   chess960 = refl;
   normal = refl;
   all_variants = refl;
@@ -62,13 +76,21 @@ levels_give = record {
   long = refl;
   parts = refl;
   four_digits = refl;
+  four_digits_of_moves = refl;
+  four_digits_of_seconds = refl;
+  two_words = refl;
+  four_words = refl;
   seconds = refl;
   shown = refl;
   minutes_shown = refl;
   first = refl;
   last = refl;
   second = refl;
+  end_of_second = refl;
+  third = refl;
+  fourth = refl;
   increments = refl;
+  one_session = refl;
 }
 
 pub clocks_go_on : ClocksGoOn
@@ -92,11 +114,22 @@ lines_are_sent = record {
   first_turn = refl;
   answer = refl;
   later_turn = refl;
+  in_san = in_san;
+  no_clocks = refl;
 }
 
 pub kings_are_bare : KingsAreBare
 unfolding has_bare_king is_of is_man
-kings_are_bare = record { king = refl; knight = refl; pawn = refl }
+kings_are_bare = record {
+  king = refl;
+  queen = refl;
+  rook = refl;
+  bishop = refl;
+  knight = refl;
+  pawn = refl;
+  black_king = refl;
+  black_pawn = refl;
+}
 
 pub losers_lose : LosersLose
 losers_lose = record {
@@ -114,6 +147,10 @@ losers_lose = record {
   black_forfeits = refl;
   bare_king = refl;
   agreed = refl;
+  white_mates = refl;
+  black_mates = refl;
+  stalemate = refl;
+  claimed = λ claim. refl;
   too_long = refl;
   faults = λ c fault. refl;
 }
@@ -139,6 +176,9 @@ pub ends_are_worded : EndsAreWorded
 ends_are_worded = record {
   resigns = refl;
   agreed = refl;
+  mates = refl;
+  threefold = refl;
+  fifty_moves = refl;
   errs = refl;
   moves_twice = refl;
   claims = refl;

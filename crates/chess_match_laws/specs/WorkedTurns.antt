@@ -6,15 +6,18 @@ use Prim.Native.String.{String as Text}
 use Rattle.std.specs.Result.{result_ok}
 use Rattle.chess_base.specs.declared.man.Colour.{Colour}
 use Rattle.chess_base.specs.declared.man.Colour.TheVariants.{White, Black}
-use Rattle.chess_base.specs.declared.man.Variant.TheVariants.{Normal}
+use Rattle.chess_base.specs.declared.man.Variant.TheVariants.{Normal, Fischerandom}
 use Rattle.chess_base.specs.ByColour.{by_colour}
+use Rattle.chess_base.specs.Initial.{initial_setup_of}
 use Rattle.chess_fen.specs.Reading.{fen_reading_as}
+use Rattle.cecp_engine.specs.Items.{items_of}
 use Rattle.chess_match.specs.Acts.{Block, due_after}
-use Rattle.chess_match.specs.Effects.{AfterMove, BeforeMove, Effect, Handshake, Match, Over, Phase, Setup, beginning, effect, judged, setup_done}
+use Rattle.chess_match.specs.Effects.{AfterMove, BeforeMove, Effect, Handshake, Match, Over, Phase, Setup, beginning, effect, judged, missing, setup_done}
 use Rattle.chess_match.specs.Events.{FailsToWrite, Line, OutputEnds, Silent}
 use Rattle.chess_match.specs.Lines.{bytes_of}
 use Rattle.chess_match.specs.Rules.{Rules}
-use Rattle.chess_match.specs.declared.reason.MatchFault.TheVariants.{NoAnswer, NoDone, NoHandshake, NoPing, NoSetboard}
+use Rattle.chess_match.specs.declared.reason.MatchFault.{MatchFault}
+use Rattle.chess_match.specs.declared.reason.MatchFault.TheVariants.{NoAnswer, NoDone, NoHandshake, NoPing, NoSetboard, NoVariant}
 use Rattle.chess_match.specs.declared.reason.Reason.TheVariants as over_by
 use Rattle.chess_match_laws.specs.Worked.{AreSentAs, after_e4, seat_of, worked_rules}
 
@@ -46,6 +49,7 @@ pub record ClaimsAreJudged : Type 0 where
   pub white_gives_in : phase_after (BeforeMove White 1000) White "0-1 {White resigns}" ≡ Over (over_by.Resigns White)
   pub black_gives_in : phase_after (BeforeMove Black 1000) Black "1-0 {Black resigns}" ≡ Over (over_by.Resigns Black)
   pub resigns : phase_after (BeforeMove White 1000) White "resign" ≡ Over (over_by.Resigns White)
+  pub black_resigns : phase_after (BeforeMove Black 1000) Black "resign" ≡ Over (over_by.Resigns Black)
   -- one that rejects the move that it was sent, which was legal, loses by that
   pub rejects : (by_line (record after_e4 { phase = BeforeMove Black 1000 }) Black "Illegal move: e2e4").after.phase
       ≡ Over (over_by.RejectsLegalMove Black)
@@ -94,11 +98,26 @@ pub record IgnoredAreCounted : Type 0 where
 abbrev pub handshake_after : ℕ → Phase
 handshake_after lines = (by_line (record (match_in (Handshake White)) { count = lines }) White "# loading").after.phase
 
+-- what an engine with these items lacks for a match of Chess960, in which a FEN is sent
+abbrev pub lacks : Text → Option MatchFault
+lacks items = missing (record worked_rules { start = initial_setup_of Fischerandom }) (items_of (codes items))
+
 -- how handshakes end, and what follows
 pub record HandshakesEnd : Type 0 where
   -- the 1,000th line without `done=1` ends the match
   pub goes_on : handshake_after 998 ≡ Handshake White
   pub too_many : handshake_after 999 ≡ Over (over_by.Faulted White NoDone)
+  -- `done=1` ends a handshake, and no other value of `done`
+  pub done : phase_after (Handshake White) White "feature done=1" ≡ Handshake Black
+  pub not_done : phase_after (Handshake White) White "feature done=0" ≡ Handshake White
+  pub quoted : phase_after (Handshake White) White "feature done=\"1\"" ≡ Handshake White
+  -- of what an engine lacks the first of `ping`, `setboard` and Chess960 is reported
+  pub no_ping : lacks "variants=\"normal\"" ≡ Some NoPing
+  pub no_setboard : lacks "ping=1 variants=\"normal\"" ≡ Some NoSetboard
+  pub no_variant : lacks "ping=1 setboard=1 variants=\"normal\"" ≡ Some NoVariant
+  pub nothing : lacks "ping=1 setboard=1" ≡ None
+  -- from the initial position of normal chess only `ping` is needed
+  pub only_ping : missing worked_rules (items_of (codes "ping=1 variants=\"suicide\"")) ≡ None
   -- if both engines lack something, it is White's fault
   pub both_lack : (judged worked_rules (Some NoSetboard) (Some NoPing) beginning.after).after.phase
       ≡ Over (over_by.Faulted White NoSetboard)
@@ -123,6 +142,8 @@ after_silence phase moment = (effect five_seconds (match_in phase) (Silent White
 pub record SilencesAreJudged : Type 0 where
   pub in_time : after_silence (Setup White) 7000 ≡ Setup White
   pub handshake : after_silence (Handshake White) 7001 ≡ Over (over_by.Faulted White NoHandshake)
+  pub black_handshake : (effect five_seconds (match_in (Handshake Black)) (Silent Black 7001)).after.phase
+      ≡ Over (over_by.Faulted Black NoHandshake)
   pub setup : after_silence (Setup White) 7001 ≡ Over (over_by.Faulted White NoAnswer)
   pub moved : after_silence (AfterMove White) 7001 ≡ Over (over_by.Faulted White NoAnswer)
   -- the first silence begins the time of a reply, if no line has, and no other does
