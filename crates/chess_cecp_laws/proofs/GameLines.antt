@@ -22,9 +22,9 @@ use Rattle.pgn_writer.specs.{GameText.pgn, declared.tags.Tags.Tags}
 use Rattle.chess_cecp.specs.Session.{answers, becomes_judged, claim_row, declares, move_row, moves_text, reading_row, result_row, row, setboard_row, take_back_row}
 use Rattle.chess_cecp.specs.declared.command.Command.TheVariants.{Claim, Declare, Remove, SetBoard, ShowFen, ShowMoves, ShowPgn, ShowState, Undo, UserMove}
 use Rattle.chess_cecp.specs.declared.command.Command.TheVariants as commands
-use Rattle.chess_cecp_laws.specs.{GameLines.after_e4, GameLines.ClaimsAreShown, GameLines.Declares, GameLines.FaultsAreNamed, GameLines.GameLinesAreAnswered, GameLines.Plays, GameLines.ResultsAreRead, GameLines.unknown_tags, SessionLines.Becomes, SessionLines.IsAnswered, SessionLines.IsIgnored, SessionLines.response_to}
+use Rattle.chess_cecp_laws.specs.{GameLines.after_e4, GameLines.black_resigned, GameLines.ClaimsAreShown, GameLines.Declares, GameLines.FaultsAreNamed, GameLines.GameLinesAreAnswered, GameLines.Plays, GameLines.ResultsAreRead, GameLines.unknown_tags, SessionLines.Becomes, SessionLines.IsAnswered, SessionLines.IsIgnored, SessionLines.response_to}
 use Rattle.chess_cecp_laws.proofs.SessionLines.{answered, if_false, if_true, responds, with_game}
-use Rattle.chess_cecp_laws.proofs.ShownLines.{fen_shown, moves_shown, pgn_shown, stalemate_set, state_shown}
+use Rattle.chess_cecp_laws.proofs.ShownLines.{fen_shown, moves_shown, pgn_shown, result_shown, stalemate_set, state_shown}
 
 -- the row of this line in the table
 abbrev row_of : SessionSeen → List ℕ → Command → Response State
@@ -136,10 +136,6 @@ on_claim s claim e is =
     if_false (is_over s) (answers s (codes "Error (command not legal now): ") (codes "claim"))
     (claimed s (draw_claim (claims s.start s.moves))) e ∙ ap (claimed s) is
 
--- the result that is declared
-abbrev black_resigns : Declared
-black_resigns = record { outcome = WhiteWins; comment = codes "Black resigns" }
-
 -- a result whose comment was sent with braces in it
 abbrev without_braces : Declared
 without_braces = record { outcome = WhiteWins; comment = codes "Black ?resigns?" }
@@ -157,18 +153,18 @@ braces_taken s text e =
     (answers s (codes "Error (the board says otherwise): ") text) (becomes (result_in s without_braces))
     (ap (λ (w : Option Verdict). contradicts_verdict w WhiteWins) e)
 
-result_read : read_result (argument_of (codes "result 1-0 {Black resigns}")) ≡ Some black_resigns
+result_read : read_result (argument_of (codes "result 1-0 {Black resigns}")) ≡ Some black_resigned
 unfolding argument_of read_result result_comment
 result_read = refl
 
 result_taken : (s : State) (text : List ℕ) (v : Option Verdict) → verdict_now s ≡ v
     → contradicts_verdict v WhiteWins ≡ false
     → result_row s text (read_result (argument_of (codes "result 1-0 {Black resigns}")))
-    ≡ becomes (result_in s black_resigns)
+    ≡ becomes (result_in s black_resigned)
 result_taken s text v e same =
     ap (result_row s text) result_read
     ∙ if_false (contradicts_verdict (verdict_now s) WhiteWins)
-    (answers s (codes "Error (the board says otherwise): ") text) (becomes (result_in s black_resigns))
+    (answers s (codes "Error (the board says otherwise): ") text) (becomes (result_in s black_resigned))
     (ap (λ (w : Option Verdict). contradicts_verdict w WhiteWins) e ∙ same)
 
 result_refused : (s : State) (text : List ℕ) (v : Option Verdict) → verdict_now s ≡ v
@@ -178,7 +174,7 @@ result_refused : (s : State) (text : List ℕ) (v : Option Verdict) → verdict_
 result_refused s text v e other =
     ap (result_row s text) result_read
     ∙ if_true (contradicts_verdict (verdict_now s) WhiteWins)
-    (answers s (codes "Error (the board says otherwise): ") text) (becomes (result_in s black_resigns))
+    (answers s (codes "Error (the board says otherwise): ") text) (becomes (result_in s black_resigned))
     (ap (λ (w : Option Verdict). contradicts_verdict w WhiteWins) e ∙ other)
 
 fen_row : (s : State) (text : List ℕ) (fault : FenFault) → s.start.variant ≡ Normal
@@ -342,6 +338,15 @@ module _ (session : SessionSeen) where
       (answers s (codes "# state ply ") (state_text s)) refl refl
       (ap (shows (codes "# state ply ")) (ap state_text e ∙ state_shown)) refl refl
 
+  result_line : s ≡ record after_e4 { declared = Some black_resigned } → IsAnswered session "showstate"
+      "# state ply 1 rep 1 clock 0 claims none verdict none declared 1-0 {Black resigns}\n"
+  unfolding command_of named_command is_ignored
+  result_line e =
+      by_row session "showstate"
+      "# state ply 1 rep 1 clock 0 claims none verdict none declared 1-0 {Black resigns}\n" ShowState
+      (answers s (codes "# state ply ") (state_text s)) refl refl
+      (ap (shows (codes "# state ply ")) (ap state_text e ∙ result_shown)) refl refl
+
   pgn_lines : session.tags ≡ unknown_tags → s ≡ after_e4 → IsAnswered session "showpgn"
       "# [Event \"?\"]\n# [Site \"?\"]\n# [Date \"????.??.??\"]\n# [Round \"?\"]\n# [White \"?\"]\n# [Black \"?\"]\n# [Result \"*\"]\n# [Termination \"unterminated\"]\n# \n# 1. e4 *\n# \n"
   unfolding command_of named_command is_ignored
@@ -460,6 +465,7 @@ game_lines_are_answered session = record {
   shown_fen = fen_line session;
   shown_moves = moves_line session;
   shown_state = state_line session;
+  shown_result = result_line session;
   shown_pgn = pgn_lines session;
   no_claim = no_claim session;
   threefold = threefold session;

@@ -51,6 +51,10 @@ after_e4 = record {
   declared = None;
 }
 
+-- the result of a game that Black has resigned
+abbrev pub black_resigned : Declared
+black_resigned = record { outcome = WhiteWins; comment = codes "Black resigns" }
+
 -- the tags of a game of which nothing is known
 abbrev pub unknown_tags : Tags
 unknown_tags = record {
@@ -106,6 +110,10 @@ pub record ByTheGame (session : SessionSeen) : Type 0 where
       "# moves 20 b1a3 b1c3 g1f3 g1h3 a2a3 a2a4 b2b3 b2b4 c2c3 c2c4 d2d3 d2d4 e2e3 e2e4 f2f3 f2f4 g2g3 g2g4 h2h3 h2h4\n"
   pub shown_state : session.state ≡ from_start initial_setup → IsAnswered session "showstate"
       "# state ply 0 rep 1 clock 0 claims none verdict none declared none\n"
+  -- a game of one half-move that Black has resigned
+  pub shown_result : session.state ≡ record after_e4 { declared = Some black_resigned }
+      → IsAnswered session "showstate"
+      "# state ply 1 rep 1 clock 0 claims none verdict none declared 1-0 {Black resigns}\n"
   -- a game of one half-move: each line of its PGN has `# ` before it
   pub shown_pgn : session.tags ≡ unknown_tags → session.state ≡ after_e4 → IsAnswered session "showpgn"
       "# [Event \"?\"]\n# [Site \"?\"]\n# [Date \"????.??.??\"]\n# [Round \"?\"]\n# [White \"?\"]\n# [Black \"?\"]\n# [Result \"*\"]\n# [Termination \"unterminated\"]\n# \n# 1. e4 *\n# \n"

@@ -1,6 +1,8 @@
 -- Names of faults, parts that are shown, and reasons, by computation.
 use Rattle.std.proofs.Common.{refl}
 use Rattle.std.specs.Fmt.{digits}
+use Rattle.chess_base.specs.Initial.{initial_setup, initial_setup_of}
+use Rattle.chess_fen.specs.Writing.{placement_text}
 use Rattle.chess_game.specs.Ends.{result_text}
 use Rattle.pgn_verifier.specs.{Explanations.explanation_line, WrongParts.from_field}
 use Rattle.pgn_verifier_laws.specs.WorkedExplanations.{FaultsAreCalled, PartsAreShown, ReasonsAreGiven}
@@ -24,7 +26,7 @@ faults_are_called = record {
 }
 
 pub parts_are_shown : PartsAreShown
-unfolding digits explanation_line from_field
+unfolding digits explanation_line from_field initial_setup initial_setup_of placement_text
 parts_are_shown = record {
   side = refl;
   castling = refl;
@@ -39,6 +41,8 @@ parts_are_shown = record {
   end = refl;
   long_name = refl;
   column = refl;
+  position = refl;
+  no_position = λ s. refl;
 }
 
 pub reasons_are_given : ReasonsAreGiven

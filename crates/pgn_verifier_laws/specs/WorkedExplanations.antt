@@ -4,12 +4,14 @@ use Prim.Native.String.{String as Text}
 use Rattle.byte_devices.specs.Bytes.{byte, carriage_return}
 use Rattle.chess_base.specs.declared.fen_fault.FenFault.{FenFault}
 use Rattle.chess_base.specs.declared.fen_fault.FenFault.TheVariants as faults
+use Rattle.chess_base.specs.Initial.{initial_setup}
+use Rattle.chess_game.specs.Game.{State, from_start}
 use Rattle.chess_game.specs.declared.results.Outcome.TheVariants.{BlackWins}
 use Rattle.chess_game.specs.declared.verdicts.Verdict.{Verdict}
 use Rattle.chess_game.specs.declared.verdicts.Verdict.TheVariants.{BlackMates}
 use Rattle.chess_pgn.specs.declared.read.PgnFaultKind.TheVariants.{BadTag, BadFen, BadToken, IllegalMove, AmbiguousMove, AfterEnd, TooLong, UnclosedComment, UnclosedVariation, NoResult}
 use Rattle.pgn_tokens.specs.Tokens.{Tag}
-use Rattle.pgn_verifier.specs.Explanations.{IsReason, explanation_line, shown, wrong_part}
+use Rattle.pgn_verifier.specs.Explanations.{IsReason, explanation, explanation_line, shown, wrong_part}
 use Rattle.pgn_verifier.specs.GameFaults.{fault_name}
 use Rattle.pgn_verifier.specs.Reports.{names_of}
 use Rattle.pgn_verifier.specs.WrongParts.{fen_reason, token_reason}
@@ -74,6 +76,12 @@ pub record PartsAreShown : Type 0 where
   -- a carriage return begins no line, but columns count from it
   pub column : explanation_line (codes "a\nbc" ++ (carriage_return ∷ codes "def")) 7 (codes "f")
       ≡ codes "# line 2 column 3 f\n"
+  -- the position in which reading stopped; but none for a bad tag, a bad FEN, a fault in a variation and an unknown
+  -- variant
+  pub position : explanation (from_start initial_setup) (Pgn IllegalMove) None
+      ≡ codes " | rnbqkbnr/pppppppp/8/8/8/8/PPPPPPPP/RNBQKBNR w KQkq - 0 1"
+  pub no_position : (s : State) → map (λ kind. explanation s kind None)
+      (Pgn BadTag ∷ Pgn (BadFen faults.Kings) ∷ InVariation IllegalMove ∷ UnknownVariant ∷ []) ≡ replicate 4 []
 
 -- ---- reasons
 
