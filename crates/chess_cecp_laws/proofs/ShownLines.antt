@@ -1,5 +1,5 @@
--- What a session shows of a game that has just begun and of one of a single half-move, also with a result, and how it answers the FEN of a
--- stalemate, by computation.
+-- What a session shows of a game that has just begun and of one of a single half-move, also with a result, and how it
+-- answers the FEN of a stalemate, by computation.
 use Rattle.std.proofs.Common.{◌≡◌, Some, refl, codes}
 use Rattle.std.specs.Fmt.{digits}
 use Rattle.chess_base.specs.Attacks.{is_clear, could_capture, attacks, is_attacked, is_in_check}

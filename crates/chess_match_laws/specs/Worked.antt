@@ -95,8 +95,8 @@ pub record FeaturesAreOn : Type 0 where
   pub san : is_on "san" "san=1" ≡ true
   pub usermove : is_on "usermove" "usermove=1" ≡ true
   pub two_digits : is_on "ping" "ping=01" ≡ false
-  -- an item without a blank after its value, or without a value, is none, and ends the line's items
-  pub no_blank : is_on "ping" "ping=1,san=1" ≡ false
+  -- an item without a space after its value, or without a value, is none, and ends the line's items
+  pub no_space : is_on "ping" "ping=1,san=1" ≡ false
   pub no_value : is_on "san" "ping=x san=1" ≡ false
   pub chess960 : plays_fischerandom (items_of (codes "variants=\"normal,fischerandom\"")) ≡ true
   pub normal : plays_fischerandom (items_of (codes "variants=\"normal\"")) ≡ false
