@@ -131,7 +131,7 @@ pub record LinesAreCut : Type 0 where
   -- a line of four bytes, and one of five, where four are the most
   pub long : map (λ (line : LineSeen). line.too_long) (stream_lines 4 true (codes "quit\nquits\n"))
       ≡ false ∷ true ∷ []
-  -- of a line that is too long the first 64 bytes are kept, spaces and tabs too: here of a tab and 100 letters `z`, where 100
-  -- bytes are the most
+  -- of a line that is too long the first 64 bytes are kept, spaces and tabs too: here of a tab and 100 letters `z`,
+  -- where 100 bytes are the most
   pub kept : map (λ (line : LineSeen). line.text) (stream_lines 100 true (tab ∷ replicate 100 (byte "z")))
       ≡ (tab ∷ replicate 63 (byte "z")) ∷ []

@@ -1,5 +1,5 @@
 -- How `verify` names faults, which part of a game an explanation shows, and which reason it gives, worked out.
-use Rattle.std.specs.Prelude.{◌≡◌, ℕ, List, [], ◌∷◌, ◌++◌, map, replicate, codes, Option, Some, None}
+use Rattle.std.specs.Prelude.{◌≡◌, ℕ, List, [], ◌∷◌, ◌++◌, map, replicate, codes, Some, None}
 use Prim.Native.String.{String as Text}
 use Rattle.byte_devices.specs.Bytes.{byte, carriage_return}
 use Rattle.chess_base.specs.declared.fen_fault.FenFault.{FenFault}
@@ -7,7 +7,6 @@ use Rattle.chess_base.specs.declared.fen_fault.FenFault.TheVariants as faults
 use Rattle.chess_base.specs.Initial.{initial_setup}
 use Rattle.chess_game.specs.Game.{State, from_start}
 use Rattle.chess_game.specs.declared.results.Outcome.TheVariants.{BlackWins}
-use Rattle.chess_game.specs.declared.verdicts.Verdict.{Verdict}
 use Rattle.chess_game.specs.declared.verdicts.Verdict.TheVariants.{BlackMates}
 use Rattle.chess_pgn.specs.declared.read.PgnFaultKind.TheVariants.{BadTag, BadFen, BadToken, IllegalMove, AmbiguousMove, AfterEnd, TooLong, UnclosedComment, UnclosedVariation, NoResult}
 use Rattle.pgn_tokens.specs.Tokens.{Tag}
