@@ -207,18 +207,10 @@ unfolding argument_of command_number command_of named_command is_ignored
 ten_digits session =
     answered session "ping 1234567890" "Error (bad number): ping 1234567890\n" BadNumber refl refl refl refl
 
-no_digits : (session : SessionSeen) → IsAnswered session "ping" "Error (bad number): ping\n"
-unfolding argument_of command_number command_of named_command is_ignored
-no_digits session = answered session "ping" "Error (bad number): ping\n" BadNumber refl refl refl refl
-
 no_number : (session : SessionSeen) → IsAnswered session "ping seven" "Error (bad number): ping seven\n"
 unfolding argument_of command_number command_of named_command is_ignored
 no_number session =
     answered session "ping seven" "Error (bad number): ping seven\n" BadNumber refl refl refl refl
-
-version_0 : (session : SessionSeen) → IsIgnored session "protover 0"
-unfolding argument_of command_number command_of named_command is_ignored
-version_0 session = answered session "protover 0" "" (Protover 0) refl refl refl refl
 
 first_version : (session : SessionSeen) → IsIgnored session "protover 1"
 unfolding argument_of command_number command_of named_command is_ignored
@@ -231,12 +223,6 @@ features session = answered session "protover 2" feature_line (Protover 2) refl 
 third_version : (session : SessionSeen) → IsAnswered session "protover 3" feature_line
 unfolding argument_of command_number command_of named_command is_ignored features_line
 third_version session = answered session "protover 3" feature_line (Protover 3) refl refl refl refl
-
-no_version : (session : SessionSeen)
-    → IsAnswered session "protover two" "Error (bad number): protover two\n"
-unfolding argument_of command_number command_of named_command is_ignored
-no_version session =
-    answered session "protover two" "Error (bad number): protover two\n" BadNumber refl refl refl refl
 
 no_move : (session : SessionSeen) → IsAnswered session "usermove" "Error (unknown command): usermove\n"
 unfolding argument_of command_of named_command is_ignored
@@ -335,12 +321,9 @@ session_lines_are_answered session = record {
   nine_digits = nine_digits session;
   ten_digits = ten_digits session;
   no_number = no_number session;
-  no_digits = no_digits session;
-  version_0 = version_0 session;
   first_version = first_version session;
   features = features session;
   third_version = third_version session;
-  no_version = no_version session;
   no_move = no_move session;
   go = goes session;
   no_result = no_result session;

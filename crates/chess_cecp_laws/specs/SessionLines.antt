@@ -84,13 +84,10 @@ pub record LinesAreAnswered (session : SessionSeen) : Type 0 where
   pub nine_digits : IsAnswered session "ping 123456789" "pong 123456789\n"
   pub ten_digits : IsAnswered session "ping 1234567890" "Error (bad number): ping 1234567890\n"
   pub no_number : IsAnswered session "ping seven" "Error (bad number): ping seven\n"
-  pub no_digits : IsAnswered session "ping" "Error (bad number): ping\n"
   -- version 1 has no features, and each later version has these
-  pub version_0 : IsIgnored session "protover 0"
   pub first_version : IsIgnored session "protover 1"
   pub features : IsAnswered session "protover 2" feature_line
   pub third_version : IsAnswered session "protover 3" feature_line
-  pub no_version : IsAnswered session "protover two" "Error (bad number): protover two\n"
   -- `usermove` without a move
   pub no_move : IsAnswered session "usermove" "Error (unknown command): usermove\n"
   pub go : IsAnswered session "go" "Error (the arbiter plays no side): go\n"

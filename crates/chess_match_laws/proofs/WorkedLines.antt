@@ -22,18 +22,13 @@ lines_say = record {
   white_wins = refl;
   black_wins = refl;
   illegal = refl;
-  bare_move = refl;
   pong = refl;
-  zeros = refl;
   nine_digits = refl;
   ten_digits = refl;
-  two_numbers = refl;
   thinking = refl;
   remark = refl;
   capital = refl;
   no_draw = refl;
-  unfinished = refl;
-  complaint = refl;
   no_number = refl;
 }
 
@@ -55,10 +50,6 @@ features_are_on = record {
   draws = refl;
   no_times = refl;
   no_draws = refl;
-  setboard = refl;
-  san = refl;
-  usermove = refl;
-  two_digits = refl;
   no_space = refl;
   no_value = refl;
   chess960 = refl;
@@ -77,20 +68,15 @@ levels_give = record {
   parts = refl;
   four_digits = refl;
   four_digits_of_moves = refl;
-  four_digits_of_seconds = refl;
-  two_words = refl;
-  four_words = refl;
   seconds = refl;
   shown = refl;
   minutes_shown = refl;
   first = refl;
   last = refl;
   second = refl;
-  end_of_second = refl;
   third = refl;
   fourth = refl;
   increments = refl;
-  one_session = refl;
 }
 
 pub clocks_go_on : ClocksGoOn
@@ -123,12 +109,9 @@ unfolding has_bare_king is_of is_man
 kings_are_bare = record {
   king = refl;
   queen = refl;
-  rook = refl;
-  bishop = refl;
   knight = refl;
   pawn = refl;
   black_king = refl;
-  black_pawn = refl;
 }
 
 pub losers_lose : LosersLose
@@ -148,8 +131,6 @@ losers_lose = record {
   bare_king = refl;
   agreed = refl;
   white_mates = refl;
-  black_mates = refl;
-  stalemate = refl;
   claimed = λ claim. refl;
   too_long = refl;
   faults = λ c fault. refl;
@@ -176,9 +157,6 @@ pub ends_are_worded : EndsAreWorded
 ends_are_worded = record {
   resigns = refl;
   agreed = refl;
-  mates = refl;
-  threefold = refl;
-  fifty_moves = refl;
   errs = refl;
   moves_twice = refl;
   claims = refl;

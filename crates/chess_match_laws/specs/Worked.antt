@@ -3,7 +3,7 @@ use Rattle.std.specs.Prelude.{◌≡◌, ℕ, Bool, true, false, List, [], ◌�
 use Prim.Native.String.{String as Text}
 use Rattle.chess_base.specs.declared.man.Colour.{Colour}
 use Rattle.chess_base.specs.declared.man.Colour.TheVariants.{White, Black}
-use Rattle.chess_base.specs.declared.man.Kind.TheVariants.{King, Queen, Rook, Bishop, Knight, Pawn}
+use Rattle.chess_base.specs.declared.man.Kind.TheVariants.{King, Queen, Knight, Pawn}
 use Rattle.chess_base.specs.declared.man.Man.{Man}
 use Rattle.chess_base.specs.declared.man.Move.{Move}
 use Rattle.chess_base.specs.ByColour.{by_colour}
@@ -11,9 +11,8 @@ use Rattle.chess_base.specs.Initial.{initial_setup, man_of}
 use Rattle.chess_game.specs.declared.results.Outcome.TheVariants.{WhiteWins, BlackWins, Draw, Unfinished}
 use Rattle.chess_game.specs.declared.tags.HowEnded.TheVariants as how
 use Rattle.chess_game.specs.declared.verdicts.DrawClaim.{DrawClaim}
-use Rattle.chess_game.specs.declared.verdicts.DrawClaim.TheVariants.{Threefold, FiftyMoves}
 use Rattle.chess_game.specs.declared.verdicts.Verdict.{Verdict}
-use Rattle.chess_game.specs.declared.verdicts.Verdict.TheVariants.{WhiteMates, BlackMates, Stalemate}
+use Rattle.chess_game.specs.declared.verdicts.Verdict.TheVariants.{WhiteMates}
 use Rattle.cecp_engine.specs.Clocks.{ClocksSeen, charged, new_clocks, remaining}
 use Rattle.cecp_engine.specs.EngineLines.{LineKind, Features, Moves, Resigns, OffersDraw, ClaimsDraw, ClaimsWin, Rejects, Answers, SaysElse, kind_of}
 use Rattle.cecp_engine.specs.Items.{Item, items_of, plays_fischerandom, takes}
@@ -46,20 +45,15 @@ pub record LinesSay : Type 0 where
   pub white_wins : IsLine "1-0 {White mates}" (ClaimsWin White)
   pub black_wins : IsLine "0-1 {White resigns}" (ClaimsWin Black)
   pub illegal : IsLine "Illegal move: e2e4" Rejects
-  pub bare_move : IsLine "move" (Moves [])
-  -- the number of a `pong` has at most nine digits, and nothing comes after it
+  -- the number of a `pong` has at most nine digits
   pub pong : IsLine "pong 12" (Answers 12)
-  pub zeros : IsLine "pong 007" (Answers 7)
   pub nine_digits : IsLine "pong 123456789" (Answers 123456789)
   pub ten_digits : IsLine "pong 1234567890" SaysElse
-  pub two_numbers : IsLine "pong 1 2" SaysElse
   -- its thinking, a remark, and lines that are not quite one of the above
   pub thinking : IsLine "9 156 1084 48000 Nf3 Nc6" SaysElse
   pub remark : IsLine "# resign" SaysElse
   pub capital : IsLine "Resign" SaysElse
   pub no_draw : IsLine "offer peace" SaysElse
-  pub unfinished : IsLine "*" SaysElse
-  pub complaint : IsLine "Error (unknown command): otim" SaysElse
   pub no_number : IsLine "pong one" SaysElse
 
 -- an item of a `feature` line: its name, and its value without quotes
@@ -91,10 +85,6 @@ pub record FeaturesAreOn : Type 0 where
   pub draws : is_on "draw" "" ≡ true
   pub no_times : is_on "time" "time=0" ≡ false
   pub no_draws : is_on "draw" "draw=0" ≡ false
-  pub setboard : is_on "setboard" "setboard=1" ≡ true
-  pub san : is_on "san" "san=1" ≡ true
-  pub usermove : is_on "usermove" "usermove=1" ≡ true
-  pub two_digits : is_on "ping" "ping=01" ≡ false
   -- an item without a space after its value, or without a value, is none, and ends the line's items
   pub no_space : is_on "ping" "ping=1,san=1" ≡ false
   pub no_value : is_on "san" "ping=x san=1" ≡ false
@@ -123,10 +113,6 @@ pub record LevelsGive : Type 0 where
   -- moves, minutes and seconds have at most three digits
   pub four_digits : level_of (codes "0 1000 0") ≡ None
   pub four_digits_of_moves : level_of (codes "1000 5 0") ≡ None
-  pub four_digits_of_seconds : level_of (codes "0 5 1000") ≡ None
-  -- three words, and no more
-  pub two_words : level_of (codes "40 5") ≡ None
-  pub four_words : level_of (codes "40 5 0 0") ≡ None
   -- seconds are below 60
   pub seconds : level_of (codes "0 0:60 0") ≡ None
   pub shown : level_text (record { moves = 0; base = 8500; increment = 100 }) ≡ codes "0 0:08.5 0.1"
@@ -135,13 +121,11 @@ pub record LevelsGive : Type 0 where
   pub first : allotted forty_in_five 0 ≡ 300000
   pub last : allotted forty_in_five 39 ≡ 300000
   pub second : allotted forty_in_five 40 ≡ 600000
-  -- after 79 moves, after 80 and after 120, with which the third and the fourth begin
-  pub end_of_second : allotted forty_in_five 79 ≡ 600000
+  -- after 80 moves and after 120, with which the third and the fourth begin
   pub third : allotted forty_in_five 80 ≡ 900000
   pub fourth : allotted forty_in_five 120 ≡ 1200000
-  -- 12 seconds more for each move made, and never a second session
+  -- 12 seconds more for each move made
   pub increments : allotted two_and_twelve 3 ≡ 156000
-  pub one_session : allotted two_and_twelve 100 ≡ 1320000
 
 -- ---- clocks
 
@@ -245,13 +229,10 @@ is_bare men = has_bare_king White men
 pub record KingsAreBare : Type 0 where
   pub king : is_bare (man_of White King ∷ None ∷ man_of Black King ∷ man_of Black Queen ∷ []) ≡ true
   pub queen : is_bare (man_of White King ∷ man_of White Queen ∷ man_of Black King ∷ []) ≡ false
-  pub rook : is_bare (man_of White King ∷ man_of White Rook ∷ man_of Black King ∷ []) ≡ false
-  pub bishop : is_bare (man_of White King ∷ man_of White Bishop ∷ man_of Black King ∷ []) ≡ false
   pub knight : is_bare (man_of White King ∷ man_of White Knight ∷ man_of Black King ∷ []) ≡ false
   pub pawn : is_bare (man_of Black King ∷ man_of White King ∷ man_of White Pawn ∷ []) ≡ false
   -- Black's
   pub black_king : has_bare_king Black (man_of White King ∷ man_of White Pawn ∷ man_of Black King ∷ []) ≡ true
-  pub black_pawn : has_bare_king Black (man_of White King ∷ man_of Black Pawn ∷ man_of Black King ∷ []) ≡ false
 
 -- ---- ends
 
@@ -272,8 +253,6 @@ pub record LosersLose : Type 0 where
   pub bare_king : outcome_by_reason ForfeitsToBareKing ≡ Draw
   pub agreed : outcome_by_reason Agreed ≡ Draw
   pub white_mates : outcome_by_reason (over_by.Decided WhiteMates) ≡ WhiteWins
-  pub black_mates : outcome_by_reason (over_by.Decided BlackMates) ≡ BlackWins
-  pub stalemate : outcome_by_reason (over_by.Decided Stalemate) ≡ Draw
   pub claimed : (claim : DrawClaim) → outcome_by_reason (over_by.Claimed claim) ≡ Draw
   pub too_long : outcome_by_reason GameTooLong ≡ Unfinished
   pub faults : (c : Colour) (fault : MatchFault) → outcome_by_reason (Faulted c fault) ≡ Unfinished
@@ -306,9 +285,6 @@ IsWorded reason comment = comment_of reason ≡ codes comment
 pub record EndsAreWorded : Type 0 where
   pub resigns : IsWorded (over_by.Resigns Black) "Black resigns"
   pub agreed : IsWorded Agreed "Draw agreed"
-  pub mates : IsWorded (over_by.Decided BlackMates) "Black mates"
-  pub threefold : IsWorded (over_by.Claimed Threefold) "Threefold repetition"
-  pub fifty_moves : IsWorded (over_by.Claimed FiftyMoves) "50-move rule"
   pub errs : IsWorded (MovesIllegally White) "White makes an illegal move"
   pub moves_twice : IsWorded (MovesOutOfTurn Black) "Black moves out of turn"
   pub claims : IsWorded (ClaimsFalsely White) "White makes a false claim"

@@ -49,7 +49,6 @@ pub record ClaimsAreJudged : Type 0 where
   pub white_gives_in : phase_after (BeforeMove White 1000) White "0-1 {White resigns}" ≡ Over (over_by.Resigns White)
   pub black_gives_in : phase_after (BeforeMove Black 1000) Black "1-0 {Black resigns}" ≡ Over (over_by.Resigns Black)
   pub resigns : phase_after (BeforeMove White 1000) White "resign" ≡ Over (over_by.Resigns White)
-  pub black_resigns : phase_after (BeforeMove Black 1000) Black "resign" ≡ Over (over_by.Resigns Black)
   -- one that rejects the move that it was sent, which was legal, loses by that
   pub rejects : (by_line (record after_e4 { phase = BeforeMove Black 1000 }) Black "Illegal move: e2e4").after.phase
       ≡ Over (over_by.RejectsLegalMove Black)
@@ -109,7 +108,6 @@ pub record HandshakesEnd : Type 0 where
   pub too_many : handshake_after 999 ≡ Over (over_by.Faulted White NoDone)
   -- `done=1` ends a handshake, and no other value of `done`
   pub done : phase_after (Handshake White) White "feature done=1" ≡ Handshake Black
-  pub not_done : phase_after (Handshake White) White "feature done=0" ≡ Handshake White
   pub quoted : phase_after (Handshake White) White "feature done=\"1\"" ≡ Handshake White
   -- of what an engine lacks the first of `ping`, `setboard` and Chess960 is reported
   pub no_ping : lacks "variants=\"normal\"" ≡ Some NoPing
@@ -142,8 +140,6 @@ after_silence phase moment = (effect five_seconds (match_in phase) (Silent White
 pub record SilencesAreJudged : Type 0 where
   pub in_time : after_silence (Setup White) 7000 ≡ Setup White
   pub handshake : after_silence (Handshake White) 7001 ≡ Over (over_by.Faulted White NoHandshake)
-  pub black_handshake : (effect five_seconds (match_in (Handshake Black)) (Silent Black 7001)).after.phase
-      ≡ Over (over_by.Faulted Black NoHandshake)
   pub setup : after_silence (Setup White) 7001 ≡ Over (over_by.Faulted White NoAnswer)
   pub moved : after_silence (AfterMove White) 7001 ≡ Over (over_by.Faulted White NoAnswer)
   -- the first silence begins the time of a reply, if no line has, and no other does

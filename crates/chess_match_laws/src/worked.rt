@@ -39,8 +39,8 @@ pub fn sent_lines_are_worked_out()
     ensures ends { EndLinesAreSent }
 {}
 
-/// States a law and does nothing: with a king alone, whatever the other side has, a side has a bare king; with one piece
-/// more, of whatever kind, it has not.
+/// States a law and does nothing: with a king alone, whatever the other side has, a side has a bare king; with a queen,
+/// a knight or a pawn more it has not.
 pub fn bare_kings_are_worked_out()
     ensures { KingsAreBare }
 {}

@@ -184,7 +184,6 @@ log_lines_look = record {
   killed = refl;
   both_killed = refl;
   first_has_black = refl;
-  at_first = refl;
   after_line = refl;
   after_opening = refl;
   after_silence = refl;

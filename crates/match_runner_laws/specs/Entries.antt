@@ -95,9 +95,7 @@ pub record LogLinesLook : Type 0 where
   -- in a game in which the first engine has Black
   pub first_has_black : note_text (engine_name Black) 312 (Happened (Line Black (Some (codes "move e7e5")) 400))
       ≡ codes "400 <first : move e7e5\n"
-  -- a line that is sent has the moment that the clock showed last: 0 before any, then that of a line, of an opening or
-  -- of a silence
-  pub at_first : log_from White 0 (Gives White (codes "xboard\n") ∷ []) ≡ codes "0 >first : xboard\n"
+  -- a line that is sent has the moment that the clock showed last: that of a line, of an opening or of a silence
   pub after_line : log_from White 0 (Happened (Line White (Some (codes "pong 2")) 400) ∷ Gives Black (codes "go\n") ∷ [])
       ≡ codes "400 <first : pong 2\n400 >second: go\n"
   pub after_opening : log_from White 0 (Happened (Opened White 500) ∷ Gives White (codes "draw\n") ∷ [])

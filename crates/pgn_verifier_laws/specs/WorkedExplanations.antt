@@ -65,9 +65,8 @@ pub record PartsAreShown : Type 0 where
   -- of an illegal move its word, and of a game without a result its first word
   pub move : wrong_part (Pgn IllegalMove) (codes "1. e9 *") 0 3 ≡ (3, codes "e9")
   pub game : wrong_part (Pgn NoResult) (codes " 1. e4 ") 1 7 ≡ (1, codes "1.")
-  -- at most 40 bytes, with `?` for each that is not printable ASCII; `(end)` where the text ends
+  -- at most 40 bytes; `(end)` where the text ends
   pub long : shown (replicate 41 (byte "z")) ≡ replicate 40 (byte "z")
-  pub unprintable : shown (195 ∷ 169 ∷ []) ≡ codes "??"
   pub end : shown [] ≡ codes "(end)"
   -- of a player's name too
   pub long_name : names_of ((60, Tag (codes "White") (replicate 41 (byte "z")) 50) ∷ [])
@@ -106,13 +105,10 @@ pub record ReasonsAreGiven : Type 0 where
   pub no_token : IsTokenReason "<" "begins no token"
   -- for a bad FEN
   pub castling : fen_reason faults.Castling ≡ codes "castling, as in normal chess unless the tag Variant names Chess960"
-  pub target : fen_reason faults.EnPassant ≡ codes "en passant"
   -- for other faults
   pub zeros : IsGiven (Pgn IllegalMove) "0-0 *" "castling, and no result of PGN"
-  pub other_move : IsReason (Pgn IllegalMove) (codes "O-O *") None None
   pub after_end : IsGiven (Pgn AfterEnd) "e4 *" "0-1 {Black mates}"
   pub token_in_variation : IsGiven (InVariation BadToken) "foo)" "not a move"
   pub variant : IsGiven UnknownVariant "Atomic\"]" "neither normal chess nor Chess960, by a name that is known"
   pub differs : IsGiven (ResultDiffers 7 BlackWins) "1/2-1/2\"] 0-1" "Result 1/2-1/2, ended 0-1"
   pub board : IsGiven BoardSaysOtherwise "1-0" "0-1 {Black mates}"
-  pub no_result : IsReason (Pgn NoResult) [] None None
