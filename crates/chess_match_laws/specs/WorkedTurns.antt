@@ -106,7 +106,7 @@ pub record HandshakesEnd : Type 0 where
   -- the 1,000th line without `done=1` ends the match
   pub goes_on : handshake_after 998 ≡ Handshake White
   pub too_many : handshake_after 999 ≡ Over (over_by.Faulted White NoDone)
-  -- `done=1` ends a handshake, and no other value of `done`
+  -- `done=1` ends a handshake, but not with the 1 in quotes
   pub done : phase_after (Handshake White) White "feature done=1" ≡ Handshake Black
   pub quoted : phase_after (Handshake White) White "feature done=\"1\"" ≡ Handshake White
   -- of what an engine lacks the first of `ping`, `setboard` and Chess960 is reported
