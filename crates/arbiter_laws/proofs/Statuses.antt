@@ -45,4 +45,12 @@ statuses_are_stated = record {
   memory = of_memory;
   faulty = refl;
   faultless = refl;
+  unverified = λ fault. refl;
+  served = λ end. refl;
+  unserved = λ fault. refl;
+  played = λ done. refl;
+  unplayed = λ fault. refl;
+  unread = refl;
+  unwritten = refl;
+  no_memory = refl;
 }

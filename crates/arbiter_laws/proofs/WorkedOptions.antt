@@ -2,7 +2,7 @@
 use Rattle.std.proofs.Common.{refl}
 use Rattle.cecp_engine.specs.Levels.{base_of, level_reading, milliseconds_of, thousandths_of}
 use Rattle.text_lines.specs.Words.{argument_of}
-use Rattle.arbiter_laws.specs.WorkedOptions.{LevelsAreRead, OptionsMean, StartsAreAsked}
+use Rattle.arbiter_laws.specs.WorkedOptions.{DatesAreRead, LevelsAreRead, OptionsMean, StartsAreAsked}
 
 pub levels_are_read : LevelsAreRead
 unfolding argument_of base_of level_reading milliseconds_of thousandths_of
@@ -22,6 +22,18 @@ starts_are_asked = record {
   chess960 = refl;
   fen = λ fen. refl;
   fen_of_chess960 = λ fen. refl;
+}
+
+pub dates_are_read : DatesAreRead
+unfolding argument_of base_of level_reading milliseconds_of thousandths_of
+dates_are_read = record {
+  by_default = refl;
+  given = refl;
+  sixty = refl;
+  too_long = refl;
+  unprintable = refl;
+  level_first = refl;
+  then_fen = refl;
 }
 
 pub options_mean : OptionsMean
@@ -47,4 +59,6 @@ options_mean = record {
   only_board = refl;
   not_strict = refl;
   after_end = refl;
+  kinds = refl;
+  other_kind = refl;
 }

@@ -1,4 +1,4 @@
--- Exit statuses: of arguments for which there is no plan, and of verifying.
+-- Exit statuses: of arguments for which there is no plan, of verifying, of sessions and of matches.
 use Rattle.std.specs.Prelude.{◌≡◌, ◌≢◌, ℕ, List, Ok, Err}
 use Rattle.clap.specs.Words.{kind_of}
 use Rattle.clap.specs.declared.error.Error.{Error}
@@ -7,9 +7,13 @@ use Rattle.arbiter_cli.specs.declared.fault.WordsFault.{WordsFault}
 use Rattle.arbiter_cli.specs.declared.fault.WordsFault.TheVariants as faults
 use Rattle.cecp_engine.specs.declared.level_fault.LevelFault.{LevelFault}
 use Rattle.chess_base.specs.declared.fen_fault.FenFault.{FenFault}
-use Rattle.chess_arbiter.specs.Program.{Does, Surroundings, fault_status, verify_status}
-use Rattle.chess_arbiter.specs.declared.fault.ProgramFault.TheVariants.{InvalidArguments}
+use Rattle.chess_arbiter.specs.Program.{Does, Surroundings, fault_status, status_of, verify_status}
+use Rattle.chess_arbiter.specs.declared.fault.ProgramFault.TheVariants.{InvalidArguments, NoMemory, ReadFailed, WriteFailed}
+use Rattle.chess_cecp.specs.declared.run.End.{End}
+use Rattle.chess_cecp.specs.declared.run.Fault.{Fault}
 use Rattle.match_runner.specs.GamesTable.{HostStep}
+use Rattle.match_runner.specs.declared.fault.GamesFault.{GamesFault}
+use Rattle.pgn_verifier.specs.declared.fault.VerifyFault.{VerifyFault}
 use Rattle.pgn_verifier.specs.declared.tally.Verified.TheVariants.{EachGame, FaultReported}
 
 -- whenever this fault is why there is no plan, the program has this exit status
@@ -29,6 +33,17 @@ pub record StatusesAreStated : Type 0 where
   pub no_text : fault_status InvalidArguments ≡ 2
   -- 1 if memory runs out
   pub memory : HasStatus 1 faults.NoMemory
-  -- of `verify`: 1 if a fault was reported, and 0 if none was
+  -- of `verify`: 1 if a fault was reported, or if something failed, and 0 if all was verified and no fault was found
   pub faulty : verify_status (Ok FaultReported) ≡ 1
   pub faultless : verify_status (Ok EachGame) ≡ 0
+  pub unverified : (fault : VerifyFault) → verify_status (Err fault) ≡ 1
+  -- of a session and of a stub: 1 if a read, a write or a flush failed, and otherwise 0
+  pub served : (end : End) → status_of {A = End} {E = Fault} (Ok end) ≡ 0
+  pub unserved : (fault : Fault) → status_of {A = End} {E = Fault} (Err fault) ≡ 1
+  -- of a match: 1 if it was not played to its end, and otherwise 0
+  pub played : (done : Unit {0}) → status_of {A = Unit {0}} {E = GamesFault} (Ok done) ≡ 0
+  pub unplayed : (fault : GamesFault) → status_of {A = Unit {0}} {E = GamesFault} (Err fault) ≡ 1
+  -- of faults before a plan is made
+  pub unread : fault_status ReadFailed ≡ 1
+  pub unwritten : fault_status WriteFailed ≡ 1
+  pub no_memory : fault_status NoMemory ≡ 1

@@ -1,13 +1,18 @@
 -- What options mean, worked out: the time controls of a match, the position in which its games start, how long its
 -- engines are waited for, whether draws must be claimed, how many games are played, and what `verify` looks for and
 -- writes.
-use Rattle.std.specs.Prelude.{◌≡◌, true, false, List, [], ◌∷◌, codes, Some, None, Result, Ok, Err}
+use Rattle.std.specs.Prelude.{◌≡◌, true, false, List, [], ◌∷◌, codes, replicate, Some, None, Result, Ok, Err}
+use Rattle.std.specs.Result.{result_map_both}
+use Rattle.byte_devices.specs.Bytes.{byte, tab}
 use Rattle.clap.specs.Words.{Text}
-use Rattle.arbiter_cli.specs.Plans.{IsMatchPlan, levels_asked, start_asked}
+use Rattle.arbiter_cli.specs.Plans.{IsMatchPlan, ignores_kinds, levels_asked, levels_start_and_date, start_asked}
+use Rattle.arbiter_cli.specs.declared.fault.WordsFault.{WordsFault}
+use Rattle.arbiter_cli.specs.declared.fault.WordsFault.TheVariants.{BadDate, BadFen, BadLevel}
 use Rattle.arbiter_cli.specs.declared.plan.Plan.{Plan}
 use Rattle.arbiter_cli.specs.declared.plan.Plan.TheVariants.{Verify}
 use Rattle.chess_base.specs.Initial.{initial_setup_of}
 use Rattle.chess_base.specs.declared.fen_fault.FenFault.{FenFault}
+use Rattle.chess_base.specs.declared.fen_fault.FenFault.TheVariants.{Fields}
 use Rattle.chess_base.specs.declared.man.Variant.TheVariants.{Normal, Fischerandom}
 use Rattle.chess_base.specs.declared.setup.Setup.{Setup}
 use Rattle.chess_fen.specs.Reading.{fen_reading_as}
@@ -76,6 +81,30 @@ pub record StartsAreAsked : Type 0 where
   pub fen : (fen : Text) → AskForStart (valued (codes "fen") fen ∷ []) (fen_reading_as Normal fen)
   pub fen_of_chess960 : (fen : Text)
       → AskForStart (valued (codes "fen") fen ∷ chess960_asked ∷ []) (fen_reading_as Fischerandom fen)
+
+-- ---- the date
+
+-- the option that gives this date
+abbrev pub dated : Text → Given
+dated = valued (codes "date")
+
+-- the date that these options ask for; or, in place of a plan, the first fault of a level, the FEN or the date
+abbrev pub date_asked : List Given → Result Text WordsFault
+date_asked options = result_map_both (λ r. r.1.1) (λ fault. fault) (levels_start_and_date (values_in options))
+
+-- the value of the tag Date of each game, and which of several faults is reported
+pub record DatesAreRead : Type 0 where
+  pub by_default : date_asked [] ≡ Ok (codes "????.??.??")
+  pub given : date_asked (dated (codes "2026.12.01") ∷ []) ≡ Ok (codes "2026.12.01")
+  -- a date has at most 60 bytes of printable ASCII
+  pub sixty : date_asked (dated (replicate 60 (byte "1")) ∷ []) ≡ Ok (replicate 60 (byte "1"))
+  pub too_long : date_asked (dated (replicate 61 (byte "1")) ∷ []) ≡ Err BadDate
+  pub unprintable : date_asked (dated (tab ∷ []) ∷ []) ≡ Err BadDate
+  -- a level comes first, then the FEN, then the date
+  pub level_first :
+      date_asked (dated (tab ∷ []) ∷ valued (codes "fen") (codes "x") ∷ level_of_both (codes "x") ∷ [])
+      ≡ Err (BadLevel Words)
+  pub then_fen : date_asked (dated (tab ∷ []) ∷ valued (codes "fen") (codes "x") ∷ []) ≡ Err (BadFen Fields)
 
 -- ---- other options
 
@@ -147,3 +176,6 @@ pub record OptionsMean : Type 0 where
   pub not_strict : AskForPlan (valued (codes "ignore") (codes "board") ∷ []) bare_plan
   -- after fivefold repetition and 75 moves a game may go on, with `--strict` or without
   pub after_end : LookFor (valued (codes "ignore") (codes "after-end") ∷ []) (record lenient { draws_of_2014 = false })
+  -- the kinds that it may name, one or several, and another
+  pub kinds : ignores_kinds (values_in (valued (codes "ignore") (codes "variant,result,board,after-end") ∷ [])) ≡ true
+  pub other_kind : ignores_kinds (values_in (valued (codes "ignore") (codes "result,moves") ∷ [])) ≡ false

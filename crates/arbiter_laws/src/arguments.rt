@@ -4,7 +4,7 @@ ghost use Rattle.std.specs.Prelude.{[], ◌∷◌, codes};
 ghost use Rattle.clap.specs.declared.error.kind.ErrorKind.TheVariants.{DisplayHelp, DisplayVersion, MissingRequiredArgument};
 ghost use Rattle.arbiter_laws.specs.Arguments.{AreRefused, AskFor, PlansAreNamed, VerifyAsBare, VerifyIsAsAsked};
 ghost use Rattle.arbiter_laws.specs.PlainArguments.{PlainArgumentsAreRead};
-ghost use Rattle.arbiter_laws.specs.WorkedOptions.{LevelsAreRead, OptionsMean, StartsAreAsked};
+ghost use Rattle.arbiter_laws.specs.WorkedOptions.{DatesAreRead, LevelsAreRead, OptionsMean, StartsAreAsked};
 
 /// States a law and does nothing: plain arguments are read as what they say. These are none; `session`; `verify` and
 /// `match` with their options, in any order and each at most once; and `stub` with what it plays.
@@ -43,12 +43,14 @@ pub fn verify_is_as_asked()
 /// States a law and does nothing: what some options of `match` and of `verify` mean. Each engine of a match has its own
 /// level or the common one, each game starts in the position of `--fen` or in the initial one, both in the variant of
 /// `--variant`, `--reply-timeout` is in seconds, one game is played without `--games`, and `--strict` looks for three
-/// faults but for those that `--ignore` names.
+/// faults but for those that `--ignore` names. Which dates `--date` takes is worked out too, and that of several faults
+/// that of a level is reported, then that of the FEN, then that of the date.
 ///
 /// It refuses a common level that is not looked at if each engine has its own, a level of White that is Black's, a
 /// variant that counts only with a FEN, two games by default, and a flag that sets another.
 pub fn options_are_worked_out()
     ensures levels { LevelsAreRead }
     ensures starts { StartsAreAsked }
+    ensures dates { DatesAreRead }
     ensures options { OptionsMean }
 {}

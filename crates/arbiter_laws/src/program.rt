@@ -53,9 +53,9 @@ pub fn refused_arguments_are_reported()
 
 /// States a law and does nothing: the exit status is 2 for arguments that `clap` refuses, for an invalid level, FEN,
 /// date or kind of fault, and for an argument that is no text; it is 1 if memory ran out. That of `verify` is 1 if a
-/// fault was reported, and 0 if none was.
+/// fault was reported, and 0 if none was. That of a session, of a stub and of a match is 1 if it failed, otherwise 0.
 ///
-/// It refuses the status 1 for a bad level.
+/// It refuses the status 1 for a bad level, and 0 for a match that was not played to its end.
 pub fn statuses_are_stated()
     ensures { StatusesAreStated }
 {}

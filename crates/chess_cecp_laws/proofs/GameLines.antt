@@ -13,7 +13,7 @@ use Rattle.chess_base.specs.declared.fen_fault.FenFault.TheVariants as faults
 use Rattle.chess_fen.specs.{Reading.fen_reading_as, Texts.may_name_right, Writing.fen}
 use Rattle.chess_game.specs.Ends.{claim_comment, claims, draw_claim, result_text, verdict_result}
 use Rattle.chess_game.specs.Game.{State, contradicts_verdict, current, from_start, is_over, played, taken_back, verdict_now}
-use Rattle.chess_game.specs.{declared.results.Declared.Declared, declared.results.Outcome.TheVariants.WhiteWins, declared.results.Outcome.TheVariants.Draw, declared.verdicts.DrawClaim.DrawClaim, declared.verdicts.DrawClaim.TheVariants.Threefold, declared.verdicts.DrawClaim.TheVariants.FiftyMoves, declared.verdicts.Verdict.Verdict, declared.verdicts.Verdict.TheVariants.WhiteMates, declared.verdicts.Verdict.TheVariants.BlackMates}
+use Rattle.chess_game.specs.{declared.results.Declared.Declared, declared.results.Outcome.TheVariants.WhiteWins, declared.results.Outcome.TheVariants.Draw, declared.verdicts.DrawClaim.DrawClaim, declared.verdicts.DrawClaim.TheVariants.Threefold, declared.verdicts.DrawClaim.TheVariants.FiftyMoves, declared.verdicts.Verdict.Verdict, declared.verdicts.Verdict.TheVariants.WhiteMates, declared.verdicts.Verdict.TheVariants.BlackMates, declared.verdicts.Verdict.TheVariants.Stalemate}
 use Rattle.chess_text.specs.{Moves.reading, San.is_fischerandom, declared.reading.Reading.Reading}
 use Rattle.chess_text.specs.declared.reading.Reading.TheVariants as reads
 use Rattle.text_lines.specs.Words.{argument_of}
@@ -22,9 +22,9 @@ use Rattle.pgn_writer.specs.{GameText.pgn, declared.tags.Tags.Tags}
 use Rattle.chess_cecp.specs.Session.{answers, becomes_judged, claim_row, declares, move_row, moves_text, reading_row, result_row, row, setboard_row, take_back_row}
 use Rattle.chess_cecp.specs.declared.command.Command.TheVariants.{Claim, Declare, Remove, SetBoard, ShowFen, ShowMoves, ShowPgn, ShowState, Undo, UserMove}
 use Rattle.chess_cecp.specs.declared.command.Command.TheVariants as commands
-use Rattle.chess_cecp_laws.specs.{GameLines.after_e4, GameLines.ClaimsAreShown, GameLines.Declares, GameLines.GameLinesAreAnswered, GameLines.Plays, GameLines.unknown_tags, SessionLines.Becomes, SessionLines.IsAnswered, SessionLines.IsIgnored, SessionLines.response_to}
+use Rattle.chess_cecp_laws.specs.{GameLines.after_e4, GameLines.black_resigned, GameLines.ClaimsAreShown, GameLines.Declares, GameLines.FaultsAreNamed, GameLines.GameLinesAreAnswered, GameLines.Plays, GameLines.ResultsAreRead, GameLines.unknown_tags, SessionLines.Becomes, SessionLines.IsAnswered, SessionLines.IsIgnored, SessionLines.response_to}
 use Rattle.chess_cecp_laws.proofs.SessionLines.{answered, if_false, if_true, responds, with_game}
-use Rattle.chess_cecp_laws.proofs.ShownLines.{fen_shown, moves_shown, pgn_shown, stalemate_set, state_shown}
+use Rattle.chess_cecp_laws.proofs.ShownLines.{fen_shown, moves_shown, pgn_shown, result_shown, stalemate_set, state_shown}
 
 -- the row of this line in the table
 abbrev row_of : SessionSeen → List ℕ → Command → Response State
@@ -102,6 +102,14 @@ two_back s m n e =
     (ap (λ (ms : List Move). nat_le 2 (length ms)) e)
     ∙ ap (λ (ms : List Move). becomes (with_moves s (take (length ms - 2) ms))) e
 
+two_of_three_back : (s : State) (m n o : Move) → s.moves ≡ m ∷ n ∷ o ∷ []
+    → take_back_row 2 (codes "remove") s ≡ becomes (with_moves s (m ∷ []))
+two_of_three_back s m n o e =
+    if_true (nat_le 2 (length s.moves)) (becomes (taken_back s 2))
+    (answers s (codes "Error (command not legal now): ") (codes "remove"))
+    (ap (λ (ms : List Move). nat_le 2 (length ms)) e)
+    ∙ ap (λ (ms : List Move). becomes (with_moves s (take (length ms - 2) ms))) e
+
 not_two_back : (s : State) (m : Move) → s.moves ≡ m ∷ []
     → take_back_row 2 (codes "remove") s
     ≡ answers s (codes "Error (command not legal now): ") (codes "remove")
@@ -128,10 +136,6 @@ on_claim s claim e is =
     if_false (is_over s) (answers s (codes "Error (command not legal now): ") (codes "claim"))
     (claimed s (draw_claim (claims s.start s.moves))) e ∙ ap (claimed s) is
 
--- the result that is declared
-abbrev black_resigns : Declared
-black_resigns = record { outcome = WhiteWins; comment = codes "Black resigns" }
-
 -- a result whose comment was sent with braces in it
 abbrev without_braces : Declared
 without_braces = record { outcome = WhiteWins; comment = codes "Black ?resigns?" }
@@ -149,18 +153,18 @@ braces_taken s text e =
     (answers s (codes "Error (the board says otherwise): ") text) (becomes (result_in s without_braces))
     (ap (λ (w : Option Verdict). contradicts_verdict w WhiteWins) e)
 
-result_read : read_result (argument_of (codes "result 1-0 {Black resigns}")) ≡ Some black_resigns
+result_read : read_result (argument_of (codes "result 1-0 {Black resigns}")) ≡ Some black_resigned
 unfolding argument_of read_result result_comment
 result_read = refl
 
 result_taken : (s : State) (text : List ℕ) (v : Option Verdict) → verdict_now s ≡ v
     → contradicts_verdict v WhiteWins ≡ false
     → result_row s text (read_result (argument_of (codes "result 1-0 {Black resigns}")))
-    ≡ becomes (result_in s black_resigns)
+    ≡ becomes (result_in s black_resigned)
 result_taken s text v e same =
     ap (result_row s text) result_read
     ∙ if_false (contradicts_verdict (verdict_now s) WhiteWins)
-    (answers s (codes "Error (the board says otherwise): ") text) (becomes (result_in s black_resigns))
+    (answers s (codes "Error (the board says otherwise): ") text) (becomes (result_in s black_resigned))
     (ap (λ (w : Option Verdict). contradicts_verdict w WhiteWins) e ∙ same)
 
 result_refused : (s : State) (text : List ℕ) (v : Option Verdict) → verdict_now s ≡ v
@@ -170,7 +174,7 @@ result_refused : (s : State) (text : List ℕ) (v : Option Verdict) → verdict_
 result_refused s text v e other =
     ap (result_row s text) result_read
     ∙ if_true (contradicts_verdict (verdict_now s) WhiteWins)
-    (answers s (codes "Error (the board says otherwise): ") text) (becomes (result_in s black_resigns))
+    (answers s (codes "Error (the board says otherwise): ") text) (becomes (result_in s black_resigned))
     (ap (λ (w : Option Verdict). contradicts_verdict w WhiteWins) e ∙ other)
 
 fen_row : (s : State) (text : List ℕ) (fault : FenFault) → s.start.variant ≡ Normal
@@ -278,6 +282,16 @@ module _ (session : SessionSeen) where
             ∙ ap (λ (r : Response State). with_game session r.state) back;
       }
 
+  remove_two : (m n o : Move) → s.moves ≡ m ∷ n ∷ o ∷ [] → Becomes session "remove" (with_moves s (m ∷ []))
+  unfolding command_of named_command is_ignored
+  remove_two m n o e =
+      let first = responds session "remove" Remove refl in
+      let back = two_of_three_back s m n o e in record {
+        text = ap (λ (r : Response SessionSeen). r.text) first ∙ ap (λ (r : Response State). r.text) back;
+        state = ap (λ (r : Response SessionSeen). r.state) first
+            ∙ ap (λ (r : Response State). with_game session r.state) back;
+      }
+
   normal : s.start.variant ≡ Fischerandom → Becomes session "variant normal" (from_start initial_setup)
   unfolding argument_of command_of named_command is_ignored
   normal e =
@@ -323,6 +337,15 @@ module _ (session : SessionSeen) where
       by_row session "showstate" "# state ply 0 rep 1 clock 0 claims none verdict none declared none\n" ShowState
       (answers s (codes "# state ply ") (state_text s)) refl refl
       (ap (shows (codes "# state ply ")) (ap state_text e ∙ state_shown)) refl refl
+
+  result_line : s ≡ record after_e4 { declared = Some black_resigned } → IsAnswered session "showstate"
+      "# state ply 1 rep 1 clock 0 claims none verdict none declared 1-0 {Black resigns}\n"
+  unfolding command_of named_command is_ignored
+  result_line e =
+      by_row session "showstate"
+      "# state ply 1 rep 1 clock 0 claims none verdict none declared 1-0 {Black resigns}\n" ShowState
+      (answers s (codes "# state ply ") (state_text s)) refl refl
+      (ap (shows (codes "# state ply ")) (ap state_text e ∙ result_shown)) refl refl
 
   pgn_lines : session.tags ≡ unknown_tags → s ≡ after_e4 → IsAnswered session "showpgn"
       "# [Event \"?\"]\n# [Site \"?\"]\n# [Date \"????.??.??\"]\n# [Round \"?\"]\n# [White \"?\"]\n# [Black \"?\"]\n# [Result \"*\"]\n# [Termination \"unterminated\"]\n# \n# 1. e4 *\n# \n"
@@ -389,15 +412,15 @@ module _ (session : SessionSeen) where
             ∙ ap (λ (r : Response State). with_game session r.state) taken;
       }
 
-  other_result : verdict_now s ≡ Some BlackMates
+  other_result : (v : Option Verdict) → verdict_now s ≡ v → contradicts_verdict v WhiteWins ≡ true
       → IsAnswered session "result 1-0 {Black resigns}"
       "Error (the board says otherwise): result 1-0 {Black resigns}\n"
   unfolding command_of named_command is_ignored
-  other_result e =
+  other_result v e other =
       by_row session "result 1-0 {Black resigns}"
       "Error (the board says otherwise): result 1-0 {Black resigns}\n" Declare
       (answers s (codes "Error (the board says otherwise): ") (codes "result 1-0 {Black resigns}")) refl
-      (result_refused s (codes "result 1-0 {Black resigns}") (Some BlackMates) e refl) refl refl refl
+      (result_refused s (codes "result 1-0 {Black resigns}") v e other) refl refl refl
 
   no_fen : s.start.variant ≡ Normal → IsAnswered session "setboard e4" "tellusererror Illegal position (fields)\n"
   unfolding command_of named_command is_ignored
@@ -436,18 +459,21 @@ game_lines_are_answered session = record {
   undo = undo session;
   remove_one = remove_one session;
   remove = remove session;
+  remove_two = remove_two session;
   normal_again = normal session;
   still_normal = still_normal session;
   shown_fen = fen_line session;
   shown_moves = moves_line session;
   shown_state = state_line session;
+  shown_result = result_line session;
   shown_pgn = pgn_lines session;
   no_claim = no_claim session;
   threefold = threefold session;
   fifty_moves = fifty_moves session;
   new_result = λ e. taken_result session None e refl;
   same_result = λ e. taken_result session (Some WhiteMates) e refl;
-  other_result = other_result session;
+  other_result = λ e. other_result session (Some BlackMates) e refl;
+  drawn_by_the_board = λ e. other_result session (Some Stalemate) e refl;
   braces = braces session;
   no_fen = no_fen session;
   no_king = no_king session;
@@ -456,3 +482,21 @@ game_lines_are_answered session = record {
 
 pub claims_are_shown : ClaimsAreShown
 claims_are_shown = record { neither = refl; threefold = refl; fifty_moves = refl; both = refl }
+
+pub results_are_read : ResultsAreRead
+unfolding argument_of read_result result_comment
+results_are_read = record { white_wins = refl; black_wins = refl; drawn = refl; unfinished = refl; long = refl }
+
+pub faults_are_named : FaultsAreNamed
+faults_are_named = record {
+  fields = refl;
+  placement = refl;
+  side = refl;
+  castling = refl;
+  en_passant = refl;
+  counters = refl;
+  kings = refl;
+  pawns = refl;
+  men = refl;
+  check = refl;
+}

@@ -11,7 +11,7 @@ use Rattle.chess_cecp.specs.Commands.{command_of, commands, ignored_commands, is
 use Rattle.chess_cecp.specs.{Declaring.read_result, Declaring.result_comment, Held.SessionSeen, Serving.Response, Serving.becomes, declared.command.Command.Command}
 use Rattle.chess_cecp.specs.Session.{answers, features_line, row, session_response, take_back_row}
 use Rattle.chess_cecp.specs.declared.command.Command.TheVariants.{BadNumber, BareMove, Declare, Go, New, Ping, Protover, Quit, Remove, Silent, Undo, Unknown, Variant}
-use Rattle.chess_cecp_laws.specs.SessionLines.{Becomes, IsAnswered, IsIgnored, IsUnknown, LinesAreCut, OtherWordsAreUnknown, SessionLinesAreAnswered, known_words, lines_for_engines, response_to}
+use Rattle.chess_cecp_laws.specs.SessionLines.{Becomes, IsAnswered, IsIgnored, IsUnknown, LinesAreCut, OtherWordsAreUnknown, SessionLinesAreAnswered, feature_line, known_words, lines_for_engines, response_to}
 
 pub if_true : {X : Type 0} (b : Bool) (x y : X) → b ≡ true → (if b then x else y) ≡ x
 if_true true x y e = refl
@@ -193,6 +193,20 @@ ping : (session : SessionSeen) → IsAnswered session "ping 7" "pong 7\n"
 unfolding argument_of command_number command_of named_command is_ignored digits
 ping session = answered session "ping 7" "pong 7\n" (Ping 7) refl refl refl refl
 
+zeros : (session : SessionSeen) → IsAnswered session "ping 007" "pong 7\n"
+unfolding argument_of command_number command_of named_command is_ignored digits
+zeros session = answered session "ping 007" "pong 7\n" (Ping 7) refl refl refl refl
+
+nine_digits : (session : SessionSeen) → IsAnswered session "ping 123456789" "pong 123456789\n"
+unfolding argument_of command_number command_of named_command is_ignored digits
+nine_digits session = answered session "ping 123456789" "pong 123456789\n" (Ping 123456789) refl refl refl refl
+
+ten_digits : (session : SessionSeen)
+    → IsAnswered session "ping 1234567890" "Error (bad number): ping 1234567890\n"
+unfolding argument_of command_number command_of named_command is_ignored
+ten_digits session =
+    answered session "ping 1234567890" "Error (bad number): ping 1234567890\n" BadNumber refl refl refl refl
+
 no_number : (session : SessionSeen) → IsAnswered session "ping seven" "Error (bad number): ping seven\n"
 unfolding argument_of command_number command_of named_command is_ignored
 no_number session =
@@ -202,10 +216,17 @@ first_version : (session : SessionSeen) → IsIgnored session "protover 1"
 unfolding argument_of command_number command_of named_command is_ignored
 first_version session = answered session "protover 1" "" (Protover 1) refl refl refl refl
 
-features : (session : SessionSeen) → IsAnswered session "protover 2"
-    "feature ping=1 setboard=1 playother=0 san=0 usermove=1 time=1 draw=1 sigint=0 sigterm=0 reuse=1 analyze=0 colors=0 debug=1 myname=\"CECP arbiter\" variants=\"normal,fischerandom\" done=1\n"
+features : (session : SessionSeen) → IsAnswered session "protover 2" feature_line
 unfolding argument_of command_number command_of named_command is_ignored features_line
-features session = answered session "protover 2" _ (Protover 2) refl refl refl refl
+features session = answered session "protover 2" feature_line (Protover 2) refl refl refl refl
+
+third_version : (session : SessionSeen) → IsAnswered session "protover 3" feature_line
+unfolding argument_of command_number command_of named_command is_ignored features_line
+third_version session = answered session "protover 3" feature_line (Protover 3) refl refl refl refl
+
+no_move : (session : SessionSeen) → IsAnswered session "usermove" "Error (unknown command): usermove\n"
+unfolding argument_of command_of named_command is_ignored
+no_move session = answered session "usermove" "Error (unknown command): usermove\n" Unknown refl refl refl refl
 
 goes : (session : SessionSeen) → IsAnswered session "go" "Error (the arbiter plays no side): go\n"
 unfolding command_of named_command is_ignored
@@ -221,6 +242,12 @@ no_braces : (session : SessionSeen)
 unfolding argument_of command_of named_command is_ignored read_result result_comment
 no_braces session = answered session "result 1-0 Black resigns" "Error (bad result): result 1-0 Black resigns\n"
     Declare refl refl refl refl
+
+after_braces : (session : SessionSeen)
+    → IsAnswered session "result 1-0 {x} y" "Error (bad result): result 1-0 {x} y\n"
+unfolding argument_of command_of named_command is_ignored read_result result_comment
+after_braces session =
+    answered session "result 1-0 {x} y" "Error (bad result): result 1-0 {x} y\n" Declare refl refl refl refl
 
 no_variant : (session : SessionSeen)
     → IsAnswered session "variant suicide" "Error (unsupported variant): variant suicide\n"
@@ -290,12 +317,18 @@ pub session_lines_are_answered : SessionLinesAreAnswered
 session_lines_are_answered session = record {
   ignored = ignored session;
   ping = ping session;
+  zeros = zeros session;
+  nine_digits = nine_digits session;
+  ten_digits = ten_digits session;
   no_number = no_number session;
   first_version = first_version session;
   features = features session;
+  third_version = third_version session;
+  no_move = no_move session;
   go = goes session;
   no_result = no_result session;
   no_braces = no_braces session;
+  after_braces = after_braces session;
   no_variant = no_variant session;
   new = begins session;
   chess960 = chess960 session;
@@ -309,4 +342,4 @@ session_lines_are_answered session = record {
 
 pub lines_are_cut : LinesAreCut
 unfolding trimmed line_of lines_of_parts
-lines_are_cut = record { trimmed = refl; last = refl; unended = refl; long = refl }
+lines_are_cut = record { trimmed = refl; last = refl; unended = refl; long = refl; kept = refl }

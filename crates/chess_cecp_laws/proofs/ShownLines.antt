@@ -1,6 +1,6 @@
--- What a session shows of a game that has just begun and of one of a single half-move, and how it answers the FEN of a
--- stalemate, by computation.
-use Rattle.std.proofs.Common.{◌≡◌, refl, codes}
+-- What a session shows of a game that has just begun and of one of a single half-move, also with a result, and how it
+-- answers the FEN of a stalemate, by computation.
+use Rattle.std.proofs.Common.{◌≡◌, Some, refl, codes}
 use Rattle.std.specs.Fmt.{digits}
 use Rattle.chess_base.specs.Attacks.{is_clear, could_capture, attacks, is_attacked, is_in_check}
 use Rattle.chess_base.specs.Castling.{king_square, right_is_sound, is_castling_to, castling, castle_of, castling_needs_empty, castling_way_is_empty, castling_way_is_safe, castles}
@@ -16,7 +16,7 @@ use Rattle.chess_text.specs.{Moves.described, San.check_mark, San.rival_starts, 
 use Rattle.pgn_writer.specs.GameText.{pgn}
 use Rattle.chess_cecp.specs.{Declaring.state_text, Session.moves_text, Session.setboard_row}
 use Rattle.text_lines.specs.Words.{argument_of}
-use Rattle.chess_cecp_laws.specs.GameLines.{after_e4, unknown_tags}
+use Rattle.chess_cecp_laws.specs.GameLines.{after_e4, black_resigned, unknown_tags}
 
 pub fen_shown : fen (current (from_start initial_setup))
     ≡ codes "rnbqkbnr/pppppppp/8/8/8/8/PPPPPPPP/RNBQKBNR w KQkq - 0 1"
@@ -41,6 +41,16 @@ unfolding squares some_square each_square is_between is_of is_man is_clear could
     after is_legal digits verdict has_bishop_on has_insufficient_material same_men same_rights legal_en_passant_square
     is_same_position repetition_count result_text state_text
 state_shown = refl
+
+pub result_shown : state_text (record after_e4 { declared = Some black_resigned })
+    ≡ codes "1 rep 1 clock 0 claims none verdict none declared 1-0 {Black resigns}"
+unfolding squares some_square each_square is_between is_of is_man is_clear could_capture attacks is_attacked is_in_check
+    is_castling_to castling castle_of castling_needs_empty castling_way_is_empty castling_way_is_safe castles
+    initial_setup initial_setup_of all_moves moves is_double_advance is_en_passant pawn_advances pawn_captures
+    pawn_moves man_moves is_pseudo_legal captured_square men_after rights_after target_after resets_clock halfmove_after
+    after is_legal digits verdict has_bishop_on has_insufficient_material same_men same_rights legal_en_passant_square
+    is_same_position repetition_count result_text state_text
+result_shown = refl
 
 pub pgn_shown : pgn (codes "# ") unknown_tags after_e4
     ≡ codes "# [Event \"?\"]\n# [Site \"?\"]\n# [Date \"????.??.??\"]\n# [Round \"?\"]\n# [White \"?\"]\n# [Black \"?\"]\n# [Result \"*\"]\n# [Termination \"unterminated\"]\n# \n# 1. e4 *\n# \n"

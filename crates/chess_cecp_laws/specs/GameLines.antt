@@ -1,8 +1,12 @@
 -- Lines of an interface that a session answers by its game, as texts (CECP, version 2; `claim` is this project's own).
-use Rattle.std.specs.Prelude.{◌≡◌, ◌<◌, ◌≤◌, Bool, true, false, [], ◌∷◌, ◌++◌, codes, length, None, Some}
+use Rattle.std.specs.Prelude.{◌≡◌, ◌<◌, ◌≤◌, Bool, true, false, [], ◌∷◌, ◌++◌, codes, length, replicate, None, Some}
 use Prim.Native.String.{String as Text}
 use Rattle.std.specs.List.{list_any}
 use Rattle.std.specs.Str.{bytes_eq}
+use Rattle.byte_devices.specs.Bytes.{byte}
+use Rattle.chess_base.specs.Faults.{fen_fault_name}
+use Rattle.chess_base.specs.declared.fen_fault.FenFault.{FenFault}
+use Rattle.chess_base.specs.declared.fen_fault.FenFault.TheVariants as faults
 use Rattle.chess_base.specs.declared.man.Move.{Move}
 use Rattle.chess_base.specs.declared.man.Variant.TheVariants.{Normal, Fischerandom}
 use Rattle.chess_base.specs.Initial.{initial_setup}
@@ -10,16 +14,16 @@ use Rattle.chess_game.specs.Ends.{claims, draw_claim}
 use Rattle.chess_game.specs.Game.{State, current, from_start, is_over, played, verdict_now}
 use Rattle.chess_game.specs.declared.results.Declared.{Declared}
 use Rattle.chess_game.specs.declared.results.Outcome.{Outcome}
-use Rattle.chess_game.specs.declared.results.Outcome.TheVariants.{WhiteWins, Draw}
+use Rattle.chess_game.specs.declared.results.Outcome.TheVariants.{WhiteWins, BlackWins, Draw, Unfinished}
 use Rattle.chess_game.specs.declared.tags.HowEnded.TheVariants as how
 use Rattle.chess_game.specs.declared.verdicts.DrawClaim.TheVariants.{Threefold, FiftyMoves}
-use Rattle.chess_game.specs.declared.verdicts.Verdict.TheVariants.{WhiteMates, BlackMates}
+use Rattle.chess_game.specs.declared.verdicts.Verdict.TheVariants.{WhiteMates, BlackMates, Stalemate}
 use Rattle.chess_text.specs.Moves.{reading, shape}
 use Rattle.chess_text.specs.declared.reading.Reading.TheVariants as reads
 use Rattle.text_lines.specs.Lines.{LineSeen}
 use Rattle.text_lines.specs.Words.{word_of}
 use Rattle.pgn_writer.specs.declared.tags.Tags.{Tags}
-use Rattle.chess_cecp.specs.Declaring.{claims_text}
+use Rattle.chess_cecp.specs.Declaring.{claims_text, read_result}
 use Rattle.chess_cecp.specs.Held.{SessionSeen}
 use Rattle.chess_cecp.specs.Session.{session_response}
 use Rattle.chess_cecp_laws.specs.SessionLines.{Becomes, IsAnswered, IsIgnored, known_words, response_to}
@@ -46,6 +50,10 @@ after_e4 = record {
   moves = record { from = 12; to = 28; promotion = None } ∷ [];
   declared = None;
 }
+
+-- the result of a game that Black has resigned
+abbrev pub black_resigned : Declared
+black_resigned = record { outcome = WhiteWins; comment = codes "Black resigns" }
 
 -- the tags of a game of which nothing is known
 abbrev pub unknown_tags : Tags
@@ -88,6 +96,9 @@ pub record ByTheGame (session : SessionSeen) : Type 0 where
       → IsAnswered session "remove" "Error (command not legal now): remove\n"
   pub remove : (m n : Move) → session.state.moves ≡ m ∷ n ∷ []
       → Becomes session "remove" (from_start session.state.start)
+  -- and one of three, of which the first stays
+  pub remove_two : (m n o : Move) → session.state.moves ≡ m ∷ n ∷ o ∷ [] → Becomes session "remove"
+      (record { start = session.state.start; moves = m ∷ []; declared = None })
   -- a game of Chess960, and one of normal chess
   pub normal_again : session.state.start.variant ≡ Fischerandom
       → Becomes session "variant normal" (from_start initial_setup)
@@ -99,6 +110,10 @@ pub record ByTheGame (session : SessionSeen) : Type 0 where
       "# moves 20 b1a3 b1c3 g1f3 g1h3 a2a3 a2a4 b2b3 b2b4 c2c3 c2c4 d2d3 d2d4 e2e3 e2e4 f2f3 f2f4 g2g3 g2g4 h2h3 h2h4\n"
   pub shown_state : session.state ≡ from_start initial_setup → IsAnswered session "showstate"
       "# state ply 0 rep 1 clock 0 claims none verdict none declared none\n"
+  -- a game of one half-move that Black has resigned
+  pub shown_result : session.state ≡ record after_e4 { declared = Some black_resigned }
+      → IsAnswered session "showstate"
+      "# state ply 1 rep 1 clock 0 claims none verdict none declared 1-0 {Black resigns}\n"
   -- a game of one half-move: each line of its PGN has `# ` before it
   pub shown_pgn : session.tags ≡ unknown_tags → session.state ≡ after_e4 → IsAnswered session "showpgn"
       "# [Event \"?\"]\n# [Site \"?\"]\n# [Date \"????.??.??\"]\n# [Round \"?\"]\n# [White \"?\"]\n# [Black \"?\"]\n# [Result \"*\"]\n# [Termination \"unterminated\"]\n# \n# 1. e4 *\n# \n"
@@ -112,12 +127,15 @@ pub record ByTheGame (session : SessionSeen) : Type 0 where
   pub fifty_moves : is_over session.state ≡ false
       → draw_claim (claims session.state.start session.state.moves) ≡ Some FiftyMoves
       → Declares session "claim" "1/2-1/2 {50-move rule}\n" Draw "50-move rule"
-  -- a game without a verdict, with the same one, and with another one
+  -- a game without a verdict, with the same one, and with two others
   pub new_result : verdict_now session.state ≡ None
       → Declares session "result 1-0 {Black resigns}" "" WhiteWins "Black resigns"
   pub same_result : verdict_now session.state ≡ Some WhiteMates
       → Declares session "result 1-0 {Black resigns}" "" WhiteWins "Black resigns"
   pub other_result : verdict_now session.state ≡ Some BlackMates
+      → IsAnswered session "result 1-0 {Black resigns}"
+      "Error (the board says otherwise): result 1-0 {Black resigns}\n"
+  pub drawn_by_the_board : verdict_now session.state ≡ Some Stalemate
       → IsAnswered session "result 1-0 {Black resigns}"
       "Error (the board says otherwise): result 1-0 {Black resigns}\n"
   -- a comment holds no brace: `?` takes the place of each
@@ -158,3 +176,39 @@ pub record ClaimsAreShown : Type 0 where
   pub threefold : AreShown true false "threefold"
   pub fifty_moves : AreShown false true "50"
   pub both : AreShown true true "threefold+50"
+
+-- ---- results that are declared
+
+-- what follows `result ` declares this outcome, with this comment
+abbrev pub IsResult : Text → Outcome → Text → Type 0
+IsResult text outcome comment =
+    read_result (codes text) ≡ Some (record { outcome = outcome; comment = codes comment })
+
+-- each outcome, with a comment, with an empty one, and without one
+pub record ResultsAreRead : Type 0 where
+  pub white_wins : IsResult "1-0 {Black resigns}" WhiteWins "Black resigns"
+  pub black_wins : IsResult "0-1 {White resigns}" BlackWins "White resigns"
+  pub drawn : IsResult "1/2-1/2 {}" Draw ""
+  pub unfinished : IsResult "*" Unfinished ""
+  -- of 61 letters `z` the first 60 are kept
+  pub long : read_result (codes "* {" ++ (replicate 61 (byte "z") ++ codes "}"))
+      ≡ Some (record { outcome = Unfinished; comment = replicate 60 (byte "z") })
+
+-- ---- faults of a FEN
+
+-- `tellusererror Illegal position (NAME)` names this fault so
+abbrev pub IsNamed : FenFault → Text → Type 0
+IsNamed fault name = fen_fault_name fault ≡ codes name
+
+-- how faults of a FEN are named: those of its fields, and those of the position
+pub record FaultsAreNamed : Type 0 where
+  pub fields : IsNamed faults.Fields "fields"
+  pub placement : IsNamed faults.Placement "placement"
+  pub side : IsNamed faults.Side "side"
+  pub castling : IsNamed faults.Castling "castling"
+  pub en_passant : IsNamed faults.EnPassant "en passant"
+  pub counters : IsNamed faults.Counters "counters"
+  pub kings : IsNamed faults.Kings "kings"
+  pub pawns : IsNamed faults.Pawns "pawns"
+  pub men : IsNamed faults.Men "men"
+  pub check : IsNamed faults.Check "check"

@@ -1,10 +1,10 @@
 -- Lines of an interface and what every session answers to them, as texts (CECP, version 2); and how an input is cut
 -- into lines.
-use Rattle.std.specs.Prelude.{◌≡◌, Bool, true, false, List, [], ◌∷◌, ◌++◌, ℕ, codes, length, map}
+use Rattle.std.specs.Prelude.{◌≡◌, Bool, true, false, List, [], ◌∷◌, ◌++◌, ℕ, codes, length, map, replicate}
 use Prim.Native.String.{String as Text}
 use Rattle.std.specs.List.{AllByRecursion, list_any}
 use Rattle.std.specs.Str.{bytes_eq}
-use Rattle.byte_devices.specs.Bytes.{carriage_return, new_line, tab}
+use Rattle.byte_devices.specs.Bytes.{byte, carriage_return, new_line, tab}
 use Rattle.chess_base.specs.declared.man.Variant.TheVariants.{Fischerandom}
 use Rattle.chess_base.specs.Initial.{initial_setup, initial_setup_of}
 use Rattle.chess_game.specs.Game.{State, from_start}
@@ -70,18 +70,32 @@ lines_for_engines =
     ∷ "?" ∷ "computer" ∷ "name Sjeng" ∷ "rating 2000 1900" ∷ "ics freechess.org" ∷ "draw" ∷ "level 40 5 0" ∷ "st 30"
     ∷ "sd 4" ∷ "time 30000" ∷ "otim 29000" ∷ []
 
+-- the line by which a session says its features
+abbrev pub feature_line : Text
+feature_line =
+    "feature ping=1 setboard=1 playother=0 san=0 usermove=1 time=1 draw=1 sigint=0 sigterm=0 reuse=1 analyze=0 colors=0 debug=1 myname=\"CECP arbiter\" variants=\"normal,fischerandom\" done=1\n"
+
 -- what this session does with some lines: it ignores them, answers them, or changes the game
 pub record LinesAreAnswered (session : SessionSeen) : Type 0 where
   pub ignored : AllByRecursion (IsIgnored session) lines_for_engines
+  -- a number has at most nine digits; zeros at its front mean nothing
   pub ping : IsAnswered session "ping 7" "pong 7\n"
+  pub zeros : IsAnswered session "ping 007" "pong 7\n"
+  pub nine_digits : IsAnswered session "ping 123456789" "pong 123456789\n"
+  pub ten_digits : IsAnswered session "ping 1234567890" "Error (bad number): ping 1234567890\n"
   pub no_number : IsAnswered session "ping seven" "Error (bad number): ping seven\n"
+  -- version 1 has no features, and each later version has these
   pub first_version : IsIgnored session "protover 1"
-  pub features : IsAnswered session "protover 2"
-      "feature ping=1 setboard=1 playother=0 san=0 usermove=1 time=1 draw=1 sigint=0 sigterm=0 reuse=1 analyze=0 colors=0 debug=1 myname=\"CECP arbiter\" variants=\"normal,fischerandom\" done=1\n"
+  pub features : IsAnswered session "protover 2" feature_line
+  pub third_version : IsAnswered session "protover 3" feature_line
+  -- `usermove` without a move
+  pub no_move : IsAnswered session "usermove" "Error (unknown command): usermove\n"
   pub go : IsAnswered session "go" "Error (the arbiter plays no side): go\n"
   pub no_result : IsAnswered session "result 2-0" "Error (bad result): result 2-0\n"
   -- a comment on a result has braces
   pub no_braces : IsAnswered session "result 1-0 Black resigns" "Error (bad result): result 1-0 Black resigns\n"
+  -- and nothing after them
+  pub after_braces : IsAnswered session "result 1-0 {x} y" "Error (bad result): result 1-0 {x} y\n"
   pub no_variant : IsAnswered session "variant suicide" "Error (unsupported variant): variant suicide\n"
   pub new : Becomes session "new" (from_start initial_setup)
   pub chess960 : Becomes session "variant fischerandom" (from_start (initial_setup_of Fischerandom))
@@ -114,3 +128,7 @@ pub record LinesAreCut : Type 0 where
   -- a line of four bytes, and one of five, where four are the most
   pub long : map (λ (line : LineSeen). line.too_long) (stream_lines 4 true (codes "quit\nquits\n"))
       ≡ false ∷ true ∷ []
+  -- of a line that is too long the first 64 bytes are kept, spaces and tabs too: here of a tab and 100 letters `z`,
+  -- where 100 bytes are the most
+  pub kept : map (λ (line : LineSeen). line.text) (stream_lines 100 true (tab ∷ replicate 100 (byte "z")))
+      ≡ (tab ∷ replicate 63 (byte "z")) ∷ []

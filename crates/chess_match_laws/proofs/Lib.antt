@@ -35,6 +35,7 @@ mod AnswerLaw
 mod NeededLaw
 mod PrefixLaw
 mod LinesDue
+mod WorkedSan
 mod WorkedLines
 mod WorkedTurns
 mod WorkedEnds

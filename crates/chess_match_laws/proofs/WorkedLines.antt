@@ -8,6 +8,7 @@ use Rattle.text_lines.specs.Words.{argument_of, command_number}
 use Rattle.cecp_engine.specs.EngineLines.{kind_of}
 use Rattle.cecp_engine.specs.Items.{has_word, item_of, items_of, plays_fischerandom, takes}
 use Rattle.cecp_engine.specs.Levels.{allotted, base_of, base_text, decimals_text, increment_text, level_reading, level_text, milliseconds_of, thousandths_of}
+use Rattle.chess_match_laws.proofs.WorkedSan.{in_san}
 use Rattle.chess_match_laws.specs.Worked.{ClocksGoOn, EndsAreOfKinds, EndsAreWorded, FaultsAreReported, FeaturesAreOn, ItemsAreRead, KingsAreBare, LevelsGive, LinesAreSent, LinesSay, LosersLose}
 
 pub lines_say : LinesSay
@@ -22,6 +23,8 @@ lines_say = record {
   black_wins = refl;
   illegal = refl;
   pong = refl;
+  nine_digits = refl;
+  ten_digits = refl;
   thinking = refl;
   remark = refl;
   capital = refl;
@@ -47,6 +50,8 @@ features_are_on = record {
   draws = refl;
   no_times = refl;
   no_draws = refl;
+  no_space = refl;
+  no_value = refl;
   chess960 = refl;
   normal = refl;
   all_variants = refl;
@@ -62,12 +67,15 @@ levels_give = record {
   long = refl;
   parts = refl;
   four_digits = refl;
+  four_digits_of_moves = refl;
   seconds = refl;
   shown = refl;
   minutes_shown = refl;
   first = refl;
   last = refl;
   second = refl;
+  third = refl;
+  fourth = refl;
   increments = refl;
 }
 
@@ -92,11 +100,19 @@ lines_are_sent = record {
   first_turn = refl;
   answer = refl;
   later_turn = refl;
+  in_san = in_san;
+  no_clocks = refl;
 }
 
 pub kings_are_bare : KingsAreBare
 unfolding has_bare_king is_of is_man
-kings_are_bare = record { king = refl; knight = refl; pawn = refl }
+kings_are_bare = record {
+  king = refl;
+  queen = refl;
+  knight = refl;
+  pawn = refl;
+  black_king = refl;
+}
 
 pub losers_lose : LosersLose
 losers_lose = record {
@@ -114,6 +130,8 @@ losers_lose = record {
   black_forfeits = refl;
   bare_king = refl;
   agreed = refl;
+  white_mates = refl;
+  claimed = λ claim. refl;
   too_long = refl;
   faults = λ c fault. refl;
 }

@@ -1,15 +1,17 @@
 -- What lines of engines do in a match, by computation.
 use Rattle.std.proofs.Common.{◌≡◌, false, true, refl}
+use Rattle.std.specs.Fmt.{digits}
 use Rattle.chess_base.specs.Attacks.{is_clear, could_capture, attacks, is_attacked, is_in_check}
 use Rattle.chess_base.specs.Castling.{is_castling_to, castling, castle_of, castling_needs_empty, castling_way_is_empty, castling_way_is_safe, castles}
 use Rattle.chess_base.specs.{Initial.initial_setup, Initial.initial_setup_of, Men.is_of, Men.is_man, MoveList.all_moves, MoveList.moves, declared.man.Colour.TheVariants.White}
 use Rattle.chess_base.specs.Moves.{is_double_advance, is_en_passant, pawn_advances, pawn_captures, pawn_moves, man_moves, is_pseudo_legal, captured_square, men_after, rights_after, target_after, resets_clock, halfmove_after, after, is_legal}
 use Rattle.chess_base.specs.Squares.{squares, some_square, each_square, is_between}
+use Rattle.chess_fen.specs.Writing.{placement_text}
 use Rattle.chess_game.specs.Same.{is_same_position, legal_en_passant_square, repetition_count, same_men, same_rights}
-use Rattle.chess_match.specs.{Effects.Over, Lines.bytes_of, declared.reason.Reason.TheVariants.Agreed}
+use Rattle.chess_match.specs.{Effects.Over, Lines.bytes_of, Rules.start_fen, declared.reason.Reason.TheVariants.Agreed}
 use Rattle.text_lines.specs.Words.{argument_of, command_number}
 use Rattle.cecp_engine.specs.EngineLines.{kind_of}
-use Rattle.cecp_engine.specs.Items.{item_of, items_of, takes}
+use Rattle.cecp_engine.specs.Items.{has_word, item_of, items_of, plays_fischerandom, takes}
 use Rattle.cecp_engine.specs.Levels.{allotted}
 use Rattle.chess_match_laws.specs.WorkedTurns.{ClaimsAreJudged, HandshakesEnd, IgnoredAreCounted, OffersAreJudged, RepliesAreTimed, SendsBlack, SilencesAreJudged, by_line, offered_by}
 
@@ -69,10 +71,18 @@ unfolding squares some_square each_square is_between is_of is_man is_clear could
 ignored_are_counted = record { setup = refl; turn = refl }
 
 pub handshakes_end : HandshakesEnd
-unfolding argument_of command_number kind_of
+unfolding argument_of command_number digits has_word initial_setup initial_setup_of item_of items_of kind_of
+    placement_text plays_fischerandom start_fen takes
 handshakes_end = record {
   goes_on = refl;
   too_many = refl;
+  done = refl;
+  quoted = refl;
+  no_ping = refl;
+  no_setboard = refl;
+  no_variant = refl;
+  nothing = refl;
+  only_ping = refl;
   both_lack = refl;
   black_lacks = refl;
   none_lacks = refl;

@@ -12,6 +12,7 @@ use Rattle.chess_game.specs.declared.results.Outcome.TheVariants.{WhiteWins, Bla
 use Rattle.chess_game.specs.declared.tags.HowEnded.TheVariants as how
 use Rattle.chess_game.specs.declared.verdicts.DrawClaim.{DrawClaim}
 use Rattle.chess_game.specs.declared.verdicts.Verdict.{Verdict}
+use Rattle.chess_game.specs.declared.verdicts.Verdict.TheVariants.{WhiteMates}
 use Rattle.cecp_engine.specs.Clocks.{ClocksSeen, charged, new_clocks, remaining}
 use Rattle.cecp_engine.specs.EngineLines.{LineKind, Features, Moves, Resigns, OffersDraw, ClaimsDraw, ClaimsWin, Rejects, Answers, SaysElse, kind_of}
 use Rattle.cecp_engine.specs.Items.{Item, items_of, plays_fischerandom, takes}
@@ -44,7 +45,10 @@ pub record LinesSay : Type 0 where
   pub white_wins : IsLine "1-0 {White mates}" (ClaimsWin White)
   pub black_wins : IsLine "0-1 {White resigns}" (ClaimsWin Black)
   pub illegal : IsLine "Illegal move: e2e4" Rejects
+  -- the number of a `pong` has at most nine digits
   pub pong : IsLine "pong 12" (Answers 12)
+  pub nine_digits : IsLine "pong 123456789" (Answers 123456789)
+  pub ten_digits : IsLine "pong 1234567890" SaysElse
   -- its thinking, a remark, and lines that are not quite one of the above
   pub thinking : IsLine "9 156 1084 48000 Nf3 Nc6" SaysElse
   pub remark : IsLine "# resign" SaysElse
@@ -81,6 +85,9 @@ pub record FeaturesAreOn : Type 0 where
   pub draws : is_on "draw" "" ≡ true
   pub no_times : is_on "time" "time=0" ≡ false
   pub no_draws : is_on "draw" "draw=0" ≡ false
+  -- an item without a space after its value, or without a value, is none, and ends the line's items
+  pub no_space : is_on "ping" "ping=1,san=1" ≡ false
+  pub no_value : is_on "san" "ping=x san=1" ≡ false
   pub chess960 : plays_fischerandom (items_of (codes "variants=\"normal,fischerandom\"")) ≡ true
   pub normal : plays_fischerandom (items_of (codes "variants=\"normal\"")) ≡ false
   pub all_variants : plays_fischerandom [] ≡ true
@@ -105,6 +112,7 @@ pub record LevelsGive : Type 0 where
   pub parts : level_of (codes "0 0:08.25 0.125") ≡ Some (record { moves = 0; base = 8250; increment = 125 })
   -- moves, minutes and seconds have at most three digits
   pub four_digits : level_of (codes "0 1000 0") ≡ None
+  pub four_digits_of_moves : level_of (codes "1000 5 0") ≡ None
   -- seconds are below 60
   pub seconds : level_of (codes "0 0:60 0") ≡ None
   pub shown : level_text (record { moves = 0; base = 8500; increment = 100 }) ≡ codes "0 0:08.5 0.1"
@@ -113,6 +121,9 @@ pub record LevelsGive : Type 0 where
   pub first : allotted forty_in_five 0 ≡ 300000
   pub last : allotted forty_in_five 39 ≡ 300000
   pub second : allotted forty_in_five 40 ≡ 600000
+  -- after 80 moves and after 120, with which the third and the fourth begin
+  pub third : allotted forty_in_five 80 ≡ 900000
+  pub fourth : allotted forty_in_five 120 ≡ 1200000
   -- 12 seconds more for each move made
   pub increments : allotted two_and_twelve 3 ≡ 156000
 
@@ -200,6 +211,13 @@ pub record LinesAreSent : Type 0 where
   pub answer : AreSentAs (opening worked_rules after_e4 Black) "usermove e2e4\ntime 30000\notim 29899\ngo\n"
   -- a later turn: the move comes after them
   pub later_turn : AreSentAs (opening worked_rules after_e5 White) "time 29899\notim 29800\ne7e5\n"
+  -- in SAN, if the engine has `san` on
+  pub in_san : AreSentAs (opening worked_rules
+      (record after_e4 { seat = by_colour (seat_of "" (1001 ∷ [])) (seat_of "san=1" []) }) Black)
+      "e4\ntime 30000\notim 29899\ngo\n"
+  -- without clocks, if it has `time` off
+  pub no_clocks : AreSentAs (opening worked_rules
+      (record after_e5 { seat = by_colour (seat_of "time=0" (1001 ∷ [])) (seat_of "" (2000 ∷ [])) }) White) "e7e5\n"
 
 -- ---- bare kings
 
@@ -210,8 +228,11 @@ is_bare men = has_bare_king White men
 -- a bare king, whatever the other side has, and kings that are not bare
 pub record KingsAreBare : Type 0 where
   pub king : is_bare (man_of White King ∷ None ∷ man_of Black King ∷ man_of Black Queen ∷ []) ≡ true
+  pub queen : is_bare (man_of White King ∷ man_of White Queen ∷ man_of Black King ∷ []) ≡ false
   pub knight : is_bare (man_of White King ∷ man_of White Knight ∷ man_of Black King ∷ []) ≡ false
   pub pawn : is_bare (man_of Black King ∷ man_of White King ∷ man_of White Pawn ∷ []) ≡ false
+  -- Black's
+  pub black_king : has_bare_king Black (man_of White King ∷ man_of White Pawn ∷ man_of Black King ∷ []) ≡ true
 
 -- ---- ends
 
@@ -231,6 +252,8 @@ pub record LosersLose : Type 0 where
   pub black_forfeits : outcome_by_reason (Forfeits Black) ≡ WhiteWins
   pub bare_king : outcome_by_reason ForfeitsToBareKing ≡ Draw
   pub agreed : outcome_by_reason Agreed ≡ Draw
+  pub white_mates : outcome_by_reason (over_by.Decided WhiteMates) ≡ WhiteWins
+  pub claimed : (claim : DrawClaim) → outcome_by_reason (over_by.Claimed claim) ≡ Draw
   pub too_long : outcome_by_reason GameTooLong ≡ Unfinished
   pub faults : (c : Colour) (fault : MatchFault) → outcome_by_reason (Faulted c fault) ≡ Unfinished
 

@@ -6,15 +6,18 @@ use Prim.Native.String.{String as Text}
 use Rattle.std.specs.Result.{result_ok}
 use Rattle.chess_base.specs.declared.man.Colour.{Colour}
 use Rattle.chess_base.specs.declared.man.Colour.TheVariants.{White, Black}
-use Rattle.chess_base.specs.declared.man.Variant.TheVariants.{Normal}
+use Rattle.chess_base.specs.declared.man.Variant.TheVariants.{Normal, Fischerandom}
 use Rattle.chess_base.specs.ByColour.{by_colour}
+use Rattle.chess_base.specs.Initial.{initial_setup_of}
 use Rattle.chess_fen.specs.Reading.{fen_reading_as}
+use Rattle.cecp_engine.specs.Items.{items_of}
 use Rattle.chess_match.specs.Acts.{Block, due_after}
-use Rattle.chess_match.specs.Effects.{AfterMove, BeforeMove, Effect, Handshake, Match, Over, Phase, Setup, beginning, effect, judged, setup_done}
+use Rattle.chess_match.specs.Effects.{AfterMove, BeforeMove, Effect, Handshake, Match, Over, Phase, Setup, beginning, effect, judged, missing, setup_done}
 use Rattle.chess_match.specs.Events.{FailsToWrite, Line, OutputEnds, Silent}
 use Rattle.chess_match.specs.Lines.{bytes_of}
 use Rattle.chess_match.specs.Rules.{Rules}
-use Rattle.chess_match.specs.declared.reason.MatchFault.TheVariants.{NoAnswer, NoDone, NoHandshake, NoPing, NoSetboard}
+use Rattle.chess_match.specs.declared.reason.MatchFault.{MatchFault}
+use Rattle.chess_match.specs.declared.reason.MatchFault.TheVariants.{NoAnswer, NoDone, NoHandshake, NoPing, NoSetboard, NoVariant}
 use Rattle.chess_match.specs.declared.reason.Reason.TheVariants as over_by
 use Rattle.chess_match_laws.specs.Worked.{AreSentAs, after_e4, seat_of, worked_rules}
 
@@ -94,11 +97,25 @@ pub record IgnoredAreCounted : Type 0 where
 abbrev pub handshake_after : ℕ → Phase
 handshake_after lines = (by_line (record (match_in (Handshake White)) { count = lines }) White "# loading").after.phase
 
+-- what an engine with these items lacks for a match of Chess960, in which a FEN is sent
+abbrev pub lacks : Text → Option MatchFault
+lacks items = missing (record worked_rules { start = initial_setup_of Fischerandom }) (items_of (codes items))
+
 -- how handshakes end, and what follows
 pub record HandshakesEnd : Type 0 where
   -- the 1,000th line without `done=1` ends the match
   pub goes_on : handshake_after 998 ≡ Handshake White
   pub too_many : handshake_after 999 ≡ Over (over_by.Faulted White NoDone)
+  -- `done=1` ends a handshake, but not with the 1 in quotes
+  pub done : phase_after (Handshake White) White "feature done=1" ≡ Handshake Black
+  pub quoted : phase_after (Handshake White) White "feature done=\"1\"" ≡ Handshake White
+  -- of what an engine lacks the first of `ping`, `setboard` and Chess960 is reported
+  pub no_ping : lacks "variants=\"normal\"" ≡ Some NoPing
+  pub no_setboard : lacks "ping=1 variants=\"normal\"" ≡ Some NoSetboard
+  pub no_variant : lacks "ping=1 setboard=1 variants=\"normal\"" ≡ Some NoVariant
+  pub nothing : lacks "ping=1 setboard=1" ≡ None
+  -- from the initial position of normal chess only `ping` is needed
+  pub only_ping : missing worked_rules (items_of (codes "ping=1 variants=\"suicide\"")) ≡ None
   -- if both engines lack something, it is White's fault
   pub both_lack : (judged worked_rules (Some NoSetboard) (Some NoPing) beginning.after).after.phase
       ≡ Over (over_by.Faulted White NoSetboard)

@@ -5,8 +5,11 @@ ghost use Rattle.chess_match_laws.specs.Worked.{ClocksGoOn, EndsAreOfKinds, Ends
 ghost use Rattle.chess_match_laws.specs.WorkedTurns.{ClaimsAreJudged, EndLinesAreSent, HandshakesEnd, IgnoredAreCounted, OffersAreJudged, RepliesAreTimed, SilencesAreJudged};
 
 /// States a law and does nothing: what some lines of engines say, which items a `feature` line has, which features an
-/// engine has on by them, that lines that are ignored are counted anew in each setup and each turn, and how handshakes
-/// end.
+/// engine has on by them, that lines that are ignored are counted anew in each setup and each turn, how handshakes
+/// end, and of several features that an engine lacks which one is reported.
+///
+/// It refuses a `pong` that takes fewer than nine digits or more, a quoted 1 that counts as 1, and a lack of `setboard`
+/// that is reported before that of `ping`.
 pub fn engine_lines_are_worked_out()
     ensures lines { LinesSay }
     ensures items { ItemsAreRead }
@@ -26,8 +29,8 @@ pub fn levels_are_worked_out()
 {}
 
 /// States a law and does nothing: the lines by which handshakes and turns are opened in a match of 40 moves in 5
-/// minutes, byte by byte: in an engine's first turn the move comes before the clocks, in later turns after them. And
-/// those at the end: the last move, if the engine was not sent it yet, the result and `quit`, to White first.
+/// minutes, byte by byte: in an engine's first turn the move comes before the clocks, in later turns after them; in
+/// SAN, and without clocks, if the engine asked for that. And those at the end: the last move, if the engine was not sent it yet, the result and `quit`, to White first.
 ///
 /// It refuses another version of the protocol, `time` and `otim` that are exchanged, clocks that are rounded up, an end
 /// without `quit`, and a result that is sent before the last move.
@@ -36,8 +39,8 @@ pub fn sent_lines_are_worked_out()
     ensures ends { EndLinesAreSent }
 {}
 
-/// States a law and does nothing: with a king alone, whatever the other side has, a side has a bare king; with a knight
-/// or a pawn more it has not.
+/// States a law and does nothing: with a king alone, whatever the other side has, a side has a bare king; with a queen,
+/// a knight or a pawn more it has not.
 pub fn bare_kings_are_worked_out()
     ensures { KingsAreBare }
 {}

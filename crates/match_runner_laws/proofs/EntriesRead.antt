@@ -182,4 +182,15 @@ log_lines_look = record {
   unwritten = refl;
   shown = refl;
   killed = refl;
+  both_killed = refl;
+  first_has_black = refl;
+  after_line = refl;
+  after_opening = refl;
+  after_silence = refl;
+  no_output = refl;
+  no_memory = refl;
+  not_started = λ command is.
+      ap (λ (name : List ℕ). codes "arbiter: " ++ (codes "can not start " ++ name) ++ new_line ∷ []) is;
+  faulty = λ comment is. ap (λ (text : List ℕ).
+      codes "arbiter: " ++ (codes "game " ++ decimal 3 ++ codes ": " ++ text) ++ new_line ∷ []) is;
 }

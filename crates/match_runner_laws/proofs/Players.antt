@@ -1,10 +1,11 @@
--- Each engine keeps its time control and its name, whichever side it has.
+-- Each engine keeps its time control and its name, whichever side it has; and the tags of a game.
 use Rattle.std.proofs.Common.{◌≡◌, ◌∙◌, ℕ, ◌%◌, ◌==◌, if◌then◌else◌, List, refl, ap}
 use Rattle.std.specs.Fmt.{digits}
 use Rattle.chess_base.specs.{ByColour.of_colour, Men.same_colour, declared.by_colour.ByColour.ByColour, declared.man.Colour.Colour, declared.man.Colour.TheVariants.White, declared.man.Colour.TheVariants.Black}
 use Rattle.cecp_engine.specs.Levels.{LevelSeen}
-use Rattle.chess_game.specs.Results.{cut_tag}
+use Rattle.chess_game.specs.{Results.cut_tag, declared.results.Outcome.Outcome, declared.tags.HowEnded.HowEnded, declared.tags.HowEnded.TheVariants.TimeForfeit}
 use Rattle.match_runner.specs.{Games.engine_command, Games.first_side, Games.player_name, declared.plan.GamesPlan.GamesPlan}
+use Rattle.pgn_writer.specs.Terminations.{termination_of, termination_text}
 use Rattle.match_runner_laws.specs.Players.{EachKeepsItsLevel, GamesAreTagged, Player}
 
 -- the time controls of both sides, and the engine of a side, if the first engine has the side `first`
@@ -52,5 +53,10 @@ games_are_tagged = record {
     named_black = λ named. ap (tag_of plan number Black) named;
   };
   event = λ plan end. refl;
+  site = λ plan end. refl;
+  date = λ plan end. refl;
   round = λ plan end. refl;
+  ended = λ plan end. refl;
+  late = λ plan end late lost. ap (λ (h : HowEnded). termination_text (termination_of h end.outcome)) late
+      ∙ ap (λ (o : Outcome). termination_text (termination_of TimeForfeit o)) lost;
 }

@@ -1,14 +1,16 @@
 -- Laws of the log of a match: its text can be read in only one way, and how its lines look.
-use Rattle.std.specs.Prelude.{◌≡◌, ◌<◌, ◌^◌, ◌&&◌, ℕ, Bool, true, nat_le, List, [], ◌∷◌, ◌++◌, flat_map, map, codes, Some, None}
+use Rattle.std.specs.Prelude.{◌≡◌, ◌<◌, ◌^◌, ◌&&◌, ℕ, Bool, true, nat_le, List, [], ◌∷◌, ◌++◌, flat_map, map, codes, Some, None, Err}
 use Prim.Native.String.{String as Text}
+use Rattle.std.specs.Borrow.{Bor}
 use Rattle.std.specs.List.{AllByRecursion, list_all}
 use Rattle.byte_devices.specs.Bytes.{byte, tab}
 use Rattle.chess_base.specs.declared.man.Colour.{Colour}
 use Rattle.chess_base.specs.declared.man.Colour.TheVariants.{White, Black}
 use Rattle.chess_match.specs.Events.{Line, Opened, Silent, OutputEnds, FailsToRead, FailsToWrite}
 use Rattle.chess_match.specs.Notes.{Note, Happened, Gives}
-use Rattle.match_runner.specs.Games.{killed_line}
-use Rattle.match_runner.specs.Log.{engine_name, lines_in, log_line, moment_after, note_text}
+use Rattle.match_runner.specs.Games.{killed_line, killed_lines, report_of}
+use Rattle.match_runner.specs.declared.fault.GamesFault.TheVariants.{WriteFailed, NoMemory, CanNotStart, Game}
+use Rattle.match_runner.specs.Log.{engine_name, lines_in, log_from, log_line, moment_after, note_text}
 
 -- ---- the lines of a log as records
 
@@ -74,7 +76,7 @@ LogsHaveOneReading = (first : Colour) (xs ys : List Entry) → AllByRecursion Is
 abbrev pub IsLogged : Note → Text → Type 0
 IsLogged note text = note_text (engine_name White) 312 note ≡ codes text
 
--- how the lines of a log look
+-- how the lines of a log look, and those that a match writes to standard error besides
 pub record LogLinesLook : Type 0 where
   pub line : IsLogged (Happened (Line White (Some (codes "move e2e4")) 400)) "400 <first : move e2e4\n"
   pub given : IsLogged (Gives Black (codes "new\nforce\n")) "312 >second: new\n312 >second: force\n"
@@ -88,3 +90,22 @@ pub record LogLinesLook : Type 0 where
   pub shown : IsLogged (Happened (Line White (Some (codes "a" ++ tab ∷ codes "b")) 400)) "400 <first : a?b\n"
   -- an engine that was killed after the third game
   pub killed : killed_line 3 Black ≡ codes "arbiter: game 3: Black did not exit, and was killed\n"
+  pub both_killed : killed_lines 1 (record { white = true; black = true }) ≡ codes
+      "arbiter: game 1: White did not exit, and was killed\narbiter: game 1: Black did not exit, and was killed\n"
+  -- in a game in which the first engine has Black
+  pub first_has_black : note_text (engine_name Black) 312 (Happened (Line Black (Some (codes "move e7e5")) 400))
+      ≡ codes "400 <first : move e7e5\n"
+  -- a line that is sent has the moment that the clock showed last: that of a line, of an opening or of a silence
+  pub after_line : log_from White 0 (Happened (Line White (Some (codes "pong 2")) 400) ∷ Gives Black (codes "go\n") ∷ [])
+      ≡ codes "400 <first : pong 2\n400 >second: go\n"
+  pub after_opening : log_from White 0 (Happened (Opened White 500) ∷ Gives White (codes "draw\n") ∷ [])
+      ≡ codes "500 >first : draw\n"
+  pub after_silence : log_from White 0 (Happened (Silent White 600) ∷ Gives White (codes "quit\n") ∷ [])
+      ≡ codes "600 !first : no line\n600 >first : quit\n"
+  -- on standard error: why a match was not played to its end
+  pub no_output : report_of (Err WriteFailed) ≡ codes "arbiter: write failed\n"
+  pub no_memory : report_of (Err NoMemory) ≡ codes "arbiter: no memory\n"
+  pub not_started : (command : Bor (List ℕ)) → command.now ≡ codes "sjeng"
+      → report_of (Err (CanNotStart command)) ≡ codes "arbiter: can not start sjeng\n"
+  pub faulty : (comment : Bor (List ℕ)) → comment.now ≡ codes "White has no ping"
+      → report_of (Err (Game 3 comment)) ≡ codes "arbiter: game 3: White has no ping\n"

@@ -5,9 +5,12 @@ use Rattle.chess_base.specs.declared.man.Colour.{Colour}
 use Rattle.chess_base.specs.declared.man.Colour.TheVariants.{White, Black}
 use Rattle.cecp_engine.specs.Levels.{LevelSeen}
 use Rattle.chess_game.specs.Results.{cut_tag}
+use Rattle.chess_game.specs.declared.results.Outcome.TheVariants.{BlackWins}
+use Rattle.chess_game.specs.declared.tags.HowEnded.TheVariants.{TimeForfeit}
 use Rattle.chess_match.specs.declared.run.MatchEnd.{MatchEnd}
 use Rattle.match_runner.specs.Games.{engine_command, setup_of, tags_of}
 use Rattle.match_runner.specs.declared.plan.GamesPlan.{GamesPlan}
+use Rattle.pgn_writer.specs.Terminations.{termination_of, termination_text}
 
 -- an engine as a plan has it: its command and its time control
 abbrev pub Player : Type 0
@@ -49,8 +52,14 @@ pub record EnginesAreNamed (plan : GamesPlan) (number : ℕ) (end : MatchEnd) : 
   pub named_black : end.black_name ≡ codes "Sjeng" → (tags_of plan number end).black ≡ codes "Sjeng"
 
 -- the tags of each game of each match name its engines so (PGN standard of 1994, section 8.1.1); those of the twelfth
--- game also have this event and this round
+-- game also have this event, this site, the plan's date, this round, and the way in which it ended
 pub record GamesAreTagged : Type 0 where
   pub players : (plan : GamesPlan) (number : ℕ) (end : MatchEnd) → EnginesAreNamed plan number end
   pub event : (plan : GamesPlan) (end : MatchEnd) → (tags_of plan 12 end).event ≡ codes "CECP match"
+  pub site : (plan : GamesPlan) (end : MatchEnd) → (tags_of plan 12 end).site ≡ codes "?"
+  pub date : (plan : GamesPlan) (end : MatchEnd) → (tags_of plan 12 end).date ≡ cut_tag plan.date.now
   pub round : (plan : GamesPlan) (end : MatchEnd) → (tags_of plan 12 end).round ≡ codes "12"
+  pub ended : (plan : GamesPlan) (end : MatchEnd) → (tags_of plan 12 end).ended ≡ end.ended
+  -- so the tag Termination of a game that White has lost on time is `time forfeit`
+  pub late : (plan : GamesPlan) (end : MatchEnd) → end.ended ≡ TimeForfeit → end.outcome ≡ BlackWins
+      → termination_text (termination_of (tags_of plan 12 end).ended end.outcome) ≡ codes "time forfeit"

@@ -5,7 +5,8 @@ ghost use Rattle.match_runner_laws.specs.ReadBack.{LogsGiveTheGame, LogsGiveTheO
 
 /// States a law and does nothing: a log whose lines' texts are printable ASCII can be read in only one way, as these
 /// lines with their moments, marks and engines (`first`, the engine of `--white`, or `second`). A line of each kind is
-/// written out, and that on an engine that was killed.
+/// written out, and those on standard error: on an engine that was killed, and on why a match was not played to its
+/// end.
 pub fn logs_have_one_reading()
     ensures reading { LogsHaveOneReading }
     ensures lines { LogLinesLook }

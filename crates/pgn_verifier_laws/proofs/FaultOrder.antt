@@ -1,6 +1,6 @@
--- Which fault is reported of a game that has several, by computation.
+-- Which fault is reported of a game that has several, and which draws are passed over, by computation.
 use Rattle.std.proofs.Common.{refl}
-use Rattle.pgn_verifier_laws.specs.FaultOrder.{FaultsAreInOrder}
+use Rattle.pgn_verifier_laws.specs.FaultOrder.{DrawsArePassed, FaultsAreInOrder}
 
 pub faults_are_in_order : FaultsAreInOrder
 faults_are_in_order = record {
@@ -12,4 +12,14 @@ faults_are_in_order = record {
   no_outcome = refl;
   unfinished = refl;
   after_end = refl;
+}
+
+pub draws_are_passed : DrawsArePassed
+draws_are_passed = record {
+  fivefold = refl;
+  seventy_five_moves = refl;
+  white_mates = refl;
+  black_mates = refl;
+  stalemate = refl;
+  insufficient = refl;
 }

@@ -16,3 +16,4 @@ mod Shards
 mod FilesAlike
 mod FaultOrder
 mod WorkedReports
+mod WorkedExplanations

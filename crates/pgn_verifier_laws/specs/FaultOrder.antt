@@ -1,7 +1,9 @@
--- Which fault is reported of a game that has several at its end, worked out.
+-- Which fault is reported of a game that has several at its end, and after which ends a game may continue, worked out.
 use Rattle.std.specs.Prelude.{◌≡◌, ℕ, Bool, true, false, Option, Some, None, Result, Ok, Err}
 use Rattle.chess_game.specs.declared.results.Outcome.TheVariants.{WhiteWins, Draw, Unfinished}
-use Rattle.chess_game.specs.declared.verdicts.Verdict.TheVariants.{BlackMates}
+use Rattle.chess_game.specs.declared.verdicts.Verdict.{Verdict}
+use Rattle.chess_game.specs.declared.verdicts.Verdict.TheVariants.{WhiteMates, BlackMates, Stalemate, InsufficientMaterial, FivefoldRepetition, SeventyFiveMoves}
+use Rattle.chess_pgn.specs.GameRead.{not_of_2014}
 use Rattle.chess_pgn.specs.declared.read.PgnEnd.{PgnEnd}
 use Rattle.chess_pgn.specs.declared.read.PgnFaultKind.TheVariants.{AfterEnd, IllegalMove}
 use Rattle.pgn_verifier.specs.GameFaults.{judged}
@@ -60,3 +62,18 @@ pub record FaultsAreInOrder : Type 0 where
   -- a fault of reading is reported as it is, such as a move after a mate, and nothing else is looked for
   pub after_end : judged only_board (λ end. None) None None (Some BlackMates)
       (Err (record { kind = AfterEnd; offset = 39 })) ≡ fault_at (Pgn AfterEnd) 39
+
+-- ---- ends that `--ignore after-end` passes over
+
+-- this verdict ends a game also for a reader that passes the draws of 2014 over
+abbrev pub EndsEachGame : Verdict → Type 0
+EndsEachGame v = not_of_2014 v ≡ Some v
+
+-- after two draws, which the Laws of Chess have had since July 2014, a game may continue then, and after no other end
+pub record DrawsArePassed : Type 0 where
+  pub fivefold : not_of_2014 FivefoldRepetition ≡ None
+  pub seventy_five_moves : not_of_2014 SeventyFiveMoves ≡ None
+  pub white_mates : EndsEachGame WhiteMates
+  pub black_mates : EndsEachGame BlackMates
+  pub stalemate : EndsEachGame Stalemate
+  pub insufficient : EndsEachGame InsufficientMaterial

@@ -7,3 +7,4 @@ pub mod Shards
 pub mod Files
 pub mod FaultOrder
 pub mod WorkedReports
+pub mod WorkedExplanations

@@ -12,12 +12,13 @@ ghost use Rattle.pgn_verifier.specs.GameFaults.{IsJudged};
 ghost use Rattle.pgn_verifier.specs.Reports.{AreReports, Placed};
 ghost use Rattle.pgn_verifier.specs.laws.Reported.{collection_placed, collection_reports, judged_at, placed_on, read_at, reports_on, without_spans};
 ghost use Rattle.pgn_verifier_laws.specs.Counted.{CountedGamesAreGames, CountedGamesOfPiecesAreGames};
-ghost use Rattle.pgn_verifier_laws.specs.FaultOrder.{FaultsAreInOrder};
+ghost use Rattle.pgn_verifier_laws.specs.FaultOrder.{DrawsArePassed, FaultsAreInOrder};
 ghost use Rattle.pgn_verifier_laws.specs.Files.{FilesAreVerifiedAlike};
 ghost use Rattle.pgn_verifier_laws.specs.NoFaults.{FaultlessTextsAreReportedAlike};
 ghost use Rattle.pgn_verifier_laws.specs.Parts.{GamesAreInParts, WholeGamesAreReportedAlike, PiecesAreReportedAlike, TextsAreReportedInParts};
 ghost use Rattle.pgn_verifier_laws.specs.Shards.{ShardsAreCut};
 ghost use Rattle.pgn_verifier_laws.specs.Spans.{SpansMakeUpTheText, SpansMakeUpTheCollection};
+ghost use Rattle.pgn_verifier_laws.specs.WorkedExplanations.{FaultsAreCalled, PartsAreShown, ReasonsAreGiven};
 ghost use Rattle.pgn_verifier_laws.specs.WorkedReports.{GamesAreFound, PiecesBegin, ReportsAreWritten, TextsAreReadOn};
 ghost use Rattle.pgn_verifier_laws.specs.WrittenGames.{WrittenGamesHaveNoFault, WrittenTextsHaveNoFault};
 
@@ -145,23 +146,29 @@ pub fn files_are_verified_alike()
 
 /// States a law and does nothing: of a game that has several faults at its end the first of these is reported that is
 /// looked for: a fault in a variation, a variant that isn't known, a tag Result that differs from the marker, a verdict
-/// of the board that does. An example is worked out.
+/// of the board that does. An example is worked out. With `--ignore after-end` a game may continue after fivefold
+/// repetition and 75 moves, and after no other end.
 ///
 /// It refuses the board before the tag.
 pub fn faults_are_in_order()
-    ensures { FaultsAreInOrder }
+    ensures order { FaultsAreInOrder }
+    ensures draws { DrawsArePassed }
 {}
 
 /// States a law and does nothing: the lines of some reports, of their counts and of an explanation, byte by byte, with
 /// some options of `verify`; where two games of a text begin and end; where some texts are read on after a fault; and
-/// into which pieces some texts are cut.
+/// into which pieces some texts are cut. And how each fault is named, which part of a text is shown for it, as for each
+/// fault of a FEN, and for which reasons.
 ///
 /// It refuses a game that is numbered only if it is shown, Black's name before White's, white space that belongs to the
-/// game after it, a result that is read again after a fault, and an Event line that begins no piece, or begins one after
-/// any other tag line.
+/// game after it, a result that is read again after a fault, an Event line that begins no piece, or begins one after
+/// any other tag line, and for a fault of castling another field.
 pub fn reports_are_worked_out()
     ensures lines { ReportsAreWritten }
     ensures spans { GamesAreFound }
     ensures read_on { TextsAreReadOn }
     ensures pieces { PiecesBegin }
+    ensures names { FaultsAreCalled }
+    ensures parts { PartsAreShown }
+    ensures reasons { ReasonsAreGiven }
 {}

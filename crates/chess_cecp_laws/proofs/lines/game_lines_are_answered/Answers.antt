@@ -1,7 +1,7 @@
--- The answers to some lines, by what the session's game is, and how claims are shown (GameLines); and bare moves
--- (BareMoves).
+-- The answers to some lines, by what the session's game is, how claims are shown and results are read, and how faults
+-- of a FEN are named (GameLines); and bare moves (BareMoves).
 use Rattle.chess_cecp_laws.proofs.BareMoves.{bare_moves_are_moves}
-use Rattle.chess_cecp_laws.proofs.GameLines.{claims_are_shown, game_lines_are_answered}
+use Rattle.chess_cecp_laws.proofs.GameLines.{claims_are_shown, faults_are_named, game_lines_are_answered, results_are_read}
 use Rattle.chess_cecp_laws.proofs.lines.game_lines_are_answered.Goals as goal
 
 pub returns-clause-answers : goal.returns-clause-answers
@@ -12,3 +12,9 @@ returns-clause-bare c = bare_moves_are_moves
 
 pub returns-clause-claims : goal.returns-clause-claims
 returns-clause-claims c = claims_are_shown
+
+pub returns-clause-results : goal.returns-clause-results
+returns-clause-results c = results_are_read
+
+pub returns-clause-faults : goal.returns-clause-faults
+returns-clause-faults c = faults_are_named

@@ -1,4 +1,6 @@
--- Lines, spans, where texts are read on, and pieces by computation (WorkedReports).
+-- Lines, spans, where texts are read on, and pieces (WorkedReports), and names of faults, parts that are shown, and
+-- reasons (WorkedExplanations), by computation.
+use Rattle.pgn_verifier_laws.proofs.WorkedExplanations.{faults_are_called, parts_are_shown, reasons_are_given}
 use Rattle.pgn_verifier_laws.proofs.WorkedReports.{games_are_found, pieces_begin, reports_are_written, texts_are_read_on}
 use Rattle.pgn_verifier_laws.proofs.laws.reports_are_worked_out.Goals as goal
 
@@ -13,3 +15,12 @@ returns-clause-read_on c = texts_are_read_on
 
 pub returns-clause-pieces : goal.returns-clause-pieces
 returns-clause-pieces c = pieces_begin
+
+pub returns-clause-names : goal.returns-clause-names
+returns-clause-names c = faults_are_called
+
+pub returns-clause-parts : goal.returns-clause-parts
+returns-clause-parts c = parts_are_shown
+
+pub returns-clause-reasons : goal.returns-clause-reasons
+returns-clause-reasons c = reasons_are_given
