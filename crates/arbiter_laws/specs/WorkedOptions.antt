@@ -90,7 +90,7 @@ dated = valued (codes "date")
 
 -- the date that these options ask for; or, in place of a plan, the first fault of a level, the FEN or the date
 abbrev pub date_asked : List Given → Result Text WordsFault
-date_asked options = result_map_both (λ r. r.1.1) (λ fault. fault) (levels_start_and_date (values_in options))
+date_asked options = result_map_both (λ r. r.2) (λ fault. fault) (levels_start_and_date (values_in options))
 
 -- the value of the tag Date of each game, and which of several faults is reported
 pub record DatesAreRead : Type 0 where
