@@ -1,5 +1,6 @@
-"""Which files cite what is private to another crate: of a crate's proofs/ only proofs/shared is for others, of its specs/ all but
-specs/ties. And which shared lemmas cite specs/ties: they are to be about definitions that crates above may cite."""
+"""Which files cite what is private to another crate: of a crate's proofs/ only proofs/shared is for others, of its
+specs/ all but specs/ties. And which shared lemmas cite specs/ties: they are to be about definitions that crates above
+may cite."""
 
 import re
 
@@ -25,6 +26,8 @@ def private_citations(top=TOP):
 
 
 def private_in(path, crate, own, top):
+    """The same for one file of a crate. `own`: the names of all crates of the repository; the toolchain's, such as std,
+    don't count. A shared lemma may not cite its own crate's ties either."""
     relative = path.relative_to(top)
     is_lemma = relative.parts[2:4] == ("proofs", "shared")
     for number, line in enumerate(path.read_text(encoding="utf-8").split("\n"), 1):

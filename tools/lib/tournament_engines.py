@@ -25,8 +25,8 @@ SET_BY_POLYGLOT = ("Hash", "Threads", "Ponder", "SyzygyPath", "NalimovPath", "UC
 @dataclass
 class Engine:
     """An engine of the list: where its line is, the line, the words of its command, and its settings: the name given
-    there, the folder in which it is started, its level of time, megabytes of memory, cores, options (their values begin with `=`, or are
-    empty), and whether it speaks UCI. It gets a name later."""
+    there, the folder in which it is started, its level of time, megabytes of memory, cores, options (their values begin
+    with `=`, or are empty), and whether it speaks UCI. It gets a name later."""
 
     source: str
     line: str
@@ -46,7 +46,8 @@ class Engine:
 
     @property
     def program(self):
-        """The program, from where the tournament is started."""
+        """The program, as named in the folder where the tournament is started: a relative path in the command begins at
+        the engine's own folder (`dir=`), and a name without a slash is looked for on the path."""
         return os.path.join(self.folder, self.words[0]) if "/" in self.words[0] else self.words[0]
 
     def programs(self):

@@ -673,8 +673,8 @@ fn engines_have_levels_of_their_own(rt: HostRuntime) -> Result<(), Fail> {
     Ok(())
 }
 
-// Options of a match after its engines, and the part of a level that is wrong: a common level is judged first, even if
-// no engine has it, then White's and then Black's.
+// Options of a match after its engines, and the part of a level that is wrong. `--level` is judged first, even if both
+// engines have levels of their own, then `--white-level`, and then `--black-level`.
 const NO_LEVELS: [(&[&str], LevelFault); 5] = [
     (&["--white-level", "x 1 2"], LevelFault::Moves),
     (&["--black-level", "0 1"], LevelFault::Words),

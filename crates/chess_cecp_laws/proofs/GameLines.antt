@@ -1,4 +1,6 @@
--- What a session answers to some lines by its game.
+-- The examples of specs/GameLines: what a session answers to lines such as `usermove e4`, `undo` or `claim`, depending
+-- on its game, and what the game is then. First come the rows of the session's table that these lines need, then the
+-- lines.
 use Prim.Native.String.{String as Text}
 use Rattle.std.proofs.Common.{◌≡◌, ◌∙◌, ◌-◌, ◌<◌, ◌≤◌, ℕ, Bool, true, false, List, [], ◌∷◌, ◌++◌, length, Option, None, Some, refl, ap, arith, codes, if◌then◌else◌, nat_le, take, Err}
 use Rattle.std.specs.Option.{option_map_or}
@@ -45,6 +47,7 @@ result_in s d = record s { declared = Some d }
 
 -- ---- rows
 
+-- a move after the game's end
 over_move : (limit : ℕ) (s : State) (text : List ℕ) → is_over s ≡ true
     → move_row limit s text ≡ answers s (codes "Illegal move (game over): ") text
 over_move limit s text e =
@@ -52,6 +55,7 @@ over_move limit s text e =
     (if nat_le limit (length s.moves) then answers s (codes "Error (game too long): ") text
     else reading_row s text (reading (current s) text)) e
 
+-- a move when the game has as many half-moves as the limit allows
 full : (a b : ℕ) → a ≤ b → nat_le a b ≡ true
 full a b h = grind (arith, nat_tests, h)
 
@@ -86,6 +90,7 @@ judged s v e = ap (judged_by s) e
 abbrev with_moves : State → List Move → State
 with_moves s ms = record s { moves = ms; declared = None }
 
+-- `undo` takes back one move, and `remove` two
 one_back : (s : State) (m : Move) → s.moves ≡ m ∷ []
     → take_back_row 1 (codes "undo") s ≡ becomes (from_start s.start)
 one_back s m e =
@@ -124,6 +129,7 @@ claimed s claim =
     option_map_or (λ c. declares s (record { outcome = Draw; comment = claim_comment c })) claim
     (answers s (codes "Error (no claim): ") (codes "claim"))
 
+-- `claim` after the game's end, and before it
 over_claim : (s : State) → is_over s ≡ true
     → claim_row s ≡ answers s (codes "Error (command not legal now): ") (codes "claim")
 over_claim s e =
@@ -153,6 +159,7 @@ braces_taken s text e =
     (answers s (codes "Error (the board says otherwise): ") text) (becomes (result_in s without_braces))
     (ap (λ (w : Option Verdict). contradicts_verdict w WhiteWins) e)
 
+-- a result is accepted, or refused if the board says otherwise
 result_read : read_result (argument_of (codes "result 1-0 {Black resigns}")) ≡ Some black_resigned
 unfolding argument_of read_result result_comment
 result_read = refl
@@ -177,6 +184,7 @@ result_refused s text v e other =
     (answers s (codes "Error (the board says otherwise): ") text) (becomes (result_in s black_resigned))
     (ap (λ (w : Option Verdict). contradicts_verdict w WhiteWins) e ∙ other)
 
+-- `setboard`, in normal chess, with a FEN that has this fault
 fen_row : (s : State) (text : List ℕ) (fault : FenFault) → s.start.variant ≡ Normal
     → fen_reading_as Normal text ≡ Err fault
     → setboard_row s (fen_reading_as s.start.variant text) ≡ setboard_row s (Err fault)

@@ -33,9 +33,10 @@ pub fn equal_fens_are_equal_positions()
     ensures { (p q : Setup) → IsSound p → IsSound q → IsTrue (⟦<chess_fen::Fen as PartialEq>⟧.eq p q) ↔ p ≡ q }
 {}
 
-/// A law: the contract says it, and the function does nothing. In Chess960 a castling right is named by the letter of
-/// its rook's file, or by `K`, `Q`, `k` or `q` where its rook is the outermost one on that side; no other letter of the
-/// field names a rook there.
+/// A law: the contract says it, and the function does nothing. In Chess960 the castling field is read as having a sound
+/// right, with a certain rook, exactly if one of its letters names that rook and no other letter names that right; and
+/// as not having the right exactly if no letter names it. A rook is named by the letter of its file, or by `K`, `Q`,
+/// `k` or `q` if it is the outermost one on that side of the king.
 pub fn rights_are_named()
     ensures { RightsAreNamed }
 {}

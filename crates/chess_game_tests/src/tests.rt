@@ -1374,11 +1374,13 @@ fn results_are_shown(rt: HostRuntime) -> Result<(), Fail> {
     Ok(())
 }
 
-// The bytes of a comment that is too long, and those of its front.
+// A text of 61 bytes, one more than a comment has, and its first 60.
 const LONGER: &[u8] = b"zzzzzzzzzzzzzzzzzzzzzzzzzzzzzzzzzzzzzzzzzzzzzzzzzzzzzzzzzzzzy";
 
 const SIXTY: &[u8] = b"zzzzzzzzzzzzzzzzzzzzzzzzzzzzzzzzzzzzzzzzzzzzzzzzzzzzzzzzzzzz";
 
+// Texts, and the comment that `Comment::cut` makes of each: the first 60 bytes, with `?` for each brace and each byte
+// that isn't printable ASCII.
 const CUT: [(&[u8], &[u8]); 6] = [
     (b"", b""),
     (b"Black resigns", b"Black resigns"),
@@ -1388,6 +1390,7 @@ const CUT: [(&[u8], &[u8]); 6] = [
     (LONGER, SIXTY),
 ];
 
+// Asserts that the comment made of `text` is `cut`.
 fn is_cut(rt: &impl Abort, text: &[u8], cut: &[u8]) {
     is_equal_at(rt, text, &Comment::cut(text).as_bytes(), &cut);
 }

@@ -1,5 +1,6 @@
--- Each tag keeps that what is left gives the whole (GameReads.more_normal), and so does what is skipped after it
--- (GameReads.normal_on).
+-- The loop's invariant: reading on from the offset reached gives the same game as reading from `at`. It holds at the
+-- start (GameReads.first_normal), after each tag (GameReads.more_normal), and after the white space and dots that are
+-- skipped next (GameReads.normal_on).
 use Rattle.std.proofs.Common.{sym, ◌∙◌}
 use Rattle.pgn_tokens.specs.Seen.{found_seen, token_seen}
 use Rattle.chess_pgn.proofs.{GameReads.first_normal, GameReads.more_normal, GameReads.normal_on, LeftTokens.tags_left}

@@ -1,4 +1,4 @@
--- Of a text of more than 64 bytes the first 64 have that length.
+-- The slice `&text[..64]` is within the text: the front that `take 64` gives of more than 64 bytes has all 64.
 use Rattle.std.proofs.Common.{arith, sym, length-take-le}
 use Rattle.text_lines.proofs.lines.beginning.Goals as goal
 
