@@ -21,7 +21,8 @@ UNCUT = 256 * MEBIBYTE  # a text is given up if it has no cut in so many bytes
 FRONT = 256
 MARK = b"\xef\xbb\xbf"
 TAG_LINE = re.compile(rb'\[[A-Za-z0-9_]+[ \t]*"')
-EMPTY_LINE = re.compile(rb"[%;]|[ \t\r\n]*\Z")
+ESCAPE = b"%"
+EMPTY_FRONT = re.compile(rb";|[ \t\r\n]*\Z")
 LINE_END = re.compile(rb"[\r\n]")
 BRACKET = re.compile(rb"\n(?:" + MARK + rb")?\[")
 
@@ -56,6 +57,11 @@ def front(text, start):
     return LINE_END.split(text[start : start + FRONT], maxsplit=1)[0].removeprefix(MARK).lstrip(b" \t")
 
 
+def is_empty(text, start):
+    """Returns whether the line at an offset counts as empty."""
+    return text[start : start + 1] == ESCAPE or bool(EMPTY_FRONT.match(front(text, start)))
+
+
 def line_start(text, end):
     """Returns where the line begins that ends at an offset."""
     size = FRONT
@@ -71,7 +77,7 @@ def follows_moves(text, start):
     """Returns whether the last line before an offset that is not empty is a line of moves."""
     while start > 0:
         start = line_start(text, start)
-        if not EMPTY_LINE.match(front(text, start)):
+        if not is_empty(text, start):
             return not TAG_LINE.match(front(text, start))
     return False
 

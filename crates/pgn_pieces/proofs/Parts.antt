@@ -1,5 +1,6 @@
--- The tags and comments with which a line's front begins, one by one.
-use Rattle.std.proofs.Common.{◌≡◌, ℕ, zero, suc, Bool, true, false, ◌&&◌, ◌||◌, if◌then◌else◌, List, take, Option, Some, None, codes, bytes_eq, refl, sym, ap, ◌∙◌}
+-- The tags, comments, glyphs, dots and marks with which a line's front begins, one by one.
+use Rattle.std.proofs.Common.{◌≡◌, ℕ, zero, suc, Bool, true, false, ◌&&◌, ◌||◌, ◌==◌, if◌then◌else◌, List, [], ◌∷◌, take, Option, Some, None, codes, refl, sym, ap, ◌∙◌}
+use Rattle.std.specs.List.{list_any}
 use Rattle.std.specs.Option.{option_map, option_map_or}
 use Rattle.pgn_pieces.specs.{Pieces.after_name, Pieces.after_part, Pieces.after_parts, Pieces.begins_tag, ties.Fronts.after_value, ties.Fronts.without_blanks}
 
@@ -27,14 +28,22 @@ if_tag tag x y is = sym (ap (λ b. option_map without_blanks (if b then x else y
 pub at_tag : (text : List ℕ) → begins_tag text ≡ true → after_value (after_name text) ≡ after_part text
 at_tag text tag = if_tag (begins_tag text) _ _ tag
 
-if_neither : (bracket name quote brace : Bool) (x y : Option (List ℕ)) → (bracket || brace) ≡ false
-    → None ≡ option_map without_blanks (if bracket && name && quote then x else (if brace then y else None))
-if_neither true name quote brace x y neither = absurd (cc)
-if_neither false name quote true x y neither = absurd (cc)
-if_neither false name quote false x y neither = refl
+if_none : (bracket name quote brace glyph dot good poor : Bool) (tag comment glyphs mark : Option (List ℕ))
+    → ((bracket || (brace || (glyph || (dot || (good || (poor || false)))))) || false) ≡ false
+    → None ≡ option_map without_blanks (if (bracket && true) && name && quote then tag
+    else (if brace && true then comment else (if glyph && true then glyphs
+    else (if (dot || (good || (poor || false))) || false then mark else None))))
+if_none true name quote brace glyph dot good poor tag comment glyphs mark none = absurd (cc)
+if_none false name quote true glyph dot good poor tag comment glyphs mark none = absurd (cc)
+if_none false name quote false true dot good poor tag comment glyphs mark none = absurd (cc)
+if_none false name quote false false true good poor tag comment glyphs mark none = absurd (cc)
+if_none false name quote false false false true poor tag comment glyphs mark none = absurd (cc)
+if_none false name quote false false false false true tag comment glyphs mark none = absurd (cc)
+if_none false name quote false false false false false tag comment glyphs mark none = refl
 
--- where neither a bracket nor a brace comes first, no tag and no comment begins
-pub no_part : (text : List ℕ) → (bytes_eq (take 1 text) (codes "[") || bytes_eq (take 1 text) (codes "{")) ≡ false
+-- where none of these bytes comes first, no tag, comment, glyph, dot or mark begins
+pub no_part : (text : List ℕ) → list_any (λ c. list_any (λ k. c == k) (codes "[{$.!?")) (take 1 text) ≡ false
     → None ≡ after_part text
-no_part text neither =
-    if_neither (bytes_eq (take 1 text) (codes "[")) _ _ (bytes_eq (take 1 text) (codes "{")) _ _ neither
+no_part [] none = refl
+no_part (c ∷ rest) none =
+    if_none (c == 91) _ _ (c == 123) (c == 36) (c == 46) (c == 33) (c == 63) _ _ _ _ none

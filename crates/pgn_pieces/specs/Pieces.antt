@@ -4,7 +4,7 @@ use Rattle.std.specs.Io.KnownBytes.{Consumes, IsAtEnd}
 use Rattle.std.specs.List.{onto_first, take_while, prefix_len, list_any, list_all, concat, fold}
 use Rattle.std.specs.Option.{option_map, option_map_or}
 use Rattle.std.specs.Str.{bytes_eq}
-use Rattle.byte_devices.specs.Bytes.{byte, is_blank, is_name_byte, after_byte_order_mark}
+use Rattle.byte_devices.specs.Bytes.{byte, is_blank, is_digit, is_name_byte, after_byte_order_mark}
 use Rattle.byte_devices.specs.Devices.{InputState, saturating_increment}
 use Rattle.pgn_pieces.specs.Places.{breaks_line}
 use Rattle.pgn_pieces.specs.declared.pieces.PieceFault.{PieceFault}
@@ -49,9 +49,10 @@ is_tag_line line = begins_tag (front_of line)
 abbrev pub is_event_line : List ℕ → Bool
 is_event_line line = is_tag_line line && bytes_eq (tag_name (front_of line)) (codes "Event")
 
--- whether a line counts as empty: its front has nothing but spaces, tabs, `\r` and `\n`, or begins with `%` or `;`
+-- whether a line counts as empty: its first byte is `%`, or its front begins with `;`, or has nothing but spaces, tabs,
+-- `\r` and `\n`
 abbrev pub is_empty_line : List ℕ → Bool
-is_empty_line line = bytes_eq (take 1 (front_of line)) (codes "%") || bytes_eq (take 1 (front_of line)) (codes ";")
+is_empty_line line = bytes_eq (take 1 line) (codes "%") || bytes_eq (take 1 (front_of line)) (codes ";")
     || list_all (λ c. is_blank c || (c == 13) || (c == 10)) (front_of line)
 
 -- a text from the first quote on that no backslash keeps from closing a string; empty if there is none. `kept`: the byte
@@ -65,30 +66,42 @@ abbrev pub after_byte : ℕ → List ℕ → Option (List ℕ)
 after_byte b [] = None
 after_byte b (c ∷ rest) = if c == b then Some rest else None
 
--- what comes after the tag with which a text begins, or after its comment, and any spaces and tabs: `e4` in
--- `[a "b"] e4`, and in `{x} e4`. `None` if it begins with neither, or if the tag or the comment isn't closed
-abbrev pub after_part : List ℕ → Option (List ℕ)
-after_part text = option_map (drop_while is_blank) (if begins_tag text
-    then after_byte (byte "]") (drop_while is_blank (drop 1 (from_quote false (drop 1 (after_name text)))))
-    else (if bytes_eq (take 1 text) (codes "{") then after_byte (byte "}") (drop_while (λ c. not (c == byte "}")) text)
-    else None))
+-- what comes after the string of the tag with which a text begins, and any spaces and tabs: `] e4` in `[a "b" ] e4`.
+-- Empty if the string isn't closed
+abbrev pub after_string : List ℕ → List ℕ
+after_string text = drop_while is_blank (drop 1 (from_quote false (drop 1 (after_name text))))
 
--- what comes after the tags and comments with which a text begins (`after_part`): the text itself if it begins with
--- none. At most as many are passed over as the first argument says
+-- what comes after the tag, comment (`{x}`), glyph (`$1`), dot or mark (`!` or `?`) with which a text begins, and any
+-- spaces and tabs: `e4` in `[a "b"] e4`. `None` if it begins with none of these, or the tag or the comment isn't closed
+abbrev pub after_part : List ℕ → Option (List ℕ)
+after_part text = option_map (drop_while is_blank) (if begins_tag text then after_byte (byte "]") (after_string text)
+    else (if bytes_eq (take 1 text) (codes "{") then after_byte (byte "}") (drop_while (λ c. not (c == byte "}")) text)
+    else (if bytes_eq (take 1 text) (codes "$") then Some (drop_while is_digit (drop 1 text))
+    else (if list_any (λ c. list_any (λ k. c == k) (codes ".!?")) (take 1 text) then Some (drop 1 text)
+    else None))))
+
+-- what comes after the tags, comments, glyphs, dots and marks with which a text begins (`after_part`): the text itself
+-- if it begins with none. At most as many are passed over as the first argument says
 unfoldable pub after_parts : ℕ → List ℕ → List ℕ
 after_parts zero text = text
 after_parts (suc more) text = option_map_or (after_parts more) (after_part text) text
 
--- whether a tag line has more than tags, from what comes after its tags and comments: a byte that is neither a line end
--- nor begins a comment, a variation, a glyph, a dot or marks; so maybe a move, or a tag that isn't closed. `ended`: the
--- line's end was seen; if not, such a tag may be closed further on
+-- whether a text ends within the tag with which it begins, which may so be closed further on: in the name, in the
+-- string, or in the spaces and tabs after one of these
+abbrev pub ends_in_tag : List ℕ → Bool
+ends_in_tag text = bytes_eq (take 1 text) (codes "[")
+    && ((length (after_name text) == 0) || begins_tag text && (length (after_string text) == 0))
+
+-- whether a tag line has more than tags, from what comes after its tags, comments, glyphs, dots and marks (`after_part`):
+-- a byte that neither ends the line nor begins a comment, such as that of a move, a variation or a tag that isn't
+-- closed. `ended`: the line's end was seen; if not, a tag in which what was seen ends doesn't count
 abbrev pub has_more : Bool → List ℕ → Bool
-has_more ended rest = list_any (λ c. not (list_any (λ k. c == k) (codes "\r\n{;($.!?")) && (ended || not (c == byte "[")))
-    (take 1 rest)
+has_more ended rest = list_any (λ c. not (list_any (λ k. c == k) (codes "\r\n{;"))) (take 1 rest)
+    && (ended || not (ends_in_tag rest))
 
 -- whether a line counts as one of moves: one that is neither a tag line nor empty (so also one inside a `{` comment,
 -- and a tag such as `[ Event "x" ]`); or a tag line whose front has more than tags (`has_more`): `[White "a"] {x} 1. e4`,
--- or `[White "a`. (256: no front has so many tags and comments)
+-- or `[White "a`. (256: a front has at most so many tags and the like)
 abbrev pub is_moves_line : List ℕ → Bool
 is_moves_line line = let front = front_of line in
     if is_tag_line line then has_more (list_any breaks_line front) (after_parts 256 front) else not (is_empty_line line)

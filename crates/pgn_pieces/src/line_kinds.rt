@@ -3,7 +3,7 @@
 //!
 //! - a tag line begins with `[`, a name, perhaps spaces and tabs, and `"`: `[White "Carlsen"]`
 //! - an Event line is a tag line of the tag Event: `[Event "Oslo"]`
-//! - an empty line has only white space, or begins with `%` or `;`
+//! - an empty line has only white space, or begins with `;`, or its first byte is `%`
 //! - a line of moves is any other line: `1. e4 e5`, but also `{a comment}`; and a tag line with more than tags, such as
 //!   `[White "a"] [Result "1-0"] 1. e4 1-0`, or with a tag that isn't closed: `[White "a`
 //!
@@ -14,13 +14,14 @@ ghost use Rattle.std.specs.Prelude.{◌≡◌, ◌≤◌, nat_lt, true, false, �
 ghost use Rattle.std.specs.Str.{bytes_eq};
 ghost use Rattle.std.specs.List.{list_all, list_any};
 ghost use Rattle.std.specs.Option.{option_map};
-ghost use Rattle.pgn_pieces.specs.Pieces.{front_of, after_byte, after_name, after_part, after_parts, begins_tag, from_quote, has_more, tag_name, is_tag_line, is_event_line, is_moves_line};
+ghost use Rattle.pgn_pieces.specs.Pieces.{front_of, after_byte, after_name, after_part, after_parts, after_string, begins_tag, ends_in_tag, from_quote, has_more, tag_name, is_empty_line, is_tag_line, is_event_line, is_moves_line};
 ghost use Rattle.byte_devices.specs.Bytes.{after_byte_order_mark, is_blank};
 ghost use Rattle.pgn_pieces.specs.Places.{breaks_line, line_ends};
-ghost use Rattle.pgn_pieces.specs.ties.Fronts.{after_value, from_mark, is_empty_front, without_blanks};
+ghost use Rattle.pgn_pieces.specs.ties.Fronts.{after_value, behind_string, from_mark, without_blanks};
 
 use byte_devices::{
-    after_byte_order_mark, is_blank, is_name_byte, len_before, len_before_any, split_while,
+    after_byte_order_mark, is_blank, is_digit, is_name_byte, len_before, len_before_any,
+    split_while,
 };
 
 // How many of a line's first bytes decide its kind; the bytes after these are not looked at.
@@ -38,7 +39,7 @@ pub(crate) struct Kind {
 }
 
 // The kind of a line: `[Event "Oslo"]` is a tag line and an Event line, `[White "Carlsen"]` only a tag line, and
-// `1. e4 e5` a line of moves. A line with only white space, or that begins with `%` or `;`, is none of these. `line`
+// `1. e4 e5` a line of moves. A line that counts as empty (`is_empty`) is none of these. `line`
 // may have its line end or not, and may be only the beginning of a line that isn't all read (`Seen::see_open`).
 // `moves`: whether its piece has a line of moves before it; then nobody looks whether it is one too.
 #[inline(always)]
@@ -53,7 +54,7 @@ pub(crate) fn kind_of(line: &[u8], moves: bool) -> Kind
         return Kind {
             is_tag: false,
             is_event: false,
-            moves: moves || !is_empty_front(front),
+            moves: moves || !is_empty(line, front),
         };
     }
     let name = tag_name(front);
@@ -66,7 +67,7 @@ pub(crate) fn kind_of(line: &[u8], moves: bool) -> Kind
             || if is_tag {
                 has_moves(front, after_name)
             } else {
-                !is_empty_front(front)
+                !is_empty(line, front)
             },
     }
 }
@@ -80,14 +81,21 @@ fn has_moves(front: &[u8], value: &[u8]) -> bool
     ensures { result ≡ has_more (list_any breaks_line front.now) (after_parts 256 front.now) }
 {
     match after_parts(front, value) {
-        [
-            b'\r' | b'\n' | b'{' | b';' | b'(' | b'$' | b'.' | b'!' | b'?',
-            ..
-        ]
-        | [] => false,
-        [b'[', ..] => has_line_end(front),
-        _ => true,
+        [b'\r' | b'\n' | b'{' | b';', ..] | [] => false,
+        rest => has_line_end(front) || !ends_in_tag(rest),
     }
+}
+
+// Whether a text ends within the tag with which it begins.
+fn ends_in_tag(text: &[u8]) -> bool
+    ensures { result ≡ ends_in_tag text.now }
+{
+    if !text.starts_with(b"[") {
+        return false;
+    }
+    let name = tag_name(text);
+    let value = after_name(text, name);
+    value.is_empty() || has_tag(name, value) && behind_string(value).is_empty()
 }
 
 // The rest of a string, from the quote on that closes it; empty if none does. A quote after a backslash doesn't.
@@ -141,34 +149,44 @@ fn begins_tag(text: &[u8]) -> bool
     has_tag(name, after_name(text, name))
 }
 
+// What comes after a tag's string and any spaces and tabs, from the tag's value on: `] e4` for `"Oslo" ] e4`; empty if
+// the string isn't closed.
+#[inline(always)]
+fn behind_string(value: &[u8]) -> &[u8]
+    ensures { result.now ≡ behind_string value.now }
+{
+    without_blanks(without_first(from_quote(without_first(value))))
+}
+
 // What comes after a tag and any spaces and tabs, from the tag's value on: `e4` for `"Oslo"] e4`; `None` if the tag
 // isn't closed.
 #[inline(always)]
 fn after_value(value: &[u8]) -> Option<&[u8]>
     ensures { option_map (λ r. r.now) result ≡ after_value value.now }
 {
-    let rest = from_quote(without_first(value));
-    let rest = after_byte(b']', without_blanks(without_first(rest)))?;
+    let rest = after_byte(b']', behind_string(value))?;
     Some(without_blanks(rest))
 }
 
-// What comes after the tag or the comment with which a text begins, and any spaces and tabs; `None` if it begins with
-// neither, or that isn't closed.
+// What comes after the tag, comment, glyph, dot or mark with which a text begins, and any spaces and tabs; `None` if it
+// begins with none of these, or the tag or the comment isn't closed.
 fn after_part(text: &[u8]) -> Option<&[u8]>
     ensures { option_map (λ r. r.now) result ≡ after_part text.now }
 {
     if begins_tag(text) {
         return after_value(after_name(text, tag_name(text)));
     }
-    if !text.starts_with(b"{") {
-        return None;
-    }
-    let rest = after_byte(b'}', &text[len_before(text, b'}')..])?;
+    let rest = match text {
+        [b'{', ..] => after_byte(b'}', &text[len_before(text, b'}')..])?,
+        [b'$', rest @ ..] => split_while(rest, |byte| is_digit(byte)).1,
+        [b'.' | b'!' | b'?', rest @ ..] => rest,
+        _ => return None,
+    };
     Some(without_blanks(rest))
 }
 
-// What comes after the tags and comments with which the front of a tag line begins. `value` is the front from its first
-// tag's value on.
+// What comes after the tags, comments, glyphs, dots and marks with which the front of a tag line begins. `value` is the
+// front from its first tag's value on.
 #[inline(always)]
 fn after_parts<'t>(front: &'t [u8], value: &'t [u8]) -> &'t [u8]
     requires value { value.now ≡ after_name front.now }
@@ -185,16 +203,19 @@ fn after_parts<'t>(front: &'t [u8], value: &'t [u8]) -> &'t [u8]
     after_more_parts(rest)
 }
 
-// Whether a text begins as a tag or a comment does.
+// Whether a text begins as a tag, a comment, a glyph, a dot or a mark does.
 #[inline(always)]
 fn begins_like_part(text: &[u8]) -> bool
-    ensures { result ≡ (bytes_eq (take 1 text.now) (codes "[") || bytes_eq (take 1 text.now) (codes "{")) }
+    ensures { result ≡ list_any (λ c. list_any (λ k. c == k) (codes "[{$.!?")) (take 1 text.now) }
 {
-    begins_with(text, b'[') || begins_with(text, b'{')
+    match text {
+        [b'[' | b'{' | b'$' | b'.' | b'!' | b'?', ..] => true,
+        _ => false,
+    }
 }
 
-// What comes after the tags and comments with which `text` begins. `text` is a line's front after its first tag. The
-// loop never reaches its bound, since a front of at most 256 bytes has fewer tags and comments than 256.
+// What comes after the tags, comments, glyphs, dots and marks with which `text` begins. `text` is a line's front after
+// its first tag. Where the loop reaches its bound, nothing is left of the front, which has at most 256 bytes.
 #[inline(never)]
 fn after_more_parts(text: &[u8]) -> &[u8]
     ensures { result.now ≡ after_parts 255 text.now }
@@ -307,12 +328,13 @@ fn is_all_white(bytes: &[u8]) -> bool
 }
 
 // Whether a line with this front counts as empty, so neither as a tag line nor as a line of moves: the front has only
-// white space, or begins with `%` (PGN's escape) or `;` (a comment up to the line's end).
+// white space, or begins with `;` (a comment up to the line's end), or the line's first byte is `%` (PGN's escape).
 #[inline(always)]
-fn is_empty_front(front: &[u8]) -> bool
-    ensures { result ≡ is_empty_front front.now }
+fn is_empty(line: &[u8], front: &[u8]) -> bool
+    requires { front.now ≡ front_of line.now }
+    ensures { result ≡ is_empty_line line.now }
 {
-    front.starts_with(b"%") || front.starts_with(b";") || is_all_white(front)
+    line.starts_with(b"%") || front.starts_with(b";") || is_all_white(front)
 }
 
 /// How many lines end in a text: the number of its bytes that are `\n`. A last line without `\n` is not counted, so

@@ -109,14 +109,19 @@ const CUTS: [(&[u8], &[usize]); 33] = [
     (b"[a \"b\"][c\"d\"]\t[e \"\"] *\n[e \"f\"]\n", &[23, 8]),
     (b"[a \"\\\"b\"] e4 *\n[c \"d\"]\n", &[15, 8]),
     (b"[a \"b\" ] {x} e4 *\n[c \"d\"]\n", &[18, 8]),
-    (b"[a \"b\"] !? $1 (x) .\n[c \"d\"]\n", &[28]),
+    (b"[a \"b\"] !? $1 .\n[c \"d\"]\n", &[24]),
+    (b"[a \"b\"] !? $1 (x) .\n[c \"d\"]\n", &[20, 8]),
+    (b"[a \"b\"] ! $1 . [c \"d\"] e4\n[e \"f\"]\n", &[26, 8]),
     (b"[a \"b\"] {x\n[c \"d\"]\n", &[19]),
     // A byte that begins no token, and tags that aren't closed on their lines.
     (b"[a \"b\"] <x>\n[c \"d\"]\n", &[12, 8]),
     (b"[a \"b\n[c \"d\"]\n", &[6, 8]),
     (b"[a \"b\" \r[c \"d\"]\n", &[8, 8]),
     (b"[a \"b\"] [c\n[d \"e\"]\n", &[11, 8]),
-    (b"*\n[A_1 \t\"x\"]\n\xef\xbb\xbf% y\n[b\"", &[2, 21]),
+    (b"*\n[A_1 \t\"x\"]\n\xef\xbb\xbf; y\n[b\"", &[2, 21]),
+    // Only as a line's first byte `%` is PGN's escape.
+    (b"[a \"b\"]\n\xef\xbb\xbf% y\n[c \"d\"]\n", &[15, 8]),
+    (b" % y\n[a \"b\"]\n", &[5, 8]),
     (
         b"\xef\xbb\xbf*\n\xef\xbb[a \"b\"]\n\xef\xbb\xbf\xef\xbb\xbf[a \"b\"]\n",
         &[29],

@@ -10,7 +10,7 @@ use Rattle.pgn_verifier_laws.specs.Shards.{ends_in_moves, begins_in_tag, ShardsA
 
 -- ---- no line is of two kinds
 
--- what `is_empty_line` says of a line with this front
+-- whether a front is white space, or begins as an empty line may
 abbrev is_empty_front : List ℕ → Bool
 is_empty_front front = bytes_eq (take 1 front) (codes "%") || bytes_eq (take 1 front) (codes ";")
     || list_all (λ c. is_blank c || (c == 13) || (c == 10)) front
@@ -26,10 +26,27 @@ front_kind (c ∷ cs) h = by_test (eqb c 91) refl
         ap (λ b. (b && true && nat_lt 0 (length (tag_name (c ∷ cs))))
         && bytes_eq (take 1 (after_name (c ∷ cs))) (codes "\"")) e
 
+-- a line's first byte, if it is `%`, is also that of its front
+escape_first : (line : List ℕ) → bytes_eq (take 1 line) (codes "%") ≡ true
+    → bytes_eq (take 1 (front_of line)) (codes "%") ≡ true
+escape_first [] h = absurd (cc)
+escape_first (c ∷ cs) h = by_test (eqb c 37) refl
+  where
+    by_test : (b : Bool) → eqb c 37 ≡ b → bytes_eq (take 1 (front_of (c ∷ cs))) (codes "%") ≡ true
+    by_test true e = ap (λ d. bytes_eq (take 1 (front_of (d ∷ cs))) (codes "%")) (eqb-true c 37 e)
+    by_test false e = let no : false ≡ true = sym (ap (λ b. b && true) e) ∙ h in absurd (cc)
+
+weaker : (in_front in_line comment white : Bool) → (in_line ≡ true → in_front ≡ true)
+    → (in_line || comment || white) ≡ true → (in_front || comment || white) ≡ true
+weaker true in_line comment white implies h = refl
+weaker false true comment white implies h = let no : false ≡ true = implies refl in absurd (cc)
+weaker false false comment white implies h = h
+
 stays : (before : List (List ℕ)) (line : List ℕ) → is_empty_line line ≡ true → begins_piece before line ≡ false
 stays before line h =
     and_left (is_tag_line line) (list_any is_moves_line before || (is_event_line line && list_any is_event_line before))
-    (front_kind (front_of line) h)
+    (front_kind (front_of line) (weaker (bytes_eq (take 1 (front_of line)) (codes "%"))
+    (bytes_eq (take 1 line) (codes "%")) _ _ (escape_first line) h))
 
 -- ---- lines before a tag line
 

@@ -43,6 +43,12 @@ pieces_begin = record {
   quote_in_tag = refl;
   no_token = refl;
   unclosed_tag = refl;
+  moves_after_glyph = refl;
+  variation_after_tag = refl;
+  indented_escape = refl;
   marks_after_tag = refl;
+  glyph_after_tag = refl;
   unclosed_comment = refl;
+  broken_on_long_line = refl;
+  open_on_long_line = refl;
 }

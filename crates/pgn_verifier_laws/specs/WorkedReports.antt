@@ -1,6 +1,6 @@
 -- What is written of reports, where games begin and end, where a text is read on after a fault, and into which pieces a
 -- collection is cut, worked out.
-use Rattle.std.specs.Prelude.{◌≡◌, ℕ, true, false, List, [], ◌∷◌, ◌++◌, length, map, codes, Option, Some, None}
+use Rattle.std.specs.Prelude.{◌≡◌, ℕ, true, false, List, [], ◌∷◌, ◌++◌, length, map, replicate, codes, Option, Some, None}
 use Prim.Native.String.{String as Text}
 use Rattle.chess_game.specs.declared.results.Outcome.TheVariants.{BlackWins, Draw}
 use Rattle.chess_pgn.specs.declared.read.PgnFaultKind.TheVariants.{AfterEnd, IllegalMove}
@@ -115,6 +115,10 @@ pub record TextsAreReadOn : Type 0 where
 abbrev pub AreItsPieces : Text → List (List ℕ) → Type 0
 AreItsPieces text pieces = cut (codes text) ≡ pieces
 
+-- a tag line of more than 256 bytes, in which a second tag has these bytes
+abbrev pub long_line : Text → List ℕ
+long_line second = codes "[Event \"a\"] " ++ codes second ++ replicate 250 32 ++ codes "\n"
+
 -- where a piece begins
 pub record PiecesBegin : Type 0 where
   -- at an Event line after an Event line
@@ -142,6 +146,21 @@ pub record PiecesBegin : Type 0 where
       (codes "[Event \"a\"] <\n" ∷ codes "[White \"b\"]\n" ∷ [])
   pub unclosed_tag : AreItsPieces "[Event \"a\n[White \"b\"]\n"
       (codes "[Event \"a\n" ∷ codes "[White \"b\"]\n" ∷ [])
-  -- not at one after marks, or after a comment that isn't closed on its line
+  -- also after a glyph, a dot and a mark with moves behind them, or after a variation
+  pub moves_after_glyph : AreItsPieces "[Event \"a\"] $12 . ! e4 *\n[White \"b\"]\n"
+      (codes "[Event \"a\"] $12 . ! e4 *\n" ∷ codes "[White \"b\"]\n" ∷ [])
+  pub variation_after_tag : AreItsPieces "[Event \"a\"] (e4)\n[White \"b\"]\n"
+      (codes "[Event \"a\"] (e4)\n" ∷ codes "[White \"b\"]\n" ∷ [])
+  -- after a line that begins with a space and then `%`, which is no line of PGN's escape
+  pub indented_escape : AreItsPieces " %\n[White \"b\"]\n" (codes " %\n" ∷ codes "[White \"b\"]\n" ∷ [])
+  -- not at one after marks or a glyph, or after a comment that isn't closed on its line
   pub marks_after_tag : AreItsPieces "[Event \"a\"] !\n[White \"b\"]\n" (codes "[Event \"a\"] !\n[White \"b\"]\n" ∷ [])
+  pub glyph_after_tag : AreItsPieces "[Event \"a\"] $12\n[White \"b\"]\n"
+      (codes "[Event \"a\"] $12\n[White \"b\"]\n" ∷ [])
   pub unclosed_comment : AreItsPieces "[Event \"a\"] {\n[White \"b\"]\n" (codes "[Event \"a\"] {\n[White \"b\"]\n" ∷ [])
+  -- on a line so long that its end is not looked at: after a tag with something between its string and its bracket, and
+  -- not after one that may be closed further on
+  pub broken_on_long_line : cut (long_line "[Site \"b\" c" ++ codes "[White \"b\"]\n")
+      ≡ long_line "[Site \"b\" c" ∷ codes "[White \"b\"]\n" ∷ []
+  pub open_on_long_line : cut (long_line "[Site \"b\"" ++ codes "[White \"b\"]\n")
+      ≡ (long_line "[Site \"b\"" ++ codes "[White \"b\"]\n") ∷ []
