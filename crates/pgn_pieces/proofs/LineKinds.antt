@@ -1,29 +1,24 @@
 -- The kind of a line that may go on: a tag line stays one, and after 256 bytes no more bytes change the kind.
-use Rattle.std.proofs.Common.{◌≡◌, ◌≤◌, ◌<◌, ℕ, zero, suc, ◌+◌, eqb, leb, Bool, true, false, List, [], ◌∷◌, ◌++◌, length, take, drop, cond, refl, sym, ap, ◌∙◌, length-drop, append_assoc, arith, bytes_eq, if◌then◌else◌, ◌&&◌, ◌||◌, not, nat_lt, codes}
-use Rattle.std.specs.List.{list_all, list_any, prefix_len, take_while}
+use Rattle.std.proofs.Common.{◌≡◌, ◌≤◌, ◌<◌, ℕ, zero, suc, ◌+◌, eqb, leb, Bool, true, false, List, [], ◌∷◌, ◌++◌, length, take, drop, cond, refl, sym, ap, ◌∙◌, length-drop, append_assoc, arith, bytes_eq, if◌then◌else◌, ◌&&◌, not, nat_lt, codes}
+use Rattle.std.specs.List.{list_any, prefix_len, take_while}
 use Rattle.std.proofs.{lemmas.Bool.and_parts, lemmas.Bool.leb-true, lemmas.Bool.Decides.nat_tests, lemmas.List.take-append-le, lemmas.List.drop-append-le, lemmas.List.take_all, lemmas.List.Folds.prefix_len-append, lemmas.List.Folds.length-prefix_len, lemmas.List.Sums.prefix_len-le-length}
 use Rattle.pgn_pieces.specs.{Places.breaks_line, Pieces.front_of, Pieces.tag_name, Pieces.after_name, Pieces.begins_tag, Pieces.after_parts, Pieces.has_more, Pieces.is_tag_line, Pieces.is_event_line, Pieces.is_moves_line}
 use Rattle.byte_devices.specs.Bytes.{after_byte_order_mark, is_blank, is_name_byte}
-use Rattle.pgn_pieces.specs.{ties.Fronts.without_blanks, ties.Held.SameKind, ties.Held.SameTag, ties.Held.IsDecided}
+use Rattle.pgn_pieces.specs.{ties.Fronts.is_empty_with, ties.Fronts.without_blanks, ties.Held.SameKind, ties.Held.SameTag, ties.Held.IsDecided}
 
 abbrev without_mark : List ℕ → List ℕ
 without_mark text = drop (after_byte_order_mark text 0) text
 
 -- ---- a line of 256 bytes or more
 
--- what `is_empty_line` says of a line with this first byte and this front
-abbrev is_empty : List ℕ → List ℕ → Bool
-is_empty first front = bytes_eq first (codes "%") || bytes_eq (take 1 front) (codes ";")
-    || list_all (λ c. is_blank c || (c == 13) || (c == 10)) front
-
 same_front : (a b : List ℕ) → take 1 a ≡ take 1 b → front_of a ≡ front_of b → SameKind a b
 same_front a b first h = record {
   tag = ap begins_tag h;
   event = ap (λ f. begins_tag f && bytes_eq (tag_name f) (codes "Event")) h;
   moves = ap (λ f. if begins_tag f then has_more (list_any breaks_line f) (after_parts 256 f)
-      else not (is_empty (take 1 a) f)) h
+      else not (is_empty_with (take 1 a) f)) h
       ∙ ap (λ t. if is_tag_line b then has_more (list_any breaks_line (front_of b)) (after_parts 256 (front_of b))
-      else not (is_empty t (front_of b))) first;
+      else not (is_empty_with t (front_of b))) first;
 }
 
 pub same_tag : (a b : List ℕ) → SameKind a b → SameTag a b

@@ -14,10 +14,10 @@ ghost use Rattle.std.specs.Prelude.{◌≡◌, ◌≤◌, nat_lt, true, false, �
 ghost use Rattle.std.specs.Str.{bytes_eq};
 ghost use Rattle.std.specs.List.{list_all, list_any};
 ghost use Rattle.std.specs.Option.{option_map};
-ghost use Rattle.pgn_pieces.specs.Pieces.{front_of, after_byte, after_name, after_part, after_parts, after_string, begins_tag, ends_in_tag, from_quote, has_more, tag_name, is_empty_line, is_tag_line, is_event_line, is_moves_line};
-ghost use Rattle.byte_devices.specs.Bytes.{after_byte_order_mark, is_blank};
+ghost use Rattle.pgn_pieces.specs.Pieces.{drop_while, front_of, after_byte, after_name, after_part, after_parts, after_string, begins_tag, ends_in_tag, from_quote, has_more, tag_name, is_tag_line, is_event_line, is_moves_line};
+ghost use Rattle.byte_devices.specs.Bytes.{after_byte_order_mark, is_blank, is_digit};
 ghost use Rattle.pgn_pieces.specs.Places.{breaks_line, line_ends};
-ghost use Rattle.pgn_pieces.specs.ties.Fronts.{after_value, behind_string, from_mark, without_blanks};
+ghost use Rattle.pgn_pieces.specs.ties.Fronts.{after_value, behind_string, from_mark, is_empty_with, without_blanks};
 
 use byte_devices::{
     after_byte_order_mark, is_blank, is_digit, is_name_byte, len_before, len_before_any,
@@ -176,13 +176,15 @@ fn after_part(text: &[u8]) -> Option<&[u8]>
     if begins_tag(text) {
         return after_value(after_name(text, tag_name(text)));
     }
-    let rest = match text {
-        [b'{', ..] => after_byte(b'}', &text[len_before(text, b'}')..])?,
-        [b'$', rest @ ..] => split_while(rest, |byte| is_digit(byte)).1,
-        [b'.' | b'!' | b'?', rest @ ..] => rest,
-        _ => return None,
-    };
-    Some(without_blanks(rest))
+    match text {
+        [b'{', ..] => {
+            let rest = after_byte(b'}', &text[len_before(text, b'}')..])?;
+            Some(without_blanks(rest))
+        }
+        [b'$', rest @ ..] => Some(without_blanks(without_digits(rest))),
+        [b'.' | b'!' | b'?', rest @ ..] => Some(without_blanks(rest)),
+        _ => None,
+    }
 }
 
 // What comes after the tags, comments, glyphs, dots and marks with which the front of a tag line begins. `value` is the
@@ -291,6 +293,14 @@ fn without_blanks(text: &[u8]) -> &[u8]
     split_while(text, |byte| is_blank(byte)).1
 }
 
+// A text without the digits at its front: ` e4` for `12 e4`.
+#[inline(always)]
+fn without_digits(text: &[u8]) -> &[u8]
+    ensures { result.now ≡ drop_while is_digit text.now }
+{
+    split_while(text, |byte| is_digit(byte)).1
+}
+
 // The part of a line's front after the tag's name, and after any spaces and tabs that follow the name: `"Oslo"]` for
 // `[Event "Oslo"]`. `name` is what `tag_name` returned for this front.
 #[inline(always)]
@@ -331,8 +341,7 @@ fn is_all_white(bytes: &[u8]) -> bool
 // white space, or begins with `;` (a comment up to the line's end), or the line's first byte is `%` (PGN's escape).
 #[inline(always)]
 fn is_empty(line: &[u8], front: &[u8]) -> bool
-    requires { front.now ≡ front_of line.now }
-    ensures { result ≡ is_empty_line line.now }
+    ensures { result ≡ is_empty_with (take 1 line.now) front.now }
 {
     line.starts_with(b"%") || front.starts_with(b";") || is_all_white(front)
 }

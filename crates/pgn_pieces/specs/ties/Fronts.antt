@@ -1,13 +1,19 @@
--- The parts of a tag, from its value on.
-use Rattle.std.specs.Prelude.{ℕ, false, ◌||◌, ◌==◌, List, drop, Option}
-use Rattle.std.specs.List.{position_or_len}
+-- The kind of a line, by its first byte and its front: what `is_empty_line` says of it, and the parts of a tag.
+use Rattle.std.specs.Prelude.{ℕ, Bool, false, ◌||◌, ◌==◌, List, take, drop, codes, Option}
+use Rattle.std.specs.List.{list_all, position_or_len}
 use Rattle.std.specs.Option.{option_map}
+use Rattle.std.specs.Str.{bytes_eq}
 use Rattle.pgn_pieces.specs.Pieces.{after_byte, drop_while, from_quote}
 use Rattle.byte_devices.specs.Bytes.{byte, is_blank}
 
 -- a text without the spaces and tabs at its beginning
 abbrev pub without_blanks : List ℕ → List ℕ
 without_blanks text = drop_while is_blank text
+
+-- whether a line with this first byte (`[]` if it has none) and this front counts as empty
+abbrev pub is_empty_with : List ℕ → List ℕ → Bool
+is_empty_with first front = bytes_eq first (codes "%") || bytes_eq (take 1 front) (codes ";")
+    || list_all (λ c. is_blank c || (c == 13) || (c == 10)) front
 
 -- a text from its first quote or backslash on; empty if it has neither
 abbrev pub from_mark : List ℕ → List ℕ

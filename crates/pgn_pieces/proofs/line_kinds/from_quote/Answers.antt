@@ -1,5 +1,5 @@
 -- From mark to mark (StringEnds): a quote ends the loop, and a backslash keeps the byte after it.
-use Rattle.std.proofs.Common.{◌≡◌, ◌∙◌, ◌<◌, List, ℕ, false, length, drop, ap, sym}
+use Rattle.std.proofs.Common.{◌≡◌, ◌∙◌, false, drop, ap, sym}
 use Rattle.pgn_pieces.specs.{Pieces.from_quote, ties.Fronts.from_mark}
 use Rattle.pgn_pieces.proofs.StringEnds.{begins_with_mark, closed, kept_on, mark_first, quote_after_mark, shorter_on}
 use Rattle.pgn_pieces.proofs.line_kinds.from_quote.Goals as goal
