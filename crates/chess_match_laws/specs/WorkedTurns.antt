@@ -86,7 +86,7 @@ pub record OffersAreJudged : Type 0 where
 
 -- ---- ignored lines
 
--- after 9,998 lines that were ignored the count begins anew with each setup and each turn, but not with a move in a turn
+-- after 9,998 lines that were ignored the count begins anew with each setup and each turn, but not with a turn's move
 pub record IgnoredAreCounted : Type 0 where
   pub setup : (by_line (record (match_in (Setup White)) { count = 9998 }) White "pong 1").after.count ≡ 0
   pub turn : (by_line (record after_e4 { count = 9998 }) White "pong 2").after.count ≡ 0
