@@ -8,4 +8,5 @@ mod PlainStub
 mod PlainWalk
 mod RefusedArguments
 mod Statuses
+mod StubLines
 mod WorkedOptions

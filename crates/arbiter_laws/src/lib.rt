@@ -11,5 +11,5 @@ pub use arguments::{
 };
 pub use program::{
     limits_are_as_stated, plain_arguments_are_followed, plain_arguments_do_what_they_say,
-    refused_arguments_are_reported, statuses_are_stated,
+    refused_arguments_are_reported, statuses_are_stated, stub_lines_are_answered,
 };

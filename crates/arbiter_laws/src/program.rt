@@ -8,6 +8,7 @@ ghost use Rattle.chess_match.specs.declared.run.TheConstants.{ENGINE_LINE_LEN};
 ghost use Rattle.pgn_pieces.specs.declared.pieces.TheConstants.{PIECE_LEN};
 ghost use Rattle.arbiter_laws.specs.Programs.{PlainArgumentsAreFollowed, RefusesArguments, ServesSession, ShowsHelp, VerifiesGames};
 ghost use Rattle.arbiter_laws.specs.Statuses.{StatusesAreStated};
+ghost use Rattle.arbiter_laws.specs.StubLines.{StubLinesAreAnswered};
 
 use crate::arguments::{
     plain_arguments_are_read, plain_arguments_are_refused, plain_arguments_are_taken,
@@ -58,6 +59,15 @@ pub fn refused_arguments_are_reported()
 /// It refuses the status 1 for a bad level, and 0 for a match that was not played to its end.
 pub fn statuses_are_stated()
     ensures { StatusesAreStated }
+{}
+
+/// States a law and does nothing: what a stub answers to some lines, byte by byte, and what it plays with one argument
+/// left, with none, and with a move and `offer`.
+///
+/// It refuses features that are not said to version 1 of the protocol, a stub that plays on after `new`, and an offer
+/// that is played as a move.
+pub fn stub_lines_are_answered()
+    ensures { StubLinesAreAnswered }
 {}
 
 /// States a law and does nothing: the limits that definitions name by constants are 20,000 half-moves of a game,

@@ -4,7 +4,7 @@ use arbiter_laws::{
     limits_are_as_stated, options_are_worked_out, plain_arguments_are_followed,
     plain_arguments_are_read, plain_arguments_are_refused, plain_arguments_are_taken,
     plain_arguments_do_what_they_say, plans_are_named, refused_arguments_are_reported,
-    statuses_are_stated, verify_is_as_asked,
+    statuses_are_stated, stub_lines_are_answered, verify_is_as_asked,
 };
 use match_pgn_laws::{matches_pass_verify, scores_are_sums};
 use match_runner_laws::{
@@ -36,5 +36,6 @@ fn laws_of_the_program_are_called() {
     plans_are_named();
     refused_arguments_are_reported();
     statuses_are_stated();
+    stub_lines_are_answered();
     verify_is_as_asked();
 }

@@ -232,6 +232,10 @@ goes : (session : SessionSeen) → IsAnswered session "go" "Error (the arbiter p
 unfolding command_of named_command is_ignored
 goes session = answered session "go" "Error (the arbiter plays no side): go\n" Go refl refl refl refl
 
+goes_now : (session : SessionSeen) → IsAnswered session "go now" "Error (the arbiter plays no side): go\n"
+unfolding command_of named_command is_ignored
+goes_now session = answered session "go now" "Error (the arbiter plays no side): go\n" Go refl refl refl refl
+
 no_result : (session : SessionSeen) → IsAnswered session "result 2-0" "Error (bad result): result 2-0\n"
 unfolding argument_of command_of named_command is_ignored read_result result_comment
 no_result session =
@@ -326,6 +330,7 @@ session_lines_are_answered session = record {
   third_version = third_version session;
   no_move = no_move session;
   go = goes session;
+  go_now = goes_now session;
   no_result = no_result session;
   no_braces = no_braces session;
   after_braces = after_braces session;
@@ -342,4 +347,4 @@ session_lines_are_answered session = record {
 
 pub lines_are_cut : LinesAreCut
 unfolding trimmed line_of lines_of_parts
-lines_are_cut = record { trimmed = refl; last = refl; unended = refl; long = refl; kept = refl }
+lines_are_cut = record { trimmed = refl; returns = refl; last = refl; unended = refl; long = refl; kept = refl }

@@ -91,6 +91,8 @@ pub record LinesAreAnswered (session : SessionSeen) : Type 0 where
   -- `usermove` without a move
   pub no_move : IsAnswered session "usermove" "Error (unknown command): usermove\n"
   pub go : IsAnswered session "go" "Error (the arbiter plays no side): go\n"
+  -- what follows it means nothing, and is not shown
+  pub go_now : IsAnswered session "go now" "Error (the arbiter plays no side): go\n"
   pub no_result : IsAnswered session "result 2-0" "Error (bad result): result 2-0\n"
   -- a comment on a result has braces
   pub no_braces : IsAnswered session "result 1-0 Black resigns" "Error (bad result): result 1-0 Black resigns\n"
@@ -122,6 +124,8 @@ pub record LinesAreCut : Type 0 where
   -- a line's text is without a `\r` at its end, and then without spaces and tabs at both ends; it may be empty
   pub trimmed : texts_of (codes " go" ++ carriage_return ∷ new_line ∷ tab ∷ codes "ping 7 \n\nquit\n")
       ≡ codes "go" ∷ codes "ping 7" ∷ [] ∷ codes "quit" ∷ []
+  -- the `\r` is cut first, and only at the line's end: not one that a space comes after
+  pub returns : texts_of (codes "go \r\nquit\r \n") ≡ codes "go" ∷ codes "quit\r" ∷ []
   -- what follows the last `\n` is a line only if the input has ended
   pub last : texts_of (codes "go\nquit") ≡ codes "go" ∷ codes "quit" ∷ []
   pub unended : length (stream_lines 9 false (codes "go\nquit")) ≡ 1

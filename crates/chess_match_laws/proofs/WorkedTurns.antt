@@ -68,7 +68,7 @@ unfolding squares some_square each_square is_between is_of is_man is_clear could
     pawn_moves man_moves is_pseudo_legal captured_square men_after rights_after target_after resets_clock halfmove_after
     after is_legal same_men same_rights legal_en_passant_square is_same_position repetition_count allotted
     argument_of command_number kind_of
-ignored_are_counted = record { setup = refl; turn = refl }
+ignored_are_counted = record { setup = refl; turn = refl; move = refl }
 
 pub handshakes_end : HandshakesEnd
 unfolding argument_of command_number digits has_word initial_setup initial_setup_of item_of items_of kind_of
@@ -78,6 +78,7 @@ handshakes_end = record {
   too_many = refl;
   done = refl;
   quoted = refl;
+  in_time = refl;
   no_ping = refl;
   no_setboard = refl;
   no_variant = refl;

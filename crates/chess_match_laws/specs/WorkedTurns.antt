@@ -12,14 +12,14 @@ use Rattle.chess_base.specs.Initial.{initial_setup_of}
 use Rattle.chess_fen.specs.Reading.{fen_reading_as}
 use Rattle.cecp_engine.specs.Items.{items_of}
 use Rattle.chess_match.specs.Acts.{Block, due_after}
-use Rattle.chess_match.specs.Effects.{AfterMove, BeforeMove, Effect, Handshake, Match, Over, Phase, Setup, beginning, effect, judged, missing, setup_done}
+use Rattle.chess_match.specs.Effects.{AfterMove, BeforeMove, Effect, Handshake, Match, Over, Phase, Setup, beginning, effect, judged, missing, moved, setup_done}
 use Rattle.chess_match.specs.Events.{FailsToWrite, Line, OutputEnds, Silent}
 use Rattle.chess_match.specs.Lines.{bytes_of}
 use Rattle.chess_match.specs.Rules.{Rules}
 use Rattle.chess_match.specs.declared.reason.MatchFault.{MatchFault}
 use Rattle.chess_match.specs.declared.reason.MatchFault.TheVariants.{NoAnswer, NoDone, NoHandshake, NoPing, NoSetboard, NoVariant}
 use Rattle.chess_match.specs.declared.reason.Reason.TheVariants as over_by
-use Rattle.chess_match_laws.specs.Worked.{AreSentAs, after_e4, seat_of, worked_rules}
+use Rattle.chess_match_laws.specs.Worked.{AreSentAs, after_e4, e4, seat_of, worked_rules}
 
 -- a match of 40 moves in 5 minutes in this phase, before any move; at the moment 2,000 came the last line that counted
 abbrev pub match_in : Phase → Match
@@ -86,10 +86,12 @@ pub record OffersAreJudged : Type 0 where
 
 -- ---- ignored lines
 
--- after 9,998 lines that were ignored the count begins anew with each setup and each turn
+-- after 9,998 lines that were ignored the count begins anew with each setup and each turn, but not with a turn's move
 pub record IgnoredAreCounted : Type 0 where
   pub setup : (by_line (record (match_in (Setup White)) { count = 9998 }) White "pong 1").after.count ≡ 0
   pub turn : (by_line (record after_e4 { count = 9998 }) White "pong 2").after.count ≡ 0
+  -- those before the side's move and those after it, up to its `pong`, are counted together
+  pub move : (moved White e4 2000 (record (match_in (BeforeMove White 1000)) { count = 9998 })).count ≡ 9998
 
 -- ---- before the game
 
@@ -109,6 +111,9 @@ pub record HandshakesEnd : Type 0 where
   -- `done=1` ends a handshake, but not with the 1 in quotes
   pub done : phase_after (Handshake White) White "feature done=1" ≡ Handshake Black
   pub quoted : phase_after (Handshake White) White "feature done=\"1\"" ≡ Handshake White
+  -- `done=1` in the 1,000th line is in time
+  pub in_time : (by_line (record (match_in (Handshake White)) { count = 999 }) White "feature done=1").after.phase
+      ≡ Handshake Black
   -- of what an engine lacks the first of `ping`, `setboard` and Chess960 is reported
   pub no_ping : lacks "variants=\"normal\"" ≡ Some NoPing
   pub no_setboard : lacks "ping=1 variants=\"normal\"" ≡ Some NoSetboard

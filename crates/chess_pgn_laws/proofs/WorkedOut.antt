@@ -1,18 +1,22 @@
 -- Small texts worked out: how they are split, read and laid out.
-use Rattle.std.proofs.Common.{◌≡◌, ℕ, true, cond, List, [], ◌∷◌, ◌++◌, length, Option, None, refl, sym, ap, ◌∙◌, append_assoc, arith, length-append, codes, is_some, nat_lt}
+use Rattle.std.proofs.Common.{◌≡◌, ℕ, suc, Bool, true, false, cond, List, [], ◌∷◌, ◌++◌, length, Option, None, Some, refl, sym, ap, ◌∙◌, append_assoc, arith, length-append, codes, is_some, nat_lt}
 use Rattle.std.proofs.lemmas.List.Concat.{flat_map-append}
-use Rattle.chess_base.specs.{declared.man.Move.Move, declared.man.Variant.TheVariants.Normal, Initial.initial_setup_of}
+use Rattle.std.specs.Option.{option_or}
+use Rattle.chess_base.specs.{declared.man.Move.Move, declared.man.Variant.TheVariants.Normal, declared.setup.Setup.Setup, Initial.initial_setup_of, Moves.after}
 use Rattle.chess_game.specs.{declared.verdicts.Verdict.Verdict, declared.results.Outcome.TheVariants.Unfinished}
 use Rattle.chess_game.specs.Game.{State, from_start, played, current, verdict_now}
 use Rattle.chess_text.specs.{declared.reading.Reading.Reading, Moves.reading}
 use Rattle.chess_text.specs.declared.reading.Reading.TheVariants as reads
+use Rattle.chess_pgn.specs.declared.read.PgnFault.{PgnFault}
 use Rattle.chess_pgn.specs.declared.read.PgnFaultKind.TheVariants.{AfterEnd, TooLong}
+use Rattle.chess_pgn.specs.declared.variations.TheConstants.{MOST_NESTED}
+use Rattle.chess_pgn.specs.{Variations.line_fault, Variations.variation_fault, Variations.variations_fault, Words.word_gives}
 use Rattle.pgn_writer.specs.{declared.tags.Tags.Tags, GameText.tag_lines, GameText.game_tokens, Written.ended, PgnText.IsPgn}
 use Rattle.chess_pgn.specs.GameRead.{GameRead, moves_read, read_of_split, IsRead}
 use Rattle.chess_pgn.specs.shared.Rows.{Row, Goes_on, Fails, move_row, after_row}
 use Rattle.pgn_tokens.specs.Tokens.{Token, Skip, Tag, Word, token_at, tokens_of, tokens_from}
 use Rattle.byte_devices.specs.Bytes.{after_byte_order_mark}
-use Rattle.chess_pgn_laws.specs.Examples.{finished, TextsAreSplit, TextsAreRead, TextsAreLaidOut}
+use Rattle.chess_pgn_laws.specs.Examples.{endless, fault_with, finished, TextsAreSplit, TextsAreRead, TextsAreLaidOut, VariationsAreCounted}
 use Rattle.chess_pgn_laws.proofs.FullLines.{full_cons, grouped_full}
 use Rattle.chess_pgn.proofs.shared.Games.{moves_by_row}
 use Rattle.pgn_tokens.proofs.shared.Tokens.{read_split}
@@ -72,6 +76,30 @@ read_so at_text r is = record {
   is = is;
 }
 
+-- ---- variations in variations
+
+-- the first fault in a line of these tokens, by what its move is read as; `inside` gives that of a variation in it
+abbrev by_move : (Setup → ℕ → Option PgnFault) → Bool → Setup → Reading → Option PgnFault
+by_move inside tags p r =
+    word_gives None (λ m. line_fault tags (codes "e4 (") inside (Some p) (after p m) ((1, Skip) ∷ []))
+    (λ kind. Some (record { kind = kind; offset = 0 })) r
+
+of_a_game : (p : Setup) (m : Move) → reading p (codes "e4") ≡ reads.Move m
+    → variations_fault endless (codes "e4 (") p 0 ≡ option_or (fault_with 64 p) None
+of_a_game p m says = ap (by_move (λ q from. variation_fault endless MOST_NESTED (codes "e4 (") q from) true p) says
+
+in_another : (most : ℕ) (p : Setup) (m : Move) → reading p (codes "e4") ≡ reads.Move m
+    → fault_with (suc most) p ≡ option_or (fault_with most p) None
+unfolding variation_fault
+in_another most p m says = ap (by_move (λ q from. variation_fault endless most (codes "e4 (") q from) false p) says
+
+too_many : (p : Setup) → fault_with 0 p ≡ Some (record { kind = TooLong; offset = 3 })
+unfolding variation_fault
+too_many p = refl
+
+variations_are_counted : VariationsAreCounted
+variations_are_counted = record { of_a_game = of_a_game; in_another = in_another; too_many = too_many }
+
 pub texts_are_read : TextsAreRead
 unfolding token_at tokens_of tokens_from
 texts_are_read = record {
@@ -80,6 +108,7 @@ texts_are_read = record {
   no_result = read_so (codes "[A \"b\"]") _ refl;
   bad_tag = read_so (codes "[A \"b\"][A b]") _ refl;
   bad_fen = read_so (codes "[FEN \"x\"] *") _ refl;
+  variations = variations_are_counted;
 }
 
 -- ---- laid out

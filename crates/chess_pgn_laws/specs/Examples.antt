@@ -1,9 +1,11 @@
 -- Small texts by which the law `texts_are_worked_out` shows what the definitions of a split, of a game that is read and
 -- of a game's text mean.
-use Rattle.std.specs.Prelude.{◌≡◌, ℕ, true, List, [], ◌∷◌, ◌++◌, length, codes, Option, Some, None, Ok, is_some}
+use Rattle.std.specs.Prelude.{◌≡◌, ℕ, suc, true, List, [], ◌∷◌, ◌++◌, length, codes, Option, Some, None, Ok, is_some}
+use Rattle.std.specs.Option.{option_or}
 use Rattle.chess_base.specs.declared.fen_fault.FenFault.TheVariants.{Fields}
 use Rattle.chess_base.specs.declared.man.Move.{Move}
 use Rattle.chess_base.specs.declared.man.Variant.TheVariants.{Normal}
+use Rattle.chess_base.specs.declared.setup.Setup.{Setup}
 use Rattle.chess_base.specs.Initial.{initial_setup_of}
 use Rattle.chess_game.specs.Game.{State, from_start, played, current, verdict_now}
 use Rattle.chess_game.specs.declared.results.Outcome.{Outcome}
@@ -11,15 +13,17 @@ use Rattle.chess_game.specs.declared.results.Outcome.TheVariants.{Unfinished}
 use Rattle.pgn_writer.specs.declared.termination.Termination.{Termination}
 use Rattle.chess_text.specs.declared.reading.Reading.TheVariants as reads
 use Rattle.chess_text.specs.Moves.{reading}
-use Rattle.chess_pgn.specs.declared.read.PgnFaultKind.TheVariants.{BadTag, BadFen, NoResult}
+use Rattle.chess_pgn.specs.declared.read.PgnFault.{PgnFault}
+use Rattle.chess_pgn.specs.declared.read.PgnFaultKind.TheVariants.{BadTag, BadFen, NoResult, TooLong}
 use Rattle.pgn_writer.specs.declared.tags.Tags.{Tags}
 use Rattle.pgn_writer.specs.GameText.{tag_lines, game_tokens}
-use Rattle.pgn_tokens.specs.Tokens.{Skip, Tag, Word, Bad_tag, Unclosed_comment, Unclosed_variation}
+use Rattle.pgn_tokens.specs.Tokens.{Token, Skip, Tag, Word, Bad_tag, Unclosed_comment, Unclosed_variation}
 use Rattle.pgn_writer.specs.Written.{ended}
 use Rattle.pgn_writer.specs.PgnText.{AreFullLines, IsPgn}
 use Rattle.pgn_tokens.specs.Split.{IsSplit}
 use Rattle.chess_pgn.specs.GameRead.{GameRead, declared_after, failed}
 use Rattle.chess_pgn.specs.GameRead.{IsRead}
+use Rattle.chess_pgn.specs.Variations.{variation_fault, variations_fault}
 
 -- what is read if the game `s` was read and then the termination marker of this outcome. `offset` is that of the byte
 -- after the marker
@@ -47,6 +51,25 @@ pub record TextsAreSplit : Type 0 where
   -- one in which a comment isn't closed, with 2 bytes left at its brace
   pub no_comment_end : IsSplit (codes "(a(b{c") 0 ((6, Unclosed_comment 2) ∷ [])
 
+-- the tokens of `e4 (e4 (e4 (` and so on without end, as tokens of the text `e4 (`: wherever reading begins, a move and
+-- then a variation, whose `(` is at the offset 3
+abbrev pub endless : List ℕ → ℕ → List (ℕ × Token)
+endless text at = (4, Word (codes "e4")) ∷ (1, Skip) ∷ []
+
+-- the first fault of a variation of this text, whose moves begin in the position `p`, if so many variations may be
+-- open, this one included
+abbrev pub fault_with : ℕ → Setup → Option PgnFault
+fault_with most p = variation_fault endless most (codes "e4 (") p 3
+
+-- how many variations may be open, where each is in another one and replaces the move m: one of a game may be the
+-- first of 64, one in it of one less, and so on; where none may be open, it is the fault
+pub record VariationsAreCounted : Type 0 where
+  pub of_a_game : (p : Setup) (m : Move) → reading p (codes "e4") ≡ reads.Move m
+      → variations_fault endless (codes "e4 (") p 0 ≡ option_or (fault_with 64 p) None
+  pub in_another : (most : ℕ) (p : Setup) (m : Move) → reading p (codes "e4") ≡ reads.Move m
+      → fault_with (suc most) p ≡ option_or (fault_with most p) None
+  pub too_many : (p : Setup) → fault_with 0 p ≡ Some (record { kind = TooLong; offset = 3 })
+
 -- examples of what is read of texts, in games of at most one half-move
 pub record TextsAreRead : Type 0 where
   -- one move, where the initial position has no verdict and `e4` denotes the move m in it
@@ -66,6 +89,8 @@ pub record TextsAreRead : Type 0 where
   -- a FEN of one field: the fault is at the first byte of its text
   pub bad_fen : IsRead true 1 (codes "[FEN \"x\"] *") 0
       (failed (from_start (initial_setup_of Normal)) (BadFen Fields) 6)
+  -- variations in variations
+  pub variations : VariationsAreCounted
 
 -- examples of how tokens are laid out in lines
 pub record TextsAreLaidOut : Type 0 where

@@ -112,7 +112,7 @@ pub fn games_are_laid_out()
 {}
 
 /// States a law and does nothing: small examples of how the definitions split texts into tokens, what they read of
-/// them, and how they lay out games.
+/// them, and how they lay out games. Among them is how many variations may be open at once: 64.
 pub fn texts_are_worked_out()
     ensures split { TextsAreSplit }
     ensures read { TextsAreRead }

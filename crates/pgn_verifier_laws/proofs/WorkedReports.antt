@@ -27,7 +27,14 @@ games_are_found = refl
 
 pub texts_are_read_on : TextsAreReadOn
 unfolding token_at tokens_from tokens_of
-texts_are_read_on = record { marker = refl; later = refl; tags = refl; end = refl; unreadable = refl }
+texts_are_read_on = record {
+  marker = refl;
+  later = refl;
+  tags = refl;
+  end = refl;
+  unreadable = refl;
+  bad_tag = refl;
+}
 
 pub pieces_begin : PiecesBegin
 unfolding after_parts

@@ -108,6 +108,8 @@ pub record TextsAreReadOn : Type 0 where
   -- nowhere, if the text ends before that, or can't be read up to there
   pub end : IsReadOnAt "e9 e4" None
   pub unreadable : IsReadOnAt "e9 {1-0 *" None
+  -- so also at a `[` that begins no tag: what comes from there on is not split into tokens
+  pub bad_tag : IsReadOnAt "e9 [A b] *" None
 
 -- ---- pieces
 
