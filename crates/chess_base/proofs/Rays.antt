@@ -59,7 +59,7 @@ no_knight_on_diagonal a b x e =
     (alike (file a) (file x) (file b) (rank a) (rank x) (rank b) (eqb-true _ _ first.0)
     (eqb-true _ _ first.1) next.1 last.1)
 
--- on any line
+-- so squares that have one between them are no knight's way apart
 no_knight_between : (a b x : ℕ) → is_between a b x ≡ true
     → (((abs_diff (file a) (file b) == 1) && (abs_diff (rank a) (rank b) == 2))
     || ((abs_diff (file a) (file b) == 2) && (abs_diff (rank a) (rank b) == 1))) ≡ false
@@ -499,7 +499,8 @@ knight_of men c a b (Some x) at e =
     let man = and_parts _ _ both.0 in
     rw at (and_from _ _ man.0 (knight_by men c x.colour x.kind a b man.1 both.1))
 
--- a test s, which holds only on one of four lines or if k does, by these
+-- if s holds only on one of four lines (f, r, d, t) or together with k, and k gives s: s holds exactly if it does on
+-- one of the lines, or if k does
 ways : (f r d t k s : Bool) → (s ≡ true → ((f || r || d || t) ≡ true) ⊎ (k ≡ true)) → (k ≡ true → s ≡ true)
     → s ≡ ((f && s) || (r && s) || (d && s) || (t && s) || k)
 ways f r d t k true h g =

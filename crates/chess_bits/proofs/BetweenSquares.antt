@@ -12,8 +12,8 @@ use Rattle.chess_moves.specs.Sets.{contains}
 
 -- ---- on one line
 
--- k is on the ray up from a and on the ray down from b, along lines of one kind: a and b are then on one line of this
--- kind, with k between them
+-- k is on the ray up from a and on the ray down from b, along lines of kind l, exactly if a and b are on one line of
+-- this kind and k is between them
 one_line : (l : Line) (a b k : ℕ) → a ≤ b
     → (is_on_ray l true a k && is_on_ray l false b k) ≡ (same_line l a b && is_between a b k)
 one_line l a b k low =

@@ -24,7 +24,7 @@ man_pattern p kind a b man no_pawn low high =
     ∙ ap (λ w. goes p a b && promotion_fits w None) (not_promoting p a b _ at no_pawn)
     ∙ and-true (goes p a b))
 
--- an officer's move is, exactly if it attacks the square and no own piece is there
+-- an officer's move is so exactly if the officer attacks the square, and no own piece is there
 pub officer_pattern : (p : Setup) (kind : Kind) (a b : ℕ) → IsOfficer p.side kind (man_at p.men a) → a < 64 → b < 64
     → (could_capture p.men p.side kind a b && not (is_of p.side (man_at p.men b))) ≡ is_pseudo_legal p (move_of a b None)
 officer_pattern p kind a b h low high =

@@ -75,7 +75,7 @@ not_near p a rook None at near far = refl
 not_near p a rook (Some r) at near far =
     and_right (a == a) _ (ends_differ p.variant p.men p.side a r rook at near far)
 
--- so in a sound position
+-- so in a sound position it is none on the king's side
 other_side : (p : Setup) (w : CastlingSide) (a b rook : ℕ) → IsSound p → right_of p.rights p.side w ≡ Some rook
     → king_square p.men p.side ≡ Some a → b ≡ named_square p.variant (castle_from p.side w a rook) → w ≡ QueenSide
     → is_by p (move_of a b None) KingSide ≡ false

@@ -91,8 +91,8 @@ each_not p q h = each_square_same p (λ k. not (q k)) h ∙ sym (none_square q)
 crossed : (x y z u v : Bool) → (not (x || y) || z || u || v) ≡ not ((((x || y) && not z) && not u) && not v)
 crossed x y z u v = grind arith
 
--- `met`: a piece is on a square that king or rook crosses or ends on, and where neither starts. If there is none, the
--- way is empty
+-- `met`: the occupied squares that king or rook crosses or ends on, but for those where the two start. There is none
+-- exactly if the way is empty
 pub way_is_empty : (men : Men) (k : Castle) (met : ℕ → Bool)
     → ((x : ℕ) → x < 64
     → met x ≡

@@ -82,7 +82,7 @@ not_taken p a b (Some t) pawn off =
       | inr apart ↦ and_right (is_man p.side Pawn (man_at p.men a) && attacks p.men a b) (t == b) apart
     ]
 
--- so a pawn that is not there, and does not attack the target, is ordinary
+-- so a pawn that is not on that rank, and does not attack the target, is ordinary
 pub pawn_ordinary : (p : Setup) (a : ℕ) → IsSound p → a < 64 → is_man p.side Pawn (man_at p.men a) ≡ true
     → aims_at p.target p.side a ≡ false → (rank a ≡ pawn_rank (other p.side) → ⊥) → IsOrdinary p a
 unfolding would_promote is_en_passant no_pawn_on_end_ranks pawn_captures

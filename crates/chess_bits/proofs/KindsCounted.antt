@@ -1,5 +1,5 @@
--- Sums of moves: the pieces on the squares of a set have as many as those of them in another set and those outside it
--- (`split`). A free officer has one legal move to each square that it attacks and no own piece holds
+-- Sums of moves: the pieces on the squares of a set have as many moves as those in a second set and those outside it
+-- have together (`split`). A free officer has one legal move to each square that it attacks and no own piece holds
 -- (`officer_counted`).
 use Rattle.std.proofs.Common.{◌≡◌, ℕ, zero, suc, ◌+◌, ◌<◌, ◌≤◌, inl, inr, Bool, true, false, not, ◌&&◌, ◌||◌, ◌==◌, List, length, length-append, None, refl, sym, ap, ◌∙◌, arith}
 use Rattle.std.specs.List.{filter, flat_map, range_with_len}

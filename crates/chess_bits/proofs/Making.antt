@@ -113,7 +113,7 @@ plainly_written p m all h =
 
 -- ---- a piece that goes from one square to another, and changes no more than that
 
--- a move that goes plainly for sure, by the code's test of the kind k, is plain
+-- a move that passes the code's quick test (`goes_plainly`, of the mover's kind k) is plain
 plainly_by : (p : Setup) (m : Move) (x : Man) → man_at p.men m.from ≡ Some x → (k : Kind) → x.kind ≡ k
     → goes_plainly p m k ≡ true → IsPlainly p m
 plainly_by p m x at King e h = record {

@@ -105,7 +105,7 @@ record AreApart (n t l r : ℕ) : Type 0 where
   pub tr : t ≡ r → ⊥
   pub lr : l ≡ r → ⊥
 
--- one and two squares ahead, and left and right of the one ahead
+-- they are one and two squares ahead, and left and right of the one ahead
 apart : (c : Colour) (a : ℕ) → Inside c a
     → AreApart (forward c a) (forward c (forward c a)) (forward c a - 1) (forward c a + 1)
 apart White a i = let low = i.0 in let high = i.1 in grind arith

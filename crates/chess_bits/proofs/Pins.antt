@@ -299,14 +299,14 @@ many_hide p h r s a b k all low high hides here others clear x l =
 
 -- ---- what has squares between it is on one line
 
--- a, b and x have the files f, g and h and the ranks r, s and t: what is between on a file or a rank, is not between
--- squares that share neither
+-- squares a, b and x have the files f, g and h and the ranks r, s and t: if x is between a and b on a file or on a
+-- rank, these two share it
 not_level : (f g h r s t : ℕ) (over along : Bool)
     → ((((h == f) && (h == g)) && over) || (((t == r) && (t == s)) && along)) ≡ true → (f == g) ≡ false
     → (r == s) ≡ false → ⊥
 not_level f g h r s t over along e level upright = grind (arith, nat_tests, e, level, upright)
 
--- what is between on a diagonal but not on one of the one direction is on one of the other
+-- if x is between them on a diagonal, and they share none up to the right, they share one up to the left
 aslant : (f r g s h t : ℕ) → f < 8 → g < 8 → h < 8
     → ((((abs_diff f h == abs_diff r t) && (abs_diff h g == abs_diff t s)) && is_strictly_between r s t)
     && is_strictly_between f g h) ≡ true

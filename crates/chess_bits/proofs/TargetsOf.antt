@@ -70,7 +70,7 @@ not_said p a b w h =
     (names_castling p.variant p.side (move_of a b None) w (right_of p.rights p.side w))
     (not_named p.variant p.side a b w (right_of p.rights p.side w) h)
 
--- the castling o is legal: asked if q or k holds; if neither does there is no castling
+-- whether the castling o is legal need be asked only if q or k holds: if neither does, there is no castling
 told : (p : Setup) (m : Move) (o : Option Castle) (k q : Bool) → (k ≡ false → q ≡ false → o ≡ None)
     → ((q && legal_or p m o false) || (k && legal_or p m o false)) ≡ legal_or p m o false
 told p m None k q h = grind arith
