@@ -14,20 +14,24 @@ use Rattle.chess_base.proofs.shared.Geometry.{by_parts}
 -- two squares of one line, with files f and g and ranks r and q: they are a king's step apart exactly if their numbers
 -- (8 * rank + file) differ by that line's step, 1, 8, 9 or 7
 
+-- on a rank: by 1
 rank_king : (f g r q : ℕ) → f < 8 → g < 8 → r ≡ q
     → (nat_le (abs_diff f g) 1 && nat_le (abs_diff r q) 1 && not (8 * r + f == 8 * q + g))
     ≡ (abs_diff (8 * r + f) (8 * q + g) == 1)
 rank_king f g r q h k e = grind (arith, nat_tests)
 
+-- on a file: by 8
 file_king : (f g r q : ℕ) → f ≡ g → (nat_le (abs_diff f g) 1 && nat_le (abs_diff r q) 1 && not (8 * r + f == 8 * q + g))
     ≡ (abs_diff (8 * r + f) (8 * q + g) == 8)
 file_king f g r q e = grind (arith, nat_tests)
 
+-- on a diagonal: by 9
 diagonal_king : (f g r q : ℕ) → r + g ≡ q + f
     → (nat_le (abs_diff f g) 1 && nat_le (abs_diff r q) 1 && not (8 * r + f == 8 * q + g))
     ≡ (abs_diff (8 * r + f) (8 * q + g) == 9)
 diagonal_king f g r q e = grind (arith, nat_tests)
 
+-- on an antidiagonal: by 7
 antidiagonal_king : (f g r q : ℕ) → r + f ≡ q + g
     → (nat_le (abs_diff f g) 1 && nat_le (abs_diff r q) 1 && not (8 * r + f == 8 * q + g))
     ≡ (abs_diff (8 * r + f) (8 * q + g) == 7)

@@ -27,6 +27,7 @@ pub on_lines : (a b : ℕ) (o : Bool)
     ≡ (not (a == b) && share_rank_or_file a b && o)
 on_lines a b o = grind arith
 
+-- the same for the two diagonals of a bishop
 pub on_diagonals : (a b : ℕ) (o : Bool)
     → ((not (a == b) && same_line Diagonal a b && o) || (not (a == b) && same_line Antidiagonal a b && o))
     ≡ (not (a == b) && share_diagonal a b && o)

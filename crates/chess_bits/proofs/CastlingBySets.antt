@@ -147,6 +147,7 @@ castle_pattern_by p a b k sound high e =
     ∙ officer_goes p a b _ at refl refl low high
     ∙ ap (castles_or_moves p (move_of a b None)) e
 
+-- so for each move that is castling and names no promotion
 pub castle_pattern : (p : Setup) (m : Move) (k : Castle) → IsSound p → m.to < 64 → m.promotion ≡ None
     → castle_of p m ≡ Some k
     → is_pseudo_legal p m ≡ (castling_way_is_empty p.men k && castling_way_is_safe p.men p.side k)

@@ -143,6 +143,7 @@ free_listed p a king w sound free ordinary low there one sets all =
 
 -- ---- the set of the free pieces
 
+-- what holds of the square `king` holds of each square with a king of the side on move
 at_king : (p : Setup) (a king : ℕ) (P : ℕ → Type 0)
     → ((k : ℕ) → k < 64 → is_man p.side King (man_at p.men k) ≡ (k == king)) → P king
     → (k : ℕ) → k < 64 → is_man p.side King (man_at p.men k) ≡ true → P k

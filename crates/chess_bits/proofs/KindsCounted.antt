@@ -45,6 +45,7 @@ split_range g w c u v (suc n) a fits hu hv =
           ]
     ]
 
+-- so for a set w: u has its squares that are in c, v the others
 pub split : {A : Type 0} (g : ℕ → List A) (w c u v : ℕ) → ((k : ℕ) → contains u k ≡ (contains w k && contains c k))
     → ((k : ℕ) → k < 64 → contains v k ≡ (contains w k && not (contains c k)))
     → length (flat_map g (members u)) + length (flat_map g (members v)) ≡ length (flat_map g (members w))
@@ -54,6 +55,7 @@ split g w c u v hu hv = split_range g (λ k. contains w k) (λ k. contains c k) 
 
 -- ---- the moves of one
 
+-- w are the squares that the free officer on a attacks and that hold no own piece: it has one legal move to each
 pub officer_counted : (p : Setup) (a king w : ℕ) (kind : Kind) → IsSound p → IsFree p a
     → is_man p.side kind (man_at p.men a) ≡ true → (same_kind King kind || same_kind Pawn kind) ≡ false → a < 64
     → king < 64

@@ -147,6 +147,7 @@ king_goes p a b x false sound at own king steps =
 
 -- ---- a step is legal where the square isn't attacked once the king has left his own
 
+-- the king's step from a to b, legal exactly if no enemy attacks b with the king taken off the board
 pub step_is : (p : Setup) (a b : ℕ) → IsSound p → is_man p.side King (man_at p.men a) ≡ true
     → man_moves p (move_of a b None) ≡ true → a < 64 → b < 64
     → not (is_attacked (lifted p.men a) b (other p.side)) ≡ is_legal p (move_of a b None)

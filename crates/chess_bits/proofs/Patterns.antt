@@ -36,13 +36,14 @@ officers p a b (Some kind) =
     ∙ sym (ap (λ f. castles_or_moves p (move_of a b None) (castle_of p (move_of a b None)) && f) (fits_low kind)
     ∙ and-false (castles_or_moves p (move_of a b None) (castle_of p (move_of a b None))))
 
--- a pawn: its move with the promotion k is pseudo-legal exactly if that with the tried one is, and k fits
+-- k fits exactly if it does and the promotion that is tried, which always fits, does; x is one more test
 turned : (last : Bool) (k : Option Kind) (x : Bool)
     → (promotion_fits last k && x)
     ≡ ((promotion_fits last (if last then Some Queen else None) && x) && promotion_fits last k)
 turned true k x = and_comm (promotion_fits true k) x
 turned false k x = and_comm (promotion_fits false k) x
 
+-- a pawn: its move with the promotion k is pseudo-legal exactly if that with the tried one is, and k fits
 pawns : (p : Setup) (a b : ℕ) (k : Option Kind) → pawn_moves p (move_of a b k)
     ≡ (pawn_moves p (move_of a b (if rank b == first_rank (other p.side) then Some Queen else None))
     && promotion_fits (rank b == first_rank (other p.side)) k)
@@ -165,8 +166,7 @@ legal_goes p m h =
     and_parts (goes p m.from m.to) (promotion_fits (would_promote p m.from m.to) m.promotion)
     (sym (pattern_is p m) ∙ pattern)
 
--- what `man_goes` says of a piece other than a pawn: each such square is one to which it goes, and each legal move ends
--- on one
+-- a piece other than a pawn goes to each square that `man_goes` names
 pub man_sound : (p : Setup) (a b : ℕ) (x : Man) → man_at p.men a ≡ Some x → x.colour ≡ p.side
     → same_kind Pawn x.kind ≡ false → a < 64 → b < 64
     → man_goes p a b ≡ true → goes p a b ≡ true
@@ -177,6 +177,7 @@ man_sound p a b x at own no_pawn low high h = by (castle_of p (move_of a b None)
     by None e g = officer_goes p a b x at own no_pawn low high ∙ ap (castles_or_moves p (move_of a b None)) e ∙ g
     by (Some castle) e g = (legal_goes p (move_of a b None) g).0
 
+-- and each legal move of it ends on such a square
 pub man_complete : (p : Setup) (m : Move) (x : Man) → man_at p.men m.from ≡ Some x → x.colour ≡ p.side
     → same_kind Pawn x.kind ≡ false → m.from < 64 → m.to < 64
     → is_legal p m ≡ true → man_goes p m.from m.to ≡ true

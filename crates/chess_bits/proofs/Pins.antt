@@ -212,6 +212,7 @@ aims_by true c Queen men a b h clear = (refl, rw clear (grind (arith, h)))
 aims_by true c Rook men a b h clear = (refl, rw clear (grind (arith, h)))
 aims_by true c Bishop men a b h clear = (refl, rw clear (grind (arith, h)))
 
+-- the same by the content o of square a
 aims_as : (c : Colour) (o : Option Man) (men : Men) (a b : ℕ)
     → (((is_man c Rook o || is_man c Queen o) && (not (a == b) && share_rank_or_file a b))
     || ((is_man c Bishop o || is_man c Queen o) && (not (a == b) && share_diagonal a b)))

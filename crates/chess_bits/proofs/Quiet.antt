@@ -46,6 +46,7 @@ capture_before men later c Rook a b l d e =
 capture_before men later c Bishop a b l d e =
     last_told (not (a == b)) (share_diagonal a b) (is_clear later a b) (is_clear men a b) (d refl) e
 
+-- so by the content o of square a, if the way to b was clear before where it is later
 pub could_capture_as_clear : (men later : Men) (o : Option Man) (a b : ℕ)
     → (is_clear later a b ≡ true → is_clear men a b ≡ true)
     → could_capture_as later o a b ≡ true → could_capture_as men o a b ≡ true
@@ -158,6 +159,7 @@ unfolding castling_rook_to mover_end
 fills_end p m k no_king no_passing =
     rw (no_king_castles p m no_king) (eqb_comm k m.to ∙ sym (or-false (m.to == k)))
 
+-- and it changes its two squares alone
 pub changes_both : (p : Setup) (m : Move) (k : ℕ) → is_man p.side King (man_at p.men m.from) ≡ false
     → (is_man p.side Pawn (man_at p.men m.from) && is_at p.target m.to) ≡ false
     → ((k == m.to) || (k == m.from)) ≡ is_changed p m k

@@ -34,6 +34,7 @@ pub bishop_from : (w : ℕ) (men : Men) (c : Colour) (a b : ℕ) → IsOccupied 
 unfolding could_capture
 bishop_from w men c a b h = rw (eqb_comm b a, diagonal_back b a, open_from w men a b h) refl
 
+-- a queen: along ranks and files, or along diagonals
 pub queen_from : (w : ℕ) (men : Men) (c : Colour) (a b : ℕ) → IsOccupied w men
     → ((not (b == a) && share_rank_or_file b a && is_open w a b)
     || (not (b == a) && share_diagonal b a && is_open w a b)) ≡ could_capture men c Queen a b

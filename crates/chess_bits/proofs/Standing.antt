@@ -27,6 +27,7 @@ no_kinds e c men empty none = record {
       ∙ sym (is_man-none c kind (man_at men k) (ap (λ o. is_none o) (none k low)));
 }
 
+-- so these, and the hash 0, are the sets of a board without pieces
 pub no_sets : (s : Sets) (men : Men) → ((k : ℕ) → k < 64 → man_at men k ≡ None) → IsKinds s.white.sets White men
     → IsKinds s.black.sets Black men
     → ((k : ℕ) → contains s.white.all k ≡ false) → ((k : ℕ) → contains s.black.all k ≡ false) → s.men_hash ≡ 0 → IsSets s men

@@ -100,6 +100,7 @@ man_told c k (Some x) h =
     (sym (same_colour-true c x.colour both.0))
     ∙ ap (λ (l : Kind). let y : Man = record { colour = c; kind = l } in Some y) (sym (same_kind-true k x.kind both.1))
 
+-- a pawn captures on a square that it attacks, if an enemy or the target is there
 pub captures_is : (p : Setup) (a b : ℕ) → is_man p.side Pawn (man_at p.men a) ≡ true
     → (could_capture p.men p.side Pawn a b && (is_of (other p.side) (man_at p.men b) || is_at p.target b))
     ≡ pawn_captures p (move_of a b None)
@@ -139,13 +140,14 @@ pub ends_below : (p : Setup) (m : Move) → is_legal p m ≡ true → m.to < 64
 unfolding is_legal is_pseudo_legal
 ends_below p m h = grind (arith, nat_tests, h)
 
--- w are the squares to which the pawn on a advances or where it captures: it goes there, and each legal move ends there
+-- w are the squares to which the pawn on a advances or where it captures: it goes to each of them
 pub pawn_sound : (p : Setup) (a w : ℕ) → is_man p.side Pawn (man_at p.men a) ≡ true → a < 64
     → ((k : ℕ) → k < 64 → contains w k ≡ (pawn_advances p (move_of a k None) || pawn_captures p (move_of a k None)))
     → (k : ℕ) → k < 64 → contains w k ≡ true → goes p a k ≡ true
 pawn_sound p a w pawn low set k high h =
     pawn_goes p a k _ (man_told p.side Pawn (man_at p.men a) pawn) refl refl low high ∙ sym (set k high) ∙ h
 
+-- and each legal move of it ends on such a square
 pub pawn_complete : (p : Setup) (a w : ℕ) → is_man p.side Pawn (man_at p.men a) ≡ true → a < 64
     → ((k : ℕ) → k < 64 → contains w k ≡ (pawn_advances p (move_of a k None) || pawn_captures p (move_of a k None)))
     → (m : Move) → is_legal p m ≡ true → m.from ≡ a → contains w m.to ≡ true
@@ -177,6 +179,7 @@ man_set_sound p a w own other low set k high h =
     man_sound p a k man.0 man.1 mine (no_pawn_kind p.side man.0 (man_at p.men a) man.1 mine other) low high
     (sym (set k high) ∙ h)
 
+-- and each legal move of it ends on such a square
 pub man_set_complete : (p : Setup) (a w : ℕ) → is_of p.side (man_at p.men a) ≡ true
     → is_man p.side Pawn (man_at p.men a) ≡ false → a < 64
     → ((k : ℕ) → k < 64 → contains w k ≡ man_goes p a k) → (m : Move) → is_legal p m ≡ true → m.from ≡ a → contains w m.to ≡ true
@@ -225,11 +228,12 @@ met_is men n next full met low one stood both =
           ap not (some_square-at _ n low (both n ∙ rw (one n low, stood n low, eq-eqb n n refl, taken) refl)) ∙ sym taken
     ]
 
--- with a piece right ahead a pawn does not advance; otherwise it goes one square, and from home also two
+-- with a piece right ahead a pawn does not advance
 pub blocked : (p : Setup) (a k : ℕ) → is_man p.side Pawn (man_at p.men a) ≡ true
     → is_none (man_at p.men (forward p.side a)) ≡ false → false ≡ pawn_advances p (move_of a k None)
 blocked p a k pawn full = sym (advances_is p a k (forward p.side a) _ pawn refl refl ∙ rw full refl)
 
+-- off its home rank it goes only to the empty square ahead
 pub one_only : (p : Setup) (a k : ℕ) → is_man p.side Pawn (man_at p.men a) ≡ true
     → is_none (man_at p.men (forward p.side a)) ≡ true → (rank a ≡ pawn_rank p.side → ⊥)
     → (k == forward p.side a) ≡ pawn_advances p (move_of a k None)
@@ -237,6 +241,7 @@ one_only p a k pawn free away =
     sym (advances_is p a k (forward p.side a) _ pawn refl refl
     ∙ rw (free, ne_eqb (rank a) (pawn_rank p.side) away) (or-false (k == forward p.side a)))
 
+-- from home it also goes to the second square, if that is empty too
 pub two_too : (p : Setup) (a k : ℕ) → is_man p.side Pawn (man_at p.men a) ≡ true
     → is_none (man_at p.men (forward p.side a)) ≡ true → rank a ≡ pawn_rank p.side
     → ((k == forward p.side a) || ((k == forward p.side (forward p.side a)) && is_none (man_at p.men k)))
