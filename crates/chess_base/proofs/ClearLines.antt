@@ -1,4 +1,5 @@
--- Walking along a line from square to square, and what is then known of the squares between two of its squares.
+-- Walking along a line from square to square, and what is then known of the squares between two of its squares. The
+-- loop of `is_clear_above` walks so from `low` up to `high`, and keeps `IsWalkedTo`.
 use Rattle.std.proofs.Common.{◌≡◌, ℕ, ◌+◌, ◌<◌, ◌≤◌, inl, inr, Bool, true, false, ◌||◌, not, is_none, refl, sym, ◌∙◌, arith}
 use Rattle.std.proofs.lemmas.Bool.{and_parts, and_from, cases_order, eqb-true, eq-eqb}
 use Rattle.std.proofs.lemmas.Bool.Decides.{nat_tests}
@@ -29,6 +30,7 @@ step_stays Antidiagonal x k h low e =
     let same = eqb-true _ _ e in
     eq-eqb _ _ (omega (arith, same))
 
+-- to be on one line of a kind is symmetric, and transitive
 pub line_back : (l : Line) (a b : ℕ) → same_line l a b ≡ true → same_line l b a ≡ true
 line_back l a b e = eq-eqb _ _ (sym (eqb-true _ _ e))
 
@@ -38,12 +40,14 @@ line_on l a b c e f =
 
 -- ---- clear lines
 
+-- strictly between two numbers, of which the first is the lower: above the one and below the other, and back
 inside_rising : (low high k : ℕ) → low < high → is_strictly_between low high k ≡ true → (low < k) × (k < high)
 inside_rising low high k h e = (grind (arith, nat_tests), grind (arith, nat_tests))
 
 inside_of : (low high k : ℕ) → low < k → k < high → is_strictly_between low high k ≡ true
 inside_of low high k h g = grind (arith, nat_tests)
 
+-- "if p, then q", as a test: it passes, or fails
 passes_if : (p q : Bool) → (p ≡ true → q ≡ true) → (not p || q) ≡ true
 passes_if true q h = h refl
 passes_if false q h = refl
@@ -51,7 +55,7 @@ passes_if false q h = refl
 fails_by : (p q : Bool) → p ≡ true → q ≡ false → (not p || q) ≡ false
 fails_by p q e f = rw (e, f) refl
 
--- no piece between the two squares on their line
+-- if each square of the line between the two is empty, the way between them is clear
 pub clear_by : (men : Men) (l : Line) (low high : ℕ) → low < high → same_line l low high ≡ true
     → ((k : ℕ) → low < k → k < high → same_line l low k ≡ true → is_none (man_at men k) ≡ true)
     → is_clear men low high ≡ true
@@ -65,7 +69,7 @@ clear_by men l low high rising on empty =
     let inside = inside_rising low high k rising both.1 in
     empty k inside.0 inside.1 both.0))
 
--- one piece between them
+-- if one of these squares holds a piece, it is not clear
 pub not_clear_by : (men : Men) (l : Line) (low high k : ℕ) → low < k → k < high → high ≤ 64
     → same_line l low high ≡ true → same_line l low k ≡ true → is_none (man_at men k) ≡ false
     → is_clear men low high ≡ false
@@ -84,6 +88,7 @@ pub record IsWalkedTo (men : Men) (l : Line) (low high n : ℕ) : Type 0 where
   pub on : same_line l n high ≡ true
   pub empty : (k : ℕ) → low < k → k < n → same_line l low k ≡ true → is_none (man_at men k) ≡ true
 
+-- the next square of a line has the greater number
 pub rises : (l : Line) (x : ℕ) → x < x + step_of l
 rises Rank x = omega arith
 rises File x = omega arith
@@ -94,6 +99,7 @@ rises Antidiagonal x = omega arith
 pub none_between : (l : Line) (x k : ℕ) → x < k → k < x + step_of l → k < 64 → same_line l x k ≡ true → ⊥
 none_between l x k h g low e = let far = step_fits l x k h low e in omega (arith, far)
 
+-- a walk begins at the line's first square above `low`: none of its squares is between them
 pub walk_begins : (men : Men) (l : Line) (low high : ℕ) → low < high → high < 64 → same_line l low high ≡ true
     → IsWalkedTo men l low high (low + step_of l)
 walk_begins men l low high rising in_board on =
@@ -105,6 +111,7 @@ walk_begins men l low high rising in_board on =
       empty = λ k h g e. absurd (none_between l low k h g (omega (arith, fit)) e);
     }
 
+-- if n is empty too, so are all squares of the line above `low` and below the one after n
 step_empty : (men : Men) (l : Line) (low high n : ℕ) → IsWalkedTo men l low high n → n < high → high < 64
     → same_line l low high ≡ true → is_none (man_at men n) ≡ true → (k : ℕ) → low < k → k < n + step_of l
     → same_line l low k ≡ true → is_none (man_at men k) ≡ true
@@ -121,6 +128,7 @@ step_empty men l low high n w more in_board on empty k h g e =
           ]
     ]
 
+-- from an empty square the walk goes on to the next one of the line
 pub walk_goes_on : (men : Men) (l : Line) (low high n : ℕ) → IsWalkedTo men l low high n → n < high → high < 64
     → same_line l low high ≡ true → is_none (man_at men n) ≡ true → IsWalkedTo men l low high (n + step_of l)
 walk_goes_on men l low high n w more in_board on empty = record {
@@ -130,11 +138,13 @@ walk_goes_on men l low high n w more in_board on empty = record {
   empty = step_empty men l low high n w more in_board on empty;
 }
 
+-- a walk that comes to `high` has met no piece, so the way is clear
 pub walk_ends : (men : Men) (l : Line) (low high n : ℕ) → IsWalkedTo men l low high n → high ≤ n → low < high
     → same_line l low high ≡ true → is_clear men low high ≡ true
 walk_ends men l low high n w past rising on =
     clear_by men l low high rising on (λ k h g e. w.empty k h (omega (arith, past, g)) e)
 
+-- a walk that meets a piece before `high` shows that the way is not clear
 pub walk_stops : (men : Men) (l : Line) (low high n : ℕ) → IsWalkedTo men l low high n → n < high → high < 64
     → same_line l low high ≡ true → is_none (man_at men n) ≡ false → is_clear men low high ≡ false
 walk_stops men l low high n w more in_board on piece =

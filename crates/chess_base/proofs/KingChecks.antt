@@ -4,6 +4,7 @@ use Rattle.chess_base.specs.{declared.man.Colour.Colour, declared.man.Colour.The
 use Rattle.chess_base.specs.Men.{Men, man_at, is_man, other}
 use Rattle.chess_base.proofs.{shared.Squares.some_square-none, shared.Squares.one_decides, shared.Kings.one_king}
 
+-- a colour with its one king on s is in check exactly if s is attacked
 pub check_at_king : (men : Men) (c : Colour) (s : ℕ) → s < 64 → length men ≡ 64 → has_one_king men c ≡ true
     → is_man c King (man_at men s) ≡ true → is_attacked men s (other c) ≡ is_in_check men c
 unfolding is_in_check
@@ -11,6 +12,7 @@ check_at_king men c s low all one there =
     one_decides (λ k. is_man c King (man_at men k)) (λ k. is_attacked men k (other c)) s low there
     (λ k _ e fails. ap (λ t. is_attacked men t (other c)) (one_king men c k s all one e there) ∙ fails)
 
+-- a colour without a king is not in check
 pub no_check_without_king : (men : Men) (c : Colour)
     → ((k : ℕ) → k < 64 → is_man c King (man_at men k) ≡ false) → false ≡ is_in_check men c
 unfolding is_in_check

@@ -1,4 +1,5 @@
--- A knight attacks from eight squares.
+-- A knight attacks b from one of eight squares. The definition looks at all 64; the code looks at these eight by their
+-- numbers, four below b and four above, where the board has them (`attacked_by_knight_is`).
 use Rattle.std.proofs.Common.{◌≡◌, ℕ, ◌+◌, ◌-◌, ◌*◌, ◌<◌, ◌≤◌, ◌⊎◌, inl, inr, Bool, true, false, ◌&&◌, ◌||◌, ◌==◌, nat_le, nat_lt, refl, sym, ◌∙◌, arith}
 use Rattle.std.proofs.lemmas.Bool.{and_parts, and_from, cases_Bool, leb-true, ltb-true, or_cases, or_parts}
 use Rattle.std.proofs.lemmas.Bool.Decides.{nat_tests}
@@ -22,6 +23,7 @@ eight t f r =
     t (f - 1) (r - 2) || t (f + 1) (r - 2) || t (f - 2) (r - 1) || t (f + 2) (r - 1) || t (f - 2) (r + 1)
     || t (f + 2) (r + 1) || t (f - 1) (r + 2) || t (f + 1) (r + 2)
 
+-- numbers that differ by one, or by two, each counted from 2: one of them is so much less or more than the other
 one_apart : (m n : ℕ) → (abs_diff m n == 1) ≡ true → (m + 2 ≡ (n + 2) - 1) ⊎ (m + 2 ≡ (n + 2) + 1)
 one_apart m n e = grind (arith, nat_tests, e)
 
@@ -74,6 +76,7 @@ none_of_eight t f r g q e way =
 abbrev framed : ℕ → ℕ → ℕ
 framed f r = 8 * (r - 2) + (f - 2)
 
+-- it has this file and this rank; and each square of the board is given by its own
 framed_file : (f r : ℕ) → 2 ≤ f → f < 10 → file (framed f r) ≡ f - 2
 framed_file f r h g = omega arith
 
@@ -94,11 +97,13 @@ has_knight_at men c a low =
     let r2 : nat_lt (rank a + 2) 10 ≡ true = grind (arith, nat_tests) in
     rw (f1, f2, r1, r2, framed_at a) refl
 
+-- a test that fails where another passes doesn't pass together with it
 guarded : (p q : Bool) → (q ≡ true → p ≡ false) → (p && q) ≡ false
 guarded true true h = h refl
 guarded true false h = refl
 guarded false q h = refl
 
+-- if none of the eight squares has a knight, no knight attacks b
 none_attacked : (men : Men) (c : Colour) (b : ℕ) → eight (has_knight men c) (file b + 2) (rank b + 2) ≡ false
     → attacked_by_knight men c b ≡ false
 unfolding attacked_by_knight could_capture
@@ -106,9 +111,11 @@ none_attacked men c b e =
     some_square-none _ (λ a low. guarded _ _ (λ way. sym (has_knight_at men c a low)
     ∙ none_of_eight (has_knight men c) (file a) (rank a) (file b) (rank b) e way))
 
+-- a knight's way is one, whether the start's file and rank are counted from 2 or from 0
 way_framed : (f r g q : ℕ) → 2 ≤ f → 2 ≤ r → a_way f r (g + 2) (q + 2) ≡ true → a_way (f - 2) (r - 2) g q ≡ true
 way_framed f r g q h l e = grind (arith, nat_tests, e)
 
+-- a knight that is a knight's way from b attacks it
 knight_there : (men : Men) (c : Colour) (b f r : ℕ) → a_way f r (file b + 2) (rank b + 2) ≡ true
     → has_knight men c f r ≡ true → attacked_by_knight men c b ≡ true
 unfolding has_knight attacked_by_knight could_capture
@@ -125,10 +132,12 @@ knight_there men c b f r way e =
     rw (framed_file f r fl fh, framed_rank f r fl fh) (way_framed f r (file b) (rank b) fl rl way) in
     some_square-at _ (framed f r) (omega arith) (and_from _ _ all.1 moved)
 
+-- what follows from each of two tests follows if one of them passes
 either : (p q r : Bool) → (p ≡ true → r ≡ true) → (q ≡ true → r ≡ true) → (p || q) ≡ true → r ≡ true
 either true q r h g e = h refl
 either false q r h g e = g e
 
+-- so if one of the eight squares has a knight, b is attacked
 one_of_eight : (men : Men) (c : Colour) (b : ℕ) → eight (has_knight men c) (file b + 2) (rank b + 2) ≡ true
     → attacked_by_knight men c b ≡ true
 one_of_eight men c b =
@@ -147,6 +156,7 @@ one_of_eight men c b =
     either _ _ r' (either _ _ r' (either _ _ r' (either _ _ r' (either _ _ r' (either _ _ r' (either _ _ r' s1 s2) s3) s4)
     s5) s6) s7) s8
 
+-- a knight attacks b exactly if one of the eight squares has one
 by_eight : (men : Men) (c : Colour) (b : ℕ)
     → attacked_by_knight men c b ≡ eight (has_knight men c) (file b + 2) (rank b + 2)
 by_eight men c b =
@@ -157,22 +167,26 @@ by_eight men c b =
 
 -- ---- the eight squares by their numbers
 
+-- a test of x or y, made only if p passes, or only if q and r do: the same if p is q and r, and then x is y
 same_knight : (t : ℕ → Bool) (p q r : Bool) (x y : ℕ) → p ≡ (q && r) → (q ≡ true → r ≡ true → x ≡ y)
     → (p && t x) ≡ (q && r && t y)
 same_knight t p true true x y e h = rw (e, h refl refl) refl
 same_knight t p true false x y e h = rw e refl
 same_knight t p false r x y e h = rw e refl
 
+-- one of the eight squares by its number x: it is on the board exactly if p and q pass
 knight_by : (men : Men) (c : Colour) (f r : ℕ) (p q : Bool) (x : ℕ)
     → (nat_le 2 f && nat_lt f 10 && nat_le 2 r && nat_lt r 10) ≡ (p && q)
     → (p ≡ true → q ≡ true → framed f r ≡ x) → has_knight men c f r ≡ (p && q && is_man c Knight (man_at men x))
 unfolding has_knight
 knight_by men c f r p q x e h = same_knight (λ y. is_man c Knight (man_at men y)) _ p q (framed f r) x e h
 
+-- the first four of eight tests, or the last four
 two_halves : (h1 h2 h3 h4 h5 h6 h7 h8 : Bool)
     → (h1 || h2 || h3 || h4 || h5 || h6 || h7 || h8) ≡ ((h1 || h2 || h3 || h4) || (h5 || h6 || h7 || h8))
 two_halves h1 h2 h3 h4 h5 h6 h7 h8 = grind arith
 
+-- the eight squares by their numbers: four are below b and four above
 pub attacked_by_knight_is : (men : Men) (c : Colour) (b : ℕ) → b < 64
     → attacked_by_knight men c b ≡ (attacked_by_knight_from_below men c b || attacked_by_knight_from_above men c b)
 unfolding attacked_by_knight_from_below attacked_by_knight_from_above

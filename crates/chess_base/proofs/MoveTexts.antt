@@ -1,4 +1,6 @@
--- A text is parsed as the square or the move that is written so, and as no other.
+-- A text is parsed as the square or the move that is written so, and as no other. Each time there are two lemmas: what
+-- is read from a text is written so (`square_named`, `move_named`), and what is written so is read (`square_read`,
+-- `move_read`).
 use Rattle.std.proofs.Common.{◌≡◌, ◌≢◌, ℕ, zero, suc, ◌+◌, ◌-◌, ◌*◌, ◌/◌, ◌%◌, ◌<◌, ◌≤◌, Bool, true, false, cond, eqb, leb, ◌&&◌, List, [], ◌∷◌, ◌++◌, Option, Some, None, refl, sym, ap, subst, ◌∙◌, arith, Contains, option_map, ok_or, find, IfSome, option_and_then, slice_index_or, ◌==◌}
 use Rattle.std.proofs.lemmas.Bool.Decides.{nat_tests}
 use Rattle.chess_base.specs.{declared.man.Colour.TheVariants.Black, declared.man.Kind.Kind, declared.man.Move.Move, shared.Parts.optional, MoveList.promotions, MoveList.move_of, ties.MoveTexts.promotion_with_letter, ties.MoveTexts.promotion_of_text, ties.MoveTexts.move_of_text}
@@ -36,6 +38,7 @@ square_read s h =
     let at : 8 * ((49 + s / 8) - 49) + ((97 + s % 8) - 97) ≡ s = omega arith in
     rw (t0, t1, t2, t3, at) refl
 
+-- both together: what `ParsesSquare` says
 pub parses_square : {E : Type 0} (text : List ℕ) (o : Option ℕ) (error : E) → IfSome o (λ s. text ≡ square_text s)
     → ((s : ℕ) → s < 64 → text ≡ square_text s → o ≡ Some s) → ParsesSquare text (ok_or o error)
 parses_square text None error found only = λ s below is. let impossible = only s below is in cc
@@ -43,9 +46,11 @@ parses_square text (Some s) error found only = found
 
 -- ---- promotions
 
+-- the first kind in a list whose small letter is the byte c
 abbrev small_from : List Kind → ℕ → Option Kind
 small_from ks c = find (λ k. letter_by Black k == c) ks
 
+-- a kind that is found so has that letter
 small_found : (ks : List Kind) (c : ℕ) (k : Kind) → small_from ks c ≡ Some k → letter_by Black k ≡ c
 small_found [] c k e = absurd cc
 small_found (j ∷ ks) c k e = by_test (λ h. small_found ks c k h) (eqb (letter_by Black j) c) refl e
@@ -73,6 +78,7 @@ pawn_not_listed (suc (suc (suc zero))) h e = cc
 pawn_not_listed (suc (suc (suc (suc zero)))) h e = cc
 pawn_not_listed (suc (suc (suc (suc (suc i))))) h e = omega arith
 
+-- a promotion is read from its letter, none from the empty text
 promotion_read : (o : Option Kind) → Contains promotions o → promotion_of_text (optional small_letter_text o) ≡ Some o
 promotion_read None h = refl
 promotion_read (Some Queen) h = refl
@@ -93,6 +99,7 @@ listed King c at e =
 listed Pawn c at e =
     let impossible : None ≡ Some Pawn = subst (λ b. promotion_with_letter b ≡ Some Pawn) (sym at) e in absurd cc
 
+-- a text that is read as a promotion is its letter, or empty if it is none
 promotion_named : (text : List ℕ) (o : Option Kind) → promotion_of_text text ≡ Some o
     → (text ≡ optional small_letter_text o) × Contains promotions o
 promotion_named [] o e =
@@ -149,6 +156,7 @@ move_named (a ∷ b ∷ c ∷ d ∷ rest) m e = by_from (square_with_letters a b
     by_from None at_from e = absurd cc
     by_from (Some from) at_from e = by_to from at_from (square_with_letters c d) refl e
 
+-- both together: what `ParsesMove` says
 pub parses_move : {E : Type 0} (text : List ℕ) (error : E) → ParsesMove text (ok_or (move_of_text text) error)
 parses_move text error = by_result (move_of_text text) refl
   where

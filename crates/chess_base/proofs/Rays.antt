@@ -1,4 +1,6 @@
--- The attacks along a line come from the first piece on it.
+-- Along a line only the first piece can attack a square b, so the code walks from b along each line, up and down, and
+-- looks at the first piece alone. Attacks along the four kinds of lines and those of knights are all attacks
+-- (`attacked_is`).
 use Rattle.std.proofs.Common.{◌≡◌, ℕ, ◌+◌, ◌-◌, ◌<◌, ◌≤◌, ◌⊎◌, inl, inr, Bool, true, false, ◌&&◌, ◌||◌, not, ◌==◌, nat_le, nat_lt, is_none, Option, Some, None, refl, sym, ap, ◌∙◌, arith}
 use Rattle.std.proofs.lemmas.Bool.{and_parts, and_from, and_right, cases_order, eqb-true, eq-eqb, ltb-true, or_cases}
 use Rattle.std.proofs.{Math.Bool.and-false, lemmas.Bool.Decides.nat_tests}
@@ -17,17 +19,20 @@ use Rattle.chess_base.proofs.ClearLines.{clear_by, step_fits, step_stays, none_b
 
 -- ---- what stands between hides the square
 
+-- squares that have one between them are further apart than a king steps
 not_near : (a b x : ℕ) → is_between a b x ≡ true
     → (nat_le (abs_diff (file a) (file b)) 1 && nat_le (abs_diff (rank a) (rank b)) 1) ≡ false
 unfolding is_between is_between_on_file is_between_on_rank is_between_on_diagonal
 not_near a b x e = grind (arith, nat_tests, e)
 
+-- nor are they a knight's way apart: on a file, a rank or a diagonal
 no_knight_on_file : (a b x : ℕ) → is_between_on_file a b x ≡ true
     → (((abs_diff (file a) (file b) == 1) && (abs_diff (rank a) (rank b) == 2))
     || ((abs_diff (file a) (file b) == 2) && (abs_diff (rank a) (rank b) == 1))) ≡ false
 unfolding is_between_on_file
 no_knight_on_file a b x e = grind (arith, nat_tests, e)
 
+-- the same on a rank
 no_knight_on_rank : (a b x : ℕ) → is_between_on_rank a b x ≡ true
     → (((abs_diff (file a) (file b) == 1) && (abs_diff (rank a) (rank b) == 2))
     || ((abs_diff (file a) (file b) == 2) && (abs_diff (rank a) (rank b) == 1))) ≡ false
@@ -43,6 +48,7 @@ alike f h g r t q e1 e2 i1 i2 = grind (arith, nat_tests, i1, i2)
 no_knight_alike : (n m : ℕ) → n ≡ m → (((n == 1) && (m == 2)) || ((n == 2) && (m == 1))) ≡ false
 no_knight_alike n m e = grind (arith, nat_tests)
 
+-- and on a diagonal
 no_knight_on_diagonal : (a b x : ℕ) → is_between_on_diagonal a b x ≡ true
     → (((abs_diff (file a) (file b) == 1) && (abs_diff (rank a) (rank b) == 2))
     || ((abs_diff (file a) (file b) == 2) && (abs_diff (rank a) (rank b) == 1))) ≡ false
@@ -55,6 +61,7 @@ no_knight_on_diagonal a b x e =
     (alike (file a) (file x) (file b) (rank a) (rank x) (rank b) (eqb-true _ _ first.0)
     (eqb-true _ _ first.1) next.1 last.1)
 
+-- so squares that have one between them are no knight's way apart
 no_knight_between : (a b x : ℕ) → is_between a b x ≡ true
     → (((abs_diff (file a) (file b) == 1) && (abs_diff (rank a) (rank b) == 2))
     || ((abs_diff (file a) (file b) == 2) && (abs_diff (rank a) (rank b) == 1))) ≡ false
@@ -69,16 +76,19 @@ no_knight_between a b x e =
       | inr diagonal ↦ no_knight_on_diagonal a b x diagonal
     ]
 
+-- nor does a pawn on a attack b then
 no_pawn_between : (c : Colour) (a b x : ℕ) → is_between a b x ≡ true
     → ((abs_diff (file a) (file b) == 1) && is_rank_ahead c a b) ≡ false
 no_pawn_between White a b x e = let far = not_near a b x e in grind (arith, nat_tests, far)
 no_pawn_between Black a b x e = let far = not_near a b x e in grind (arith, nat_tests, far)
 
+-- a piece between two squares shuts the way
 shut : (men : Men) (a b x : ℕ) → x < 64 → is_between a b x ≡ true → is_none (man_at men x) ≡ false
     → is_clear men a b ≡ false
 unfolding is_clear
 shut men a b x h e piece = each_square-fails _ x h (rw (e, piece) refl)
 
+-- three joined tests fail if the last two or the last one does
 last_two_fail : (p q r : Bool) → (q && r) ≡ false → (p && q && r) ≡ false
 last_two_fail true q r e = e
 last_two_fail false q r e = refl
@@ -88,6 +98,7 @@ last_fails true true r e = e
 last_fails true false r e = refl
 last_fails false q r e = refl
 
+-- so no piece on a could capture on b if another stands between them
 hidden : (men : Men) (c : Colour) (k : Kind) (a b x : ℕ) → x < 64 → is_between a b x ≡ true
     → is_none (man_at men x) ≡ false → could_capture men c k a b ≡ false
 unfolding could_capture
@@ -104,6 +115,7 @@ hidden men c Bishop a b x h e piece =
 hidden men c Knight a b x h e piece = no_knight_between a b x e
 hidden men c Pawn a b x h e piece = no_pawn_between c a b x e
 
+-- nothing attacks from an empty square
 none_from : (men : Men) (c : Colour) (b k : ℕ) → (o : Option Man) → man_at men k ≡ o → is_none o ≡ true
     → attacked_from men c b k ≡ false
 unfolding is_of
@@ -113,6 +125,7 @@ none_from men c b k (Some x) at e = absurd cc
 empty_from : (men : Men) (c : Colour) (b k : ℕ) → is_none (man_at men k) ≡ true → attacked_from men c b k ≡ false
 empty_from men c b k e = none_from men c b k (man_at men k) refl e
 
+-- and nothing from a square that another piece hides from b
 hidden_attacks : (men : Men) (b k x : ℕ) → x < 64 → is_between k b x ≡ true → is_none (man_at men x) ≡ false
     → (o : Option Man) → man_at men k ≡ o → attacks men k b ≡ false
 unfolding attacks
@@ -129,12 +142,15 @@ hidden_from men c b k x h e piece = and_right _ _ (hidden_attacks men b k x h e 
 abbrev IsHidden : Men → ℕ → ℕ → ℕ → Type 0
 IsHidden men b x k = (is_none (man_at men k) ≡ true) ⊎ ((k ≡ x) ⊎ (is_between k b x ≡ true))
 
+-- if the piece on x does not attack b, nothing that it hides does
 all_hidden : (p : ℕ → Bool) (men : Men) (c : Colour) (b x k : ℕ) → x < 64 → is_none (man_at men x) ≡ false
     → attacked_from men c b x ≡ false → IsHidden men b x k → attacked_from men c b k ≡ false
 all_hidden p men c b x k h piece fails (inl empty) = empty_from men c b k empty
 all_hidden p men c b x k h piece fails (inr (inl same)) = rw same fails
 all_hidden p men c b x k h piece fails (inr (inr between)) = hidden_from men c b k x h between piece
 
+-- if the piece on x hides all other squares that pass p, or they are empty, it alone decides whether one of them
+-- attacks b
 pub first_decides : (p : ℕ → Bool) (men : Men) (c : Colour) (b x : ℕ) → x < 64 → p x ≡ true
     → is_none (man_at men x) ≡ false → ((k : ℕ) → k < 64 → p k ≡ true → IsHidden men b x k)
     → attacked_from men c b x ≡ some_square (λ a. p a && attacked_from men c b a)
@@ -142,6 +158,7 @@ first_decides p men c b x h on piece hidden =
     one_decides p (λ a. attacked_from men c b a) x h on
     (λ k low e fails. all_hidden p men c b x k h piece fails (hidden k low e))
 
+-- if all squares that pass p are empty, none of them attacks b
 pub none_decides : (p : ℕ → Bool) (men : Men) (c : Colour) (b : ℕ)
     → ((k : ℕ) → k < 64 → p k ≡ true → is_none (man_at men k) ≡ true)
     → false ≡ some_square (λ a. p a && attacked_from men c b a)
@@ -178,18 +195,21 @@ before_next men l b end n on w more in_board k above below e =
           ]
     ]
 
+-- a number is between two others, of which the first is the higher one, or the lower one
 inside_falling : (k b x : ℕ) → b < x → x < k → is_strictly_between k b x ≡ true
 inside_falling k b x h g = grind (arith, nat_tests)
 
 inside_rising : (k b x : ℕ) → x < b → k < x → is_strictly_between k b x ≡ true
 inside_rising k b x h g = grind (arith, nat_tests)
 
+-- on one line, a square whose number is between those of two others is between them
 hides : (l : Line) (k b x : ℕ) → same_line l b k ≡ true → same_line l b x ≡ true → is_strictly_between k b x ≡ true
     → is_between k b x ≡ true
 hides l k b x e f inside =
     let back = line_back _ _ _ e in
     between_on_line l k b x back ∙ and_from _ _ (line_on _ _ _ _ back f) inside
 
+-- what `is_above` says, and that it follows
 above_parts : (l : Line) (b k : ℕ) → is_above l b k ≡ true → (same_line l b k ≡ true) × (b < k)
 above_parts l b k e =
     let both = and_parts _ _ e in (both.0, ltb-true _ _ both.1)
@@ -197,6 +217,7 @@ above_parts l b k e =
 above_from : (l : Line) (b k : ℕ) → same_line l b k ≡ true → b < k → is_above l b k ≡ true
 above_from l b k e h = and_from _ _ e (grind (arith, nat_tests))
 
+-- the piece on the next square of the line hides all that is above it; all below it is empty
 hidden_by_first : (men : Men) (l : Line) (b end n : ℕ) → same_line l b end ≡ true → HasRisen men l b end n → n < end
     → end < 64 → same_line l b (n + step_of l) ≡ true → (k : ℕ) → b < k → same_line l b k ≡ true
     → IsHidden men b (n + step_of l) k
@@ -212,6 +233,7 @@ hidden_by_first men l b end n on w more in_board there k above e =
           ]
     ]
 
+-- a walk up that meets a piece: this one decides whether b is attacked from above along the line
 pub rise_stops : (men : Men) (l : Line) (c : Colour) (b end n : ℕ) → same_line l b end ≡ true → HasRisen men l b end n
     → n < end → end < 64 → is_none (man_at men (n + step_of l)) ≡ false
     → attacked_from men c b (n + step_of l) ≡ attacked_along_from_above men l c b
@@ -236,6 +258,7 @@ rise_clear men l b end n on w more in_board =
     (line_on _ _ _ _ on (line_back _ _ _ (step_stays l n end more in_board w.on)))
     (λ k above below e. before_next men l b end n on w more in_board k above below e)
 
+-- a walk up that comes to the last square: nothing attacks b from above along the line
 pub rise_ends : (men : Men) (l : Line) (c : Colour) (b end n : ℕ) → HasRisen men l b end n → end ≤ n
     → ((k : ℕ) → k < 64 → same_line l b k ≡ true → k ≤ end) → false ≡ attacked_along_from_above men l c b
 unfolding attacked_along_from_above
@@ -267,6 +290,7 @@ step_back_stays Antidiagonal e x h low on =
     let same = eqb-true _ _ on in
     eq-eqb _ _ (omega (arith, same))
 
+-- b and n are on one line
 line_of_fall : (men : Men) (l : Line) (b end n : ℕ) → same_line l b end ≡ true → HasFallen men l b end n
     → same_line l b n ≡ true
 line_of_fall men l b end n on w = line_on _ _ _ _ on w.on
@@ -286,9 +310,11 @@ above_next men l b end n in_board on w k below above e =
           ]
     ]
 
+-- from a square above the line's last one, a step down does not pass that one
 pub fall_fits : (men : Men) (l : Line) (b end n : ℕ) → b < 64 → HasFallen men l b end n → end < n → end + step_of l ≤ n
 fall_fits men l b end n in_board w more = step_fits l end n more (omega (arith, w.begun, in_board)) w.on
 
+-- what `is_below` says, and that it follows
 below_parts : (l : Line) (b k : ℕ) → is_below l b k ≡ true → (same_line l b k ≡ true) × (k < b)
 below_parts l b k e =
     let both = and_parts _ _ e in (both.0, ltb-true _ _ both.1)
@@ -296,6 +322,7 @@ below_parts l b k e =
 below_from : (l : Line) (b k : ℕ) → same_line l b k ≡ true → k < b → is_below l b k ≡ true
 below_from l b k e h = and_from _ _ e (grind (arith, nat_tests))
 
+-- the piece on the next square hides all that is below it; all above it is empty
 beyond_first : (men : Men) (l : Line) (b end n x : ℕ) → b < 64 → same_line l b end ≡ true → HasFallen men l b end n
     → x + step_of l ≡ n → same_line l b x ≡ true → (k : ℕ) → k < b → same_line l b k ≡ true → IsHidden men b x k
 beyond_first men l b end n x in_board on w next there k below e =
@@ -310,6 +337,7 @@ beyond_first men l b end n x in_board on w next there k below e =
           ]
     ]
 
+-- a walk down that meets a piece: this one decides whether b is attacked from below along the line
 pub fall_stops : (men : Men) (l : Line) (c : Colour) (b end n : ℕ) → b < 64 → same_line l b end ≡ true
     → HasFallen men l b end n → end < n → is_none (man_at men (n - step_of l)) ≡ false
     → attacked_from men c b (n - step_of l) ≡ attacked_along_from_below men l c b
@@ -338,6 +366,7 @@ fall_clear men l b end n in_board on w more =
     clear_by men l (n - step_of l) b (omega (arith, far, next, w.begun)) (line_back _ _ _ there) (λ k above below e.
     above_next men l b end n in_board on w k below (omega (arith, above, next)) (line_on _ _ _ _ there e))
 
+-- a walk down that comes to the last square: nothing attacks b from below along the line
 pub fall_ends : (men : Men) (l : Line) (c : Colour) (b end n : ℕ) → HasFallen men l b end n → n ≤ end
     → ((k : ℕ) → k < 64 → same_line l b k ≡ true → end ≤ k) → false ≡ attacked_along_from_below men l c b
 unfolding attacked_along_from_below
@@ -349,6 +378,7 @@ fall_ends men l c b end n w past last =
 
 -- ---- both ways
 
+-- no piece attacks its own square
 pub could_capture-itself : (men : Men) (c : Colour) (k : Kind) (b : ℕ) → could_capture men c k b b ≡ false
 unfolding could_capture
 could_capture-itself men c King b = grind (arith, nat_tests)
@@ -367,6 +397,7 @@ no_attack_itself men b (Some y) at = rw at (could_capture-itself men y.colour y.
 itself_from : (men : Men) (c : Colour) (b : ℕ) → attacked_from men c b b ≡ false
 itself_from men c b = and_right _ _ (no_attack_itself men b (man_at men b) refl)
 
+-- a test that fails on b itself, by the squares above b and those below
 above_or_below : (e : Bool) (b k : ℕ) (s : Bool) → (b ≡ k → s ≡ false)
     → (e && s) ≡ ((e && nat_lt b k && s) || (e && nat_lt k b && s))
 above_or_below false b k s h = refl
@@ -377,6 +408,7 @@ above_or_below true b k true h =
       | inr apart ↦ grind (arith, nat_tests)
     ]
 
+-- the attacks along a line are those from above and those from below
 pub along_is : (men : Men) (l : Line) (c : Colour) (b : ℕ)
     → attacked_along men l c b ≡ (attacked_along_from_above men l c b || attacked_along_from_below men l c b)
 unfolding attacked_along attacked_along_from_above attacked_along_from_below
@@ -393,6 +425,7 @@ along_is men l c b =
 abbrev on_some_line : ℕ → ℕ → Bool
 on_some_line a b = same_line File b a || same_line Rank b a || same_line Diagonal b a || same_line Antidiagonal b a
 
+-- squares that share a rank, a file or a diagonal are on one of the four kinds of lines
 straight_line : (a b : ℕ) → share_rank_or_file a b ≡ true → on_some_line a b ≡ true
 straight_line a b e = grind (arith, nat_tests, e)
 
@@ -406,6 +439,7 @@ either_line a b e =
       | inr diagonal ↦ diagonal_line a b diagonal
     ]
 
+-- so are those that a king's step or a pawn's attack joins
 king_line : (a b : ℕ) → nat_le (abs_diff (file a) (file b)) 1 ≡ true → nat_le (abs_diff (rank a) (rank b)) 1 ≡ true
     → (share_rank_or_file a b || share_diagonal a b) ≡ true
 king_line a b e f = grind (arith, nat_tests, e, f)
@@ -434,6 +468,7 @@ lined men d Pawn a b e = inl (diagonal_line a b (pawn_line d a b e))
 abbrev knight_attacks : Men → Colour → ℕ → ℕ → Bool
 knight_attacks men c b a = is_man c Knight (man_at men a) && could_capture men c Knight a b
 
+-- what attacks b is on a line with it, or is a knight
 lined_of : (men : Men) (c : Colour) (a b : ℕ) (o : Option Man) → man_at men a ≡ o → attacked_from men c b a ≡ true
     → (on_some_line a b ≡ true) ⊎ (knight_attacks men c b a ≡ true)
 unfolding is_of is_man attacks could_capture
@@ -446,6 +481,7 @@ lined_of men c a b (Some x) at e =
           inr (rw at (and_from _ _ (and_from _ _ both.0 knight.0) knight.1))
     ]
 
+-- a knight that could capture on b attacks it
 knight_by : (men : Men) (c d : Colour) (k : Kind) (a b : ℕ) → same_kind Knight k ≡ true
     → could_capture men c Knight a b ≡ true → could_capture men d k a b ≡ true
 unfolding could_capture
@@ -465,6 +501,8 @@ knight_of men c a b (Some x) at e =
     let man = and_parts _ _ both.0 in
     rw at (and_from _ _ man.0 (knight_by men c x.colour x.kind a b man.1 both.1))
 
+-- if s holds only on one of four lines (f, r, d, t) or together with k, and k gives s: s holds exactly if it does on
+-- one of the lines, or if k does
 ways : (f r d t k s : Bool) → (s ≡ true → ((f || r || d || t) ≡ true) ⊎ (k ≡ true)) → (k ≡ true → s ≡ true)
     → s ≡ ((f && s) || (r && s) || (d && s) || (t && s) || k)
 ways f r d t k true h g =
@@ -475,6 +513,7 @@ ways f r d t k true h g =
 ways f r d t true false h g = let no = g refl in cc
 ways f r d t false false h g = rw (and-false f, and-false r, and-false d, and-false t) refl
 
+-- the attacks on b are those along the four kinds of lines and those of knights
 lines_attack : (men : Men) (b : ℕ) (c : Colour)
     → is_attacked men b c ≡ (attacked_along men File c b || attacked_along men Rank c b
     || attacked_along men Diagonal c b || attacked_along men Antidiagonal c b || attacked_by_knight men c b)
@@ -494,12 +533,13 @@ lines_attack men b c =
     ∙ ap (λ v. v || some_square t) (some_square-or (λ a. f a || r a) d
     ∙ ap (λ v. v || some_square d) (some_square-or f r))))
 
--- the same, by the numbers of the squares that the attacks come from
+-- the same tests in the code's order: first the attacks from squares below b, then those from above
 by_numbers : (fa fb ra rb da db ta tb kb ka : Bool)
     → ((fa || fb) || (ra || rb) || (da || db) || (ta || tb) || (kb || ka))
     ≡ ((kb || db || fb || tb || rb) || (ka || ra || ta || fa || da))
 by_numbers fa fb ra rb da db ta tb kb ka = grind arith
 
+-- all attacks on b, as the code looks for them
 pub attacked_is : (men : Men) (b : ℕ) (c : Colour) → b < 64
     → is_attacked men b c ≡ (attacked_from_below men b c || attacked_from_above men b c)
 attacked_is men b c low =

@@ -1,4 +1,6 @@
--- The reserve after a legal move: it never grows, and a capture or a pawn move lowers it.
+-- The reserve after a legal move: it never grows, and a capture or a pawn move lowers it. It is a sum of the weights of
+-- all squares, so CountsAfter says what it is after a move (`Spends`); and the mover weighs no more where it lands than
+-- where it was (`Lands`).
 use Rattle.std.proofs.Common.{◌≡◌, ◌≢◌, ℕ, ◌+◌, ◌<◌, ◌≤◌, ◌⊎◌, inl, inr, length, set, Bool, false, true, ◌||◌, cond, min, Option, None, Some, is_none, arith, refl, sym, ◌∙◌, length-set, get_or-set_other, get_or-set_same, ◌==◌, sum, ext_get_or}
 use Rattle.std.proofs.lemmas.Bool.{and_parts, or_cases, or_parts, or_left, or_right, both_ways, cases_eq, cond_both, eq-eqb, not-true}
 use Rattle.std.proofs.lemmas.List.Sums.{sum_by-set}
@@ -14,9 +16,11 @@ use Rattle.chess_base.proofs.CountsAfter.{CountsAs, CountAlone, CountCapture, Co
 
 -- a write to one square
 
+-- the sum of the weights of the squares below n
 weights_below : ℕ → Men → ℕ
 weights_below n men = sum (from_below n (λ k. weight k (man_at men k)))
 
+-- a write to square s changes only the weight there
 weights-set : (n : ℕ) (men : Men) (s : ℕ) (v : Option Man) → length men ≡ n → s < n
     → from_below n (λ k. weight k (man_at (set men s v) k)) ≡ set (from_below n (λ k. weight k (man_at men k))) s
     (weight s v)
@@ -39,6 +43,7 @@ weights-set n men s v l h =
       ) (sym (get_or-from_below n here k 0 in'))
     ])
 
+-- so the sum loses the old weight of s and gets the new one
 weights_below-set : (n : ℕ) (men : Men) (s : ℕ) (v : Option Man) → length men ≡ n → s < n
     → weights_below n (set men s v) + weight s (man_at men s) ≡ weights_below n men + weight s v
 unfolding weights_below
@@ -57,6 +62,7 @@ reserve-set men s v l h =
 
 -- what a piece weighs
 
+-- a piece weighs 1 at least, a pawn 1 and the ranks that it has to go, any other piece 1
 weight-of : (c : Colour) (s : ℕ) (o : Option Man) → is_of c o ≡ true → 1 ≤ weight s o
 unfolding is_of
 weight-of c s None e = cc
@@ -80,6 +86,7 @@ weight-at_most : (s : ℕ) (x : Man) → weight s (Some x) ≤ 1 + ranks_to_go x
 weight-at_most s x = cond_both (same_kind Pawn x.kind) (1 + ranks_to_go x.colour s) 1
     (λ n. n ≤ 1 + ranks_to_go x.colour s) (λ _. omega arith) (λ _. omega arith)
 
+-- nor does what arrives there, promoted or not
 weight-lands : (c : Colour) (s : ℕ) (o : Option Man) (k : Option Kind) → is_of c o ≡ true
     → weight s (arriving_man o k) ≤ 1 + ranks_to_go c s
 unfolding is_of
@@ -88,8 +95,9 @@ weight-lands c s (Some x) None e = rw (same_colour-true _ _ e) (weight-at_most s
 weight-lands c s (Some x) (Some k) e =
     rw (same_colour-true _ _ e) (weight-at_most s (record { colour = x.colour; kind = k }))
 
--- what the mover and a piece that it takes on the end square weighed goes, and what lands comes
+-- what the mover weighed, and an enemy piece on the end square, goes from the reserve; what lands comes
 
+-- what is taken on s weighs: nothing if no enemy piece is there
 taken_by : Bool → ℕ → Option Man → ℕ
 taken_by enemy s o = cond enemy (weight s o) 0
 
@@ -106,12 +114,14 @@ all_taken : (s : ℕ) (o : Option Man) (b : Bool) → b ≡ true → taken_by b 
 unfolding taken_by
 all_taken s o b e = rw e refl
 
+-- the reserve after move m, with the weights that went, is at most the reserve before it with the weight that landed
 Spends : Setup → Move → Type 0
 Spends p m =
     reserve (men_after p m) + weight m.from (man_at p.men m.from) + taken_by (is_of (other p.side) (man_at p.men m.to))
     m.to (man_at p.men m.to)
     ≤ reserve p.men + weight (mover_end p m) (arriving_man (man_at p.men m.from) m.promotion)
 
+-- the reserve is a sum over the squares, as CountsAfter has it
 reserved : IsSum reserve weight
 reserved = record { none = λ s. refl; write = reserve-set }
 
@@ -133,6 +143,7 @@ spends p m sound h = spends_by p m (counts_by reserve weight reserved p m sound.
 
 -- a pawn goes ahead
 
+-- a pawn of a sound position is on neither end rank
 pawn_off_ends_at : (men : Men) (c : Colour) (s : ℕ) → is_man c Pawn (man_at men s) ≡ true → pawn_is_allowed men s ≡ true
     → (rank s ≢ 0) × (rank s ≢ 7)
 pawn_off_ends_at men c s man e =
@@ -153,6 +164,7 @@ unfolding no_pawn_on_end_ranks
 pawn_off_ends p m sound moves man = pawn_off_ends_at p.men p.side m.from man
     (each_square-at _ sound.pawns m.from moves.from_in)
 
+-- a pawn's advance, and its capture, lower the ranks that it has to go
 straight_ahead : (c : Colour) (a b : ℕ) → rank a ≢ 0 → b < 64 → (b ≡ forward c a)
     ⊎ ((rank a ≡ pawn_rank c) × (b ≡ forward c (forward c a))) → ranks_to_go c b < ranks_to_go c a
 straight_ahead White a b off h (inl e) = omega arith
@@ -164,6 +176,7 @@ aside_ahead : (c : Colour) (a b : ℕ) → b < 64 → is_rank_ahead c a b ≡ tr
 aside_ahead White a b h e = let r = rank_ahead_White a b e in omega (arith, r)
 aside_ahead Black a b h e = let r = rank_ahead_Black a b e in omega (arith, r)
 
+-- so does every pawn's move
 goes_ahead : (p : Setup) (m : Move) → IsSound p → Moves p m → is_man p.side Pawn (man_at p.men m.from) ≡ true
     → PawnKind p m → ranks_to_go p.side m.to < ranks_to_go p.side m.from
 goes_ahead p m sound moves man (Advances e) = straight_ahead p.side m.from m.to (pawn_off_ends p m sound moves man).0
@@ -173,12 +186,14 @@ goes_ahead p m sound moves man (Captures e taken) = aside_ahead p.side m.from m.
 goes_ahead p m sound moves man (TakesEnPassant e at) = aside_ahead p.side m.from m.to moves.to_in
     (pawn_attack p.men p.side m.from m.to man e).1
 
--- what lands against what left
+-- the mover where it lands, against the mover where it was
 
+-- it weighs no more
 Lands : Setup → Move → Type 0
 Lands p m = weight (mover_end p m) (arriving_man (man_at p.men m.from) m.promotion) ≤ weight m.from
     (man_at p.men m.from)
 
+-- a piece that is no pawn weighs 1 before and after
 man_lands : (p : Setup) (m : Move) → Moves p m → is_man p.side Pawn (man_at p.men m.from) ≡ false
     → is_none m.promotion ≡ true → Lands p m
 unfolding Lands
@@ -192,6 +207,7 @@ man_lands p m moves n e =
     rw (moves.at_from, is_none-None _ e) refl in
     rw (same, moves.at_from) (omega (arith, before, after'))
 
+-- a pawn weighs less, as it has fewer ranks to go, or is promoted
 pawn_lands : (p : Setup) (m : Move) → IsSound p → Moves p m → is_man p.side Pawn (man_at p.men m.from) ≡ true
     → PawnKind p m
     → weight (mover_end p m) (arriving_man (man_at p.men m.from) m.promotion) < weight m.from (man_at p.men m.from)
@@ -205,6 +221,7 @@ castles_plainly : (p : Setup) (m : Move) (k : Castle) → castles p m k ≡ true
 unfolding castles
 castles_plainly p m k e = (and_parts _ _ (and_parts _ _ e).0).0
 
+-- so for a move of each kind
 lands_by : (p : Setup) (m : Move) → IsSound p → Moves p m → MoveKind p m → Lands p m
 unfolding man_moves Lands
 lands_by p m sound moves (ManMoves n c e) = man_lands p m moves n (and_parts _ _ (and_parts _ _ e).0).0
@@ -223,6 +240,7 @@ never_grows p m sound legal =
     let lands = lands_by p m sound h.moves h.moves.kind in
     omega (arith, spent, lands)
 
+-- a pawn's move lowers the reserve, and so does a capture
 pawn_falls : (p : Setup) (m : Move) → IsSound p → Change p m → is_man p.side Pawn (man_at p.men m.from) ≡ true
     → MoveKind p m → reserve (men_after p m) < reserve p.men
 unfolding Spends
@@ -244,6 +262,7 @@ capture_falls p m sound h taken =
     let all = all_taken m.to (man_at p.men m.to) (is_of (other p.side) (man_at p.men m.to)) taken in
     omega (arith, spent, lands, gone, all)
 
+-- the clock is 0 after a move only if the move reset it
 clock_was_reset : (p : Setup) (m : Move) → halfmove_after p m ≡ 0 → resets_clock p m ≡ true
 unfolding halfmove_after
 clock_was_reset p m e = reset_by (resets_clock p m) e

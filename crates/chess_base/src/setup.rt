@@ -1,4 +1,4 @@
-//! What a position holds, sound or not, what a move of it does not keep, and the limits of a game.
+//! What a position holds, sound or not, what has to be saved to take a move back, and the limits of a game.
 
 use crate::man::{Colour, Man, Rights, Variant};
 use crate::square::Square;

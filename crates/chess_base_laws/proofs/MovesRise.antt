@@ -1,4 +1,6 @@
--- The list of legal moves rises by start square, end square and promotion.
+-- The list of legal moves rises by start square, end square and promotion (`ComesBefore`). `all_moves` joins lists by
+-- start square, each of which joins lists by end square, each of which has the five promotions. So the order is shown
+-- from the inside out, by `pairs-over` at both joinings; leaving out the illegal moves keeps it.
 use Rattle.std.proofs.Common.{◌≡◌, ℕ, zero, suc, ◌+◌, ◌<◌, ◌++◌, List, [], ◌∷◌, map, Option, arith, refl, slice_index_or, flat_map, All, AllPairs}
 use Rattle.std.proofs.{lemmas.List.Concat.flat_map-cons, lemmas.List.Elements.All-append, lemmas.List.Elements.All-map, lemmas.List.Kept.AllPairs-cons, lemmas.List.Kept.AllPairs-filter}
 use Rattle.chess_base.specs.{declared.man.Kind.Kind, declared.setup.Setup.Setup, Moves.is_legal, Squares.squares, shared.Below.from_below}
@@ -7,6 +9,8 @@ use Rattle.chess_base.specs.laws.Laws.{promotion_index, ComesBefore, ByStart, By
 
 -- ---- lists
 
+-- two lists joined: R holds for each earlier and later member, if it does within each list and from the first list's
+-- members to the second's
 pairs-append : {X : Type 0} (R : X → X → Type 0) (xs ys : List X) → AllPairs R xs → AllPairs R ys
     → All (λ m. All (R m) ys) xs → AllPairs R (xs ++ ys)
 pairs-append R [] ys p q across = q
@@ -16,6 +20,7 @@ pairs-append R (x ∷ xs) ys p q across =
     (pairs-append R xs ys (λ i j d l h. p (suc i) (suc j) d (omega arith) (omega arith)) q
     (λ k d h. across (suc k) d (omega arith)))
 
+-- the lists g (f 0) .. g (f (n - 1)) joined have only members with Q, if each of them has
 all-over : {X : Type 0} (Q : X → Type 0) (g : ℕ → List X) (n : ℕ) (f : ℕ → ℕ) → ((k : ℕ) → All Q (g (f k)))
     → All Q (flat_map g (from_below n f))
 all-over Q g zero f h = λ k d past. absurd (omega arith)
@@ -24,7 +29,8 @@ all-over Q g (suc n) f h =
     (All-append Q (g (f 0)) (flat_map g (from_below n (λ k. f (suc k)))) (h 0)
     (all-over Q g n (λ k. f (suc k)) (λ k. h (suc k))))
 
--- lists one after the other rise, where each rises and what one number gives comes before what a higher one gives
+-- the lists g (f 0) .. g (f (n - 1)) joined are in order of R, if each list is, f rises, and R leads from each member
+-- of a list g a (of which P a holds) to each of a list g b with a < b
 pairs-over : {X : Type 0} (R : X → X → Type 0) (P : ℕ → X → Type 0) (g : ℕ → List X) → ((a : ℕ) → All (P a) (g a))
     → ((a : ℕ) → AllPairs R (g a)) → ((a b : ℕ) (m n : X) → a < b → P a m → P b n → R m n)
     → (n : ℕ) (f : ℕ → ℕ) → ((i j : ℕ) → i < j → f i < f j) → AllPairs R (flat_map g (from_below n f))
@@ -39,7 +45,7 @@ pairs-over R P g holds each before (suc n) f rises =
 
 -- ---- moves
 
--- the indices of none, queen, rook, bishop, knight
+-- what `promotion_index` gives for none, queen, rook, bishop and knight, in this order: 0, 2, 3, 4, 5
 abbrev index_at : ℕ → ℕ
 index_at zero = 0
 index_at (suc i) = 2 + i
@@ -63,7 +69,7 @@ promotions_rise = λ i j d l h.
     let early : i < 5 = omega arith in
     rw (promotion_at i d early, promotion_at j d late) (index_rises i j l)
 
--- moves that differ by their promotion alone
+-- the moves that differ by their promotion alone rise
 triples_rise : (a b : ℕ) (ks : List (Option Kind)) → AllPairs (λ j k. promotion_index j < promotion_index k) ks
     → AllPairs ComesBefore (map (move_of a b) ks)
 triples_rise a b [] p = λ i j d l past. absurd (omega arith)
@@ -73,6 +79,7 @@ triples_rise a b (k ∷ ks) p =
     (λ i e h. ByPromotion refl refl (p 0 (suc i) e (omega arith) (omega arith))))
     (triples_rise a b ks (λ i j d l h. p (suc i) (suc j) d (omega arith) (omega arith)))
 
+-- the moves from one square rise by end square, and then by promotion
 from_one_rise : (a : ℕ) → AllPairs ComesBefore (flat_map (λ b. map (move_of a b) promotions) squares)
 unfolding squares
 from_one_rise a =
@@ -81,11 +88,13 @@ from_one_rise a =
     (λ b. triples_rise a b promotions promotions_rise)
     (λ b c m n l e f. ByEnd (rw (e.0, f.0) refl) (rw (e.1, f.1) l)) 64 (λ s. s) (λ i j l. l)
 
+-- they all start at this square
 starts : (a : ℕ) → All (λ m. m.from ≡ a) (flat_map (λ b. map (move_of a b) promotions) squares)
 unfolding squares
 starts a = all-over (λ m. m.from ≡ a) (λ b. map (move_of a b) promotions) 64 (λ s. s)
     (λ b. All-map (λ m. m.from ≡ a) (move_of a b) promotions (λ k d h. refl))
 
+-- all moves, legal or not, rise by start square, and then as above
 all_triples_rise : AllPairs ComesBefore all_moves
 unfolding all_moves squares
 all_triples_rise =

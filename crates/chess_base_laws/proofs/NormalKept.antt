@@ -1,4 +1,6 @@
--- On positions of normal chess the rules of both variants are those of normal chess.
+-- On positions of normal chess the rules for both variants agree with those for normal chess alone (specs/Normal). The
+-- two differ only in how a move names its castling (`says_kept`); each lemma after it carries this on to the next
+-- definition: the castling, its squares, pseudo-legal moves, the position after a move, legal moves.
 use Rattle.std.proofs.Common.{◌≡◌, ℕ, Bool, true, false, ◌&&◌, cond, ◌==◌, nat_lt, Option, Some, None, is_some, map, refl, ap, ◌∙◌, arith}
 use Rattle.chess_base.specs.{declared.man.Colour.Colour, declared.man.CastlingSide.CastlingSide, declared.man.CastlingSide.TheVariants.KingSide, declared.man.CastlingSide.TheVariants.QueenSide, declared.man.Kind.TheVariants.King, declared.man.Kind.TheVariants.Pawn, declared.man.Man.Man, declared.man.Move.Move, declared.man.Variant.TheVariants.Normal, declared.setup.Setup.Setup, shared.Splits.castles_or_moves, shared.Splits.names_castling, shared.Splits.right_is_sound_at, Before.castle_by, Squares.squares}
 use Rattle.chess_base.specs.Men.{Men, man_at, is_man, same_colour, same_kind, other}
@@ -7,6 +9,7 @@ use Rattle.chess_base.specs.Castling.{is_castling_to, castling, castle_of, castl
 use Rattle.std.specs.Option.{option_map_or}
 use Rattle.chess_base_laws.specs.Normal.{normal_right_is_sound_at, normal_says_castling, normal_castling, normal_castle_of, normal_moves_as, normal_has_pattern, normal_men_after, normal_after, normal_is_legal, NormalIsKept}
 
+-- two facts of `&&`, for `says_by`: its tests in another order if there is a right, and false if there is none
 in_turn : (a b c : Bool) → (a && (b && c)) ≡ (true && a && b && c)
 in_turn a b c = grind arith
 
@@ -14,6 +17,8 @@ never : (a b c : Bool) → (a && false) ≡ (false && a && b && c)
 never true b c = refl
 never false b c = refl
 
+-- `king`: a king of the side on move is on the start square; `o`: the rook's square of the right, if there is one. Then
+-- naming this castling in normal chess is what `normal_says_castling` tests
 says_by : (c : Colour) (m : Move) (w : CastlingSide) (king : Bool) (o : Option ℕ)
     → (king && names_castling Normal c m w o)
     ≡ (is_some o && king && (m.from == home_square c king_home_file)
@@ -77,6 +82,7 @@ legal_kept : (p : Setup) → p.variant ≡ Normal → (m : Move) → is_legal p 
 unfolding is_legal normal_is_legal
 legal_kept p e m = rw (pattern_kept p e m, after_kept p e m) refl
 
+-- a right given as its rook's square is sound by the one rule if it is by the other
 stands_by : (men : Men) (c : Colour) (w : CastlingSide) (o : Option ℕ)
     → right_is_sound_at Normal men c w o ≡ normal_right_is_sound_at men c w o
 stands_by men c w None = refl

@@ -1,5 +1,6 @@
--- The sets of occupied squares and of enemy pieces after a move come from the squares that it changes and fills; where
--- the king's square is known, check is an attack on it.
+-- The board after a move, from the sets before it: occupied are the squares that the move fills, and those that were
+-- occupied and that it does not change; the enemy's pieces are those on squares that it does not change
+-- (`later_after`). And check is an attack on the king's square, where that is known (`check_is`).
 use mathlib.Core.Bool.{and-true}
 use Rattle.std.proofs.Common.{◌≡◌, ℕ, ◌<◌, inl, inr, Bool, true, false, not, ◌&&◌, ◌||◌, ◌==◌, cond, refl, Option, Some, None, is_none}
 use Rattle.std.proofs.lemmas.Bool.{and_right, cases_Bool, eqb-true, eq-eqb}
@@ -10,6 +11,8 @@ use Rattle.chess_moves.specs.Sets.{contains}
 use Rattle.chess_bits.proofs.BoardSets.{theirs_of}
 use Rattle.chess_bits.specs.{ties.Changes.is_changed, ties.Changes.is_filled, ties.Occupancy.IsLater}
 
+-- one square after a move: t says that the mover arrives there (as a), r that the castling rook does, l that a piece
+-- leaves it, and k is what was there. It is occupied if a piece arrives, or if it was and nothing changes there
 filled_by : (t r l : Bool) (a k : Option Man) (c : Colour) → is_none a ≡ false
     → ((t || r) || (not (is_none k) && not (t || r || l)))
     ≡ not (is_none (cond t a (cond r (Some (record { colour = c; kind = Rook })) (cond l None k))))
@@ -18,7 +21,7 @@ filled_by false true l a k c h = refl
 filled_by false false true a k c h = and_right (not (is_none k)) false refl
 filled_by false false false a k c h = and-true (not (is_none k))
 
--- what is kept of another colour
+-- it has an enemy piece (of colour d) if it had one and nothing changes there
 pub kept_by : (t r l : Bool) (a k : Option Man) (c d : Colour) (kind : Kind)
     → is_man d kind a ≡ false → is_man d kind (Some (record { colour = c; kind = Rook })) ≡ false
     → (is_man d kind k && not (t || r || l))
@@ -47,7 +50,7 @@ check_is men c king l one =
           ]))
     ]
 
--- so the enemy's sets and the occupied squares after a move come from what it changes and fills
+-- so the occupied squares and the enemy's pieces after move m come from the squares that it changes and fills
 pub later_after : (p : Setup) (m : Move) (changed filled : ℕ)
     → is_none (arriving_man (man_at p.men m.from) m.promotion) ≡ false
     → is_of (other p.side) (arriving_man (man_at p.men m.from) m.promotion) ≡ false

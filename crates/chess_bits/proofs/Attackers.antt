@@ -1,4 +1,6 @@
--- Who attacks a square, seen from that square.
+-- Who attacks square b, found from b outwards: a piece on a attacks b exactly if one of its kind on b would attack a, a
+-- pawn exactly if one of the other colour would. So `attackers` takes the tables' sets for b, and of each the squares
+-- that hold pieces of the kind.
 use Rattle.std.proofs.Common.{◌≡◌, ℕ, ◌<◌, Bool, true, false, not, ◌&&◌, ◌||◌, ◌==◌, refl, ◌∙◌, arith, Option, Some, None, is_none, eqb-true}
 use Rattle.std.proofs.lemmas.Bool.Decides.{nat_tests}
 use Rattle.chess_base.specs.{declared.man.Colour.Colour, declared.man.Colour.TheVariants.White, declared.man.Colour.TheVariants.Black, declared.man.Kind.Kind, declared.man.Man.Man, shared.Splits.could_capture_as, declared.line.Line.Line, shared.Lines.line_number, shared.Lines.same_line}
@@ -14,17 +16,18 @@ use Rattle.chess_moves.specs.Sets.{contains}
 use Rattle.chess_moves.proofs.shared.Members.{has_zero}
 use Rattle.chess_bits.specs.{ties.Rays.is_on_ray, ties.Rays.is_open, ties.Shapes.in_shape, ties.Occupancy.IsOccupied}
 
--- the two rays along a line
+-- a is on one of the two rays from b along its line of kind l, and o holds: it is another square of that line, and o
 pub both_rays : (l : Line) (a b : ℕ) (o : Bool)
     → ((is_on_ray l true b a && o) || (is_on_ray l false b a && o)) ≡ (not (a == b) && same_line l a b && o)
 both_rays l a b o = rw (eqb_comm (line_number l a) (line_number l b)) (grind (arith, nat_tests))
 
--- the two lines of a rook, and of a bishop
+-- both kinds of lines of a rook together, and those of a bishop
 pub on_lines : (a b : ℕ) (o : Bool)
     → ((not (a == b) && same_line Rank a b && o) || (not (a == b) && same_line File a b && o))
     ≡ (not (a == b) && share_rank_or_file a b && o)
 on_lines a b o = grind arith
 
+-- the same for the two diagonals of a bishop
 pub on_diagonals : (a b : ℕ) (o : Bool)
     → ((not (a == b) && same_line Diagonal a b && o) || (not (a == b) && same_line Antidiagonal a b && o))
     ≡ (not (a == b) && share_diagonal a b && o)
@@ -41,6 +44,7 @@ open_is_clear w men a b h =
     each_square_same _ _
     (λ x l. rw (between_back b a x, h.of_men x l) (de_morgan (is_between a b x) (is_none (man_at men x))))
 
+-- a king, a knight or a pawn on a attacks b exactly if a is in the tables' set for b (for a pawn, the other colour's)
 king_back : (men : Men) (c : Colour) (a b : ℕ) → in_shape shape.King b a ≡ could_capture men c King a b
 unfolding in_shape could_capture
 king_back men c a b = rw (eqb_comm b a, abs_diff_back (file b) (file a), abs_diff_back (rank b) (rank a)) refl
@@ -54,7 +58,8 @@ unfolding in_shape could_capture
 pawn_back men White a b = rw (abs_diff_back (file b) (file a)) refl
 pawn_back men Black a b = rw (abs_diff_back (file b) (file a)) refl
 
--- the answer of `attackers` at one square, from its five parts and the piece there
+-- whether `attackers` has a square: it is on an open line (l) or diagonal (d) of b, or a king's step (k), a knight's
+-- move (n) or a pawn's capture (p) away, and holds a piece of this kind and of the colour that is asked for (s)
 abbrev pub hit : Bool → Bool → Bool → Bool → Bool → Bool → Kind → Bool
 hit l d k n p s kind =
     ((l && ((s && same_kind Rook kind) || (s && same_kind Queen kind)))
@@ -65,13 +70,14 @@ hit l d k n p s kind =
 pub queen_parts : (e l d o : Bool) → ((e && l && o) || (e && d && o)) ≡ (e && (l || d) && o)
 queen_parts e l d o = grind arith
 
--- from the square that is attacked
+-- the same for square a, seen from b
 abbrev seen : Men → Colour → ℕ → ℕ → Bool → Kind → Bool
 seen men c a b s kind =
     hit (not (a == b) && share_rank_or_file a b && is_clear men a b)
     (not (a == b) && share_diagonal a b && is_clear men a b)
     (in_shape shape.King b a) (in_shape shape.Knight b a) (in_shape (shape.Pawn (other c)) b a) s kind
 
+-- so it has a exactly if a piece of this kind on a, of colour c, could capture on b
 seen_kind : (men : Men) (c : Colour) (a b : ℕ) (s : Bool) (kind : Kind)
     → seen men c a b s kind ≡ (s && could_capture men c kind a b)
 unfolding could_capture
@@ -82,7 +88,7 @@ seen_kind men c a b s Bishop = grind arith
 seen_kind men c a b s Knight = grind (arith, knight_back men c a b)
 seen_kind men c a b s Pawn = grind (arith, pawn_back men c a b)
 
--- a piece's colour is the one that was asked for
+-- where a piece is of colour c, it captures as one of colour c
 own_reach : (men : Men) (c d : Colour) (kind : Kind) (a b : ℕ) → (same_colour c d && could_capture men c kind a b)
     ≡ (same_colour c d && could_capture men d kind a b)
 own_reach men White White kind a b = refl
@@ -90,6 +96,7 @@ own_reach men White Black kind a b = refl
 own_reach men Black White kind a b = refl
 own_reach men Black Black kind a b = refl
 
+-- so a is among the attackers exactly if its content (o) is a piece of colour c that could capture on b
 pub attackers_are : (men : Men) (c : Colour) (a b : ℕ) (o : Option Man)
     → ((((not (a == b) && share_rank_or_file a b && is_clear men a b) && (is_man c Rook o || is_man c Queen o))
     || ((not (a == b) && share_diagonal a b && is_clear men a b) && (is_man c Bishop o || is_man c Queen o)))
@@ -110,6 +117,6 @@ attacked_is w men b c h =
     not-not (some_square (λ k. contains w k))
     ∙ some_square_same (λ k. contains w k) (λ k. is_of c (man_at men k) && attacks men k b) h
 
--- where a set is empty, no piece is met
+-- a set that is the number 0 has no square
 pub none_there : (w k : ℕ) → (w == 0) ≡ true → contains w k ≡ false
 none_there w k e = let empty : w ≡ 0 = eqb-true w 0 e in rw empty (has_zero k)

@@ -1,4 +1,5 @@
--- The squares between two squares of one line.
+-- The squares between two squares of one line: those on the ray up from the lower and on the ray down from the higher
+-- one. The table has them for each two squares; a line is open if none of them is occupied.
 use Rattle.std.proofs.Common.{◌≡◌, ℕ, ◌+◌, ◌*◌, ◌/◌, ◌%◌, ◌<◌, ◌≤◌, inl, inr, Bool, true, false, not, ◌&&◌, ◌||◌, refl, sym, ap, ◌∙◌, arith, List, length, get_or, set, get_or-set_same, get_or-set_other, [], ◌∷◌}
 use Rattle.std.specs.List.{list_any, list_all}
 use Rattle.std.proofs.{lemmas.Bool.Decides.nat_tests, lemmas.Bool.cases_Bool, lemmas.Bool.cases_eq, lemmas.Bool.or_cases}
@@ -11,7 +12,8 @@ use Rattle.chess_moves.specs.Sets.{contains}
 
 -- ---- on one line
 
--- above a and below b on the lines of one kind: between them, if they are on one line of this kind
+-- k is on the ray up from a and on the ray down from b, along lines of kind l, exactly if a and b are on one line of
+-- this kind and k is between them
 one_line : (l : Line) (a b k : ℕ) → a ≤ b
     → (is_on_ray l true a k && is_on_ray l false b k) ≡ (same_line l a b && is_between a b k)
 one_line l a b k low =
@@ -20,9 +22,11 @@ one_line l a b k low =
       | inr apart ↦ rw apart (grind (arith, nat_tests, apart))
     ]
 
+-- if one of the four tests r, f, d and a passes, t joined with each of them is t
 some_holds : (r f d a t : Bool) → (r || f || d || a) ≡ true → (((r && t) || (f && t)) || ((d && t) || (a && t))) ≡ t
 some_holds r f d a t h = grind (arith, h)
 
+-- squares of one line share a rank, a file, a diagonal or an antidiagonal
 some_line : (l : Line) (a b : ℕ) → same_line l a b ≡ true
     → (same_line Rank a b || same_line File a b || same_line Diagonal a b || same_line Antidiagonal a b) ≡ true
 some_line Rank a b e = grind (arith, e)
@@ -30,7 +34,7 @@ some_line File a b e = grind (arith, e)
 some_line Diagonal a b e = grind (arith, e)
 some_line Antidiagonal a b e = grind (arith, e)
 
--- the four kinds of lines together
+-- so the four kinds of lines together give the squares between, whichever kind a and b share
 pub on_some_line : (l : Line) (a b k : ℕ) → a ≤ b → same_line l a b ≡ true
     → (((is_on_ray Rank true a k && is_on_ray Rank false b k) || (is_on_ray File true a k && is_on_ray File false b k))
     || ((is_on_ray Diagonal true a k && is_on_ray Diagonal false b k)
@@ -48,6 +52,7 @@ abbrev pub AreBetween : List ℕ → ℕ → Type 0
 AreBetween sets n = (l : Line) (a b k : ℕ) → a < 64 → b < 64 → 64 * a + b < n → same_line l a b ≡ true → k < 64
     → contains (get_or sets (64 * a + b) 0) k ≡ is_between a b k
 
+-- one more entry is right if what is written there is
 pub paired_more : (sets : List ℕ) (i v x y : ℕ) → i < length sets → x ≡ i / 64 → y ≡ i % 64
     → ((l : Line) → same_line l x y ≡ true → (k : ℕ) → k < 64 → contains v k ≡ is_between x y k)
     → AreBetween sets i → AreBetween (set sets i v) (i + 1)
@@ -65,6 +70,7 @@ paired_more sets i v x y inside ex ey made before l a b k la lb low same lk =
 
 -- ---- open lines
 
+-- no square passes a test exactly if each square fails it
 neither : (x y : Bool) → not (x || y) ≡ (not x && not y)
 neither x y = grind arith
 
@@ -80,6 +86,7 @@ none_square p = none_among squares p
 abbrev pub are_on_line : ℕ → ℕ → Bool
 are_on_line a b = share_rank_or_file a b || share_diagonal a b
 
+-- squares of one rank, file or diagonal are on a line of some kind, so v has what is between them
 pub by_line : (a b v k : ℕ) → a < 64 → b < 64 → are_on_line b a ≡ true
     → ((l : Line) → same_line l a b ≡ true → contains v k ≡ is_between a b k)
     → contains v k ≡ is_between a b k

@@ -1,4 +1,5 @@
--- A ray goes up to its first blocker: what the code sweeps out is the part of the ray that is open.
+-- A sweep from a along a ray is that ray without the ray that goes on from its first blocker f: so it is the open part
+-- of the ray, with f (`swept_to`). In these lemmas w are the occupied squares.
 use mathlib.Core.Bool.{and-true}
 use Rattle.std.proofs.Common.{◌≡◌, ◌==◌, ℕ, zero, suc, ◌<◌, inl, inr, Bool, true, false, not, ◌&&◌, ◌||◌, nat_lt, refl, sym, ap, ◌∙◌, arith}
 use Rattle.std.proofs.lemmas.Bool.Decides.{nat_tests}
@@ -25,7 +26,7 @@ ray_on : (l : Line) (up : Bool) (a f x : ℕ) → is_on_ray l up a f ≡ true
 ray_on l true a f x e = grind (arith, nat_tests)
 ray_on l false a f x e = grind (arith, nat_tests)
 
--- what comes before b, and b not after f, comes before f
+-- if x comes before b, and b does not come after f, x comes before f
 before_first : (up : Bool) (x b f : ℕ) → is_beyond up x b ≡ true → is_beyond up f b ≡ false → is_beyond up x f ≡ true
 before_first true x b f e n = grind (arith, nat_tests)
 before_first false x b f e n = grind (arith, nat_tests)
@@ -48,7 +49,7 @@ open_ray l up a b w none e =
     let clear : (is_on_ray l up a x && contains w x) ≡ false = none x h in
     (rw on.0 at clear)))
 
--- up to the first blocker, and no further
+-- if f is the first blocker, a square b of the ray is open exactly if it does not come after f
 pub open_to_first : (l : Line) (up : Bool) (a b w f : ℕ)
     → f < 64
     → is_on_ray l up a f ≡ true
@@ -75,6 +76,7 @@ open_to_first l up a b w f h on here nearer e =
           (rw both.0 at clear))))
     ]
 
+-- so the ray without the ray from f is its open part
 pub swept : (l : Line) (up : Bool) (a b w f : ℕ)
     → f < 64
     → is_on_ray l up a f ≡ true
@@ -87,6 +89,7 @@ swept l up a b w f h on here nearer =
       | inr n ↦ rw n refl
     ]
 
+-- without a blocker the whole ray is open
 pub swept_all : (l : Line) (up : Bool) (a b w : ℕ)
     → ((x : ℕ) → x < 64 → (is_on_ray l up a x && contains w x) ≡ false)
     → is_on_ray l up a b ≡ (is_on_ray l up a b && is_open w a b)
@@ -98,21 +101,24 @@ swept_all l up a b w none =
 
 -- ---- where a ray without blockers ends with the board
 
+-- a set with a square is not 0
 pub positive : (w s : ℕ) → contains w s ≡ true → 0 < w
 positive zero s h = absurd (both_ways (contains 0 s) (has_zero s) h)
 positive (suc w) s h = omega arith
 
--- one square more is in the set
+-- a set (u) to which a square was added is not 0
 pub with_end : (w u v e s : ℕ) → ((k : ℕ) → contains u k ≡ (contains w k || contains v k)) → ((k : ℕ) → contains v k ≡ (k == s)) → e ≡ s
     → 0 < u
 with_end w u v e s joined one same =
     positive u e (joined e ∙ or_right (contains w e) (contains v e) (one e ∙ eq-eqb e s same))
 
+-- a square that comes neither before nor after f is f
 not_past : (up : Bool) (k f : ℕ) → is_beyond up k f ≡ false → is_beyond up f k ≡ false → k ≡ f
 not_past true k f a b = grind (arith, nat_tests, a, b)
 not_past false k f a b = grind (arith, nat_tests, a, b)
 
--- a ray up to its first blocker, or all of it
+-- what `sweep` gives: v are the blockers on the ray, and f is the first of them, or the board's last square in this
+-- direction if there is none
 pub swept_to : (l : Line) (up : Bool) (a b w v f : ℕ) → f < 64 → b < 64
     → ((k : ℕ) → k < 64 → contains v k ≡ (is_on_ray l up a k && contains w k))
     → ((k : ℕ) → is_beyond up k f ≡ true → contains v k ≡ false)

@@ -22,6 +22,7 @@ kinds_kept sets men c s o all ls was is h = record { of_kind = at }
           | inr away ↦ rw (get_or-set_other men s k o None away) (h.of_kind y k l)
         ]
 
+-- the set of all its pieces stays, too
 pub all_kept : (w : ℕ) (men : Men) (c : Colour) (s : ℕ) (o : Option Man) → length men ≡ 64 → s < 64
     → is_of c (man_at men s) ≡ false → is_of c o ≡ false → IsAll w c men → IsAll w c (set men s o)
 all_kept w men c s o all ls was is h = λ k l.
@@ -31,6 +32,7 @@ all_kept w men c s o all ls was is h = λ k l.
       | inr away ↦ rw (get_or-set_other men s k o None away) (h k l)
     ]
 
+-- if a piece of this colour comes to s, the set of all gets s
 pub all_put : (w v : ℕ) (men : Men) (c : Colour) (s : ℕ) (o : Option Man) → length men ≡ 64 → s < 64 → is_of c o ≡ true
     → ((j : ℕ) → contains v j ≡ (contains w j || (j == s))) → IsAll w c men → IsAll v c (set men s o)
 all_put w v men c s o all ls own made h = λ k l.
@@ -40,6 +42,7 @@ all_put w v men c s o all ls own made h = λ k l.
       | inr away ↦ rw (get_or-set_other men s k o None away, made k, ne_eqb k s away, or-false (contains w k)) (h k l)
     ]
 
+-- if one leaves s, the set of all loses s
 pub all_lift : (w v : ℕ) (men : Men) (c : Colour) (s : ℕ) → length men ≡ 64 → s < 64
     → ((j : ℕ) → j < 64 → contains v j ≡ (contains w j && not (j == s))) → IsAll w c men → IsAll v c (set men s None)
 unfolding is_of
@@ -52,6 +55,7 @@ all_lift w v men c s all ls made h = λ k l.
 
 -- ---- colours
 
+-- a piece of colour d is none of the other colour
 pub theirs_of : (d : Colour) (m : Man) → m.colour ≡ d → is_of (other d) (Some m) ≡ false
 unfolding is_of
 theirs_of d m e = rw e (not_same_other d)
@@ -72,6 +76,7 @@ none_of c o bare = ap (is_of c) bare ∙ is_of-none c None refl
 
 -- ---- one square
 
+-- of two writes to one square the second stays; to write what is there changes nothing
 pub set_twice : {A : Type 0} (xs : List A) (s : ℕ) (a b : A) → set (set xs s a) s b ≡ set xs s b
 set_twice [] s a b = refl
 set_twice (x ∷ xs) zero a b = refl
@@ -85,6 +90,7 @@ cleared men s l all = let inside : s < length men = omega arith in get_or-set_sa
 
 -- ---- two squares
 
+-- an empty square stays empty when another one is emptied
 pub still_empty : (men : Men) (a b : ℕ) → length men ≡ 64 → a < 64 → man_at men b ≡ None
     → man_at (set men a None) b ≡ None
 still_empty men a b all low bare =

@@ -1,4 +1,5 @@
--- Which moves are legal, by the kind of the piece that goes.
+-- Which moves are legal, by the kind of the piece that goes; and from which squares pieces of a kind go legally to a
+-- square. Pseudo-legal moves that change only their two squares (`StepsPlainly`) get a short test of the king's safety.
 use mathlib.Core.Bool.{and-false, and-true}
 use Rattle.std.proofs.Common.{◌≡◌, ℕ, ◌<◌, inl, inr, Bool, true, false, not, ◌&&◌, ◌||◌, ◌==◌, Option, Some, None, refl, sym, ap, ◌∙◌, is_some}
 use Rattle.std.proofs.lemmas.Bool.{and_parts, and_from, and_left, and_right, cases_Bool, eqb-true, not-true, or_parts}
@@ -12,7 +13,7 @@ use Rattle.chess_bits.specs.{ties.Changes.StepsPlainly, ties.Goes.goes, ties.Goe
 use Rattle.chess_bits.proofs.{OriginsOf.back, OriginsOf.officer_attacks, TargetsOf.man_told, TargetsOf.steps_of_man, TargetsOf.no_king_castles}
 use Rattle.chess_bits.proofs.Patterns.{fits_low, not_fitting, not_promoting, officer_goes, pattern_by, pawn_goes}
 
--- a piece other than a pawn has the pattern of a move where it moves or castles
+-- a move of a piece other than a pawn is pseudo-legal exactly if the piece moves or castles so
 pub man_pattern : (p : Setup) (kind : Kind) (a b : ℕ) → is_man p.side kind (man_at p.men a) ≡ true
     → same_kind Pawn kind ≡ false → a < 64 → b < 64
     → castles_or_moves p (move_of a b None) (castle_of p (move_of a b None)) ≡ is_pseudo_legal p (move_of a b None)
@@ -23,7 +24,7 @@ man_pattern p kind a b man no_pawn low high =
     ∙ ap (λ w. goes p a b && promotion_fits w None) (not_promoting p a b _ at no_pawn)
     ∙ and-true (goes p a b))
 
--- and an officer where it attacks what is no own piece
+-- an officer's move is so exactly if the officer attacks the square, and no own piece is there
 pub officer_pattern : (p : Setup) (kind : Kind) (a b : ℕ) → IsOfficer p.side kind (man_at p.men a) → a < 64 → b < 64
     → (could_capture p.men p.side kind a b && not (is_of p.side (man_at p.men b))) ≡ is_pseudo_legal p (move_of a b None)
 officer_pattern p kind a b h low high =
@@ -40,6 +41,7 @@ pub no_pattern : (p : Setup) (m : Move) → is_pseudo_legal p m ≡ false → is
 unfolding is_legal
 no_pattern p m h = and_left (is_pseudo_legal p m) (not (is_in_check (after p m).men p.side)) h
 
+-- such a move changes only its two squares
 pub officer_plain : (p : Setup) (kind : Kind) (a b : ℕ) → IsOfficer p.side kind (man_at p.men a)
     → is_pseudo_legal p (move_of a b None) ≡ true → StepsPlainly p (move_of a b None)
 officer_plain p kind a b h goes_so =
@@ -65,6 +67,7 @@ promotes_not p m kind h some =
     unfit None e = cc
     unfit (Some k) e = fits_low k
 
+-- a move without a promotion is given by its two squares
 pub as_triple : (p : Setup) (m : Move) → is_some m.promotion ≡ false
     → is_legal p (move_of m.from m.to None) ≡ is_legal p m
 as_triple p m none = ap (λ k. is_legal p (move_of m.from m.to k)) (sym (nothing m.promotion none))
@@ -89,7 +92,8 @@ own_on_end p kind to k neither own high low =
       | inr off ↦ sym (and_left (is_man p.side kind (man_at p.men k)) (is_legal p (move_of k to None)) off)
     ]
 
--- those on squares reached from there go there
+-- w are the officers of a kind (all of them: u) on squares that this kind attacks from `to`. If no own piece is on
+-- `to`, their moves there are pseudo-legal, and change only two squares
 pub starts_plain : (p : Setup) (kind : Kind) (to u w : ℕ) → (same_kind King kind || same_kind Pawn kind) ≡ false
     → is_of p.side (man_at p.men to) ≡ false → to < 64
     → ((k : ℕ) → k < 64 → contains w k ≡ (could_capture p.men p.side kind to k && contains u k))
@@ -104,7 +108,7 @@ starts_plain p kind to u w neither free high reached men k low on =
     ∙ and_from (could_capture p.men p.side kind k to) (not (is_of p.side (man_at p.men to)))
     (back p.men p.side kind k to kinds.1 ∙ parts.0) (ap not free))
 
--- so these are the starts
+-- so the members of w whose move to `to` is legal are all legal starts of the kind
 pub officer_starts_are : (p : Setup) (kind : Kind) (to u w k : ℕ) (s : Bool)
     → (same_kind King kind || same_kind Pawn kind) ≡ false
     → ((j : ℕ) → j < 64 → contains w j ≡ (could_capture p.men p.side kind to j && contains u j))
@@ -127,6 +131,7 @@ officer_starts_are p kind to u w k s neither reached men low made =
 
 -- ---- officers
 
+-- a piece that is neither king nor pawn is an officer
 pub officer_told : (c : Colour) (x : Man) (o : Option Man) → o ≡ Some x → is_of c o ≡ true
     → not (same_kind King x.kind || same_kind Pawn x.kind) ≡ true → IsOfficer c x.kind o
 unfolding is_of is_man
@@ -139,7 +144,7 @@ officer_told c x o at own neither =
 
 -- ---- pawns
 
--- a pawn has the pattern of a move without a promotion where it goes, but for its last rank
+-- a pawn's move without a promotion is pseudo-legal exactly if it is an advance or a capture, and not to the last rank
 pub pawn_pattern : (p : Setup) (a b : ℕ) → is_man p.side Pawn (man_at p.men a) ≡ true → a < 64 → b < 64
     → ((pawn_advances p (move_of a b None) || pawn_captures p (move_of a b None)) && not (would_promote p a b))
     ≡ is_pseudo_legal p (move_of a b None)
@@ -153,6 +158,7 @@ pawn_pattern p a b pawn low high =
     unpromoted true = refl
     unpromoted false = refl
 
+-- such a move changes only its two squares, if it does not go to the en passant target
 pub pawn_plain : (p : Setup) (a b : ℕ) → is_man p.side Pawn (man_at p.men a) ≡ true
     → is_pseudo_legal p (move_of a b None) ≡ true → is_at p.target b ≡ false → StepsPlainly p (move_of a b None)
 pawn_plain p a b pawn goes_so off = record {
@@ -161,7 +167,7 @@ pawn_plain p a b pawn goes_so off = record {
   no_passing = and_right (is_man p.side Pawn (man_at p.men a)) (is_at p.target b) off;
 }
 
--- what is neither officer nor king
+-- a kind that is neither an officer's nor the king's is the pawn's
 pub pawn_left : (kind : Kind) → not (same_kind King kind || same_kind Pawn kind) ≡ false → same_kind King kind ≡ false
     → kind ≡ Pawn
 pawn_left Pawn h g = refl
@@ -186,7 +192,7 @@ king_otherwise p a b king low high still = by (castle_of p (move_of a b None)) r
         (sym (man_pattern p King a b king refl low high) ∙ ap (castles_or_moves p (move_of a b None)) e ∙ still))
     by (Some castle) e = refl
 
--- it is the only start, or none is
+-- the only square from which a king may go to `to` is the king's
 pub king_start : (p : Setup) (to king k : ℕ) → is_man p.side King (man_at p.men k) ≡ (k == king)
     → (is_legal p (move_of king to None) && (k == king))
     ≡ (is_man p.side King (man_at p.men k) && is_legal p (move_of k to None))

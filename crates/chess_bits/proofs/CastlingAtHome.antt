@@ -1,5 +1,5 @@
--- Where a right to castle is available: the king is at home (in normal chess), and the move of the king to the end
--- square of that castling has its squares.
+-- Castling with a right that is there: in normal chess the king is at home, and in both variants the king's move to the
+-- square that names this castling (`named_square`) is this castling, with its four squares (`castle_told`).
 use mathlib.Core.Bool.{and-false, and-true}
 use Rattle.std.proofs.Common.{◌≡◌, inl, inr, ℕ, ◌<◌, Bool, true, false, ◌&&◌, ◌==◌, Option, Some, None, refl, sym, ap, ◌∙◌, arith, option_and_then}
 use Rattle.std.specs.Option.{option_map, option_map_or}
@@ -12,6 +12,7 @@ use Rattle.chess_base.proofs.{shared.Castling.right_is_sound_of, shared.Castling
 use Rattle.chess_bits.specs.ties.Goes.{names_end, castles_onto}
 use Rattle.chess_bits.proofs.OneKing.{alone}
 
+-- king and rook of the right are where castling begins
 pub stands : (p : Setup) (w : CastlingSide) (rook : ℕ) → IsSound p → p.variant ≡ Normal
     → right_of p.rights p.side w ≡ Some rook → are_placed_for_castling Normal p.men p.side w rook ≡ true
 unfolding right_is_sound
@@ -20,6 +21,7 @@ stands p w rook sound normal right =
     ∙ placed_for_right p.variant p.men p.side w (right_of p.rights p.side w) rook (right_is_sound_of p sound p.side w)
     right
 
+-- so in normal chess the king's square is e1 or e8
 pub at_home : (p : Setup) (w : CastlingSide) (a rook : ℕ) → IsSound p → p.variant ≡ Normal
     → right_of p.rights p.side w ≡ Some rook → is_man p.side King (man_at p.men a) ≡ true → a < 64
     → a ≡ home_square p.side king_home_file
@@ -54,13 +56,15 @@ ends_differ Fischerandom men c a r rook at near far =
 abbrev is_by : Setup → Move → CastlingSide → Bool
 is_by p m w = option_map_or (is_castling_by p.variant m) (castling_on p w) false
 
--- the queen's side is asked last
+-- which castling a move is: the king's side is asked first, so the queen's side is found if the move is none on the
+-- king's side
 found : (p : Setup) (m : Move) (w : CastlingSide) → is_by p m w ≡ true → (w ≡ QueenSide → is_by p m KingSide ≡ false)
     → castling_named p m ≡ Some w
 unfolding castling_named
 found p m KingSide h other = rw h refl
 found p m QueenSide h other = rw (other refl, h) refl
 
+-- the move that names castling on the queen's side is none on the king's side, whatever right (o) there is
 not_near : (p : Setup) (a rook : ℕ) (o : Option ℕ) → king_square p.men p.side ≡ Some a
     → right_is_sound_at p.variant p.men p.side KingSide o ≡ true
     → are_placed_for_castling p.variant p.men p.side QueenSide rook ≡ true
@@ -71,6 +75,7 @@ not_near p a rook None at near far = refl
 not_near p a rook (Some r) at near far =
     and_right (a == a) _ (ends_differ p.variant p.men p.side a r rook at near far)
 
+-- so in a sound position it is none on the king's side
 other_side : (p : Setup) (w : CastlingSide) (a b rook : ℕ) → IsSound p → right_of p.rights p.side w ≡ Some rook
     → king_square p.men p.side ≡ Some a → b ≡ named_square p.variant (castle_from p.side w a rook) → w ≡ QueenSide
     → is_by p (move_of a b None) KingSide ≡ false
@@ -82,6 +87,7 @@ other_side p QueenSide a b rook sound right at end far =
     (placed_for_right p.variant p.men p.side QueenSide (right_of p.rights p.side QueenSide) rook
     (right_is_sound_of p sound p.side QueenSide) right))
 
+-- so the king's move to the square b that names castling on side w has the squares of this castling
 pub castle_told : (p : Setup) (w : CastlingSide) (a b rook : ℕ) → IsSound p → right_of p.rights p.side w ≡ Some rook
     → is_man p.side King (man_at p.men a) ≡ true → b ≡ named_square p.variant (castle_from p.side w a rook)
     → castle_of p (move_of a b None) ≡ Some (castle_from p.side w a rook)
@@ -93,12 +99,13 @@ castle_told p w a b rook sound right king end =
     ∙ ap (option_and_then (castling_on p)) (found p (move_of a b None) w here (other_side p w a b rook sound right at end))
     ∙ on
 
--- and this is the one end square of that castling
+-- that a square names this castling, as a test, and computed
 end_is : (v : Variant) (c : Colour) (w : CastlingSide) (a rook k : ℕ)
     → names_end v c w (Some rook) k ≡ (k == named_square v (castle_from c w a rook))
 end_is Normal c w a rook k = refl
 end_is Fischerandom c w a rook k = refl
 
+-- the king castles legally on side w onto k exactly if k is b and the move to b is legal
 pub castles_onto_end : (p : Setup) (w : CastlingSide) (a b rook k : ℕ) → IsSound p
     → right_of p.rights p.side w ≡ Some rook → is_man p.side King (man_at p.men a) ≡ true → b ≡ named_square p.variant (castle_from p.side w a rook)
     → (is_legal p (move_of a b None) && (k == b)) ≡ castles_onto p w a k

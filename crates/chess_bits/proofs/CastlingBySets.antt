@@ -1,4 +1,6 @@
--- Castling by sets: its squares are on one rank, and its ways are sets.
+-- Castling tested by sets: king and rook each go along one rank, so the table has the squares on their ways. Nothing is
+-- met on these, and no square of the king's way is attacked, exactly if the castling is pseudo-legal
+-- (`castle_pattern`).
 use Rattle.chess_base.proofs.{shared.Squares.each_square_same, shared.Changes.no_en_passant, shared.Men.in_board, shared.Men.is_man-kind, shared.Parts.castling_way_is_empty_by}
 use mathlib.Core.Bool.{and-true}
 use Rattle.std.proofs.Common.{◌≡◌, ℕ, ◌<◌, Bool, true, false, not, ◌&&◌, ◌||◌, ◌==◌, Option, Some, None, is_none, refl, sym, ap, subst, ◌∙◌, arith}
@@ -25,6 +27,7 @@ rook_low : (w : CastlingSide) → rook_file w < 8
 rook_low KingSide = omega arith
 rook_low QueenSide = omega arith
 
+-- if move m names castling with the rook on r, and king and rook are where this begins, both start on the first rank
 starts : (v : Variant) (men : Men) (c : Colour) (w : CastlingSide) (m : Move) (r : ℕ)
     → names_castling_with v c m w r ≡ true → are_placed_for_castling v men c w r ≡ true
     → (rank m.from ≡ first_rank c) × (rank r ≡ first_rank c)
@@ -53,10 +56,12 @@ starts Fischerandom men c w m r n s =
         (and_parts (rank k == first_rank c) (rank r == first_rank c)
         (and_parts ((rank k == first_rank c) && (rank r == first_rank c)) (is_to_side w k r) e).0).1
 
+-- king and rook each end on the rank where they start
 pub record OnRank (k : Castle) : Type 0 where
   pub kings : rank k.king_from ≡ rank k.king_to
   pub rooks : rank k.rook_from ≡ rank k.rook_to
 
+-- each castling in a sound position is so
 on_rank_by : (p : Setup) (m : Move) (k : Castle) → IsSound p → castle_of p m ≡ Some k → (o : Option CastlingSide)
     → castling p m ≡ o → OnRank k
 unfolding right_is_sound
@@ -79,13 +84,15 @@ on_rank p m k sound e = on_rank_by p m k sound e (castling p m) refl
 
 -- ---- each square
 
+-- each square passes p, which is the opposite of q, exactly if none passes q
 pub each_not : (p q : ℕ → Bool) → ((k : ℕ) → k < 64 → p k ≡ not (q k)) → each_square p ≡ not (some_square q)
 each_not p q h = each_square_same p (λ k. not (q k)) h ∙ sym (none_square q)
 
 crossed : (x y z u v : Bool) → (not (x || y) || z || u || v) ≡ not ((((x || y) && not z) && not u) && not v)
 crossed x y z u v = grind arith
 
--- no piece is met on the ways
+-- `met`: the occupied squares that king or rook crosses or ends on, but for those where the two start. There is none
+-- exactly if the way is empty
 pub way_is_empty : (men : Men) (k : Castle) (met : ℕ → Bool)
     → ((x : ℕ) → x < 64
     → met x ≡
@@ -107,6 +114,7 @@ none_of q w =
     ap not (any-filter (λ x. contains w x) q squares)
     ∙ sym (each_not _ (λ x. contains w x && q x) (λ x low. grind arith))
 
+-- no square of the king's way (`way`) is attacked exactly if the way is safe
 pub way_is_safe : (men : Men) (c : Colour) (k : Castle) (way : ℕ → Bool)
     → ((x : ℕ) → x < 64 → way x ≡ is_on_way k.king_from k.king_to x)
     → each_square (λ x. not (way x) || not (is_attacked men x (other c))) ≡ castling_way_is_safe men c k
@@ -116,6 +124,7 @@ way_is_safe men c k way h = each_square_same _ _
 
 -- ---- the pattern of castling
 
+-- a move that is castling is a king's
 pub king_goes : (p : Setup) (m : Move) (k : Castle) → castle_of p m ≡ Some k → (o : Option CastlingSide)
     → castling p m ≡ o → is_man p.side King (man_at p.men m.from) ≡ true
 king_goes p m k e None none = let gone = no_castle p m none in absurd cc
@@ -124,6 +133,7 @@ king_goes p m k e (Some w) says = (castling_says p m w (says_from_castling p m w
 fits_none : (t : Bool) → t ≡ false → promotion_fits t None ≡ true
 fits_none t e = rw e refl
 
+-- a move that is castling, to side o, is pseudo-legal exactly if its way is empty and safe
 castle_pattern_by : (p : Setup) (a b : ℕ) (k : Castle) → IsSound p → b < 64 → castle_of p (move_of a b None) ≡ Some k
     → is_pseudo_legal p (move_of a b None) ≡ (castling_way_is_empty p.men k && castling_way_is_safe p.men p.side k)
 unfolding castles
@@ -137,6 +147,7 @@ castle_pattern_by p a b k sound high e =
     ∙ officer_goes p a b _ at refl refl low high
     ∙ ap (castles_or_moves p (move_of a b None)) e
 
+-- so for each move that is castling and names no promotion
 pub castle_pattern : (p : Setup) (m : Move) (k : Castle) → IsSound p → m.to < 64 → m.promotion ≡ None
     → castle_of p m ≡ Some k
     → is_pseudo_legal p m ≡ (castling_way_is_empty p.men k && castling_way_is_safe p.men p.side k)
@@ -144,7 +155,7 @@ castle_pattern p m k sound high none e =
     ap (λ o. is_pseudo_legal p (move_of m.from m.to o)) none
     ∙ castle_pattern_by p m.from m.to k sound high (ap (λ o. castle_of p (move_of m.from m.to o)) (sym none) ∙ e)
 
--- and its steps
+-- what castling changes on the board, by its four squares
 pub castle_steps : (p : Setup) (m : Move) (k : Castle) → castle_of p m ≡ Some k → m.promotion ≡ None
     → record {
       from = m.from;

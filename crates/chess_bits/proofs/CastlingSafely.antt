@@ -1,4 +1,5 @@
--- Castling in normal chess opens no line to the square where the king ends: what nothing prevents is legal.
+-- Castling in normal chess opens no line to the square where the king ends: what attacks it afterwards attacked it
+-- before. So a castling that nothing prevents is legal.
 use Rattle.std.proofs.Common.{◌≡◌, ℕ, ◌<◌, inl, inr, Bool, true, false, not, ◌&&◌, ◌||◌, ◌==◌, cond, Option, Some, None, is_none, refl, sym, ap, ◌∙◌, arith}
 use Rattle.std.proofs.lemmas.Bool.Decides.{nat_tests}
 use Rattle.std.proofs.lemmas.Bool.{and_parts, or_left, or_right, both_ways, cases_Bool, eqb-true, eq-eqb, false_from_ne_true}
@@ -13,7 +14,7 @@ use Rattle.chess_bits.proofs.KingAfter.{mover_own, king_lands, check_after, lega
 
 -- ---- squares at home
 
--- what sees the king's end square past its start sees it past the rook's end
+-- if the king's start is between b and the king's end, the rook's end is too
 past_king : (c : Colour) (w : CastlingSide) (b : ℕ)
     → is_between b (home_square c (castled_king_file w)) (home_square c king_home_file) ≡ true
     → is_between b (home_square c (castled_king_file w)) (home_square c (castled_rook_file w)) ≡ true
@@ -23,7 +24,7 @@ past_king White QueenSide b e = grind (arith, nat_tests, e)
 past_king Black KingSide b e = grind (arith, nat_tests, e)
 past_king Black QueenSide b e = grind (arith, nat_tests, e)
 
--- and nobody sees it past the corner
+-- the rook's corner is never between the king's end and another square
 past_rook : (c : Colour) (w : CastlingSide) (b : ℕ)
     → is_between b (home_square c (castled_king_file w)) (home_square c (rook_file w)) ≡ false
 unfolding is_between is_between_on_file is_between_on_rank is_between_on_diagonal
@@ -41,6 +42,7 @@ ends_apart Black QueenSide = refl
 
 -- ---- what castling leaves
 
+-- what is on square s after castling
 after_castling : (p : Setup) (m : Move) (k : Castle) (s : ℕ) → castle_of p m ≡ Some k → s < 64
     → man_at (men_after p m) s
     ≡ cond (k.king_to == s) (arriving_man (man_at p.men m.from) m.promotion)
@@ -52,7 +54,7 @@ after_castling p m k s e l =
     let still = no_en_passant p m (is_man-kind p.side p.side King Pawn (man_at p.men m.from) refl king) in
     man_at-men_after p m s l ∙ rw (still, e) refl
 
--- an enemy that is there then was there before
+-- an enemy piece (of colour c) that is on a square afterwards was there before
 enemy_stood : (t r l : Bool) (arr rook o : Option Man) (c : Colour) → is_of c arr ≡ false → is_of c rook ≡ false
     → is_of c (cond t arr (cond r rook (cond l None o))) ≡ true
     → cond t arr (cond r rook (cond l None o)) ≡ o
@@ -62,15 +64,17 @@ enemy_stood false true l arr rook o c n g e = absurd (both_ways _ g e)
 enemy_stood false false true arr rook o c n g e = cc
 enemy_stood false false false arr rook o c n g e = refl
 
--- king to t, rook to r; f and a are left
+-- `later` are the pieces after the king went from a to t and the rook from f to r
 abbrev Castled : Men → Men → ℕ → ℕ → ℕ → ℕ → Option Man → Option Man → Type 0
 Castled men later t r f a king rook = (s : ℕ) → s < 64
     → man_at later s ≡ cond (t == s) king (cond (r == s) rook (cond ((f == s) || (a == s)) None (man_at men s)))
 
+-- the rook is then on r
 rook_stands : (men later : Men) (t r f a : ℕ) (king rook : Option Man) → Castled men later t r f a king rook
     → (t == r) ≡ false → r < 64 → man_at later r ≡ rook
 rook_stands men later t r f a king rook after apart low = after r low ∙ rw (apart, eq-eqb r r refl) refl
 
+-- if the way from b to t is clear afterwards it was clear before: f is not on it, and if a is, so is r with the rook
 clear_stood : (men later : Men) (t r f a b : ℕ) (king rook : Option Man) → Castled men later t r f a king rook
     → is_none rook ≡ false → (t == r) ≡ false → r < 64
     → (is_between b t a ≡ true → is_between b t r ≡ true) → is_between b t f ≡ false → is_clear later b t ≡ true
@@ -102,6 +106,7 @@ clear_stood men later t r f a b king rook after some apart low past beyond clear
           rw inside (ap is_none (sym same) ∙ now)
     ])
 
+-- so the king's end t, if it was not attacked, is not attacked afterwards
 still_safe : (men later : Men) (c : Colour) (t r f a : ℕ) (king rook : Option Man) → Castled men later t r f a king rook
     → is_none rook ≡ false → is_of c king ≡ false → is_of c rook ≡ false → (t == r) ≡ false → r < 64
     → ((b : ℕ) → is_between b t a ≡ true → is_between b t r ≡ true) → ((b : ℕ) → is_between b t f ≡ false)
@@ -115,6 +120,7 @@ still_safe men later c t r f a king rook after some own mine apart low past beyo
 
 -- ---- so it is legal
 
+-- the end of a safe way is not attacked
 way_end : (men : Men) (c : Colour) (k : Castle) → castling_way_is_safe men c k ≡ true → k.king_to < 64
     → is_attacked men k.king_to (other c) ≡ false
 unfolding castling_way_is_safe
@@ -145,6 +151,7 @@ home_starts p m w r sound normal says right =
           (is_man p.side King (man_at p.men (home_square p.side king_home_file))) two.0).0,
     )
 
+-- so in normal chess the king's end is not attacked after castling to side w
 safe_by : (p : Setup) (m : Move) (w : CastlingSide) (r : ℕ) → IsSound p → p.variant ≡ Normal → castling p m ≡ Some w
     → right_of p.rights p.side w ≡ Some r
     → castle_of p m ≡ Some (castle_from p.side w m.from r) → is_pseudo_legal p m ≡ true
@@ -162,6 +169,7 @@ safe_by p m w r sound normal says right e pattern safe =
     (λ b. ap (λ y. is_between b t y) home.1 ∙ past_rook p.side w b)
     (way_end p.men p.side k safe (home_square-below p.side (castled_king_file w) (castled_king_file-below w)))
 
+-- for each castling, to whichever side
 by_side : (p : Setup) (m : Move) (k : Castle) → IsSound p → p.variant ≡ Normal → castle_of p m ≡ Some k
     → is_pseudo_legal p m ≡ true → castling_way_is_safe p.men p.side k ≡ true
     → (o : Option CastlingSide) → castling p m ≡ o → (is_attacked (men_after p m) k.king_to (other p.side) ≡ false)
@@ -177,6 +185,7 @@ by_side p m k sound normal e pattern safe (Some w) says =
       rw to (home_square-below p.side (castled_king_file w) (castled_king_file-below w)),
     )
 
+-- so in normal chess a castling whose way is empty and safe is legal
 pub castles_safely : (p : Setup) (m : Move) (k : Castle) → IsSound p → p.variant ≡ Normal → castle_of p m ≡ Some k
     → m.to < 64 → m.promotion ≡ None
     → (castling_way_is_empty p.men k && castling_way_is_safe p.men p.side k) ≡ true → true ≡ is_legal p m

@@ -1,5 +1,5 @@
--- Legal moves counted: those of some pieces are among all, there are some if one square has some, and they fit into a
--- list.
+-- Numbers of legal moves: some pieces have no more than all, and at most as many as a list holds (896); and there is a
+-- legal move if one piece has one.
 use Rattle.std.proofs.Common.{◌≡◌, ℕ, suc, ◌+◌, ◌≤◌, inl, inr, Bool, true, ◌||◌, List, [], ◌∷◌, ◌++◌, length, refl, sym, ap, ◌∙◌, length-append, nat_lt, ◌<◌, arith}
 use Rattle.std.proofs.lemmas.Bool.{cases_Bool, lt-ltb, ltb-true}
 use Rattle.std.specs.List.{filter, flat_map, list_any}
@@ -7,11 +7,11 @@ use Rattle.chess_base.specs.{declared.setup.Setup.Setup, MoveList.moves, Squares
 use Rattle.chess_moves.specs.{shared.MovesBySquares.moves_from, Sets.contains, Sets.members}
 use Rattle.chess_moves.proofs.{shared.MovesBySquares.moves-by_start, shared.AnyMove.any-square, shared.LegalMoves.moves_fit}
 
--- before the first
+-- a sum that begins with 0
 pub none_counted : {m n : ℕ} → m ≡ n → 0 + m ≡ n
 none_counted e = omega (arith, e)
 
--- some pieces' moves are no more than all
+-- the lists of the elements that pass q, joined, are no longer than those of all elements
 fewer : {A : Type 0} (g : ℕ → List A) (q : ℕ → Bool) (xs : List ℕ)
     → length (flat_map g (filter q xs)) ≤ length (flat_map g xs)
 fewer g q [] = omega arith
@@ -22,6 +22,7 @@ fewer g q (x ∷ xs) =
     elim (cases_Bool (q x))
     [ inl kept ↦ rw kept (omega (arith, rest, all, some)) | inr left ↦ rw left (omega (arith, rest, all)) ]
 
+-- if the pieces on the squares of w have a legal move, there is one
 pub some_of : (p : Setup) (w : ℕ) → nat_lt 0 (length (flat_map (λ a. moves_from p a) (members w))) ≡ true
     → true ≡ nat_lt 0 (length (moves p))
 unfolding members
@@ -31,7 +32,7 @@ some_of p w h =
     let some : 0 < length (flat_map (λ a. moves_from p a) (filter (λ k. contains w k) squares)) = ltb-true _ _ h in
     sym (lt-ltb 0 (length (moves p)) (omega (arith, less, all, some)))
 
--- and no more than a list holds
+-- these pieces have no more legal moves than a list holds
 pub some_fit : (p : Setup) (w : ℕ) → IsSound p → length (flat_map (λ a. moves_from p a) (members w)) ≤ 896
 unfolding members
 some_fit p w sound =
@@ -40,7 +41,7 @@ some_fit p w sound =
     let fits = moves_fit p sound in
     omega (arith, less, all, fits)
 
--- there are some if there are for one of the squares
+-- one of the lists g a has an element exactly if the lists joined have one
 pub any_of : {A : Type 0} (g : ℕ → List A) (xs : List ℕ)
     → list_any (λ a. nat_lt 0 (length (g a))) xs ≡ nat_lt 0 (length (flat_map g xs))
 any_of g [] = refl
@@ -53,7 +54,7 @@ any_of {A = A} g (x ∷ xs) = by _ (g x) (flat_map g xs) (any_of g xs)
         ap (λ s. s || t) (lt-ltb 0 (suc (length ys)) (omega arith))
         ∙ sym (lt-ltb 0 (suc (length (ys ++ zs))) (omega arith))
 
--- and so if there are for one square of all
+-- if there is a legal move from one square, there is one
 pub some_from : (p : Setup) (a : ℕ) → a < 64 → 0 < length (moves_from p a) → true ≡ nat_lt 0 (length (moves p))
 some_from p a low h =
     sym (any-square (λ b. nat_lt 0 (length (moves_from p b))) a low (lt-ltb 0 (length (moves_from p a)) h))

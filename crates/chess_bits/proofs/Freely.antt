@@ -1,4 +1,6 @@
--- Pieces without which their king is not attacked: where they go, they go legally.
+-- Free pieces: their king is not attacked even with the piece taken off the board, so their pseudo-legal moves are
+-- legal (but perhaps en passant). If such a piece is ordinary too, each square to which it goes gives one legal move.
+-- The last part says which pieces are free.
 use Rattle.std.proofs.Common.{◌≡◌, ℕ, ◌+◌, ◌<◌, ◌≤◌, ◌⊎◌, inl, inr, Bool, true, false, not, ◌&&◌, ◌||◌, ◌==◌, Option, Some, None, cond, [], ◌∷◌, map, refl, sym, ap, ◌∙◌, subst, arith}
 use Rattle.std.proofs.lemmas.Bool.{and_parts, and_from, and_right, or_cases, or_left, or_right, or_parts, eqb-false, eqb-true, eq-eqb, ne_eqb, cases_Bool, and_left}
 use Rattle.chess_base.specs.{declared.man.Colour.Colour, declared.man.Colour.TheVariants.White, declared.man.Colour.TheVariants.Black, declared.man.Kind.Kind, declared.man.Man.Man, declared.man.Move.Move, declared.setup.Setup.Setup, shared.Parts.is_rank_ahead, shared.Splits.could_capture_as, Castling.castle_of, MoveList.move_of, Sound.IsSound, Sound.no_pawn_on_end_ranks}
@@ -18,6 +20,7 @@ use Rattle.chess_bits.proofs.Quiet.{attacked_before, capture_before, enemy_befor
 
 -- ---- the king stays safe
 
+-- a free piece's pseudo-legal move is legal, if it is neither a promotion nor en passant
 pub free_is_legal : (p : Setup) (a b king : ℕ) → IsSound p → IsFree p a → a < 64 → king < 64
     → ((k : ℕ) → k < 64 → is_man p.side King (man_at p.men k) ≡ (k == king))
     → goes p a b ≡ true → would_promote p a b ≡ false → is_en_passant p (move_of a b None) ≡ false
@@ -46,6 +49,7 @@ pub no_pawn_ordinary : (p : Setup) (a : ℕ) → is_man p.side Pawn (man_at p.me
 unfolding would_promote is_en_passant
 no_pawn_ordinary p a no_pawn = record { stays = λ b low go. rw no_pawn refl; passes = λ b. rw no_pawn refl }
 
+-- a pawn that is not on its last rank but one does not come to the last rank, by an advance or by a capture
 advance_stays : (c : Colour) (a b : ℕ) → 8 ≤ a → a < 64 → (rank a ≡ pawn_rank (other c) → ⊥)
     → (b ≡ forward c a) ⊎ ((rank a ≡ pawn_rank c) × (b ≡ forward c (forward c a)))
     → rank b ≡ first_rank (other c) → ⊥
@@ -78,6 +82,7 @@ not_taken p a b (Some t) pawn off =
       | inr apart ↦ and_right (is_man p.side Pawn (man_at p.men a) && attacks p.men a b) (t == b) apart
     ]
 
+-- so a pawn that is not on that rank, and does not attack the target, is ordinary
 pub pawn_ordinary : (p : Setup) (a : ℕ) → IsSound p → a < 64 → is_man p.side Pawn (man_at p.men a) ≡ true
     → aims_at p.target p.side a ≡ false → (rank a ≡ pawn_rank (other p.side) → ⊥) → IsOrdinary p a
 unfolding would_promote is_en_passant no_pawn_on_end_ranks pawn_captures
@@ -100,7 +105,7 @@ pawn_ordinary p a sound low pawn no_target off = record {
               (is_of (other p.side) (man_at p.men b) || is_at p.target b) takes).0).1
         ]
 
--- as the code computes it
+-- the same from the code's test of the piece: no pawn, or one that does not go specially
 pub ordinary_from : (p : Setup) (a : ℕ) → IsSound p → a < 64
     → (is_man p.side Pawn (man_at p.men a) && (aims_at p.target p.side a || (rank a == pawn_rank (other p.side))))
     ≡ false → IsOrdinary p a
@@ -114,6 +119,7 @@ ordinary_from p a sound low h =
 
 -- ---- so each square is the end of one legal move
 
+-- a free and ordinary piece has one legal move to each square where it goes
 pub free_between : (p : Setup) (a b king : ℕ) → IsSound p → IsFree p a → IsOrdinary p a → a < 64 → b < 64 → king < 64
     → ((k : ℕ) → k < 64 → is_man p.side King (man_at p.men k) ≡ (k == king)) → goes p a b ≡ true
     → moves_between p a b ≡ move_of a b None ∷ []
@@ -123,6 +129,7 @@ free_between p a b king sound free ordinary low high there one go =
     ∙ ap (λ t. cond t (move_of a b None ∷ []) [])
     (free_is_legal p a b king sound free low there one go stays (ordinary.passes b))
 
+-- so its legal moves are one to each square of w, the set of its targets
 pub free_listed : (p : Setup) (a king w : ℕ) → IsSound p → IsFree p a → IsOrdinary p a → a < 64 → king < 64
     → ((k : ℕ) → k < 64 → is_man p.side King (man_at p.men k) ≡ (k == king))
     → ((k : ℕ) → k < 64 → contains w k ≡ true → goes p a k ≡ true)
@@ -136,17 +143,19 @@ free_listed p a king w sound free ordinary low there one sets all =
 
 -- ---- the set of the free pieces
 
+-- what holds of the square `king` holds of each square with a king of the side on move
 at_king : (p : Setup) (a king : ℕ) (P : ℕ → Type 0)
     → ((k : ℕ) → k < 64 → is_man p.side King (man_at p.men k) ≡ (k == king)) → P king
     → (k : ℕ) → k < 64 → is_man p.side King (man_at p.men k) ≡ true → P k
 at_king p a king P one h k low man = subst P (sym (eqb-true k king (sym (one k low) ∙ man))) h
 
--- what attacks with that piece taken off attacks as it is, if that opens nothing
+-- a piece of colour c that is of kind j or k passes one of the tests for these kinds
 of_kinds : (c : Colour) (x : Man) (j k : Kind) → is_of c (Some x) ≡ true
     → (same_kind j x.kind || same_kind k x.kind) ≡ true → (is_man c j (Some x) || is_man c k (Some x)) ≡ true
 unfolding is_of is_man
 of_kinds c x j k own h = rw own h
 
+-- an enemy on b that could capture the king with the piece on a taken off could so before, if this opens no line of b's
 hits_before : (p : Setup) (a b king : ℕ) (o : Option Man) → man_at p.men b ≡ o → is_of (other p.side) o ≡ true
     → (aims_from p b king ≡ true → KeepsClosed p a b king)
     → could_capture_as (lifted p.men a) o b king ≡ true → could_capture_as p.men o b king ≡ true
@@ -166,6 +175,7 @@ hits_before p a b king (Some x) at own keeps e =
     aslant : Bool
     aslant = is_man (other p.side) Bishop (man_at p.men b) || is_man (other p.side) Queen (man_at p.men b)
 
+-- so a piece (not the king) is free if there is no check, and no enemy's line to the king opens when the piece leaves
 pub freed : (p : Setup) (a king : ℕ) → IsSound p → a < 64 → king < 64 → is_in_check p.men p.side ≡ false
     → ((k : ℕ) → k < 64 → is_man p.side King (man_at p.men k) ≡ (k == king))
     → (a == king) ≡ false → ((b : ℕ) → b < 64 → aims_from p b king ≡ true → KeepsClosed p a b king) → IsFree p a

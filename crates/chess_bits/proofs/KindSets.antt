@@ -20,12 +20,14 @@ kind_below Bishop = omega arith
 kind_below Knight = omega arith
 kind_below Pawn = omega arith
 
+-- a piece of kind x is of kind y exactly if the kinds' numbers are equal
 own_man : (c : Colour) (x y : Kind) → is_man c y (Some (record { colour = c; kind = x }))
     ≡ (kind_number y == kind_number x)
 unfolding is_man
 own_man c x y = rw (same_colour-self c) (same_kind_by_number y x)
 
--- one set and one square written
+-- on square k the set of kind y is right after the set of kind x was written (w), and square s of the board (o), if w
+-- is right on s and as before elsewhere, and s changes for kind x alone
 written_at : (sets : List ℕ) (men : Men) (c : Colour) (x y : Kind) (s k w : ℕ) (o : Option Man)
     → length sets ≡ 6 → length men ≡ 64 → s < 64 → k < 64 → IsKinds sets c men
     → (kind_number y ≡ kind_number x → contains w s ≡ is_man c y o)
@@ -50,6 +52,7 @@ written_at sets men c x y s k w o six all ls lk h here others away =
           ])
     ]
 
+-- a piece is put on the empty square s: the set of its kind gets s
 pub put_kinds : (sets : List ℕ) (men : Men) (c : Colour) (x : Kind) (s w d : ℕ)
     → length sets ≡ 6 → length men ≡ 64 → s < 64 → man_at men s ≡ None
     → IsKinds sets c men
@@ -67,6 +70,7 @@ put_kinds sets men c x s w d six all ls bare h made =
           (λ apart. made k ∙ rw (ne_eqb k s apart, get_or_default sets (kind_number x) d 0 in_sets) (or-false _));
     }
 
+-- a piece is lifted from s: the set of its kind loses s
 pub lift_kinds : (sets : List ℕ) (men : Men) (c : Colour) (x : Kind) (s w d : ℕ)
     → length sets ≡ 6 → length men ≡ 64 → s < 64 → man_at men s ≡ Some (record { colour = c; kind = x })
     → IsKinds sets c men
@@ -83,6 +87,7 @@ lift_kinds sets men c x s w d six all ls there h made =
           (λ apart. made k lk ∙ rw (ne_eqb k s apart, get_or_default sets (kind_number x) d 0 in_sets) (and-true _));
     }
 
+-- a piece goes from a to the empty square b
 pub shift_kinds : (sets : List ℕ) (men : Men) (c : Colour) (x : Kind) (a b v w d : ℕ)
     → length sets ≡ 6 → length men ≡ 64 → a < 64 → b < 64 → man_at men a ≡ Some (record { colour = c; kind = x })
     → man_at men b ≡ None → IsKinds sets c men
@@ -107,7 +112,8 @@ nobody_there c None h = refl
 nobody_there c (Some x) h =
     sym (ap (λ t. same_colour c x.colour && t) (same_kind-self x.kind) ∙ and-true (same_colour c x.colour)) ∙ h x.kind
 
--- those who attack a square later are those who would attack it now, but for the squares that change
+-- the sets are those before a move. The attackers (a) that they give for the board after it are right on the squares
+-- that it does not change, and on the others there is no such piece; so without these they are right (w)
 pub left_out : (sets : List ℕ) (changed filled a w : ℕ) (c : Colour) (men later : Men) (square : ℕ)
     → IsKinds sets c men → IsLater changed filled c men later
     → ((k : ℕ) → k < 64 → AreKindsAt sets c later k → contains a k ≡ (is_of c (man_at later k) && attacks later k square))

@@ -1,5 +1,6 @@
--- The moves of the pieces on some squares are those of two parts of them together; a free officer has one to each
--- square where it goes.
+-- Sums of moves: the pieces on the squares of a set have as many moves as those in a second set and those outside it
+-- have together (`split`). A free officer has one legal move to each square that it attacks and no own piece holds
+-- (`officer_counted`).
 use Rattle.std.proofs.Common.{◌≡◌, ℕ, zero, suc, ◌+◌, ◌<◌, ◌≤◌, inl, inr, Bool, true, false, not, ◌&&◌, ◌||◌, ◌==◌, List, length, length-append, None, refl, sym, ap, ◌∙◌, arith}
 use Rattle.std.specs.List.{filter, flat_map, range_with_len}
 use Rattle.std.proofs.{lemmas.Bool.or_parts, lemmas.Bool.cases_Bool, lemmas.List.length-map}
@@ -13,6 +14,7 @@ use Rattle.chess_bits.proofs.TargetsOf.{man_told, officer_is, man_set_sound, man
 
 -- ---- a set in two
 
+-- w is split by c into u and v; over the n numbers from a on
 split_range : {A : Type 0} (g : ℕ → List A) (w c u v : ℕ → Bool) (n a : ℕ) → a + n ≤ 64
     → ((k : ℕ) → k < 64 → u k ≡ (w k && c k)) → ((k : ℕ) → k < 64 → v k ≡ (w k && not (c k)))
     → length (flat_map g (filter u (range_with_len a n))) + length (flat_map g (filter v (range_with_len a n)))
@@ -43,6 +45,7 @@ split_range g w c u v (suc n) a fits hu hv =
           ]
     ]
 
+-- so for a set w: u has its squares that are in c, v the others
 pub split : {A : Type 0} (g : ℕ → List A) (w c u v : ℕ) → ((k : ℕ) → contains u k ≡ (contains w k && contains c k))
     → ((k : ℕ) → k < 64 → contains v k ≡ (contains w k && not (contains c k)))
     → length (flat_map g (members u)) + length (flat_map g (members v)) ≡ length (flat_map g (members w))
@@ -52,6 +55,7 @@ split g w c u v hu hv = split_range g (λ k. contains w k) (λ k. contains c k) 
 
 -- ---- the moves of one
 
+-- w are the squares that the free officer on a attacks and that hold no own piece: it has one legal move to each
 pub officer_counted : (p : Setup) (a king w : ℕ) (kind : Kind) → IsSound p → IsFree p a
     → is_man p.side kind (man_at p.men a) ≡ true → (same_kind King kind || same_kind Pawn kind) ≡ false → a < 64
     → king < 64

@@ -10,6 +10,7 @@ use Rattle.chess_bits.proofs.{AfterSets.check_is, AfterSets.kept_by, BoardSets.t
 
 -- ---- the mover arrives
 
+-- what arrives by a pseudo-legal move is a piece, and not of the other colour
 lands_some : (x : Man) (o : Option Kind) → is_none (arriving_man (Some x) o) ≡ false
 lands_some x None = refl
 lands_some x (Some k) = refl
@@ -30,11 +31,12 @@ mover_own p m e = let moves = moves_from_pattern p m e in
 
 -- ---- the king
 
+-- a square has no king after a move, if the mover is none as it arrives (a) and none was there (o)
 king_only : (t r l : Bool) (a o : Option Man) (c : Colour) → is_man c King a ≡ false → is_man c King o ≡ false
     → is_man c King (cond t a (cond r (Some (record { colour = c; kind = Rook })) (cond l None o))) ≡ false
 king_only t r l a o c h g = sym (kept_by t r l a o c c King h (is_man-rook_as_king c)) ∙ and_left _ _ g
 
--- no king comes to another square
+-- if the mover is no king, a square without the own king has none after the move
 elsewhere : (p : Setup) (m : Move) (k : ℕ) → is_man p.side King (arriving_man (man_at p.men m.from) m.promotion)
     ≡ false
     → is_man p.side King (man_at p.men k) ≡ false → k < 64 → is_man p.side King (man_at (men_after p m) k) ≡ false
@@ -84,7 +86,7 @@ king_lands p m to there low mover =
     ∙ ap (is_man p.side King) (man_at-men_after p m (mover_end p m) (rw (← there) low) ∙ man_after-to p m)
     ∙ mover
 
--- check is an attack on that square
+-- check after the move is an attack on the square where the king then is
 pub check_after : (p : Setup) (m : Move) (king : ℕ) → IsSound p → is_pseudo_legal p m ≡ true → king < 64
     → is_man p.side King (man_at (men_after p m) king) ≡ true
     → is_in_check (men_after p m) p.side ≡ is_attacked (men_after p m) king (other p.side)
@@ -92,7 +94,7 @@ check_after p m king sound pattern low here =
     check_is (men_after p m) p.side king low
     (alone (men_after p m) p.side king (length-men_after p m) (one_after p m sound pattern) here)
 
--- so a move with a pattern is legal
+-- a pseudo-legal move is legal exactly if its side is not in check after it
 pub legal_is : (p : Setup) (m : Move) → is_pseudo_legal p m ≡ true → not (is_in_check (men_after p m) p.side) ≡ is_legal p m
 unfolding is_legal after
 legal_is p m e = rw e refl

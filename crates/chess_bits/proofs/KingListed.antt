@@ -29,7 +29,7 @@ steps_or_castles p a b end step king low high ends steps =
 king_stays_king : (p : Setup) (a b : ℕ) → is_man p.side King (man_at p.men a) ≡ true → would_promote p a b ≡ false
 king_stays_king p a b king = not_promoting p a b _ (man_told p.side King (man_at p.men a) king) refl
 
--- it promotes nothing, so there is one to each square where a legal one ends
+-- a king promotes nothing, so it has one legal move to each square where one ends
 pub king_listed : (p : Setup) (a w : ℕ) → is_man p.side King (man_at p.men a) ≡ true
     → ((k : ℕ) → k < 64 → contains w k ≡ is_legal p (move_of a k None))
     → moves_from p a ≡ map (λ b. move_of a b None) (members w)
@@ -43,6 +43,7 @@ king_listed p a w king ends =
     (λ b low on. one_between p a b (king_stays_king p a b king)
     ∙ ap (λ t. cond t (move_of a b None ∷ []) []) (sym (ends b low) ∙ on)))
 
+-- so their number is that of these squares
 pub king_counted : (p : Setup) (a w : ℕ) → is_man p.side King (man_at p.men a) ≡ true
     → ((k : ℕ) → k < 64 → contains w k ≡ is_legal p (move_of a k None)) → length (members w) ≡ length (moves_from p a)
 king_counted p a w king ends = sym (ap length (king_listed p a w king ends)

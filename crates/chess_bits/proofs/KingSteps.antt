@@ -1,4 +1,5 @@
--- Where a king steps, and when it is safe there.
+-- A king's step, a move of it that is no castling, is legal exactly if its end square is not attacked with the king
+-- taken off the board (`step_is`).
 use mathlib.Core.Bool.{or-false}
 use Rattle.std.proofs.Common.{◌≡◌, ℕ, ◌<◌, inl, inr, Bool, true, false, not, ◌&&◌, ◌||◌, ◌==◌, Option, Some, None, refl, sym, ap, ◌∙◌}
 use Rattle.std.proofs.lemmas.Bool.{and_from, and_parts, and_right, both_ways, cases_Bool, eqb-true, false_from_ne_true}
@@ -16,10 +17,12 @@ use Rattle.chess_bits.proofs.Quiet.{lands_same, plain_after, plain_by, not_passi
 
 -- ---- a square is attacked from elsewhere: what is on it doesn't count
 
+-- no piece attacks its own square
 no_hit_as : (men : Men) (o : Option Man) (b : ℕ) → could_capture_as men o b b ≡ false
 no_hit_as men None b = refl
 no_hit_as men (Some x) b = could_capture-itself men x.colour x.kind b
 
+-- if the pieces `men` and `later` differ on b alone, a way to b is clear on both boards or on neither
 clear_same : (men later : Men) (a b : ℕ) → ((k : ℕ) → k < 64 → (k == b) ≡ false → man_at men k ≡ man_at later k)
     → is_clear men a b ≡ is_clear later a b
 unfolding is_clear
@@ -31,6 +34,7 @@ clear_same men later a b h =
       | inr apart ↦ rw (h x l apart) refl
     ])
 
+-- so each kind of piece could capture on b on both boards or on neither
 capture_same : (men later : Men) (c : Colour) (k : Kind) (a b : ℕ) → is_clear men a b ≡ is_clear later a b
     → could_capture men c k a b ≡ could_capture later c k a b
 unfolding could_capture
@@ -46,6 +50,7 @@ capture_as_same : (men later : Men) (o : Option Man) (a b : ℕ) → is_clear me
 capture_as_same men later None a b e = refl
 capture_as_same men later (Some x) a b e = capture_same men later x.colour x.kind a b e
 
+-- so b is attacked on both boards or on neither
 attacked_same : (men later : Men) (b : ℕ) (c : Colour)
     → ((k : ℕ) → k < 64 → (k == b) ≡ false → man_at men k ≡ man_at later k)
     → is_attacked men b c ≡ is_attacked later b c
@@ -63,6 +68,7 @@ attacked_same men later b c h =
 
 -- ---- a step is no castling
 
+-- in normal chess the king castles further than a step
 far_from_home : (men : Men) (c : Colour) (w : CastlingSide)
     → could_capture men c King (home_square c king_home_file) (home_square c (castled_king_file w)) ≡ false
 unfolding could_capture
@@ -71,6 +77,7 @@ far_from_home men White QueenSide = refl
 far_from_home men Black KingSide = refl
 far_from_home men Black QueenSide = refl
 
+-- a step to a square without an own piece names no castling: in Chess960 that goes to the own rook
 named_apart : (v : Variant) (men : Men) (c : Colour) (a b : ℕ) (w : CastlingSide) (o : Option ℕ)
     → ((r : ℕ) → o ≡ Some r → is_man c Rook (man_at men r) ≡ true)
     → could_capture men c King a b ≡ true → is_of c (man_at men b) ≡ false
@@ -89,6 +96,7 @@ named_apart Fischerandom men c a b w (Some r) rook step free e =
     both_ways (is_of c (man_at men b)) free (ap (λ s. is_of c (man_at men s)) at
     ∙ is_of-from_is_man c Rook (man_at men r) (rook r refl))
 
+-- so a step castles to neither side
 not_said : (p : Setup) (a b : ℕ) (w : CastlingSide) → IsSound p → could_capture p.men p.side King a b ≡ true
     → is_of p.side (man_at p.men b) ≡ false
     → is_castling_to p (move_of a b None) w ≡ false
@@ -139,6 +147,7 @@ king_goes p a b x false sound at own king steps =
 
 -- ---- a step is legal where the square isn't attacked once the king has left his own
 
+-- the king's step from a to b, legal exactly if no enemy attacks b with the king taken off the board
 pub step_is : (p : Setup) (a b : ℕ) → IsSound p → is_man p.side King (man_at p.men a) ≡ true
     → man_moves p (move_of a b None) ≡ true → a < 64 → b < 64
     → not (is_attacked (lifted p.men a) b (other p.side)) ≡ is_legal p (move_of a b None)
@@ -163,7 +172,7 @@ step_is p a b sound king moves low high =
     ap not (attacked_same (lifted p.men a) (men_after p m) b (other p.side) same
     ∙ sym (check_after p m b sound pattern high there)) ∙ legal_is p m pattern
 
--- as the code computes them
+-- a king's steps, as the code computes them: to squares that it attacks and that hold no own piece
 pub steps_are : (p : Setup) (a b : ℕ) → is_man p.side King (man_at p.men a) ≡ true
     → (could_capture p.men p.side King a b && not (is_of p.side (man_at p.men b))) ≡ man_moves p (move_of a b None)
 steps_are p a b king = sym (steps_of_man p a b _ (man_told p.side King (man_at p.men a) king) refl)

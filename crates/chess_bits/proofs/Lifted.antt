@@ -21,7 +21,7 @@ pub lifted_kinds : (sets : List ℕ) (men : Men) (c : Colour) (a : ℕ) → leng
     → is_of c (man_at men a) ≡ false → IsKinds sets c men → IsKinds sets c (lifted men a)
 lifted_kinds sets men c a all low theirs = kinds_kept sets men c a None all low theirs (none_of c None refl)
 
--- its square is empty
+-- the occupied squares are then the same, but for a
 pub lifted_occupied : (w v : ℕ) (men : Men) (a : ℕ) → length men ≡ 64 → a < 64 → IsOccupied w men
     → ((k : ℕ) → k < 64 → contains v k ≡ (contains w k && not (k == a))) → IsOccupied v (lifted men a)
 lifted_occupied w v men a all low stood h = record {

@@ -1,5 +1,5 @@
--- Moves made by cheaper means than their definitions give: a piece that shifts to a square without an own piece changes
--- its two squares alone.
+-- The fast way to make a move that only takes a piece from one square to another (`shift` of placing.rt): it gives the
+-- position after the move, and saves what `saved_of` does, as the definitions say.
 use mathlib.Core.Bool.{and-false}
 use Rattle.std.proofs.Common.{◌≡◌, ◌≢◌, ℕ, true, false, not, ◌&&◌, Bool, length, set, refl, sym, ap, arith, ◌∙◌, ◌||◌, ◌==◌, Option, Some, None, is_none, if◌then◌else◌, is_some}
 use Rattle.std.proofs.lemmas.Bool.{and_parts, and_left, and_right, both_ways, ne_eqb, not-true, or_parts}
@@ -16,6 +16,7 @@ use Rattle.chess_bits.proofs.{BoardSets.set_twice, Quiet.not_passing, TargetsOf.
 
 -- ---- rights
 
+-- with no right left, no move loses one
 none_of : (r : Rights) (c : Colour) (w : CastlingSide) → has_no_right r ≡ true → right_of r c w ≡ None
 none_of r White KingSide h = is_none-None r.white.king_side (grind (arith, h))
 none_of r White QueenSide h = is_none-None r.white.queen_side (grind (arith, h))
@@ -40,6 +41,7 @@ no_king_or_rook c (Some x) e =
     let neither = or_parts (same_kind King x.kind) (same_kind Rook x.kind) e in
     (and_right (same_colour c x.colour) _ neither.0, and_right (same_colour c x.colour) _ neither.1)
 
+-- a right (o) stays if neither the mover nor the content of the end square is a king or a rook
 right_kept : (p : Setup) (m : Move) (c : Colour) (w : CastlingSide) (o : Option ℕ) → IsSound p
     → is_king_or_rook (man_at p.men m.from) ≡ false → is_king_or_rook (man_at p.men m.to) ≡ false
     → right_of p.rights c w ≡ o → right_after p m c o ≡ o
@@ -52,6 +54,7 @@ right_kept p m c w (Some s) sound mover taken at =
     ne_eqb m.to s (λ e. both_ways _ (no_king_or_rook c (man_at p.men m.to) taken).1 (rw e there)) in
     rw (starts.0, not_from, not_to) refl
 
+-- so all rights stay
 rights_kept_at : (p : Setup) (m : Move) → IsSound p
     → (is_king_or_rook (man_at p.men m.from) || is_king_or_rook (man_at p.men m.to)) ≡ false
     → p.rights ≡ rights_after p m
@@ -69,12 +72,14 @@ pub rights_kept : (p : Setup) (m : Move) (x : Man) (o : Option Man) → IsSound 
     → man_at p.men m.to ≡ o → (is_king_or_rook (Some x) || is_king_or_rook o) ≡ false → p.rights ≡ rights_after p m
 rights_kept p m x o sound from to h = rights_kept_at p m sound (rw (from, to) h)
 
+-- with no right left no move is castling
 no_right_says : (p : Setup) (m : Move) (w : CastlingSide) → has_no_right p.rights ≡ true → is_castling_to p m w ≡ false
 unfolding is_castling_to
 no_right_says p m w h = rw (none_of p.rights p.side w h) (and-false _)
 
 -- ---- plain moves
 
+-- a move is plain (neither castling nor en passant) if no king makes it, and no pawn to the target
 no_king_plainly : (p : Setup) (m : Move) → is_man p.side King (man_at p.men m.from) ≡ false
     → (is_man p.side Pawn (man_at p.men m.from) && is_at p.target m.to) ≡ false → IsPlainly p m
 no_king_plainly p m no_king no_passing = record {
@@ -87,6 +92,7 @@ officer_plainly : (p : Setup) (m : Move) (x : Man) → man_at p.men m.from ≡ S
 officer_plainly p m x at no_king no_pawn = no_king_plainly p m (other_man p.side King (man_at p.men m.from) x at no_king)
     (and_left _ _ (other_man p.side Pawn (man_at p.men m.from) x at no_pawn))
 
+-- a plain move empties no second square, no rook arrives, and the mover ends on the end square
 plain_second : (p : Setup) (m : Move) → IsPlainly p m → second_square_emptied p m ≡ None
 unfolding second_square_emptied
 plain_second p m h = rw (h.no_passing, h.no_castle) refl
@@ -99,6 +105,7 @@ plain_end : (p : Setup) (m : Move) → IsPlainly p m → mover_end p m ≡ m.to
 unfolding mover_end
 plain_end p m h = rw h.no_castle refl
 
+-- so the pieces after it are those before with its two squares written
 pub plainly_written : (p : Setup) (m : Move) → length p.men ≡ 64 → IsPlainly p m
     → set (set p.men m.from None) m.to (arriving_man (man_at p.men m.from) m.promotion) ≡ men_after p m
 plainly_written p m all h =
@@ -106,6 +113,7 @@ plainly_written p m all h =
 
 -- ---- a piece that goes from one square to another, and changes no more than that
 
+-- a move that passes the code's quick test (`goes_plainly`, of the mover's kind k) is plain
 plainly_by : (p : Setup) (m : Move) (x : Man) → man_at p.men m.from ≡ Some x → (k : Kind) → x.kind ≡ k
     → goes_plainly p m k ≡ true → IsPlainly p m
 plainly_by p m x at King e h = record {
@@ -121,11 +129,13 @@ plainly_by p m x at Rook e h = officer_plainly p m x at (ap (same_kind King) e) 
 plainly_by p m x at Bishop e h = officer_plainly p m x at (ap (same_kind King) e) (ap (same_kind Pawn) e)
 plainly_by p m x at Knight e h = officer_plainly p m x at (ap (same_kind King) e) (ap (same_kind Pawn) e)
 
+-- move m takes the piece x, which is not promoted, from its start to its end square, and changes no other square
 pub record Shifts (p : Setup) (m : Move) (x : Man) : Type 0 where
   pub mover : man_at p.men m.from ≡ Some x
   pub unpromoted : m.promotion ≡ None
   pub plainly : IsPlainly p m
 
+-- what the code's test says of a move that it accepts (`shifted`)
 shifts_by : (p : Setup) (m : Move) (x : Man) (o : Option Man) → man_at p.men m.from ≡ o → shifted p m o ≡ Some x
     → Shifts p m x
 shifts_by p m x None at e = cc
@@ -149,6 +159,7 @@ unfolding is_legal
 change_legal p m sound legal =
     change_of p m sound (and_parts (is_pseudo_legal p m) (not (is_in_check (after p m).men p.side)) legal).0
 
+-- no own piece is on the end square
 not_own : (p : Setup) (m : Move) → IsPlainly p m → Rest p m → is_of p.side (man_at p.men m.to) ≡ false
 not_own p m h (Alone walk al ra) = walk.not_own
 not_own p m h (WithCapture walk s al ra pawn to_empty mover) = walk.not_own
@@ -161,17 +172,19 @@ other_than White Black e = refl
 other_than Black White e = refl
 other_than Black Black e = cc
 
+-- so a piece there is the enemy's
 theirs_there : (c : Colour) (o : Option Man) → is_of c o ≡ false → is_of (other c) o ≡ is_some o
 unfolding is_of
 theirs_there c None e = refl
 theirs_there c (Some x) e = other_than c x.colour e
 
--- it leaves its square, which is not the one where it comes
+-- the end square is not the start
 pub apart : (p : Setup) (m : Move) (x : Man) → IsSound p → is_legal p m ≡ true → Shifts p m x → m.to ≢ m.from
 apart p m x sound legal h same =
     let change = change_legal p m sound legal in
     both_ways _ (not_own p m h.plainly change.rest) (rw same (is_of-mover p m change.moves))
 
+-- what the fast way saves, with the content o of the end square as what was captured
 abbrev pub saving : Setup → Option Man → Saved
 saving p o = record {
   captured = o;
@@ -181,6 +194,7 @@ saving p o = record {
   fullmove = p.fullmove;
 }
 
+-- what is captured is what was on the end square; so the same is saved as by `saved_of`
 captured_on : (men : Men) (t : Bool) (s : ℕ)
     → (if t then man_at men s else None) ≡ man_on men (if t then Some s else None)
 captured_on men true s = refl
@@ -201,6 +215,7 @@ saved_shifting p m x sound legal h =
     rw h.plainly.no_passing
     (ap (saving p) (taken ∙ captured_on p.men (is_of (other p.side) (man_at p.men m.to)) m.to))
 
+-- only a pawn's move leaves a target
 pub officer_leaves_no_target : (p : Setup) (m : Move) (x : Man) → man_at p.men m.from ≡ Some x
     → same_kind Pawn x.kind ≡ false → None ≡ target_after p m
 unfolding target_after is_double_advance
@@ -211,6 +226,7 @@ pawn_is : (c : Colour) (o : Option Man) (x : Man) → o ≡ Some x → is_of c o
 unfolding is_of is_man
 pawn_is c o x at own = rw at (ap (λ t. t && same_kind Pawn x.kind) (rw at at own))
 
+-- the halfmove clock, from the mover's kind and the content of the end square
 clock_is : (p : Setup) (m : Move) (x : Man) → IsSound p → is_legal p m ≡ true → Shifts p m x
     → clock_left p.halfmove x.kind (man_at p.men m.to) ≡ halfmove_after p m
 unfolding halfmove_after
@@ -222,12 +238,14 @@ clock_is p m x sound legal h =
       theirs_there p.side (man_at p.men m.to) (not_own p m h.plainly change.rest),
     ) refl
 
+-- the pieces after the move: its two squares are written
 men_shifted : (p : Setup) (m : Move) (x : Man) → IsSound p → Shifts p m x
     → set (set p.men m.from None) m.to (Some x) ≡ men_after p m
 men_shifted p m x sound h =
     let lands : arriving_man (man_at p.men m.from) m.promotion ≡ Some x = rw (h.mover, h.unpromoted) refl in
     ap (λ o. set (set p.men m.from None) m.to o) (sym lands) ∙ plainly_written p m sound.board h.plainly
 
+-- so the fast way gives the position after the move
 pub after_shift : (p : Setup) (m : Move) (x : Man) (rights : Rights) (target : Option ℕ) (n : ℕ) → IsSound p
     → is_legal p m ≡ true → Shifts p m x → rights ≡ rights_after p m → target ≡ target_after p m
     → n ≡ clock_left p.halfmove x.kind (man_at p.men m.to)

@@ -14,7 +14,7 @@ none_counted q d (x ∷ xs) h =
     let first : q x ≡ false = h 0 (omega arith) in
     sum_by-cons (λ y. cond (q y) 1 0) x xs ∙ rw (first, none_counted q d xs (λ k l. h (suc k) (omega arith))) refl
 
--- the king is in its set
+-- the set w of a colour's kings is not empty
 pub some_king : (men : Men) (c : Colour) (w : ℕ) → length men ≡ 64 → has_one_king men c ≡ true
     → ((k : ℕ) → k < 64 → contains w k ≡ is_man c King (man_at men k)) → 0 < w
 unfolding has_one_king
@@ -25,7 +25,7 @@ some_king men c zero all one set =
     absurd (omega (arith, none, counted))
 some_king men c (suc n) all one set = omega arith
 
--- and no other square is
+-- if a king of this colour is on f, no other square has one
 pub alone : (men : Men) (c : Colour) (f : ℕ) → length men ≡ 64 → has_one_king men c ≡ true
     → is_man c King (man_at men f) ≡ true
     → (k : ℕ) → k < 64 → is_man c King (man_at men k) ≡ (k == f)

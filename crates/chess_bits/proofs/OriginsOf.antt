@@ -1,4 +1,5 @@
--- From where pawns go to a square, and officers: from where pieces like them would be attacked from that square.
+-- From where pieces can go to a square: officers from squares that their kind would attack from there, pawns by an
+-- advance or a capture. The sets have the start of each legal move to the square (`HasOrigins`), perhaps others too.
 use Rattle.std.proofs.Common.{◌≡◌, ℕ, ◌<◌, ◌≤◌, Bool, true, false, not, ◌&&◌, ◌||◌, ◌==◌, None, refl, sym, ap, ◌∙◌, arith}
 use Rattle.std.proofs.{lemmas.Bool.and_parts, lemmas.Bool.and_from, lemmas.Bool.not-true, lemmas.Bool.Decides.nat_tests}
 use Rattle.chess_base.specs.{declared.man.Colour.Colour, declared.man.Colour.TheVariants.White, declared.man.Colour.TheVariants.Black, declared.man.Kind.Kind, declared.man.Move.Move, declared.setup.Setup.Setup, Attacks.could_capture, MoveList.move_of, Moves.is_legal, Moves.pawn_advances, Moves.pawn_captures, shared.Parts.pawn_is_allowed, Squares.file, Squares.rank}
@@ -21,6 +22,7 @@ back men c Bishop a b h = rw (eqb_comm a b, diagonal_back a b, is_clear_back men
 back men c Knight a b h = rw (abs_diff_back (file a) (file b), abs_diff_back (rank a) (rank b)) refl
 back men c Pawn a b h = cc
 
+-- an officer's legal move starts from a square that its kind would attack from the end square
 pub officer_attacks : (p : Setup) (kind : Kind) (m : Move) → same_kind Pawn kind ≡ false → same_kind King kind ≡ false
     → is_legal p m ≡ true → is_man p.side kind (man_at p.men m.from) ≡ true
     → could_capture p.men p.side kind m.to m.from ≡ true
@@ -33,6 +35,7 @@ officer_attacks p kind m no_pawn no_king legal man =
     (officer_is p m.from m.to _ at own no_king ∙ goes) in
     back p.men p.side kind m.to m.from no_pawn ∙ both.0
 
+-- so w, the officers of the kind on such squares, has all starts
 pub officer_origins : (p : Setup) (kind : Kind) (to w u : ℕ) → same_kind Pawn kind ≡ false → same_kind King kind ≡ false
     → ((k : ℕ) → k < 64 → contains w k ≡ (could_capture p.men p.side kind to k && contains u k))
     → ((k : ℕ) → k < 64 → contains u k ≡ is_man p.side kind (man_at p.men k))
@@ -47,7 +50,7 @@ officer_origins p kind to w u no_pawn no_king reached men = λ m legal man there
 
 -- ---- pawns
 
--- no pawn is on the lowest rank
+-- no pawn is on rank 1
 pub off_lowest : (men : Men) (c : Colour) (a : ℕ) → is_man c Pawn (man_at men a) ≡ true → pawn_is_allowed men a ≡ true
     → 8 ≤ a
 off_lowest men White a man e = let f = not-true _ (rw man at e) in grind (arith, nat_tests, f)
@@ -63,7 +66,7 @@ pub on_board : (men : Men) (c : Colour) (a : ℕ) → is_man c Pawn (man_at men 
 on_board men White a man e low = let f = not-true _ (rw man at e) in grind (arith, nat_tests, f, low)
 on_board men Black a man e low = omega (arith, low)
 
--- a pawn goes where it goes legally
+-- a pawn's legal move is an advance or a capture
 pawn_comes : (p : Setup) (m : Move) → is_man p.side Pawn (man_at p.men m.from) ≡ true → is_legal p m ≡ true
     → (pawn_advances p (move_of m.from m.to None) || pawn_captures p (move_of m.from m.to None)) ≡ true
 pawn_comes p m pawn legal =
@@ -71,6 +74,7 @@ pawn_comes p m pawn legal =
     (ends_below p m legal))
     ∙ (legal_goes p m legal).0
 
+-- so the pawns that advance or capture to the square are all starts
 pub pawn_origins : (p : Setup) (kind : Kind) (to w : ℕ) → same_kind Pawn kind ≡ true
     → ((k : ℕ) → k < 64 → contains w k ≡ (is_man p.side Pawn (man_at p.men k)
     && (pawn_advances p (move_of k to None) || pawn_captures p (move_of k to None))))

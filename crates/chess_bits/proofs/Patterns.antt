@@ -1,4 +1,6 @@
--- A move has a pattern exactly where its piece goes from the one square to the other, and its promotion fits.
+-- A move is pseudo-legal exactly if its piece goes from the one square to the other (`goes`), and its promotion fits: a
+-- kind that a pawn may become if it comes to its last rank, and otherwise none (`pattern_is`). `goes` tries one
+-- promotion only, to a queen, as this makes no difference.
 use mathlib.Core.Bool.{and-true, and-false, and_comm}
 use Rattle.std.proofs.Common.{◌≡◌, ℕ, ◌<◌, Bool, true, false, not, ◌&&◌, ◌||◌, ◌==◌, cond, Option, Some, None, refl, sym, ap, ◌∙◌, nat_lt, arith, if◌then◌else◌}
 use Rattle.std.proofs.lemmas.Bool.{and_parts, and_from, lt-ltb, both_ways, false_from_ne_true}
@@ -24,7 +26,8 @@ unfolding man_moves castles
 none_promoted p a b kind None = refl
 none_promoted p a b kind (Some castle) = refl
 
--- officers, and castling
+-- a piece other than a pawn: its move with the promotion k is pseudo-legal exactly if that without one is, and k is
+-- none
 officers : (p : Setup) (a b : ℕ) (k : Option Kind) → castles_or_moves p (move_of a b k) (castle_of p (move_of a b k))
     ≡ (castles_or_moves p (move_of a b None) (castle_of p (move_of a b None)) && promotion_fits false k)
 officers p a b None = sym (and-true (castles_or_moves p (move_of a b None) (castle_of p (move_of a b None))))
@@ -33,13 +36,14 @@ officers p a b (Some kind) =
     ∙ sym (ap (λ f. castles_or_moves p (move_of a b None) (castle_of p (move_of a b None)) && f) (fits_low kind)
     ∙ and-false (castles_or_moves p (move_of a b None) (castle_of p (move_of a b None))))
 
--- pawns
+-- k fits exactly if it does and the promotion that is tried, which always fits, does; x is one more test
 turned : (last : Bool) (k : Option Kind) (x : Bool)
     → (promotion_fits last k && x)
     ≡ ((promotion_fits last (if last then Some Queen else None) && x) && promotion_fits last k)
 turned true k x = and_comm (promotion_fits true k) x
 turned false k x = and_comm (promotion_fits false k) x
 
+-- a pawn: its move with the promotion k is pseudo-legal exactly if that with the tried one is, and k fits
 pawns : (p : Setup) (a b : ℕ) (k : Option Kind) → pawn_moves p (move_of a b k)
     ≡ (pawn_moves p (move_of a b (if rank b == first_rank (other p.side) then Some Queen else None))
     && promotion_fits (rank b == first_rank (other p.side)) k)
@@ -47,6 +51,7 @@ unfolding pawn_moves pawn_advances pawn_captures is_double_advance
 pawns p a b k = turned (rank b == first_rank (other p.side)) k
     (pawn_advances p (move_of a b None) || pawn_captures p (move_of a b None))
 
+-- so for each kind of piece, own or not
 by_kind : (p : Setup) (a b : ℕ) (k : Option Kind) (own pawn : Bool)
     → (own && cond pawn (pawn_moves p (move_of a b k)) (castles_or_moves p (move_of a b k) (castle_of p (move_of a b k))))
     ≡ ((own && cond pawn (pawn_moves p
@@ -60,6 +65,7 @@ by_kind p a b k false pawn = refl
 by_kind p a b k true true = pawns p a b k
 by_kind p a b k true false = officers p a b k
 
+-- and for each content of the start square
 by_man : (p : Setup) (a b : ℕ) (k : Option Kind) (o : Option Man) → man_at p.men a ≡ o
     → moves_as p (move_of a b k) o
     ≡ (moves_as p (move_of a b (tried_promotion p a b)) o && promotion_fits (would_promote p a b) k)
@@ -78,13 +84,14 @@ pattern_by p a b k =
     ∙ and_joined (nat_lt a 64 && nat_lt b 64) (moves_as p (move_of a b (tried_promotion p a b)) (man_at p.men a))
     (promotion_fits (would_promote p a b) k)
 
--- a move has a pattern where its piece goes so and its promotion fits
+-- so a move is pseudo-legal exactly if its piece goes so and its promotion fits
 pub pattern_is : (p : Setup) (m : Move)
     → is_pseudo_legal p m ≡ (goes p m.from m.to && promotion_fits (would_promote p m.from m.to) m.promotion)
 pattern_is p m = pattern_by p m.from m.to m.promotion
 
 -- ---- by the piece
 
+-- whether a piece goes from a to b, by the content of a (o)
 goes_as : (p : Setup) (a b : ℕ) (o : Option Man) → man_at p.men a ≡ o → a < 64 → b < 64
     → goes p a b ≡ moves_as p (move_of a b (tried_promotion p a b)) o
 unfolding goes is_pseudo_legal
@@ -95,10 +102,12 @@ moves_pawn : (p : Setup) (m : Move) (x : Man) → x.colour ≡ p.side → same_k
 moves_pawn p m x own pawn = let own' : same_colour p.side x.colour ≡ true = rw own (same_colour-self p.side) in
     rw (own', pawn) refl
 
+-- the promotion that is tried fits
 tried_fits : (last x : Bool) → (promotion_fits last (if last then Some Queen else None) && x) ≡ x
 tried_fits true x = refl
 tried_fits false x = refl
 
+-- a pawn's move with the tried promotion: an advance or a capture
 tried_pawn : (p : Setup) (a b : ℕ)
     → pawn_moves p (move_of a b (if rank b == first_rank (other p.side) then Some Queen else None))
     ≡ (pawn_advances p (move_of a b None) || pawn_captures p (move_of a b None))
@@ -148,6 +157,7 @@ officer_goes p a b x at own no_pawn low high =
 
 -- ---- legal moves
 
+-- a legal move goes so, and its promotion fits
 pub legal_goes : (p : Setup) (m : Move) → is_legal p m ≡ true → (goes p m.from m.to ≡ true)
     × (promotion_fits (would_promote p m.from m.to) m.promotion ≡ true)
 unfolding is_legal
@@ -156,6 +166,7 @@ legal_goes p m h =
     and_parts (goes p m.from m.to) (promotion_fits (would_promote p m.from m.to) m.promotion)
     (sym (pattern_is p m) ∙ pattern)
 
+-- a piece other than a pawn goes to each square that `man_goes` names
 pub man_sound : (p : Setup) (a b : ℕ) (x : Man) → man_at p.men a ≡ Some x → x.colour ≡ p.side
     → same_kind Pawn x.kind ≡ false → a < 64 → b < 64
     → man_goes p a b ≡ true → goes p a b ≡ true
@@ -166,6 +177,7 @@ man_sound p a b x at own no_pawn low high h = by (castle_of p (move_of a b None)
     by None e g = officer_goes p a b x at own no_pawn low high ∙ ap (castles_or_moves p (move_of a b None)) e ∙ g
     by (Some castle) e g = (legal_goes p (move_of a b None) g).0
 
+-- and each legal move of it ends on such a square
 pub man_complete : (p : Setup) (m : Move) (x : Man) → man_at p.men m.from ≡ Some x → x.colour ≡ p.side
     → same_kind Pawn x.kind ≡ false → m.from < 64 → m.to < 64
     → is_legal p m ≡ true → man_goes p m.from m.to ≡ true
@@ -183,6 +195,7 @@ man_complete p m x at own no_pawn low high h = by (castle_of p (move_of m.from m
 
 -- ---- whether a move is legal
 
+-- a move is not legal if its end is not in a set (w) that has the ends of all legal moves from its start
 pub not_target : (p : Setup) (m : Move) (w : ℕ)
     → ((n : Move) → is_legal p n ≡ true → n.from ≡ m.from → contains w n.to ≡ true) → contains w m.to ≡ false
     → false ≡ is_legal p m

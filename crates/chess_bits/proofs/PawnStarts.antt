@@ -1,4 +1,5 @@
--- From where pawns go to a square, by sets.
+-- From where pawns go to a square, by sets: straight ahead from the square behind it or, at home, from two behind; by a
+-- capture from the squares that an enemy pawn on it would attack.
 use mathlib.Core.Bool.{and_comm, not-not}
 use Rattle.std.proofs.Common.{◌≡◌, ℕ, ◌<◌, ◌≤◌, inl, inr, Bool, true, false, not, ◌&&◌, ◌||◌, ◌==◌, None, is_none, refl, sym, ap, ◌∙◌, arith}
 use Rattle.std.proofs.lemmas.Bool.{and_from, and_left, and_parts, and_right, cases_Bool, eqb-true}
@@ -13,10 +14,13 @@ use Rattle.chess_base.proofs.shared.MenAfter.{eqb_comm}
 
 -- ---- straight ahead
 
+-- the square ahead of a pawn's home is on the board, and not on rank 1
 home_ahead : (c : Colour) (k : ℕ) → k < 64 → rank k ≡ pawn_rank c → (8 ≤ forward c k) × (forward c k < 64)
 home_ahead White k low e = (omega (arith, low, e), omega (arith, low, e))
 home_ahead Black k low e = (omega (arith, low, e), omega (arith, low, e))
 
+-- `once` is the square behind `to`, `crossed` the same if it is empty, `twice` the square behind that: a pawn on k
+-- advances to `to`, which is empty, exactly if k is in `once`, or in `twice` and on the home rank
 pub advances_are : (p : Setup) (to k one once crossed twice home all occupied : ℕ) → to < 64 → k < 64 → 8 ≤ k
     → is_man p.side Pawn (man_at p.men k) ≡ true → is_none (man_at p.men to) ≡ true
     → ((j : ℕ) → j < 64 → contains occupied j ≡ not (is_none (man_at p.men j)))
@@ -62,6 +66,7 @@ none_onto p to k full = sym (and_left (is_none (man_at p.men to)) _ full)
 
 -- ---- by a capture
 
+-- a pawn on k captures on `to` exactly if an enemy or the target is there, and an enemy pawn there would attack k
 pub captures_are : (p : Setup) (k to : ℕ) → is_man p.side Pawn (man_at p.men k) ≡ true
     → ((is_of (other p.side) (man_at p.men to) || is_at p.target to) && in_shape (shape.Pawn (other p.side)) to k)
     ≡ pawn_captures p (move_of k to None)
@@ -70,7 +75,7 @@ captures_are p k to pawn =
     ∙ ap (λ t. t && (is_of (other p.side) (man_at p.men to) || is_at p.target to)) (pawn_back p.men p.side k to)
     ∙ captures_is p k to pawn
 
--- what comes after a test that holds
+-- the second of two joined tests may be another one, if the two are equal where the first passes
 pub held : (x y z : Bool) → (x ≡ true → y ≡ z) → (x && y) ≡ (x && z)
 held true y z h = h refl
 held false y z h = refl
@@ -81,6 +86,7 @@ no_promotion : (p : Setup) (k to : ℕ) → (rank to == first_rank (other p.side
 unfolding would_promote
 no_promotion p k to off = and_right (is_man p.side Pawn (man_at p.men k)) (rank to == first_rank (other p.side)) off
 
+-- off the last rank a pawn's move is pseudo-legal exactly if it is an advance or a capture
 goes_so : (p : Setup) (k to : ℕ) → (rank to == first_rank (other p.side)) ≡ false → to < 64 → k < 64
     → is_man p.side Pawn (man_at p.men k) ≡ true
     → (pawn_advances p (move_of k to None) || pawn_captures p (move_of k to None)) ≡ is_pseudo_legal p (move_of k to None)
@@ -92,7 +98,7 @@ goes_so p k to off high low pawn =
     kept : (x w : Bool) → w ≡ false → x ≡ (x && not w)
     kept x w e = rw e (grind arith)
 
--- a pawn that goes to a square off its last rank has the pattern of a move
+-- w are the pawns that advance or capture to `to`, which is off the last rank: these moves are pseudo-legal
 pub pawn_patterns : (p : Setup) (to w : ℕ) → to < 64 → (rank to == first_rank (other p.side)) ≡ false
     → ((k : ℕ) → k < 64 → contains w k ≡ (is_man p.side Pawn (man_at p.men k)
     && (pawn_advances p (move_of k to None) || pawn_captures p (move_of k to None))))
@@ -103,6 +109,7 @@ pawn_patterns p to w high off starts k low on =
     (pawn_advances p (move_of k to None) || pawn_captures p (move_of k to None)) (sym (starts k low) ∙ on) in
     (parts.0, sym (goes_so p k to off high low parts.0) ∙ parts.1)
 
+-- they change only their two squares, if `to` is not the target
 pub pawns_plain : (p : Setup) (to w : ℕ) → to < 64 → (rank to == first_rank (other p.side)) ≡ false
     → is_at p.target to ≡ false
     → ((k : ℕ) → k < 64 → contains w k ≡ (is_man p.side Pawn (man_at p.men k)
@@ -112,7 +119,7 @@ pawns_plain p to w high off free starts k low on =
     let pawn = pawn_patterns p to w high off starts k low on in
     pawn_plain p k to pawn.0 pawn.1 free
 
--- so these are the starts
+-- so the members of w whose move to `to` is legal are all legal starts of pawns
 pub pawn_starts_are : (p : Setup) (to w k : ℕ) (s : Bool) → to < 64 → (rank to == first_rank (other p.side)) ≡ false
     → ((j : ℕ) → j < 64 → contains w j ≡ (is_man p.side Pawn (man_at p.men j)
     && (pawn_advances p (move_of j to None) || pawn_captures p (move_of j to None))))
@@ -132,7 +139,7 @@ pawn_starts_are p to w k s high off starts low made =
     within true y h = refl
     within false y h = sym (h refl)
 
--- and none is on the last rank, where a pawn promotes
+-- on the last rank no pawn's move without a promotion is legal
 pub none_on_last : (p : Setup) (k to : ℕ) → (rank to == first_rank (other p.side)) ≡ true
     → false ≡ (is_man p.side Pawn (man_at p.men k) && is_legal p (move_of k to None))
 unfolding would_promote

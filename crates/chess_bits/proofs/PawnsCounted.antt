@@ -24,7 +24,8 @@ once t = cond t 1 0
 one_more : (q : ℕ → Bool) (a : ℕ) (xs : List ℕ) → length (filter q (a ∷ xs)) ≡ once (q a) + length (filter q xs)
 one_more q a xs = elim (cases_Bool (q a)) [ inl kept ↦ rw kept (omega arith) | inr left ↦ rw left (omega arith) ]
 
--- what four tests count at each member, they count over all
+-- if each member k of w has as many elements in g k as pass of the four tests on k, and other numbers pass none, the
+-- members of w have as many together as numbers pass each test, added up
 by_tests : {A : Type 0} (g : ℕ → List A) (w q r s t : ℕ → Bool) (n a : ℕ) → a + n ≤ 64
     → ((k : ℕ) → k < 64 → w k ≡ true → length (g k) ≡ once (q k) + once (r k) + once (s k) + once (t k))
     → ((k : ℕ) → k < 64 → w k ≡ false → (q k ≡ false) × (r k ≡ false) × (s k ≡ false) × (t k ≡ false))
@@ -71,11 +72,12 @@ summed p q r s = omega (arith, p, q, r, s)
 
 -- ---- the squares to which an ordinary pawn may go
 
--- off the ranks on which a pawn of that colour may not stand, or promotes
+-- square a is off the ranks where a pawn of colour c may not stand (1 and 8), and off its last rank but one
 abbrev Inside : Colour → ℕ → Type 0
 Inside White a = (8 ≤ a) × (a < 48)
 Inside Black a = (16 ≤ a) × (a < 64)
 
+-- so it is for a pawn that is not on the last rank but one
 inside : (men : Men) (c : Colour) (a : ℕ) → is_man c Pawn (man_at men a) ≡ true → pawn_is_allowed men a ≡ true → a < 64
     → (rank a ≡ pawn_rank (other c) → ⊥) → Inside c a
 inside men White a man stands low off =
@@ -103,12 +105,13 @@ record AreApart (n t l r : ℕ) : Type 0 where
   pub tr : t ≡ r → ⊥
   pub lr : l ≡ r → ⊥
 
+-- they are one and two squares ahead, and left and right of the one ahead
 apart : (c : Colour) (a : ℕ) → Inside c a
     → AreApart (forward c a) (forward c (forward c a)) (forward c a - 1) (forward c a + 1)
 apart White a i = let low = i.0 in let high = i.1 in grind arith
 apart Black a i = let low = i.0 in let high = i.1 in grind arith
 
--- where a pawn attacks
+-- a pawn attacks left and right of the square ahead, but not past the a-file or the h-file
 attacks_so : (men : Men) (c : Colour) (a b : ℕ) → Inside c a
     → could_capture men c Pawn a b
     ≡ ((not (file a == 0) && (b == forward c a - 1)) || (not (file a == 7) && (b == forward c a + 1)))
@@ -140,6 +143,7 @@ on_each f g true false e l r h k = rw (← h refl) (grind arith)
 on_each f g false true e l r h k = rw (← k refl) (grind arith)
 on_each f g false false e l r h k = grind arith
 
+-- so a pawn that does not attack the target captures left if an enemy is there, and right
 captures_so : (p : Setup) (a b : ℕ) → is_man p.side Pawn (man_at p.men a) ≡ true → aims_at p.target p.side a ≡ false
     → Inside p.side a
     → pawn_captures p (move_of a b None)
@@ -159,6 +163,7 @@ captures_so p a b pawn off i =
 and_joined : (s r t x : Bool) → ((s && r) && (t && x)) ≡ (((s && r) && t) && x)
 and_joined s r t x = grind arith
 
+-- it advances one square if that is empty, and from home two if both are
 advances_so : (p : Setup) (a b : ℕ) → is_man p.side Pawn (man_at p.men a) ≡ true
     → pawn_advances p (move_of a b None)
     ≡ ((is_none (man_at p.men (forward p.side a)) && (b == forward p.side a))
@@ -179,6 +184,7 @@ four_ways : (q r s t : Bool) (b n m l k : ℕ) → AreApart n m l k
 four_ways q r s t b n m l k are =
     grind (arith, nat_tests, are.nt, are.nl, are.nr, are.tl, are.tr, are.lr)
 
+-- so over all squares, each open way counts one
 four_alone : (q r s t : Bool) (n m l k : ℕ) → AreApart n m l k
     → length (filter (λ b. q && (b == n)) (range_with_len 0 64)) + length
     (filter (λ b. r && (b == m)) (range_with_len 0 64)) + length (filter (λ b. s && (b == l)) (range_with_len 0 64))
@@ -213,6 +219,7 @@ takes_left p a = not (file a == 0) && is_of (other p.side) (man_at p.men (forwar
 abbrev pub takes_right : Setup → ℕ → Bool
 takes_right p a = not (file a == 7) && is_of (other p.side) (man_at p.men (forward p.side a + 1))
 
+-- a pawn that does not go specially is inside
 pub stands_inside : (p : Setup) (a : ℕ) → IsSound p → is_man p.side Pawn (man_at p.men a) ≡ true → a < 64
     → goes_specially p a ≡ false → Inside p.side a
 unfolding no_pawn_on_end_ranks
@@ -221,6 +228,7 @@ stands_inside p a sound pawn low ordinary =
     (eqb-false (rank a) (pawn_rank (other p.side))
     (or_parts (aims_at p.target p.side a) (rank a == pawn_rank (other p.side)) ordinary).1)
 
+-- so a free pawn that does not go specially has as many legal moves as ways are open to it
 pub pawn_counted : (p : Setup) (a king : ℕ) → IsSound p → IsFree p a → is_man p.side Pawn (man_at p.men a) ≡ true
     → a < 64 → king < 64 → ((k : ℕ) → k < 64 → is_man p.side King (man_at p.men k) ≡ (k == king))
     → goes_specially p a ≡ false
@@ -250,7 +258,7 @@ pawn_counted p a king sound free pawn low there one ordinary =
 
 -- ---- the moves of all
 
--- of these pawns, those to which each way is open
+-- of the pawns w: q may go one square ahead, r two, s may capture to the left, t to the right
 pub record AreWays (p : Setup) (w q r s t : ℕ) : Type 0 where
   pub ahead : (k : ℕ) → k < 64 → contains w k ≡ true → contains q k ≡ one_ahead p k
   pub double : (k : ℕ) → k < 64 → contains w k ≡ true → contains r k ≡ two_ahead p k
@@ -259,6 +267,7 @@ pub record AreWays (p : Setup) (w q r s t : ℕ) : Type 0 where
   pub none : (k : ℕ) → k < 64 → contains w k ≡ false
       → (contains q k ≡ false) × (contains r k ≡ false) × (contains s k ≡ false) × (contains t k ≡ false)
 
+-- so the legal moves of such pawns together are as many as these four sets have squares
 pub pawns_counted : (p : Setup) (king w q r s t : ℕ) → IsSound p → king < 64
     → ((k : ℕ) → k < 64 → is_man p.side King (man_at p.men k) ≡ (k == king))
     → AreFree p Pawn w → ((k : ℕ) → k < 64 → contains w k ≡ true → goes_specially p k ≡ false) → AreWays p w q r s t
@@ -279,7 +288,9 @@ at_least : (c : Colour) (a : ℕ) → Inside c a → (8 ≤ a) × (8 ≤ forward
 at_least White a i = (i.0, omega (arith, i.0))
 at_least Black a i = (omega (arith, i.0), omega (arith, i.0))
 
--- what the code computes of these pawns
+-- the sets that `count_ordinary_pawns` computes for the pawns w: `full` are the occupied squares, `blockers` have a
+-- piece right ahead, `farther` one two squares ahead, `homes` is the home rank, `lefts` and `rights` have one of
+-- `enemies` to capture there; q steps once, and `again` are those of q at home, of which r step twice; s and t capture
 pub record AreSets (p : Setup) (w full blockers farther homes enemies lefts rights q again r s t : ℕ) : Type 0 where
   pub all : (k : ℕ) → k < 64 → contains full k ≡ not (is_none (man_at p.men k))
   pub blocked : (k : ℕ) → k < 64 → 8 ≤ k → contains blockers k ≡ contains full (forward p.side k)
@@ -296,6 +307,7 @@ pub record AreSets (p : Setup) (w full blockers farther homes enemies lefts righ
   pub left : (k : ℕ) → contains s k ≡ (contains w k && contains lefts k)
   pub right : (k : ℕ) → contains t k ≡ (contains w k && contains rights k)
 
+-- these are the pawns to which each way is open
 pub ways_are : (p : Setup) (w full blockers farther homes enemies lefts rights q again r s t : ℕ) → IsSound p
     → AreFree p Pawn w → ((k : ℕ) → k < 64 → contains w k ≡ true → goes_specially p k ≡ false)
     → AreSets p w full blockers farther homes enemies lefts rights q again r s t → AreWays p w q r s t

@@ -1,5 +1,5 @@
--- Where pieces may go that shield their king, or whose king is in check: on the way between the king and the piece that
--- would attack it, or to that piece.
+-- Where a piece may go that shields its king, or whose king is in check: between the king and the enemy that attacks
+-- it, or would with the piece off the board, or onto this enemy, or to the en passant target (`answered`, `check_met`).
 use Rattle.chess_base.proofs.{shared.Changes.at_target, shared.Men.is_none-None, shared.Squares.each_square-all, shared.Squares.each_square-at, shared.Squares.some_square-at, shared.Geometry.between_back, shared.MenAfter.eqb_comm}
 use Rattle.chess_bits.proofs.{TargetsOf.no_king_castles, Attackers.de_morgan, BetweenSquares.are_on_line, BoardSets.theirs_of, Freely.from_not, KingAfter.king_stays, KingAfter.check_after, KingAfter.legal_is, Lifted.lifted_at}
 use Rattle.std.specs.Int.{abs_diff}
@@ -23,6 +23,7 @@ use Rattle.chess_bits.proofs.Quiet.{IsPlain, lands_over, lands_same, not_passing
 
 -- ---- no king arrives but one that leaves
 
+-- what arrives is no king if the mover is none, promoted or not
 promoted : (o : Option Man) (c : Colour) (k : Option Kind) (last : Bool) → is_man c King o ≡ false
     → promotion_fits last k ≡ true → is_man c King (arriving_man o k) ≡ false
 unfolding is_man
@@ -64,7 +65,7 @@ no_target_there p b sound last =
 
 -- ---- a piece taken off
 
--- what stands on another square is in the way still
+-- a piece between b and k, on another square than a, shuts the way also with the piece on a taken off
 closed_by : (men : Men) (a b k x : ℕ) → length men ≡ 64 → a < 64 → x < 64 → is_between b k x ≡ true
     → is_none (man_at men x) ≡ false → (x == a) ≡ false → is_clear (lifted men a) b k ≡ true → ⊥
 unfolding is_clear
@@ -74,7 +75,7 @@ closed_by men a b k x all low high inside stands apart clear =
     ∙ ap (λ t. cond t None (man_at men x)) apart in
     both_ways (is_none (man_at men x)) stands (ap is_none (sym same) ∙ now)
 
--- so it is the only one there
+-- so if that way is clear then, a piece between them can only be the one on a
 only_there : (men : Men) (a b k x : ℕ) → length men ≡ 64 → a < 64 → x < 64 → is_between b k x ≡ true
     → is_none (man_at men x) ≡ false → is_clear (lifted men a) b k ≡ true → x ≡ a
 only_there men a b k x all low high inside stands clear =
@@ -83,6 +84,7 @@ only_there men a b k x all low high inside stands clear =
       | inr apart ↦ absurd (closed_by men a b k x all low high inside stands apart clear)
     ]
 
+-- a clear way is clear also with a piece taken off
 clear_lifted : (men : Men) (a b k : ℕ) → length men ≡ 64 → a < 64 → is_clear men b k ≡ true
     → is_clear (lifted men a) b k ≡ true
 unfolding is_clear
@@ -180,7 +182,7 @@ must_end p m king b sound legal there one no_king low theirs hits no_target =
         (and_from _ _ (ap (is_of (other p.side)) stood ∙ theirs)
         (ap (λ o. could_capture_as (men_after p m) o b king) stood ∙ hit))
 
--- or it takes en passant
+-- so a legal move, not the king's, ends between, on the enemy's square, or on the en passant target
 pub answered : (p : Setup) (m : Move) (king b : ℕ) → IsSound p → is_legal p m ≡ true → king < 64
     → ((k : ℕ) → k < 64 → is_man p.side King (man_at p.men k) ≡ (k == king))
     → is_man p.side King (man_at p.men m.from) ≡ false → b < 64 → is_of (other p.side) (man_at p.men b) ≡ true
@@ -196,6 +198,7 @@ answered p m king b sound legal there one no_king low theirs hits =
 
 -- ---- pieces that aim at a square
 
+-- a queen, rook or bishop of colour c on a line of its kind with b could capture there, if the way is clear
 aims_by : (s : Bool) (c : Colour) (k : Kind) (men : Men) (a b : ℕ)
     → ((((s && same_kind Rook k) || (s && same_kind Queen k)) && (not (a == b) && share_rank_or_file a b))
     || (((s && same_kind Bishop k) || (s && same_kind Queen k)) && (not (a == b) && share_diagonal a b)))
@@ -209,6 +212,7 @@ aims_by true c Queen men a b h clear = (refl, rw clear (grind (arith, h)))
 aims_by true c Rook men a b h clear = (refl, rw clear (grind (arith, h)))
 aims_by true c Bishop men a b h clear = (refl, rw clear (grind (arith, h)))
 
+-- the same by the content o of square a
 aims_as : (c : Colour) (o : Option Man) (men : Men) (a b : ℕ)
     → (((is_man c Rook o || is_man c Queen o) && (not (a == b) && share_rank_or_file a b))
     || ((is_man c Bishop o || is_man c Queen o) && (not (a == b) && share_diagonal a b)))
@@ -234,7 +238,7 @@ aims_on_line p b k h =
 
 -- ---- what hides it
 
--- nothing
+-- nothing: h are the occupied squares between b and k. If there are none, the way is clear
 pub none_hides : (men : Men) (h b k : ℕ)
     → ((x : ℕ) → x < 64 → contains h x ≡ (is_between k b x && not (is_none (man_at men x))))
     → ((x : ℕ) → x < 64 → contains h x ≡ false) → is_clear men b k ≡ true
@@ -244,7 +248,7 @@ none_hides men h b k hides none =
     (λ x l. rw (between_back b k x)
     (sym (de_morgan (is_between k b x) (is_none (man_at men x))) ∙ ap not (sym (hides x l) ∙ none x l)))
 
--- one piece
+-- one piece: s is in h, and r are the others of h. If there are none, the piece on s is the shield
 pub one_hides : (p : Setup) (h r s b k : ℕ) → length p.men ≡ 64 → s < 64
     → ((x : ℕ) → x < 64 → contains h x ≡ (is_between k b x && not (is_none (man_at p.men x)))) → contains h s ≡ true
     → ((x : ℕ) → x < 64 → contains r x ≡ (contains h x && not (x == s))) → ((x : ℕ) → x < 64 → contains r x ≡ false)
@@ -275,7 +279,7 @@ one_hides p h r s b k all low hides here others none = record {
         from_not _ (sym (ap (λ t. t && not (is_none (man_at p.men x))) (between_back k b x ∙ inside)) ∙ sym (hides x l)
         ∙ away)
 
--- more than one
+-- more than one: if the way is clear with the piece on a taken off, h has no second square
 pub many_hide : (p : Setup) (h r s a b k : ℕ) → length p.men ≡ 64 → s < 64 → a < 64
     → ((x : ℕ) → x < 64 → contains h x ≡ (is_between k b x && not (is_none (man_at p.men x)))) → contains h s ≡ true
     → ((x : ℕ) → x < 64 → contains r x ≡ (contains h x && not (x == s)))
@@ -296,17 +300,21 @@ many_hide p h r s a b k all low high hides here others clear x l =
 
 -- ---- what has squares between it is on one line
 
+-- squares a, b and x have the files f, g and h and the ranks r, s and t: if x is between a and b on a file or on a
+-- rank, these two share it
 not_level : (f g h r s t : ℕ) (over along : Bool)
     → ((((h == f) && (h == g)) && over) || (((t == r) && (t == s)) && along)) ≡ true → (f == g) ≡ false
     → (r == s) ≡ false → ⊥
 not_level f g h r s t over along e level upright = grind (arith, nat_tests, e, level, upright)
 
+-- if x is between them on a diagonal, and they share none up to the right, they share one up to the left
 aslant : (f r g s h t : ℕ) → f < 8 → g < 8 → h < 8
     → ((((abs_diff f h == abs_diff r t) && (abs_diff h g == abs_diff t s)) && is_strictly_between r s t)
     && is_strictly_between f g h) ≡ true
     → (r + 7 - f == s + 7 - g) ≡ false → (r + f == s + g) ≡ true
 aslant f r g s h t lf lg lh e off = grind (arith, nat_tests, e, off, lf, lg, lh)
 
+-- so squares with a square between them are on one line of some kind
 pub line_between : (a b x : ℕ) → a < 64 → b < 64 → x < 64 → is_between a b x ≡ true
     → (l : Line) × (same_line l a b ≡ true)
 unfolding is_between is_between_on_file is_between_on_rank is_between_on_diagonal
@@ -342,7 +350,7 @@ taken_out true now true e h = inr refl
 taken_out true now false e h = absurd (both_ways now h e)
 taken_out false now one e h = inl refl
 
--- an enemy that gives check
+-- if the enemy on b gives check, a legal move, not the king's, ends between, on b, or on the en passant target
 pub check_met : (p : Setup) (m : Move) (king b : ℕ) → IsSound p → is_legal p m ≡ true → king < 64
     → ((k : ℕ) → k < 64 → is_man p.side King (man_at p.men k) ≡ (k == king))
     → is_man p.side King (man_at p.men m.from) ≡ false → b < 64

@@ -13,7 +13,8 @@ use Rattle.chess_base.proofs.shared.MenAfter.{man_after, man_at-men_after, eqb_c
 use Rattle.chess_base.proofs.shared.Squares.{some_square-at, some_square-none, each_square-all, each_square-at}
 use Rattle.chess_bits.specs.{ties.Changes.is_changed, ties.Changes.is_filled, ties.Goes.lifted}
 
--- a piece could capture no less where the lines that it uses are as clear
+-- what a piece could capture later it could capture before, if the lines that it uses were clear before where they are
+-- later
 last_told : (n s t u : Bool) → ((n && s) ≡ true → t ≡ true → u ≡ true) → (n && s && t) ≡ true → (n && s && u) ≡ true
 last_told true true t u h e = h refl e
 last_told true false t u h e = e
@@ -26,6 +27,7 @@ queen_told true false true t u h g e = g refl e
 queen_told true false false t u h g e = e
 queen_told false s d t u h g e = e
 
+-- for each kind of piece; only queen, rook and bishop use lines
 pub capture_before : (men later : Men) (c : Colour) (k : Kind) (a b : ℕ)
     → ((same_kind Rook k || same_kind Queen k) ≡ true → (not (a == b) && share_rank_or_file a b) ≡ true
     → is_clear later a b ≡ true → is_clear men a b ≡ true)
@@ -44,6 +46,7 @@ capture_before men later c Rook a b l d e =
 capture_before men later c Bishop a b l d e =
     last_told (not (a == b)) (share_diagonal a b) (is_clear later a b) (is_clear men a b) (d refl) e
 
+-- so by the content o of square a, if the way to b was clear before where it is later
 pub could_capture_as_clear : (men later : Men) (o : Option Man) (a b : ℕ)
     → (is_clear later a b ≡ true → is_clear men a b ≡ true)
     → could_capture_as later o a b ≡ true → could_capture_as men o a b ≡ true
@@ -51,13 +54,14 @@ could_capture_as_clear men later None a b h e = e
 could_capture_as_clear men later (Some x) a b h e =
     capture_before men later x.colour x.kind a b (λ lines on. h) (λ lines on. h) e
 
--- what a move that changes only its two squares leaves on a square
+-- move m empties no second square, brings no rook, and what arrives is a piece and not an enemy
 pub record IsPlain (p : Setup) (m : Move) : Type 0 where
   pub also : second_square_emptied p m ≡ None
   pub rook : castling_rook_to p m ≡ None
   pub mover : is_none (arriving_man (man_at p.men m.from) m.promotion) ≡ false
   pub own : is_of (other p.side) (arriving_man (man_at p.men m.from) m.promotion) ≡ false
 
+-- what such a move leaves on a square
 pub plain_after : (p : Setup) (m : Move) (k : ℕ) → IsPlain p m → k < 64
     → man_at (men_after p m) k ≡ cond (mover_end p m == k) (arriving_man (man_at p.men m.from) m.promotion)
     (cond (m.from == k) None (man_at p.men k))
@@ -96,6 +100,7 @@ empty_before : (t : Bool) (arr o : Option Man) → is_none arr ≡ false → is_
 empty_before true arr o g e = absurd (both_ways _ g e)
 empty_before false arr o g e = e
 
+-- so the pieces after it are those with the mover taken off, and the mover on its end square
 pub lands_over : (p : Setup) (m : Move) (k : ℕ) → length p.men ≡ 64 → m.from < 64 → IsPlain p m → k < 64
     → man_at (men_after p m) k ≡ cond (mover_end p m == k) (arriving_man (man_at p.men m.from) m.promotion)
     (man_at (lifted p.men m.from) k)
@@ -104,6 +109,7 @@ lands_over p m k all low plain l =
     ∙ ap (λ o. cond (mover_end p m == k) (arriving_man (man_at p.men m.from) m.promotion) o)
     (ap (λ t. cond t None (man_at p.men k)) (eqb_comm m.from k) ∙ sym (lifted_at p.men m.from k all low))
 
+-- a way that is clear after the move was clear with the mover taken off
 clear_before : (p : Setup) (m : Move) (a b : ℕ) → length p.men ≡ 64 → m.from < 64 → IsPlain p m
     → is_clear (men_after p m) a b ≡ true → is_clear (lifted p.men m.from) a b ≡ true
 unfolding is_clear
@@ -120,6 +126,7 @@ clear_before p m a b all low h e =
           (rw (lands_over p m x all low h l) at now))
     ])
 
+-- so a square that was not attacked with the mover taken off is not attacked after the move
 pub stays_safe : (p : Setup) (m : Move) (king : ℕ) → length p.men ≡ 64 → m.from < 64 → IsPlain p m
     → is_attacked (lifted p.men m.from) king (other p.side) ≡ false
     → is_attacked (men_after p m) king (other p.side) ≡ false
@@ -152,6 +159,7 @@ unfolding castling_rook_to mover_end
 fills_end p m k no_king no_passing =
     rw (no_king_castles p m no_king) (eqb_comm k m.to ∙ sym (or-false (m.to == k)))
 
+-- and it changes its two squares alone
 pub changes_both : (p : Setup) (m : Move) (k : ℕ) → is_man p.side King (man_at p.men m.from) ≡ false
     → (is_man p.side Pawn (man_at p.men m.from) && is_at p.target m.to) ≡ false
     → ((k == m.to) || (k == m.from)) ≡ is_changed p m k

@@ -34,6 +34,7 @@ pub bishop_from : (w : ℕ) (men : Men) (c : Colour) (a b : ℕ) → IsOccupied 
 unfolding could_capture
 bishop_from w men c a b h = rw (eqb_comm b a, diagonal_back b a, open_from w men a b h) refl
 
+-- a queen: along ranks and files, or along diagonals
 pub queen_from : (w : ℕ) (men : Men) (c : Colour) (a b : ℕ) → IsOccupied w men
     → ((not (b == a) && share_rank_or_file b a && is_open w a b)
     || (not (b == a) && share_diagonal b a && is_open w a b)) ≡ could_capture men c Queen a b
@@ -42,7 +43,7 @@ queen_from w men c a b h =
     rw (eqb_comm b a, line_back a b, diagonal_back b a, open_from w men a b h)
     (queen_parts (not (a == b)) (share_rank_or_file a b) (share_diagonal a b) (is_clear men a b))
 
--- the same of the squares of a set
+-- the same for a square of a set: m says that it is in the set
 pub queen_met : (w : ℕ) (men : Men) (c : Colour) (a b : ℕ) (m : Bool) → IsOccupied w men
     → (((not (b == a) && share_rank_or_file b a && is_open w a b) && m)
     || ((not (b == a) && share_diagonal b a && is_open w a b) && m)) ≡ (could_capture men c Queen a b && m)

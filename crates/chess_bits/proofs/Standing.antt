@@ -19,6 +19,7 @@ six e Bishop = refl
 six e Knight = refl
 six e Pawn = refl
 
+-- six empty sets are those of a colour on a board without pieces
 pub no_kinds : (e : ℕ) (c : Colour) (men : Men) → ((k : ℕ) → contains e k ≡ false) → ((k : ℕ) → k < 64 → man_at men k ≡ None)
     → IsKinds (e ∷ e ∷ e ∷ e ∷ e ∷ e ∷ []) c men
 no_kinds e c men empty none = record {
@@ -26,6 +27,7 @@ no_kinds e c men empty none = record {
       ∙ sym (is_man-none c kind (man_at men k) (ap (λ o. is_none o) (none k low)));
 }
 
+-- so these, and the hash 0, are the sets of a board without pieces
 pub no_sets : (s : Sets) (men : Men) → ((k : ℕ) → k < 64 → man_at men k ≡ None) → IsKinds s.white.sets White men
     → IsKinds s.black.sets Black men
     → ((k : ℕ) → contains s.white.all k ≡ false) → ((k : ℕ) → contains s.black.all k ≡ false) → s.men_hash ≡ 0 → IsSets s men
@@ -49,6 +51,7 @@ some_of (Some x) = by_colour x.colour
     by_colour White = refl
     by_colour Black = refl
 
+-- the occupied squares are those of both colours
 pub occupied_by : (s : Sets) (men : Men) (w : ℕ) → IsSets s men
     → ((k : ℕ) → contains w k ≡ (contains s.white.all k || contains s.black.all k)) → IsOccupied w men
 occupied_by s men w h union = record {
@@ -61,6 +64,7 @@ occupied_by s men w h union = record {
 abbrev pub IsWithout : ℕ → Men → Men → Type 0
 IsWithout w men part = (k : ℕ) → k < 64 → man_at part k ≡ cond (contains w k) None (man_at men k)
 
+-- without the pieces on all occupied squares there is none
 pub none_placed : (w : ℕ) (men part : Men) → IsOccupied w men → IsWithout w men part → (k : ℕ) → k < 64
     → man_at part k ≡ None
 none_placed w men part occupied without k low =
@@ -75,7 +79,7 @@ none_placed w men part occupied without k low =
 pub all_placed : (w : ℕ) (men : Men) → members w ≡ [] → IsWithout w men men
 all_placed w men e k low = rw (none_left w k low e) refl
 
--- the piece on the first square that is left is placed
+-- the piece on s, the first square of w, is placed, and the squares of v are left
 pub one_placed : (old new : Sets) (men : Men) (w v s : ℕ) → s < 64 → members w ≡ s ∷ members v
     → ((part : Men) → length part ≡ 64 → IsWithout w men part → IsSets old part)
     → ((part : Men) → length part ≡ 64 → man_at part s ≡ None → IsSets old part → IsSets new (set part s (man_at men s)))

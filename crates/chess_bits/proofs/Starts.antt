@@ -1,4 +1,4 @@
--- When the first member of a set is taken out, the others are left.
+-- When the first member (s) of a set (w) is taken out, the others (v) are left: this is what `take_first` does.
 use Rattle.std.proofs.Common.{◌≡◌, ℕ, zero, suc, ◌<◌, ◌≤◌, ◌+◌, inl, inr, Bool, true, false, ◌||◌, ◌==◌, List, [], ◌∷◌, refl, sym, ap, ◌∙◌, arith}
 use Rattle.std.specs.List.{filter, range_with_len}
 use Rattle.std.proofs.lemmas.Bool.{cases_Bool, cases_lt, eq-eqb, ne_eqb}
@@ -11,6 +11,7 @@ abbrev is_in : ℕ → List ℕ → Bool
 is_in k [] = false
 is_in k (x ∷ xs) = (x == k) || is_in k xs
 
+-- of the n numbers from a on, the list has those that pass p: none below a, and each of these exactly if it passes
 none_below : (p : ℕ → Bool) (k n a : ℕ) → k < a → is_in k (filter p (range_with_len a n)) ≡ false
 none_below p k zero a h = refl
 none_below p k (suc n) a h =
@@ -40,6 +41,7 @@ within p k (suc n) a low high =
           ])
     ]
 
+-- the first of the list is not among the others
 head_once : (p : ℕ → Bool) (n a s : ℕ) (ns : List ℕ) → filter p (range_with_len a n) ≡ s ∷ ns → is_in s ns ≡ false
 head_once p zero a s ns e = cc
 head_once p (suc n) a s ns e =
@@ -53,14 +55,17 @@ head_once p (suc n) a s ns e =
     heads : (x y : ℕ) (xs ys : List ℕ) → (x ∷ xs) ≡ (y ∷ ys) → is_in x xs ≡ false → is_in y ys ≡ false
     heads x y xs ys e h = cc
 
+-- k is a member of a set exactly if the set has square k
 is_in-members : (w k : ℕ) → k < 64 → is_in k (members w) ≡ contains w k
 unfolding members squares
 is_in-members w k low = within (λ x. contains w x) k 64 0 (omega arith) (omega (arith, low))
 
+-- w has the squares of v, and s
 pub taken_first : (w v s k : ℕ) → k < 64 → members w ≡ s ∷ members v → contains w k ≡ ((s == k) || contains v k)
 taken_first w v s k low e =
     sym (is_in-members w k low) ∙ ap (is_in k) e ∙ ap (λ t. (s == k) || t) (is_in-members v k low)
 
+-- and s is not in v
 pub first_gone : (w v s : ℕ) → s < 64 → members w ≡ s ∷ members v → contains v s ≡ false
 unfolding members squares
 first_gone w v s low e = sym (is_in-members v s low) ∙ head_once (λ x. contains w x) 64 0 s (members v) e

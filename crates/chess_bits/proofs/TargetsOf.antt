@@ -1,4 +1,5 @@
--- Where each kind of piece goes, as its sets say.
+-- Where each kind of piece goes, as its set of targets says: the set has the end of each legal move of the piece, and
+-- only squares to which it goes (`goes`).
 use Rattle.chess_base.proofs.{shared.Changes.no_castling, shared.Squares.some_square-at, shared.Squares.some_square-none, shared.Castling.no_castle, shared.Men.same_colour-self, shared.Men.same_colour-true, shared.Men.same_kind-true}
 use mathlib.Core.Bool.{and-false, and-true, or-false}
 use Rattle.std.proofs.Common.{◌≡◌, ℕ, ◌+◌, ◌-◌, ◌<◌, ◌≤◌, inl, inr, nat_le, Bool, true, false, not, ◌&&◌, ◌||◌, ◌==◌, Option, Some, None, is_none, refl, sym, ap, subst, ◌∙◌, arith}
@@ -20,6 +21,7 @@ unfolding is_of
 own_colour c x o at own = let own' : same_colour c x.colour ≡ true = rw at at own in
     sym (same_colour-true c x.colour own')
 
+-- a piece makes an ordinary move to a square that it attacks and where no own piece is
 pub steps_of_man : (p : Setup) (a b : ℕ) (x : Man) → man_at p.men a ≡ Some x → x.colour ≡ p.side
     → man_moves p (move_of a b None) ≡ (could_capture p.men p.side x.kind a b && not (is_of p.side (man_at p.men b)))
 unfolding man_moves attacks
@@ -40,6 +42,7 @@ pub other_man : (c : Colour) (k : Kind) (o : Option Man) (x : Man) → o ≡ Som
 unfolding is_man
 other_man c k o x at off = rw (at, off) (and_right (same_colour c x.colour) false refl)
 
+-- so an officer goes there, and nowhere else
 pub officer_is : (p : Setup) (a b : ℕ) (x : Man) → man_at p.men a ≡ Some x → is_of p.side (man_at p.men a) ≡ true
     → same_kind King x.kind ≡ false
     → (could_capture p.men p.side x.kind a b && not (is_of p.side (man_at p.men b))) ≡ man_goes p a b
@@ -51,6 +54,7 @@ officer_is p a b x at own no_king =
 
 -- ---- the king
 
+-- a move to a square that does not name castling on side w is not that castling
 not_named : (v : Variant) (c : Colour) (a b : ℕ) (w : CastlingSide) (o : Option ℕ) → names_end v c w o b ≡ false
     → names_castling v c (move_of a b None) w o ≡ false
 not_named v c a b w None h = refl
@@ -66,6 +70,7 @@ not_said p a b w h =
     (names_castling p.variant p.side (move_of a b None) w (right_of p.rights p.side w))
     (not_named p.variant p.side a b w (right_of p.rights p.side w) h)
 
+-- whether the castling o is legal need be asked only if q or k holds: if neither does, there is no castling
 told : (p : Setup) (m : Move) (o : Option Castle) (k q : Bool) → (k ≡ false → q ≡ false → o ≡ None)
     → ((q && legal_or p m o false) || (k && legal_or p m o false)) ≡ legal_or p m o false
 told p m None k q h = grind arith
@@ -95,6 +100,7 @@ man_told c k (Some x) h =
     (sym (same_colour-true c x.colour both.0))
     ∙ ap (λ (l : Kind). let y : Man = record { colour = c; kind = l } in Some y) (sym (same_kind-true k x.kind both.1))
 
+-- a pawn captures on a square that it attacks, if an enemy or the target is there
 pub captures_is : (p : Setup) (a b : ℕ) → is_man p.side Pawn (man_at p.men a) ≡ true
     → (could_capture p.men p.side Pawn a b && (is_of (other p.side) (man_at p.men b) || is_at p.target b))
     ≡ pawn_captures p (move_of a b None)
@@ -123,6 +129,7 @@ advances_is p a b n t pawn one two =
 
 -- ---- sets of targets
 
+-- from a square without an own piece there is no legal move
 pub none_begin : (p : Setup) (a w : ℕ) → is_of p.side (man_at p.men a) ≡ false → (m : Move) → is_legal p m ≡ true
     → m.from ≡ a → contains w m.to ≡ true
 none_begin p a w off m legal e =
@@ -133,12 +140,14 @@ pub ends_below : (p : Setup) (m : Move) → is_legal p m ≡ true → m.to < 64
 unfolding is_legal is_pseudo_legal
 ends_below p m h = grind (arith, nat_tests, h)
 
+-- w are the squares to which the pawn on a advances or where it captures: it goes to each of them
 pub pawn_sound : (p : Setup) (a w : ℕ) → is_man p.side Pawn (man_at p.men a) ≡ true → a < 64
     → ((k : ℕ) → k < 64 → contains w k ≡ (pawn_advances p (move_of a k None) || pawn_captures p (move_of a k None)))
     → (k : ℕ) → k < 64 → contains w k ≡ true → goes p a k ≡ true
 pawn_sound p a w pawn low set k high h =
     pawn_goes p a k _ (man_told p.side Pawn (man_at p.men a) pawn) refl refl low high ∙ sym (set k high) ∙ h
 
+-- and each legal move of it ends on such a square
 pub pawn_complete : (p : Setup) (a w : ℕ) → is_man p.side Pawn (man_at p.men a) ≡ true → a < 64
     → ((k : ℕ) → k < 64 → contains w k ≡ (pawn_advances p (move_of a k None) || pawn_captures p (move_of a k None)))
     → (m : Move) → is_legal p m ≡ true → m.from ≡ a → contains w m.to ≡ true
@@ -160,6 +169,7 @@ unfolding is_of
 some_man c None h = cc
 some_man c (Some x) h = (x, refl)
 
+-- the same for another piece, whose set w has the squares of `man_goes`
 pub man_set_sound : (p : Setup) (a w : ℕ) → is_of p.side (man_at p.men a) ≡ true
     → is_man p.side Pawn (man_at p.men a) ≡ false → a < 64
     → ((k : ℕ) → k < 64 → contains w k ≡ man_goes p a k) → (k : ℕ) → k < 64 → contains w k ≡ true → goes p a k ≡ true
@@ -169,6 +179,7 @@ man_set_sound p a w own other low set k high h =
     man_sound p a k man.0 man.1 mine (no_pawn_kind p.side man.0 (man_at p.men a) man.1 mine other) low high
     (sym (set k high) ∙ h)
 
+-- and each legal move of it ends on such a square
 pub man_set_complete : (p : Setup) (a w : ℕ) → is_of p.side (man_at p.men a) ≡ true
     → is_man p.side Pawn (man_at p.men a) ≡ false → a < 64
     → ((k : ℕ) → k < 64 → contains w k ≡ man_goes p a k) → (m : Move) → is_legal p m ≡ true → m.from ≡ a → contains w m.to ≡ true
@@ -198,7 +209,7 @@ second_is White a s w v k high home one h g low =
 second_is Black a s w v k high home one h g low =
     g.down refl k ∙ h.down refl (k + 8) ∙ one (k + 8 + 8) ∙ grind (arith, nat_tests, high, home)
 
--- whether the square there is empty, by what is met
+-- the square n ahead is empty exactly if no occupied square is met there
 pub met_is : (men : Men) (n next full met : ℕ) → n < 64 → ((k : ℕ) → k < 64 → contains next k ≡ (k == n))
     → ((k : ℕ) → k < 64 → contains full k ≡ not (is_none (man_at men k)))
     → ((k : ℕ) → contains met k ≡ (contains next k && contains full k))
@@ -217,10 +228,12 @@ met_is men n next full met low one stood both =
           ap not (some_square-at _ n low (both n ∙ rw (one n low, stood n low, eq-eqb n n refl, taken) refl)) ∙ sym taken
     ]
 
+-- with a piece right ahead a pawn does not advance
 pub blocked : (p : Setup) (a k : ℕ) → is_man p.side Pawn (man_at p.men a) ≡ true
     → is_none (man_at p.men (forward p.side a)) ≡ false → false ≡ pawn_advances p (move_of a k None)
 blocked p a k pawn full = sym (advances_is p a k (forward p.side a) _ pawn refl refl ∙ rw full refl)
 
+-- off its home rank it goes only to the empty square ahead
 pub one_only : (p : Setup) (a k : ℕ) → is_man p.side Pawn (man_at p.men a) ≡ true
     → is_none (man_at p.men (forward p.side a)) ≡ true → (rank a ≡ pawn_rank p.side → ⊥)
     → (k == forward p.side a) ≡ pawn_advances p (move_of a k None)
@@ -228,6 +241,7 @@ one_only p a k pawn free away =
     sym (advances_is p a k (forward p.side a) _ pawn refl refl
     ∙ rw (free, ne_eqb (rank a) (pawn_rank p.side) away) (or-false (k == forward p.side a)))
 
+-- from home it also goes to the second square, if that is empty too
 pub two_too : (p : Setup) (a k : ℕ) → is_man p.side Pawn (man_at p.men a) ≡ true
     → is_none (man_at p.men (forward p.side a)) ≡ true → rank a ≡ pawn_rank p.side
     → ((k == forward p.side a) || ((k == forward p.side (forward p.side a)) && is_none (man_at p.men k)))

@@ -97,7 +97,8 @@ advance_is_no_attack p m man e =
           m.from m.to two.0 two.1 a.0 a.1
     ])
 
--- en passant goes to an empty square, past which there is an enemy pawn
+-- if the target (o) is s, and sound: s is empty and on the rank that enemy double advances cross, an enemy pawn is just
+-- past it, and the square from which that came is empty
 target_facts : (men : Men) (c : Colour) (o : Option ℕ) (s : ℕ) → target_is_sound_at men c o ≡ true
     → is_at o s ≡ true
     → (rank s ≡ crossed_rank (other c)) × (is_none (man_at men s) ≡ true)
@@ -141,6 +142,8 @@ no_en_passant p m e =
 
 -- what is on the end square afterwards
 
+-- what arrives: it has the mover's colour, is a king exactly if the mover is one, and if it is a pawn it is on neither
+-- end rank
 pub record Arrival (p : Setup) (m : Move) : Type 0 where
   pub of : (c : Colour) → is_of c (arriving_man (man_at p.men m.from) m.promotion) ≡ is_of c (man_at p.men m.from)
   pub king : (c : Colour) → is_man c King (arriving_man (man_at p.men m.from) m.promotion)
@@ -154,16 +157,17 @@ pub record Walk (p : Setup) (m : Move) : Type 0 where
   pub not_own : is_of p.side (man_at p.men m.to) ≡ false
   pub no_king : is_man (other p.side) King (man_at p.men m.to) ≡ false
 
--- x is empty once king and rook have left a and e
+-- x is empty, or it is a or e: so it is free once king and rook have left a and e
 abbrev pub IsFreedIn : Men → ℕ → ℕ → ℕ → Type 0
 IsFreedIn men a e x = x ≢ a → x ≢ e → is_none (man_at men x) ≡ true
 
--- so on the board of a position
+-- the same on the board of position p
 abbrev pub IsFreed : Setup → ℕ → ℕ → ℕ → Type 0
 IsFreed p a e x = IsFreedIn p.men a e x
 
--- the second square that the move changes, and the third
+-- ---- what else a move changes
 
+-- besides the mover: nothing, or it takes the pawn on e en passant, or it castles with the rook that goes from e to r
 pub data Rest (p : Setup) (m : Move) : Type 0 where
   Alone : Walk p m → second_square_emptied p m ≡ None → castling_rook_to p m ≡ None → Rest p m
   WithCapture : Walk p m → (e : ℕ) → second_square_emptied p m ≡ Some e → castling_rook_to p m ≡ None
@@ -175,6 +179,7 @@ pub data Rest (p : Setup) (m : Move) : Type 0 where
       → is_man p.side King (man_at p.men m.from) ≡ true → r < 64 → mover_end p m < 64
       → is_of (other p.side) (man_at p.men m.to) ≡ false → Rest p m
 
+-- what a pseudo-legal move of a sound position changes
 pub record Change (p : Setup) (m : Move) : Type 0 where
   pub moves : Moves p m
   pub arrival : Arrival p m

@@ -15,6 +15,8 @@ pub data PawnKind (p : Setup) (m : Move) : Type 0 where
   Captures : attacks p.men m.from m.to ≡ true → is_of (other p.side) (man_at p.men m.to) ≡ true → PawnKind p m
   TakesEnPassant : attacks p.men m.from m.to ≡ true → is_at p.target m.to ≡ true → PawnKind p m
 
+-- a pseudo-legal move, by its kind: a piece other than a pawn goes where it attacks, or the king castles to side w with
+-- the rook on r, or a pawn moves
 pub data MoveKind (p : Setup) (m : Move) : Type 0 where
   ManMoves : is_man p.side Pawn (man_at p.men m.from) ≡ false → castling p m ≡ None → man_moves p m ≡ true
       → MoveKind p m
@@ -23,7 +25,7 @@ pub data MoveKind (p : Setup) (m : Move) : Type 0 where
   PawnMoves : is_man p.side Pawn (man_at p.men m.from) ≡ true → promotion_fits (rank m.to == first_rank (other p.side))
       m.promotion ≡ true → PawnKind p m → MoveKind p m
 
--- what every move with a pattern has
+-- what every pseudo-legal move has
 pub record Moves (p : Setup) (m : Move) : Type 0 where
   pub from_in : m.from < 64
   pub to_in : m.to < 64

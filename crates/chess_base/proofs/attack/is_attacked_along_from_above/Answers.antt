@@ -1,4 +1,5 @@
--- A walk up the line: the first piece decides, and where there is none nothing attacks from there (Rays).
+-- A walk up the line: up to the first piece the way is clear (rise_clear of Rays), that piece decides (rise_stops), and
+-- if there is none nothing attacks from there (rise_ends).
 use Rattle.std.proofs.Common.{arith, ◌≡◌, ◌+◌, false, is_none}
 use Rattle.std.proofs.lemmas.Grind.{common_steps}
 use Rattle.chess_base.specs.Men.{man_at}

@@ -1,4 +1,5 @@
--- The loop's invariant: on the line of b all squares above b up to `number` are empty (HasRisen of Rays).
+-- The loop's invariant: on the line of b all squares above b up to `number` are empty (HasRisen of Rays). The measure
+-- is how far `number` is below `end`, the line's last square.
 use Rattle.std.proofs.Common.{◌-◌}
 use Rattle.chess_base.proofs.Rays.{HasRisen}
 use Rattle.chess_base.proofs.attack.is_attacked_along_from_above.Given as goal

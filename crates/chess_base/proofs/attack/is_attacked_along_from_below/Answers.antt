@@ -1,4 +1,5 @@
--- A walk down the line: the first piece decides, and where there is none nothing attacks from there (Rays).
+-- A walk down the line: up to the first piece the way is clear (fall_clear of Rays), that piece decides (fall_stops),
+-- and if there is none nothing attacks from there (fall_ends).
 use Rattle.std.proofs.Common.{arith, ◌≡◌, ◌-◌, false, is_none}
 use Rattle.std.proofs.lemmas.Grind.{common_steps}
 use Rattle.chess_base.specs.Men.{man_at}

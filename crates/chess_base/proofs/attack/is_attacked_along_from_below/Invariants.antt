@@ -1,4 +1,5 @@
--- The loop's invariant: on the line of b all squares below b down to `number` are empty (HasFallen of Rays).
+-- The loop's invariant: on the line of b all squares below b down to `number` are empty (HasFallen of Rays). The
+-- measure is how far `number` is above `end`, the line's last square.
 use Rattle.std.proofs.Common.{◌-◌}
 use Rattle.chess_base.proofs.Rays.{HasFallen}
 use Rattle.chess_base.proofs.attack.is_attacked_along_from_below.Given as goal

@@ -1,4 +1,5 @@
--- The king that is found is the only one (KingChecks).
+-- The king that is found is the only one, so an attack on his square is a check (check_at_king of KingChecks); without
+-- a king there is no check (no_check_without_king).
 use Rattle.std.proofs.Common.{arith, rules, ◌≡◌, length}
 use Rattle.chess_base.proofs.{KingChecks.check_at_king, KingChecks.no_check_without_king, shared.Men.in_board}
 use Rattle.chess_base.proofs.attack.is_king_attacked.Goals as goal

@@ -1,4 +1,5 @@
--- A pseudo-legal move of a sound position leaves its side one king (CountsAfter).
+-- `is_king_attacked` wants one king of this colour: a pseudo-legal move of a sound position leaves it (one_king_after
+-- of CountsAfter).
 use Rattle.std.proofs.Common.{sym, ◌∙◌}
 use Rattle.chess_base.proofs.{CastlingChange.change_of, CountsAfter.one_king_after, shared.Kings.one_king_of}
 use Rattle.chess_base.proofs.legality.is_legal.Goals as goal

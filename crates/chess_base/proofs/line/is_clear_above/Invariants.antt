@@ -1,5 +1,5 @@
 -- The loop's invariant: `number` is a square of the line, and all between `low` and it are empty (IsWalkedTo of
--- ClearLines).
+-- ClearLines). The measure is how far `number` is below `end`.
 use Rattle.std.proofs.Common.{◌-◌}
 use Rattle.chess_base.proofs.ClearLines.{IsWalkedTo}
 use Rattle.chess_base.proofs.line.is_clear_above.Given as goal

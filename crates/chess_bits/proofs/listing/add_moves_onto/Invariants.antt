@@ -1,4 +1,5 @@
 -- The loop's invariant: the moves in the list, and those to the squares in `rest`, are the moves to all the squares.
+-- The measure is the number of squares in `rest`.
 use Rattle.std.proofs.Common.{◌≡◌, ◌++◌, None, length, map}
 use Rattle.chess_base.specs.MoveList.{move_of}
 use Rattle.chess_moves.specs.Sets.{members}

@@ -1,4 +1,5 @@
--- A piece that goes to a square without an own piece, and changes no more than its two squares (Shifts of Making).
+-- The move takes a piece from one square to another and changes no more (Shifts of Making): so two writes give the
+-- position after it (after_shift), and what was on the end square is what was captured (saved_shifting).
 use Rattle.std.proofs.Common.{◌≡◌, ◌≢◌, ◌<◌, length, length-set, set, get_or-set_other, Some, None, ap, sym, ◌∙◌, subst}
 use Rattle.chess_base.specs.Men.{man_at}
 use Rattle.chess_bits.proofs.BoardSets.{cleared}

@@ -1,4 +1,5 @@
--- The set of what is occupied between is empty (open_between of BetweenSquares).
+-- The line is open exactly if no square between a and b is in the set of occupied ones (open_between of
+-- BetweenSquares).
 use Rattle.std.proofs.Common.{◌<◌, subst}
 use Rattle.chess_bits.proofs.BetweenSquares.{open_between}
 use Rattle.chess_bits.proofs.sliding.is_open.Goals as goal

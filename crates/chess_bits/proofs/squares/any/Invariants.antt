@@ -1,4 +1,5 @@
 -- The loop's invariant: no square so far passes the test, so some square of the set does exactly if one in `rest` does.
+-- The measure is the number of squares in `rest`.
 use Rattle.std.proofs.Common.{◌≡◌, ℕ, Bool, ◌<◌, true, length}
 use Rattle.std.specs.List.{list_any}
 use Rattle.chess_moves.specs.Sets.{contains, members}

@@ -1,5 +1,5 @@
 -- The loop's invariant: the list has the moves to the squares so far; those to the squares in `targets`, to each of
--- which the piece goes, complete it.
+-- which the piece goes, complete it. The measure is the number of squares in `targets`.
 use Rattle.std.proofs.Common.{◌≡◌, ◌++◌, length, true, flat_map}
 use Rattle.chess_moves.specs.{shared.MovesBySquares.moves_between, shared.MovesBySquares.moves_from, Sets.members}
 use Rattle.chess_bits.specs.ties.Goes.{goes}

@@ -1,5 +1,5 @@
 -- The loop's invariant: the moves counted, and those to the squares in `targets`, to each of which the piece goes, are
--- all its moves.
+-- all its moves. The measure is the number of squares in `targets`.
 use Rattle.std.proofs.Common.{◌≡◌, ◌+◌, length, true, flat_map}
 use Rattle.chess_moves.specs.{shared.MovesBySquares.moves_between, shared.MovesBySquares.moves_from, Sets.members}
 use Rattle.chess_bits.specs.ties.Goes.{goes}

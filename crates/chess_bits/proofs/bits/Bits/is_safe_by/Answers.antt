@@ -1,4 +1,4 @@
--- The squares that the steps change and fill are those of the move.
+-- The steps are those of the move, so the squares that they fill and change are the move's, as `is_safe_at` wants them.
 use Rattle.std.proofs.Common.{◌≡◌, ◌==◌, ◌||◌, ℕ, ◌<◌, refl, ap, ◌∙◌}
 use Rattle.chess_base.specs.{declared.steps.Steps.Steps, Squares.is_at}
 use Rattle.chess_moves.specs.Sets.{contains}

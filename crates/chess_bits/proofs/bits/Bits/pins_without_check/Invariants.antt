@@ -1,5 +1,6 @@
--- What was taken out of the free pieces shields the king, and goes only to the ends so far; the free pieces, none of
--- them the king, keep the ways closed that are looked at already.
+-- The loop's invariant: the free pieces are own ones and not the king, and when one of them leaves, the way from each
+-- pinner looked at so far stays closed (`KeepsClosed`); the legal moves of the others end on the evasions. The measure
+-- is the number of possible pinners left.
 use Rattle.std.proofs.Common.{◌≡◌, ◌<◌, ℕ, not, ◌&&◌, ◌==◌, length, true, false}
 use Rattle.chess_base.specs.Men.{man_at, is_of}
 use Rattle.chess_bits.specs.ties.Pins.{aims_from, KeepsClosed, AreEvasions}

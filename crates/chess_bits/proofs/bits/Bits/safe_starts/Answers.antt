@@ -8,6 +8,7 @@ use Rattle.chess_bits.proofs.Starts.{first_gone, first_in, none_left, taken_firs
 use Rattle.chess_base.proofs.shared.MenAfter.{eqb_comm}
 use Rattle.chess_bits.proofs.bits.Bits.safe_starts.Goals as goal
 
+-- two facts of tests, for `chosen_next`: of square s, which was tested, and of another square
 tested : (l : Bool) → ((true && not (true || false) && l) || (l && true)) ≡ (true && not false && l)
 tested true = refl
 tested false = refl

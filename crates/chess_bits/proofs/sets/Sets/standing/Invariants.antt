@@ -1,4 +1,5 @@
--- The loop's invariant: the sets are those of the board without the pieces on the squares in `rest`.
+-- The loop's invariant: the sets are those of the board without the pieces on the squares in `rest`. The measure is the
+-- number of squares in `rest`.
 use Rattle.std.proofs.Common.{◌≡◌, length}
 use Rattle.chess_base.specs.Men.{Men}
 use Rattle.chess_bits.specs.ties.BoardSets.{IsSets}
