@@ -9,10 +9,12 @@ use Rattle.chess_text.specs.San.{check_mark, san, shown_move}
 use Rattle.chess_match.specs.Rules.{text_of_last}
 use Rattle.chess_game.proofs.shared.Lines.{position_after-snoc}
 
+-- the last of some moves and one more is that one
 last_is : (o : Option Move) (ms : List Move) (m : Move) → last_or o (ms ++ m ∷ []) ≡ Some m
 last_is o [] m = refl
 last_is o (x ∷ ms) m = last_is (Some x) ms m
 
+-- the text of the last move, after the moves `ms` and then `m`, is that of `m` in the position after `ms`
 pub text_at_last : (as_san : Bool) (start : Setup) (ms : List Move) (m : Move)
     → text_of_last as_san start (ms ++ m ∷ [])
     ≡ (let p = position_after start ms in if as_san then san p m else shown_move p m)

@@ -358,11 +358,14 @@ ready_after r S C kind moment m aw due ready =
 
 -- from a moment on, at which the match is `m`, the engine of S answers
 record AnswersFrom (r : Rules) (S : Colour) (m : Match) (K : List Act) : Type 0 where
+  -- each line of S is expected when it comes
   lines : (before after : List Act) (text : Option (List ℕ)) (moment : ℕ)
       → K ≡ before ++ Happens (Line S text moment) ∷ after
       → let n = match_after r m before in IsExpected r n n.phase (line_kind text) moment
+  -- at no silence of S its time is over
   waits : (before after : List Act) (moment : ℕ) → K ≡ before ++ Happens (Silent S moment) ∷ after
       → let n = match_after r m before in is_beyond r n n.phase S moment ≡ false
+  -- its output doesn't end, and no read from it and no write to it fails
   goes_on : has_ended S K ≡ false
   is_read : has_failed_read S K ≡ false
   is_written : is_broken K S ≡ false

@@ -110,6 +110,7 @@ below_minute true m s n below minutes e =
     omega (arith, minutes, same, less)
 below_minute false m s n below minutes e = cc
 
+-- minutes of at most three digits, and seconds if there are any
 minutes_small : (m s : Option ℕ) (n : ℕ) → ((v : ℕ) → m ≡ Some v → v < 10 ^ 3)
     → option_and_then (λ minutes. option_and_then (λ milliseconds. if nat_lt milliseconds 60000
     then Some (60000 * minutes + milliseconds) else None) s) m ≡ Some n → n ≤ 59999999

@@ -383,6 +383,7 @@ increment_some increment h =
 
 -- ---- the level
 
+-- the three words of a level, each read back as its number
 pub level_back : (moves base increment : ℕ) → moves ≤ 999 → base ≤ 59999999 → increment ≤ 999999
     → level_of (level_text (record { moves = moves; base = base; increment = increment }))
     ≡ Some (record { moves = moves; base = base; increment = increment })

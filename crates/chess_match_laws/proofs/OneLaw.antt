@@ -448,6 +448,7 @@ module _ (w : Block → ℕ) where
   one_breaks r m m' b due due' H p next s [] final g o q = absurd g
   one_breaks r m m' b due due' H p next s (Happens e ∷ K) final g o q = absurd g
 
+  -- the first act is a line
   one_reads : (r : Rules) (m : Match) (S : Colour) (t : Option (List ℕ)) (n : ℕ) (H : List Act)
       → awaits_line m.phase S ≡ true
       → One r (effect r m (Line S t n)).after (blocks_after S (effect r m (Line S t n))) H
@@ -476,6 +477,7 @@ module _ (w : Block → ℕ) where
           (failed_none s c J (none_read r _ final _ J x.2 refl) (subst (λ (L : List Act). Held w s L) x.0 q)).0
       at (Some (FailsToWrite c)) J x = absurd x
 
+  -- it is a silence
   one_silent : (r : Rules) (m : Match) (S : Colour) (n : ℕ) (H : List Act) → awaits_line m.phase S ≡ true
       → One r (effect r m (Silent S n)).after (blocks_from White (effect r m (Silent S n)).to) H
       → One r m [] (Happens (Silent S n) ∷ H)
@@ -502,6 +504,7 @@ module _ (w : Block → ℕ) where
       at (Some (Opened c k)) J x = awaits_or_opens m.phase S c aw x.1
       at (Some (FailsToWrite c)) J x = absurd x
 
+  -- it is the moment of an opening
   one_opens : (r : Rules) (m : Match) (S : Colour) (n : ℕ) (H : List Act) → m.phase ≡ Opening S
       → One r (effect r m (Opened S n)).after [] H → One r m [] (Happens (Opened S n) ∷ H)
   one_opens r m S n H opening p s K final g o q = let (e, J, x) = next r m final K g in at e J x
@@ -523,6 +526,7 @@ module _ (w : Block → ℕ) where
       at (Some (FailsToRead c)) J x = awaits_or_opens m.phase c S x.1 opening
       at (Some (FailsToWrite c)) J x = absurd x
 
+  -- it is the end of an output
   one_ends : (r : Rules) (m : Match) (S : Colour) (H : List Act) → awaits_line m.phase S ≡ true → unread H ≡ true
       → One r (effect r m (OutputEnds S)).after (blocks_from White (effect r m (OutputEnds S)).to) H
       → One r m [] (Happens (OutputEnds S) ∷ H)
@@ -547,6 +551,7 @@ module _ (w : Block → ℕ) where
       at (Some (Opened c k)) J x = awaits_or_opens m.phase S c aw x.1
       at (Some (FailsToWrite c)) J x = absurd x
 
+  -- it is a failed read
   one_fails : (r : Rules) (m : Match) (S : Colour) (H : List Act) → awaits_line m.phase S ≡ true → unread H ≡ true
       → One r (effect r m (FailsToRead S)).after (blocks_from White (effect r m (FailsToRead S)).to) H
       → One r m [] (Happens (FailsToRead S) ∷ H)

@@ -129,18 +129,22 @@ Stays m H n = is_over m.phase ≡ true → (n ≡ m) × (only_sends H ≡ true)
 -- is `Kept`, and after an act that ends it only blocks are sent, and it stays as it is
 pub record Points (r : Rules) (P : Match → List Block → List Act → Match → Type 0) : Type 0 where
   pub sends : (m n : Match) (b : Block) (due : List Block) (H : List Act) → P m due H n → P m (b ∷ due) (Sends b ∷ H) n
+  -- a block fails, which ends the match
   pub fails : (m n : Match) (b : Block) (due : List Block) (H : List Act) → is_over m.phase ≡ false → Kept r m
       → only_sends H ≡ true → n ≡ (ends r (Faulted b.to Write) m).after
       → P (ends r (Faulted b.to Write) m).after (blocks_from White (ends r (Faulted b.to Write) m).to) H n
       → P m (b ∷ due) (SendFails b ∷ H) n
+  -- a block fails after the end
   pub fails_late : (m n : Match) (b : Block) (due : List Block) (H : List Act) → is_over m.phase ≡ true
       → only_sends H ≡ true → n ≡ m → P m due H n → P m (b ∷ due) (SendFails b ∷ H) n
+  -- a line of S is read
   pub reads : (m n : Match) (S : Colour) (t : Option (List ℕ)) (k : ℕ) (H : List Act) → awaits_line m.phase S ≡ true
       → Kept r m → Stays (effect r m (Line S t k)).after H n
       → P (effect r m (Line S t k)).after (blocks_after S (effect r m (Line S t k))) H n
       → P m [] (Happens (Line S t k) ∷ H) n
   pub opens : (m n : Match) (S : Colour) (k : ℕ) (H : List Act) → m.phase ≡ Opening S → Kept r m
       → P (effect r m (Opened S k)).after [] H n → P m [] (Happens (Opened S k) ∷ H) n
+  -- a look for a line of S finds none yet
   pub silent : (m n : Match) (S : Colour) (k : ℕ) (H : List Act) → awaits_line m.phase S ≡ true
       → is_limited r.patience m.phase ≡ true → Kept r m → Stays (effect r m (Silent S k)).after H n
       → P (effect r m (Silent S k)).after (blocks_from White (effect r m (Silent S k)).to) H n

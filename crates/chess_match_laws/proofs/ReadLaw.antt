@@ -140,32 +140,36 @@ Steps r d t m m' = (final : Match) (lines : Streamed)
     → (is_over m'.phase ≡ true → (final ≡ m') × ((S : Colour) → lines S ≡ [])) → ReadsOff r m' final lines
     → ReadsOff r m final (with_line d t lines)
 
--- which `move` lines are ahead before and after a line of d: of a handshake that goes on or is done, of a setup that
--- goes on or is done, and of a turn (the lemmas up to `pass_same`)
+-- which `move` lines are ahead before and after a line of d, by what it does: here its handshake goes on
 handshake_same : (d : Colour) (t : Option (List ℕ)) (lines : Streamed) (S : Colour)
     → list_any ends_handshake (items_in_line (line_kind t)) ≡ false
     → ahead (Handshake d) S (with_line d t lines S) ≡ ahead (Handshake d) S (lines S)
 handshake_same d t lines S h1 = grind arith
 
+-- its setup goes on
 setup_same : (d : Colour) (t : Option (List ℕ)) (lines : Streamed) (S : Colour) → is_pong 1 (line_kind t) ≡ false
     → ahead (Setup d) S (with_line d t lines S) ≡ ahead (Setup d) S (lines S)
 setup_same d t lines S h1 = grind arith
 
+-- White's handshake is done
 handshake_next : (d : Colour) (t : Option (List ℕ)) (lines : Streamed) (S : Colour) → d ≡ White
     → list_any ends_handshake (items_in_line (line_kind t)) ≡ true
     → ahead (Handshake d) S (with_line d t lines S) ≡ ahead (Handshake Black) S (lines S)
 handshake_next d t lines S h1 h2 = grind arith
 
+-- Black's handshake is done
 handshake_last : (d : Colour) (t : Option (List ℕ)) (lines : Streamed) (S : Colour) → d ≡ Black
     → list_any ends_handshake (items_in_line (line_kind t)) ≡ true
     → ahead (Handshake d) S (with_line d t lines S) ≡ ahead (Setup White) S (lines S)
 handshake_last d t lines S h1 h2 = grind arith
 
+-- White's setup is done
 setup_next : (d : Colour) (t : Option (List ℕ)) (lines : Streamed) (S : Colour) → d ≡ White
     → is_pong 1 (line_kind t) ≡ true
     → ahead (Setup d) S (with_line d t lines S) ≡ ahead (Setup Black) S (lines S)
 setup_next d t lines S h1 h2 = grind arith
 
+-- Black's setup is done, and the first turn is opened
 setup_last : (d c : Colour) (t : Option (List ℕ)) (lines : Streamed) (S : Colour) → d ≡ Black
     → is_pong 1 (line_kind t) ≡ true
     → ahead (Setup d) S (with_line d t lines S) ≡ ahead (Opening c) S (lines S)
@@ -176,6 +180,7 @@ turn_same : (p : Phase) (d : Colour) (t : Option (List ℕ)) (lines : Streamed) 
     → move_said (line_kind t) ≡ [] → ahead p S (with_line d t lines S) ≡ ahead p S (lines S)
 turn_same p d t lines S h1 h2 = grind arith
 
+-- after its move, it passes the turn to the other side
 pass_same : (d c : Colour) (t : Option (List ℕ)) (lines : Streamed) (S : Colour) → move_said (line_kind t) ≡ []
     → ahead (AfterMove d) S (with_line d t lines S) ≡ ahead (Opening c) S (lines S)
 pass_same d c t lines S h1 = grind arith

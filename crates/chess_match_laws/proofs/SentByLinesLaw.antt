@@ -65,26 +65,28 @@ handshake_says d t m S ls p rest e h =
         ≡ (m.seat S).items ++ (if same_colour d S then items_in_line (line_kind t) else [])
     items = grind (arith, append-nil)
 
--- what is ahead before a line and after it: the handshake goes on, White's is done (`ahead_next`), Black's is done
--- (`ahead_last`), or the match is over
+-- which items are ahead before a line of d and after it: here its handshake goes on
 ahead_on : (d : Colour) (t : Option (List ℕ)) (S : Colour) (ls : List (Option (List ℕ)))
     → list_any ends_handshake (items_in_line (line_kind t)) ≡ false
     → said_ahead (Handshake d) S (if same_colour d S then t ∷ ls else ls)
     ≡ (if same_colour d S then items_in_line (line_kind t) else []) ++ said_ahead (Handshake d) S ls
 ahead_on d t S ls h1 = grind arith
 
+-- White's handshake is done
 ahead_next : (d : Colour) (t : Option (List ℕ)) (S : Colour) (ls : List (Option (List ℕ))) → d ≡ White
     → list_any ends_handshake (items_in_line (line_kind t)) ≡ true
     → said_ahead (Handshake d) S (if same_colour d S then t ∷ ls else ls)
     ≡ (if same_colour d S then items_in_line (line_kind t) else []) ++ said_ahead (Handshake Black) S ls
 ahead_next d t S ls h1 h2 = grind arith
 
+-- Black's handshake is done
 ahead_last : (d : Colour) (t : Option (List ℕ)) (S : Colour) (ls : List (Option (List ℕ))) → d ≡ Black
     → list_any ends_handshake (items_in_line (line_kind t)) ≡ true
     → said_ahead (Handshake d) S (if same_colour d S then t ∷ ls else ls)
     ≡ (if same_colour d S then items_in_line (line_kind t) else []) ++ []
 ahead_last d t S ls h1 h2 = grind arith
 
+-- the match is over, and no line is to come
 ahead_over : (d : Colour) (t : Option (List ℕ)) (S : Colour) (ls : List (Option (List ℕ))) → ls ≡ []
     → said_ahead (Handshake d) S (if same_colour d S then t ∷ ls else ls)
     ≡ (if same_colour d S then items_in_line (line_kind t) else []) ++ []
@@ -159,6 +161,7 @@ items_are_said r H K final g S = sym (by_points r
 
 -- the moves are those that the lines fix
 module _ (r : Rules) (H : List Act) (m : Match) (read : MovesAreRead r H m) (said : ItemsAreSaid r H m) where
+  -- what MoveLaw says of the moves sent, with the items as the lines say them
   sent_by_lines : (whole : Bool)
       → ((O : Colour) → (rest : List (List ℕ)) × (length rest ≤ 1)
       × (whole ≡ true → ended_by_write_to O m.phase ≡ false → rest ≡ [])
