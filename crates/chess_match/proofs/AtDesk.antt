@@ -1,4 +1,6 @@
--- What passed at a desk, step by step, and what each device then did in a whole match.
+-- What passes at a desk, the table made of each engine's two pipes, a clock and a witness (src/desk.rt). First for each
+-- call of the desk: from what it did to its device follows which step passed (`note_moves` to `until_moves`). Then for
+-- a whole match: what its steps (`watched`) did to each device, its acts did.
 use Rattle.std.proofs.Common.{◌≡◌, ℕ, Bool, true, false, List, [], ◌∷◌, ◌++◌, refl, ap, sym, ◌∙◌, subst, append_assoc, append-nil, Option, None, Some, Result, Ok, Err, arith, if◌then◌else◌}
 use Rattle.byte_devices.specs.{Devices.InputState, Devices.OutputState, Transfers.Devices}
 use Rattle.chess_base.specs.{declared.man.Colour.Colour, Men.other, Options.list_if}
@@ -52,7 +54,8 @@ writes-append : (S : Colour) (H G : List Act) (w w' w'' : OutputState) → Write
 writes-append S [] G w w' w'' e q = subst (λ (x : OutputState). WritesOf S G x w'') e q
 writes-append S (a ∷ H) G w w' w'' (v, o, p) q = (v, o, writes-append S H G v w' w'' p q)
 
--- from one state of a desk to another these steps passed
+-- the steps `J` took a desk from one state (each engine's pipes, what is held of its output, the clock, the witness,
+-- the references) to another (the names with `'`)
 pub record Moves (engines engines' : Colour → Devices) (held held' : Colour → Held) (coming coming' : ℕ → Option ℕ)
     (witness witness' : Noted) (names names' : List ℕ) (J : List Step) : Type 0 where
   pub named : names' ≡ names
@@ -61,6 +64,7 @@ pub record Moves (engines engines' : Colour → Devices) (held held' : Colour �
   pub moments : ClockReadings coming coming' (moments_in J)
   pub noted : WasNoted witness witness' (notes_in J)
 
+-- a witness that was given the notes `M` since the desk's beginning, and then `N`, was given `M ++ N` since then
 since_more : (a b : Noted) (first : Option (List ℕ × List Note)) (M N all : List Note) → all ≡ M ++ N
     → WasNoted a b N → NotedSince a first M → NotedSince b first all
 since_more a b None M N all e p h = tt
@@ -68,6 +72,8 @@ since_more a b (Some (text, notes)) M N all e p h =
     subst (λ (ns : List Note). b text ns)
     (append_assoc notes M N ∙ ap (λ (l : List Note). notes ++ l) (sym e)) (p.extends text (notes ++ M) h)
 
+-- if the steps `J` took the desk from one state to another, then after any steps that may have passed up to the first,
+-- `J` passed up to the second
 pub moved : (engines engines' : Colour → Devices) (held held' : Colour → Held) (coming coming' : ℕ → Option ℕ)
     (witness witness' : Noted) (names names' : List ℕ) (J : List Step)
     → Moves engines engines' held held' coming coming' witness witness' names names' J
@@ -91,10 +97,11 @@ moved engines engines' held held' coming coming' witness witness' names names' J
 
 -- ---- the calls
 
+-- a witness that was given nothing stays as it was
 same_noted : (a : Noted) → WasNoted a a []
 same_noted a = record { extends = λ before notes h. subst (λ (l : List Note). a before l) (sym (append-nil notes)) h }
 
--- a note was given
+-- the call `note`: the witness was given a note, and all else stays
 pub note_moves : (engines : Colour → Devices) (held : Colour → Held) (coming : ℕ → Option ℕ) (witness witness' : Noted)
     (names : List ℕ) (n : Note) → WasNoted witness witness' (n ∷ [])
     → Passes (λ begun K. Did begun engines held coming witness names K)
@@ -108,7 +115,7 @@ note_moves engines held coming witness witness' names n h =
       noted = h;
     })
 
--- the clock was read
+-- the call `moment`: the clock was read, and all else stays
 pub clock_moves : (engines : Colour → Devices) (held : Colour → Held) (coming coming' : ℕ → Option ℕ) (witness : Noted)
     (names : List ℕ) (c : Colour) (n : ℕ) → ClockReadings coming coming' (n ∷ [])
     → Passes (λ begun K. Did begun engines held coming witness names K)
@@ -124,23 +131,27 @@ clock_moves engines held coming coming' witness names c n h =
 
 -- ---- an engine's pipe
 
+-- what holds of S and of the other side holds of each side
 either : (P : Colour → Type 0) (S : Colour) → P S → P (other S) → (X : Colour) → P X
 either P S h1 h2 X = grind arith
 
+-- sending a block to S, whether it fails or not, does to the input of its engine what the act says
 writes_own : (S : Colour) (failed : Bool) (lines : List SentLine) (w w' : OutputState)
     → SendsIf failed w w' (bytes_of lines) → WritesAt S (sending failed (record { to = S; lines = lines })) w w'
 writes_own S failed lines w w' h1 = grind arith
 
+-- it leaves the input of the other engine as it is
 writes_other : (S : Colour) (failed : Bool) (lines : List SentLine) (w w' : OutputState) → w' ≡ w
     → WritesAt (other S) (sending failed (record { to = S; lines = lines })) w w'
 writes_other S failed lines w w' h1 = grind arith
 
+-- it reads no engine's output
 reads_nothing : (S X : Colour) (failed : Bool) (lines : List SentLine) (r r' : InputState) (h : Held) → r' ≡ r
     → OutputAt X (sending failed (record { to = S; lines = lines })) r r' h h
 reads_nothing S X true lines r r' h e = (e, refl)
 reads_nothing S X false lines r r' h e = (e, refl)
 
--- a block was sent, or a write of it failed
+-- the call `send`: a block was sent, or a write of it failed
 pub send_moves : (engines engines' : Colour → Devices) (held : Colour → Held) (coming : ℕ → Option ℕ) (witness : Noted)
     (names : List ℕ) (S : Colour) (failed : Bool) (lines : List SentLine)
     → SendsIf failed (engines S).output (engines' S).output (bytes_of lines)
@@ -171,6 +182,7 @@ send_moves engines engines' held coming witness names S failed lines h same othe
       noted = same_noted witness;
     })
 
+-- the act of a read writes to no engine
 read_writes : {E : Type 0} (S X : Colour) (result : Result (Option LineSeen) E) (w : OutputState)
     → WritesAt X (act_read S result) w w
 read_writes S X (Err x) w = refl
@@ -181,7 +193,7 @@ read_writes S X (Ok (Some line)) w = at line.ended
     at true = refl
     at false = refl
 
--- the step of it: one act, no moment and no note
+-- the step of a read has one act (`act_read`), no moment and no note
 read_step : {E : Type 0} (S : Colour) (result : Result (Option LineSeen) E)
     → (acts_in (reading_of S result ∷ []) ≡ act_read S result ∷ []) × (moments_in (reading_of S result ∷ []) ≡ [])
     × (notes_in (reading_of S result ∷ []) ≡ [])
@@ -198,7 +210,8 @@ read_step S (Ok (Some line)) = at line.ended
     at true = (refl, refl, refl)
     at false = (refl, refl, refl)
 
--- a step by which an output was read, in this one act, after a look for a line began
+-- a look for a line of S, and the step that says what it found: if the step has just this act, and the act did to both
+-- outputs what is said here, then these two steps passed
 found_moves : (engines engines' : Colour → Devices) (held held' : Colour → Held) (coming : ℕ → Option ℕ)
     (witness : Noted) (names : List ℕ) (S : Colour) (until : Option ℕ) (step : Step) (act : Act)
     → (acts_in (step ∷ []) ≡ act ∷ []) × (moments_in (step ∷ []) ≡ []) × (notes_in (step ∷ []) ≡ [])
@@ -227,7 +240,7 @@ found_moves engines engines' held held' coming witness names S until step act e 
       noted = subst (λ (ns : List Note). WasNoted witness witness ns) (sym e.2) (same_noted witness);
     })
 
--- a line was read, or an end or a failure came
+-- the call `read_line`: after the look a line was read, or an end or a failure came
 pub read_moves : {E : Type 0} (engines engines' : Colour → Devices) (held held' : Colour → Held) (coming : ℕ → Option ℕ)
     (witness : Noted) (names : List ℕ) (S : Colour) (until : Option ℕ) (result : Result (Option LineSeen) E)
     → NextLine ENGINE_LINE_LEN (engines S).input (engines' S).input (held S) (held' S) result
@@ -241,7 +254,7 @@ read_moves engines engines' held held' coming witness names S until result next 
     (other_read S (engines (other S)).input (engines' (other S)).input (held (other S)) (held' (other S)) result
     (ap (λ d. d.input) others) kept) (λ X w. read_writes S X result w) same others
 
--- so it was, or no line had come in time
+-- the call `read_line_until`: the same, or no line had come in time
 pub until_moves : {E : Type 0} (engines engines' : Colour → Devices) (held held' : Colour → Held)
     (coming : ℕ → Option ℕ) (witness : Noted) (names : List ℕ) (S : Colour) (until : Option ℕ)
     (result : Result (Option Bool) E) (line : LineSeen)
@@ -264,7 +277,7 @@ until_moves engines engines' held held' coming witness names S until (Err e) lin
 
 -- ---- a whole match
 
--- a failed write is noted, or not: no act, and no moment
+-- the note of a failed write, whether it is given (`x`) or not, has no act and no moment
 no_more : (to : Colour) (K : List Step) (x : Bool)
     → (acts_in (list_if x (Notes (Happened (FailsToWrite to)) ∷ []) ++ K) ≡ acts_in K)
     × (moments_in (list_if x (Notes (Happened (FailsToWrite to)) ∷ []) ++ K) ≡ moments_in K)
@@ -275,7 +288,8 @@ no_more to K false = (refl, refl)
 abbrev after_failure : Rules → Match → Block → Match
 after_failure rules m b = if is_over m.phase then m else (effect rules m (FailsToWrite b.to)).after
 
--- what the steps of a match did to the output of an engine, its acts did
+-- what the steps of a match did to the output of an engine, its acts did: they differ only in the moments of lines and
+-- silences, which no output shows
 pub reads_watched : (rules : Rules) (reason : Reason) (m : Match) (S : Colour) (H : List Act) (r r' : InputState)
     (h h' : Held) → ReadsOf S (acts_in (watched rules reason m H)) r r' h h' → ReadsOf S H r r' h h'
 reads_watched rules reason m S [] r r' h h' p = p
@@ -298,7 +312,7 @@ reads_watched rules reason m S (Happens (FailsToRead c) ∷ H) r r' h h' (v, k, 
 reads_watched rules reason m S (Happens (FailsToWrite c) ∷ H) r r' h h' (v, k, o, p) =
     (v, k, o, reads_watched rules reason (effect rules m (FailsToWrite c)).after S H v r' k h' p)
 
--- and to its input
+-- what they did to its input, its acts did
 pub writes_watched : (rules : Rules) (reason : Reason) (m : Match) (S : Colour) (H : List Act) (w w' : OutputState)
     → WritesOf S (acts_in (watched rules reason m H)) w w' → WritesOf S H w w'
 writes_watched rules reason m S [] w w' p = p
@@ -338,6 +352,7 @@ moments_watched rules reason m (Happens (OutputEnds c) ∷ H) = moments_watched 
 moments_watched rules reason m (Happens (FailsToRead c) ∷ H) = moments_watched rules reason (effect rules m (FailsToRead c)).after H
 moments_watched rules reason m (Happens (FailsToWrite c) ∷ H) = moments_watched rules reason (effect rules m (FailsToWrite c)).after H
 
+-- the notes of the steps are those that a witness is given of the acts
 pub notes_watched : (rules : Rules) (reason : Reason) (m : Match) (H : List Act)
     → notes_in (watched rules reason m H) ≡ notes_given reason H
 notes_watched rules reason m [] = refl
@@ -369,6 +384,7 @@ notes_watched rules reason m (Happens (FailsToWrite c) ∷ H) =
 
 -- ---- what was read
 
+-- acts that look for no line (`unread`) leave each engine's output as it is
 pub tail_same : (S : Colour) (H : List Act) (r r' : InputState) (h h' : Held) → unread H ≡ true → ReadsOf S H r r' h h'
     → r' ≡ r
 tail_same S [] r r' h h' u (e, k) = e

@@ -1,4 +1,4 @@
--- Each block that a match sends has a line.
+-- Each block that a match sends has at least one line (`blocks_filled`), since no block is made of no lines.
 use Rattle.std.proofs.Common.{List, [], ◌∷◌, ◌++◌, if◌then◌else◌}
 use Rattle.chess_base.specs.{declared.man.Colour.Colour, declared.man.Colour.TheVariants.White, Men.other}
 use Rattle.chess_match.specs.Acts.{Act, Block, Sends, IsMatch, block_of, blocks_from, is_over}
@@ -22,6 +22,7 @@ SendFilled [] = Unit {0}
 SendFilled (Sends b ∷ H) = HasLine b.lines × SendFilled H
 SendFilled (_ ∷ H) = SendFilled H
 
+-- the blocks made of two lists of lines, each of which may be empty
 two_filled : (S O : Colour) (x y : List SentLine) → AreFilled (block_of S x ++ block_of O y)
 two_filled S O [] [] = tt
 two_filled S O [] (m ∷ ms) = (tt, tt)
@@ -31,6 +32,7 @@ two_filled S O (l ∷ ls) (m ∷ ms) = (tt, (tt, tt))
 due_filled : (first : Colour) (to : Colour → List SentLine) → AreFilled (blocks_from first to)
 due_filled first to = two_filled first (other first) (to first) (to (other first))
 
+-- by induction over the acts of a match: if each block that is due has a line, each that is sent has one
 pub blocks_filled : (r : Rules) (H : List Act) (final : Match) → IsMatch r H final → SendFilled H
 blocks_filled r H final g = by_cases r final (λ m due H. AreFilled due → SendFilled H) (record {
   sends = λ m end b due H p f. (f.0, p f.1);

@@ -1,7 +1,9 @@
--- The moments that a clock was asked for, one after another, are those that it had to give, in order.
+-- What `ClockReadings` says of no reading, of one, and of some readings and then others: the moments shown are, in
+-- order, those that the clock was known to give.
 use Rattle.std.proofs.Common.{◌≡◌, ℕ, zero, suc, ◌+◌, ◌<◌, List, [], ◌∷◌, ◌++◌, length, ap, sym, ◌∙◌, arith, length-append, subst, Option, Some, None, zero-add, slice_get, IfSome}
 use Rattle.chess_match.specs.Run.{ClockReadings}
 
+-- what follows from `P` of each value follows from it of a value that may be missing
 some_of : {P Q : ℕ → Type 0} (o : Option ℕ) → ((t : ℕ) → P t → Q t) → IfSome o P → IfSome o Q
 some_of None f h = h
 some_of (Some t) f h = f t h
@@ -9,6 +11,7 @@ some_of (Some t) f h = f t h
 pub asked_none : (coming : ℕ → Option ℕ) → ClockReadings coming coming []
 asked_none coming = record { known = λ n h. absurd (omega (arith, h)); rest = λ n. ap coming (sym (zero-add n)) }
 
+-- of one reading only the one with number 0 is known, and it showed this moment
 first_shown : (coming : ℕ → Option ℕ) (moment n : ℕ) → IfSome (coming 0) (λ t. moment ≡ t) → n < 1
     → IfSome (coming n) (λ t. slice_get (moment ∷ []) n ≡ Some t)
 first_shown coming moment zero h few = some_of (coming 0) (λ t e. ap Some e) h
@@ -21,6 +24,7 @@ asked_one coming coming' moment h rest = record {
   rest = λ n. let e : n + 1 ≡ 1 + n = omega arith in rest n ∙ ap coming e;
 }
 
+-- the n-th of the readings `xs` and then `ys`: one of `xs`, or one of `ys`, counted from where `xs` end
 shown_at : (xs ys : List ℕ) (c c' : ℕ → Option ℕ) (n : ℕ)
     → ((k : ℕ) → k < length xs → IfSome (c k) (λ t. slice_get xs k ≡ Some t))
     → ((k : ℕ) → k < length ys → IfSome (c' k) (λ t. slice_get ys k ≡ Some t))
@@ -32,6 +36,7 @@ shown_at (x ∷ xs) ys c c' (suc n) a b e h =
     shown_at xs ys (λ k. c (suc k)) c' n (λ k f. a (suc k) (omega (arith, f))) b
     (λ k. let s : length (x ∷ xs) + k ≡ suc (length xs + k) = omega arith in e k ∙ ap c s) (omega (arith, h))
 
+-- readings, and then others
 pub asked_more : (c c' c'' : ℕ → Option ℕ) (xs ys : List ℕ) → ClockReadings c c' xs → ClockReadings c' c'' ys
     → ClockReadings c c'' (xs ++ ys)
 asked_more c c' c'' xs ys a b = record {

@@ -1,4 +1,6 @@
--- Each step of the core is the step of the match that it stands for, from one phase to the next.
+-- The code's state `core` and its game stand for a match of the definitions (`Represents`). Here for each kind of step
+-- that the core takes: it stands for the match after the effect too, and gives just the lines that the effect sends
+-- (`Goes`). The methods of `MatchState` are proved by these lemmas.
 use Rattle.std.proofs.Common.{◌≡◌, ◌⊎◌, inl, inr, ℕ, ◌+◌, ◌<◌, Bool, true, false, List, [], ◌∷◌, ◌++◌, length, length-append, refl, ap, sym, ◌∙◌, subst, Option, None, Some, append-nil, zero-add, arith, if◌then◌else◌, ◌-◌, codes, nat_lt, sum, unwrap_or}
 use Rattle.std.specs.{Bool.then_some, Option.option_map_or}
 use Rattle.std.proofs.lemmas.List.Sums.{sum_by-append}
@@ -20,11 +22,13 @@ pub kept : (r : Rules) (core : MatchState) (played : List Move) (m : Match) → 
 kept r core played m s White = s.white
 kept r core played m s Black = s.black
 
+-- the core's clock of S has counted the moves that S made
 pub clocks_moves : (r : Rules) (core : MatchState) (played : List Move) (m : Match) → Represents r core played m
     → (S : Colour) → (side_clock core.clocks S).moves ≡ length (m.seat S).used
 clocks_moves r core played m s White = ap (λ (c : ClocksSeen). c.white.moves) s.clocks
 clocks_moves r core played m s Black = ap (λ (c : ClocksSeen). c.black.moves) s.clocks
 
+-- it has as much time left as the match says
 pub clocks_left : (r : Rules) (core : MatchState) (played : List Move) (m : Match) → Represents r core played m
     → (S : Colour) → remaining core.clocks S ≡ clock r m S
 clocks_left r core played m s White = ap (λ (c : ClocksSeen). remaining c White) s.clocks
@@ -39,7 +43,7 @@ flag_kept r core played m S used elapsed flagged b s e f h =
 
 -- ---- into another phase
 
--- the match is over
+-- the core ends the match for this reason, and gives each side its end lines
 pub over_goes : (r : Rules) (core : MatchState) (played : List Move) (reason : Reason) (m : Match)
     → is_over m.phase ≡ false → Represents r core played m
     → Goes r (record core { phase = core_in.Over reason }) played (record { draw = None; entered = true }) nothing_said
@@ -52,6 +56,8 @@ over_goes r core played reason m on s = record {
       else last_lines r m (reported_reason (verdict r.start m.played) reason) b S) (s.unsent on S);
 }
 
+-- the core enters the phase `p`, counts lines from 0, and gives the lines of the phase; a side that was not yet sent
+-- the last move must be owed it in `p` too (the condition on `is_unsent`)
 pub enter_goes : (r : Rules) (core : MatchState) (played : List Move) (p : CorePhase) (m : Match)
     → ((S : Colour) → is_unsent core.last S ≡ is_owed_move (phase_of core.opened p) S) → Represents r core played m
     → Goes r (record core { phase = p; count = 0 }) played (record { draw = None; entered = true }) nothing_said
@@ -72,10 +78,12 @@ still_last : (r : Rules) (last : Option LastMove) (played : List Move) → AreOf
 still_last r None played h = h
 still_last r (Some last) played h = h
 
+-- once the last move is sent nobody is owed it
 none_unsent : (last : Option LastMove) (S : Colour) → is_unsent (all_sent last) S ≡ false
 none_unsent None S = refl
 none_unsent (Some last) S = refl
 
+-- the core opens the turn of S; with the opening the last move is sent
 pub open_goes : (r : Rules) (core : MatchState) (played : List Move) (S : Colour) (m : Match)
     → Represents r core played m
     → Goes r (record core { phase = core_in.SendTurn S; count = 0; last = all_sent core.last }) played
@@ -87,13 +95,14 @@ open_goes r core played S m s = record {
   gives = λ X. refl;
 }
 
+-- the same for a side X that is S
 pub first_opens : (r : Rules) (core : MatchState) (played : List Move) (given : Actions) (m : Match) (S X : Colour)
     → S ≡ X → Goes r core played given nothing_said (begins_turn r S m)
     → Goes r core played given nothing_said (begins_turn r X m)
 first_opens r core played given m S X e h =
     subst (λ (q : Colour). Goes r core played given nothing_said (begins_turn r q m)) e h
 
--- the opening was sent
+-- the opening was sent, and the clock read: the core awaits the move from this moment on
 pub opened_stands : (r : Rules) (core : MatchState) (played : List Move) (S : Colour) (moment : ℕ) (m : Match)
     → m.phase ≡ Opening S → Represents r core played m
     → Represents r (record core { phase = core_in.AwaitMove S; opened = moment }) played
@@ -111,16 +120,19 @@ pub counted_goes : (r : Rules) (core : MatchState) (played : List Move) (m : Mat
 unfolding given_lines
 counted_goes r core played m s = record { stands = search (s.unsent); gives = λ S. refl }
 
+-- the counts of the core and of the match are both set to `n`
 pub recounted : (r : Rules) (core : MatchState) (played : List Move) (m : Match) (n : ℕ) → Represents r core played m
     → Represents r (record core { count = n }) played (record m { count = n })
 recounted r core played m n s = search (s.unsent)
 
+-- the offer of S is opened in the core and in the match
 pub offered_stands : (r : Rules) (core : MatchState) (played : List Move) (S : Colour) (m : Match)
     → Represents r core played m
     → Represents r (offered_core core S) played (with_seat S (λ s. record s { offers = true }) m)
 offered_stands r core played White m s = search (s.unsent)
 offered_stands r core played Black m s = search (s.unsent)
 
+-- the lines `d` go to the side O alone, and only if the flag `t` says so
 draw_given : (t : Bool) (O X : Colour) (d : List SentLine)
     → lines_if_to (then_some t O) X d ++ [] ≡ list_if (same_colour O X) (list_if t d)
 draw_given t O X d = grind (arith, append-nil)
@@ -147,6 +159,7 @@ features-draw items = refl
 pub sum-snoc : (xs : List ℕ) (x : ℕ) → sum (xs ++ x ∷ []) ≡ sum xs + x
 sum-snoc xs x = sum_by-append (λ (n : ℕ). n) xs (x ∷ []) ∙ ap (λ n. sum xs + n) (zero-add x)
 
+-- a side's clock after one move more: one move and its time are added
 side-snoc : (level : LevelSeen) (s : Seat) (used : ℕ) (offers : Bool)
     → record { level = level; moves = length s.used + 1; used = sum s.used + used }
     ≡ side_of level (record { items = s.items; used = s.used ++ used ∷ []; offers = offers })
@@ -154,6 +167,7 @@ side-snoc level s used offers =
     let l : length (s.used ++ used ∷ []) ≡ length s.used + 1 = length-append s.used (used ∷ []) in
     rw (l, sum-snoc s.used used) refl
 
+-- charging the clock of S in the core is what a move of S does to the clocks of the match
 charged_clocks : (r : Rules) (core : MatchState) (S : Colour) (move : Move) (used : ℕ) (m : Match)
     → core.clocks ≡ clocks_of r.level m
     → charged core.clocks S used ≡ clocks_of r.level (moved S move used m)
@@ -172,6 +186,7 @@ last_played r texts played before move e t =
     let some : length (before ++ move ∷ []) ≡ length before + 1 = length-append before (move ∷ []) in
     (omega (arith, some), subst (λ (ms : List Move). AreTexts r texts (ms ++ move ∷ [])) e t)
 
+-- a move was played: the core with the clock charged and the texts kept stands for the match after the move
 pub moved_stands : (r : Rules) (core : MatchState) (played : List Move) (S : Colour) (move : Move) (used : ℕ)
     (m : Match) (texts : MoveTexts) → Represents r core played m → AreTexts r texts (played ++ move ∷ [])
     → Represents r (played_core core S used texts) (played ++ move ∷ []) (moved S move used m)
@@ -199,7 +214,7 @@ pinged_goes r core played S m e s = record {
   gives = λ X. ap (λ (p : CorePhase). phase_lines r core.last m X p) e;
 }
 
--- the match ends by its position, or goes on
+-- the match ends if its position says so (`over` is the reason), or goes on as in `otherwise`
 pub over_by_goes : (r : Rules) (core : MatchState) (played : List Move) (given : Actions) (items : Colour → List Item)
     (m : Match) (over : Option Reason) (otherwise : Effect) → over_by_position r m.played ≡ over
     → Goes r core played given items (option_map_or (λ reason. ends r reason m) over otherwise)
@@ -208,7 +223,7 @@ over_by_goes r core played given items m over otherwise e g =
     subst (λ (o : Option Reason). Goes r core played given items (option_map_or (λ reason. ends r reason m) o otherwise))
     (sym e) g
 
--- a line by the phase that is known
+-- what was shown of a line's row in the phase `p` holds of the match's own phase, which is `p`
 pub row_goes : (r : Rules) (core : MatchState) (played : List Move) (given : Actions) (items : Colour → List Item)
     (kind : LineKind) (moment : ℕ) (m : Match) (p : Phase) → m.phase ≡ p
     → Goes r core played given items (line_row r p kind moment m)
@@ -216,7 +231,7 @@ pub row_goes : (r : Rules) (core : MatchState) (played : List Move) (given : Act
 row_goes r core played given items kind moment m p e h =
     subst (λ (q : Phase). Goes r core played given items (line_row r q kind moment m)) (sym e) h
 
--- a silence by the phase that is known
+-- the same of a silence's row
 pub silence_goes : (r : Rules) (core : MatchState) (played : List Move) (given : Actions) (items : Colour → List Item)
     (S : Colour) (moment : ℕ) (m : Match) (p : Phase) → m.phase ≡ p
     → Goes r core played given items (silence_row r p S moment m)
@@ -224,7 +239,7 @@ pub silence_goes : (r : Rules) (core : MatchState) (played : List Move) (given :
 silence_goes r core played given items S moment m p e h =
     subst (λ (q : Phase). Goes r core played given items (silence_row r q S moment m)) (sym e) h
 
--- in a setup or after a move, one is owed that is no `feature` line
+-- a silence in a setup or after a move: what is owed is a `pong`, and the fault is `NoAnswer`
 pub owed_goes : (r : Rules) (core : MatchState) (played : List Move) (given : Actions) (items : Colour → List Item)
     (S : Colour) (moment opened : ℕ) (m : Match) (p : CorePhase)
     → ((x : Colour) × (p ≡ core_in.Setup x)) ⊎ ((x : Colour) × (p ≡ core_in.AwaitPong x)) → m.phase ≡ phase_of opened p
@@ -237,12 +252,14 @@ owed_goes r core played given items S moment opened m p (inr (x, e)) at h =
 
 -- ---- a reply
 
--- nothing is sent
+-- nothing changes, and nothing is sent
 pub quiet_goes : (r : Rules) (core : MatchState) (played : List Move) (m : Match) → Represents r core played m
     → Goes r core played (record { draw = None; entered = false }) nothing_said (sends_nothing m)
 unfolding given_lines
 quiet_goes r core played m s = record { stands = s; gives = λ S. refl }
 
+-- a silence within the limit: nothing is sent, and the time for the reply runs from `since`, which is the silence's
+-- moment if it didn't run before
 pub quiet_since : (r : Rules) (core core' : MatchState) (played : List Move) (m : Match) (moment since : ℕ)
     → Represents r core played m → since ≡ unwrap_or core.since moment
     → Represents r core' played (awaited_since since m)
@@ -263,7 +280,7 @@ reply_kept r core played m moment since waited beyond b s from so_long is h =
 
 -- ---- a handshake
 
--- a line in a handshake, by its items
+-- what was shown of the items of a line in a handshake (`handshake_row`) holds of the line
 pub shaken_goes : (r : Rules) (core : MatchState) (played : List Move) (given : Actions) (items : Colour → List Item)
     (S : Colour) (kind : LineKind) (moment : ℕ) (m : Match)
     → Goes r core played given items (handshake_row r S (items_in_line kind) (counted kind moment m))
@@ -271,10 +288,12 @@ pub shaken_goes : (r : Rules) (core : MatchState) (played : List Move) (given : 
 shaken_goes r core played given items S kind moment m h =
     subst (λ (e : Effect). Goes r core played given items e) (sym (handshake_by_items r S kind moment m)) h
 
--- the core once S said more
+-- the core, with `p` as what it keeps of the engine of S
 abbrev pub items_core : MatchState → Colour → Player → MatchState
 items_core core S p = record core { players = with_colour core.players S p }
 
+-- if features and name kept of S are those of its items so far and of `items`, the core stands for the match with
+-- `items` added
 pub items_stand : (r : Rules) (core : MatchState) (played : List Move) (S : Colour) (p : Player) (items : List Item)
     (m : Match) → Represents r core played m
     → p.features ≡ features_of ((m.seat S).items ++ items) → p.name ≡ name_by ((m.seat S).items ++ items)
@@ -283,13 +302,14 @@ pub items_stand : (r : Rules) (core : MatchState) (played : List Move) (S : Colo
 items_stand r core played White p items m s e n o = search (o ∙ s.white.offers, s.unsent)
 items_stand r core played Black p items m s e n o = search (o ∙ s.black.offers, s.unsent)
 
+-- a line without items leaves what the core stands for
 pub no_items_stand : (r : Rules) (core : MatchState) (played : List Move) (S : Colour) (m : Match)
     → Represents r core played m
     → Represents r core played (with_seat S (λ s. record s { items = s.items ++ [] }) m)
 no_items_stand r core played White m s = search (append-nil (m.seat White).items, s.unsent)
 no_items_stand r core played Black m s = search (append-nil (m.seat Black).items, s.unsent)
 
--- the items of a line are answered before all else
+-- an effect with the answers to a line's items sent before its lines
 pub answered_goes : (r : Rules) (core : MatchState) (played : List Move) (given : Actions) (S : Colour)
     (items : List Item) (e : Effect) → Goes r core played given nothing_said e
     → Goes r core played given (items_to S items) (with_answers S items e)

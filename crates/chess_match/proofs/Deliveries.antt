@@ -11,22 +11,27 @@ use Rattle.chess_match.proofs.{Passings.passed_as, StaysSane.sane_over}
 
 -- ---- who failed
 
+-- to which sides a write failed, by the steps and as `deliver` returns it: no write failed
 pub none_failed : (S : Colour) → false ≡ by_colour false false S
 none_failed White = refl
 none_failed Black = refl
 
+-- the end lines of both sides, of which each may fail
 pub last_failed : (w b : Bool) (S : Colour) → (only w White S || only b Black S) ≡ by_colour w b S
 last_failed w b S = grind arith
 
+-- the first block, for `c`, failed; then the other side's end lines may fail too
 pub first_failed : (c : Colour) (f : Bool) (S : Colour) → (same_colour c S || only f (other c) S) ≡ by_turn c true f S
 first_failed c f S = grind arith
 
+-- the second block, for O, failed; then the end lines of `c` may fail too
 pub second_failed : (c O : Colour) (f : Bool) → O ≡ other c → (S : Colour)
     → (same_colour O S || only f (other O) S) ≡ by_turn c f true S
 second_failed c O f e S = rw e (grind arith)
 
 -- ---- both blocks
 
+-- a block after which no other is due
 alone : (r : Rules) (m : Match) (S : Colour) (lines : List SentLine) (K : List Step) (m' : Match)
     (f : Colour → Bool) → Leads r m (block_of S lines ++ []) K m' [] f → Leads r m (block_of S lines) K m' [] f
 alone r m S lines K m' f p =
@@ -40,7 +45,7 @@ gave r m S lines due true written h =
     leads_farewell r m S lines due true (h refl).0 (λ x. (h refl).1) (λ reason e. written reason e S)
 gave r m S lines due false written h = leads_sent r m S lines due
 
--- both blocks were sent, or a write failed in a match that was over
+-- what `deliver` ensures, where both blocks were sent, or a write failed in a match that was over
 pub delivered_both : (r : Rules) (old new : Passing) (core : MatchState) (played : List Move) (e : Effect)
     (side first : Colour) (f g : Bool) (failed : Colour → Bool) → Represents r core played e.after
     → IsWritten e.after → blocks_after side e ≡ blocks_from first e.to
@@ -73,7 +78,8 @@ delivered_both r old new core played e side first f g failed stands written due 
 
 -- ---- a write failed
 
--- the failure, and the end for the other side
+-- a write to S failed, which ended the match, and then the other side was sent its end lines, or a write of these
+-- failed (`f`)
 ended_for : (r : Rules) (m : Match) (S : Colour) (lines : List SentLine) (rest : List Block) (f : Bool)
     → is_over m.phase ≡ false → 0 < length lines
     → (f ≡ true → 0 < length ((effect r m (FailsToWrite S)).to (other S)))
@@ -107,7 +113,7 @@ first_sent r m to side O is =
     (ap (λ (X : Colour). block_of X (to X)) (sym is) ∙ sym (append-nil (block_of O (to O))))
     (leads_sent r m side (to side) (block_of (other side) (to (other side))))
 
--- after the steps `before`, the write to the side `O` failed
+-- what `deliver` ensures, where after the steps `before` the write to the side O failed and ended the match
 pub delivered_broken : (r : Rules) (old new : Passing) (core : MatchState) (played : List Move) (e : Effect)
     (side O : Colour) (f : Bool) (before : List Step) (rest : List Block) (failed : Colour → Bool)
     → is_over e.after.phase ≡ false → 0 < length (e.to O)

@@ -1,4 +1,6 @@
--- What each device of a desk did in a whole match.
+-- From the steps that passed at a desk in a match (`PlayedAt`) to what each of its devices shows apart
+-- (`PlayedNoting`): what was written to each engine (`all_written`), what came from it (OutputByActs.all_read), the
+-- moments and the notes.
 use Rattle.std.proofs.Common.{◌≡◌, ℕ, Bool, true, false, List, [], ◌∷◌, ◌++◌, refl, sym, ◌∙◌, subst, append_assoc, append-nil, Option, None, Some, MatchBool, if◌then◌else◌}
 use Rattle.byte_devices.specs.Devices.{OutputState, CutShort}
 use Rattle.byte_devices.specs.Transfers.{ToOutput, Devices, OutputTook, all_of}
@@ -17,6 +19,7 @@ use Rattle.chess_match.proofs.shared.MatchCases.{all_reads_end, all_sends_end, s
 
 -- ---- what was written
 
+-- acts that send nothing to S (`unsent_in`) leave its engine's input as it is
 silent : (S : Colour) (H : List Act) (w w' : OutputState) → unsent_in S H ≡ true → WritesOf S H w w'
     → (lines_sent S H ≡ []) × (broken_blocks S H ≡ []) × (w' ≡ w)
 silent S [] w w' u e = (refl, refl, e)
@@ -50,7 +53,7 @@ WroteAll w w' lines = OutputTook w w' (all_for lines (bytes_of lines))
 still : (w v u : OutputState) (before : List SentLine) → u ≡ v → WroteAll w v before → WroteAll w u before
 still w v u before e f = subst (λ (x : OutputState). WroteAll w x before) (sym e) f
 
--- the lines of a block more
+-- after the lines `before` a block was sent: its lines follow them
 block_more : (w v u : OutputState) (before lines : List SentLine) → HasLine lines → WroteAll w v before
     → OutputTook v u (all_of (bytes_of lines)) → WroteAll w u (before ++ lines)
 block_more w v u before [] none f o = absurd none
@@ -59,7 +62,8 @@ block_more w v u before (l ∷ ls) some f o =
     (took_each w v u before (l ∷ ls) (bytes_of before) (bytes_of (l ∷ ls)) f
     (subst (OutputTook v u) (some_for [] l ls (bytes_of (l ∷ ls))) o))
 
--- after these lines
+-- what the acts `H` write to S, after the lines `before` were sent to it; no block is sent after a failed one
+-- (`sends_end`), and each has a line (`SendFilled`)
 writes_all : (S : Colour) (before : List SentLine) (H : List Act) (w v w' : OutputState) → sends_end S H ≡ true
     → SendFilled H → WroteAll w v before → WritesOf S H v w'
     → Wrote (before ++ lines_sent S H) (broken_blocks S H) w w'
@@ -100,6 +104,7 @@ writes_all S before (SendFails b ∷ H) w v w' end filled f (u, o, p) =
 writes_all S before (Happens e ∷ H) w v w' end filled f (u, o, p) =
     writes_all S before H w u w' end filled (still w v u before o f) p
 
+-- what all acts of a match write to S
 pub all_written : (S : Colour) (H : List Act) (w w' : OutputState) → sends_end S H ≡ true → SendFilled H
     → WritesOf S H w w' → Wrote (lines_sent S H) (broken_blocks S H) w w'
 unfolding bytes_of
@@ -107,6 +112,7 @@ all_written S H w w' end filled p = writes_all S [] H w w w' end filled (took_no
 
 -- ---- the match
 
+-- the acts are a match, and from `w` to `w'` each device did what they say (`Passed`)
 pub desk_passed : (r : Rules) (H : List Act) (final : effects.Match) (reason : Reason) (begun : Beginning)
     (engines : Colour → Devices) (held : Colour → Held) (coming : ℕ → Option ℕ) (witness : Noted) (names : List ℕ)
     (w w' : World)
@@ -128,7 +134,7 @@ desk_passed r H final reason begun engines held coming witness names w w' is_mat
           d.moments);
     }
 
--- nothing passed yet
+-- a desk at its beginning, when no step has passed
 started : (engines : Colour → Devices) (held : Colour → Held) (coming : ℕ → Option ℕ) (witness : Noted) (names : List ℕ)
     (first : Option (List ℕ × List Note)) → ((S : Colour) → held S ≡ nothing_held) → NotedSince witness first []
     → Did (record { engines = engines; coming = coming; noted = first; names = names }) engines held coming witness
@@ -141,7 +147,7 @@ started engines held coming witness names first none noted = record {
   noted = noted;
 }
 
--- the desk holds the same references
+-- after the match the desk has the same references to its devices as before
 pub names_kept : (engines engines' : Colour → Devices) (held held' : Colour → Held) (coming coming' : ℕ → Option ℕ)
     (witness witness' : Noted) (names names' : List ℕ) (K : List Step)
     → Passes (λ begun K. Did begun engines held coming witness names K)

@@ -1,4 +1,4 @@
--- A text is empty exactly if its length is 0, and where lines have bytes there are some.
+-- A text is empty exactly if its length is 0; and where the bytes of lines are not empty, there is a line.
 use Rattle.std.proofs.Common.{◌≡◌, ◌≢◌, ◌<◌, ℕ, Bool, true, false, List, [], ◌∷◌, length, refl, sym, ◌∙◌, arith, eqb-true, ◌==◌}
 use Rattle.std.proofs.lemmas.List.{nil_from_length}
 use Rattle.chess_match.specs.Lines.{SentLine, bytes_of}

@@ -1,4 +1,5 @@
--- The items of a line are a part of it.
+-- The text of a `feature` line, without its first word, is no longer than the line (`features_short`), so that the
+-- answers to its items have room.
 use Rattle.std.proofs.Common.{◌≡◌, ℕ, ◌-◌, ◌≤◌, Bool, true, false, ◌&&◌, List, length, drop, take, length-drop, ap, Option, Some, None, arith, bytes_eq, if◌then◌else◌, codes}
 use Rattle.std.specs.Option.{option_map_or}
 use Rattle.chess_base.specs.declared.man.Colour.TheVariants.{White, Black}
@@ -6,6 +7,7 @@ use Rattle.text_lines.specs.Words.{word_of, argument_of, command_number}
 use Rattle.text_lines.proofs.shared.Lines.{without_front_blanks-short}
 use Rattle.cecp_engine.specs.EngineLines.{LineKind, Features, Moves, Resigns, OffersDraw, ClaimsDraw, ClaimsWin, Rejects, Answers, SaysElse, kind_of}
 
+-- what follows the first word of a text is no longer than the text
 argument_short : (text : List ℕ) → length (argument_of text) ≤ length text
 unfolding argument_of
 argument_short text =
@@ -13,10 +15,12 @@ argument_short text =
     length-drop (length (word_of text)) text in
     omega (arith, d, without_front_blanks-short (drop (length (word_of text)) text))
 
+-- the text of a line of the kind `Features`; for any other kind the default
 abbrev items_text : List ℕ → LineKind → List ℕ
 items_text default (Features text) = text
 items_text default _ = default
 
+-- a line `pong`, with a number or without, is not of the kind `Features`
 no_pong : (o : Option ℕ) (text : List ℕ) {P : Type 0} → option_map_or Answers o SaysElse ≡ Features text → P
 no_pong (Some n) text e = absurd cc
 no_pong None text e = absurd cc

@@ -26,6 +26,8 @@ or_more : (a b c : Bool) → (a || (b || c)) ≡ ((a || b) || c)
 or_more true b c = refl
 or_more false b c = refl
 
+-- steps that lead from `m` to `m'` and steps that lead from there to `m''` lead, one after the other, from `m` to
+-- `m''`; a write failed to a side if it failed in either
 pub leads_on : (r : Rules) (m m' m'' : Match) (due due' due'' : List Block) (K J : List Step) (f g : Colour → Bool)
     → (is_over m'.phase ≡ true → m''.phase ≡ m'.phase) → Leads r m due K m' due' f → Leads r m' due' J m'' due'' g
     → Leads r m due (K ++ J) m'' due'' (λ S. f S || g S)
@@ -38,6 +40,7 @@ leads_on r m m' m'' due due' due'' K J f g stays p q H final reason h e =
       λ S. a.3 S ∙ ap (λ (x : Bool). f S || x) (b.3 S) ∙ or_more (f S) (g S) (is_broken H S),
     )
 
+-- the same with `g` for `f`, where both say the same of each side
 pub leads_as : (r : Rules) (m m' : Match) (due due' : List Block) (K : List Step) (f g : Colour → Bool)
     → ((S : Colour) → f S ≡ g S) → Leads r m due K m' due' f → Leads r m due K m' due' g
 leads_as r m m' due due' K f g e p H final reason h ends =
@@ -46,6 +49,7 @@ leads_as r m m' due due' K f g e p H final reason h ends =
 
 -- ---- blocks
 
+-- the side of a block that could not be sent is one to which a write failed
 pub more_broken : (b : Block) (H : List Act) (S : Colour)
     → is_broken (SendFails b ∷ H) S ≡ (same_colour b.to S || is_broken H S)
 more_broken b H S = at (same_colour b.to S)
@@ -75,7 +79,7 @@ failed_steps r m b H reason over ended e f =
     ∷ (list_if ended (Notes (Happened (FailsToWrite b.to)) ∷ [])
     ++ watched r reason (if y then m else (effect r m (FailsToWrite b.to)).after) H)) e
 
--- a write of a farewell failed
+-- a write of end lines failed: the match was over and stays as it is, and what else is due is still sent
 pub leads_broken : (r : Rules) (m : Match) (S : Colour) (lines : List SentLine) (due : List Block)
     → is_over m.phase ≡ true → 0 < length lines
     → ((reason : Reason) → m.phase ≡ Over reason → is_write_fault_of reason S ≡ false)
@@ -95,7 +99,7 @@ leads_broken r m S (l ∷ ls) due over some apart H final reason g e =
       λ X. more_broken b H X,
     )
 
--- a farewell was sent, or a write of it failed
+-- end lines were sent, or a write of them failed
 pub leads_farewell : (r : Rules) (m : Match) (S : Colour) (lines : List SentLine) (due : List Block) (failed : Bool)
     → is_over m.phase ≡ true → (failed ≡ true → 0 < length lines)
     → ((reason : Reason) → m.phase ≡ Over reason → is_write_fault_of reason S ≡ false)
@@ -132,7 +136,8 @@ silence_first r m S c moment =
     silence_cases r c moment m (λ e. blocks_after S e ≡ blocks_from White e.to)
     (record { stops = λ reason w. refl; goes_on = λ since. refl })
 
--- a line, a silence, an end or a failed read of the engine of S
+-- a line, a silence, an end or a failed read of the engine of S: its steps lead to the match after its effect, in which
+-- the blocks of that effect are due
 pub leads_event : (r : Rules) (m : Match) (S : Colour) (e : Event) → is_of_output S e ≡ true
     → awaits_line m.phase S ≡ true → (is_silence e ≡ true → is_limited r.patience m.phase ≡ true)
     → Leads r m [] (looks_of (waits_until r m.phase m) e ++ steps_of e) (effect r m e).after
@@ -194,6 +199,7 @@ pub unsent : (r : Rules) (m : Match) (S : Colour) → (effect r m (FailsToWrite 
 unsent r m White = refl
 unsent r m Black = refl
 
+-- which side's block comes first after a line of S: White's if the match is over then, otherwise that of S
 pub over_first : (S : Colour) (t : Effect) (b : Bool) → is_over t.after.phase ≡ b
     → blocks_after S t ≡ blocks_from (if b then White else S) t.to
 over_first S t b e = ap (λ (x : Bool). blocks_from (if x then White else S) t.to) e

@@ -13,15 +13,18 @@ both_sides P w b Black = b
 
 -- ---- what MatchState::line requires
 
+-- fewer than 10,000 lines are counted
 pub counted : (r : Rules) (core : MatchState) (played : List Move) (m : Match) → Represents r core played m → IsSane r m
     → core.count < 10000
 counted r core played m s sane = omega (arith, s.count, sane.count)
 
+-- no side has made more moves than were played
 pub few : (r : Rules) (core : MatchState) (played : List Move) (m : Match) → Represents r core played m → IsSane r m
     → (S : Colour) → (side_clock core.clocks S).moves ≤ length played
 few r core played m s sane S =
     omega (arith, clocks_moves r core played m s S, ap (λ (ms : List Move). length ms) s.moves, sane.few S)
 
+-- in a turn the board has no verdict
 pub undecided : (r : Rules) (core : MatchState) (played : List Move) (m : Match)
     → Represents r core played m → IsSane r m → in_turn (phase_of core.opened core.phase) ≡ true
     → verdict r.start played ≡ None

@@ -1,4 +1,5 @@
--- A match that goes on at a table.
+-- The loop of `run_match_at`: its invariant (`OnTheWay`), how it begins (`begun`), how an event keeps it (`went_on`,
+-- `opened_on`), the measure that falls with each round (`steps_left`), and the contract at its end (`played_at`).
 use Rattle.std.proofs.Common.{◌≡◌, ℕ, ◌+◌, ◌*◌, ◌<◌, ◌≤◌, Bool, true, false, ◌||◌, List, [], ◌++◌, refl, ap, sym, ◌∙◌, subst, arith, Option, None, Some, codes, if◌then◌else◌, is_some}
 use Rattle.std.specs.Option.{option_map, option_map_or, option_or}
 use Rattle.std.proofs.Math.Path.{fun_ext}
@@ -19,7 +20,8 @@ use Rattle.chess_match.specs.ties.Represents.{Goes, Represents, given_lines, nam
 use Rattle.chess_match.proofs.{CoreSteps.clocks_left, Passings.passed_as, Passings.passed_more, StaysSane.fine_after, StaysSane.sane_start, shared.MatchCases.on_when_read}
 use Rattle.chess_match.proofs.Leading.{leads_as, leads_event, leads_on, leads_opened, leads_out, none}
 
--- core, game and table agree with a match that has come to `m`, by the steps `K`
+-- core, game and table agree with a match that has come to `m`, by the steps `K`; `failed` says to which sides a write
+-- failed, which is none while the match goes on
 pub record IsOnTheWay (r : Rules) (old new : Passing) (core : MatchState) (played : List Move) (failed : Colour → Bool)
     (m : Match) (K : List Step) : Type 0 where
   pub stands : Represents r core played m
@@ -28,11 +30,12 @@ pub record IsOnTheWay (r : Rules) (old new : Passing) (core : MatchState) (playe
   pub leads : Leads r beginning.after (blocks_from White beginning.to) K m [] failed
   pub fine : is_over m.phase ≡ false → (S : Colour) → failed S ≡ false
 
--- a match has come so far
+-- the loop's invariant: there is a match that has come so far, and no block of it is left to be sent
 abbrev pub OnTheWay : Rules → Passing → Passing → MatchState → List Move → (Colour → Bool) → Type 0
 OnTheWay r old new core played failed = (m : Match) × (K : List Step) × IsOnTheWay r old new core played failed m K
 
--- what is left to do, where so much can still be read or found not to have come
+-- the loop's measure, in this phase and if the table can give at most `n` lines or silences more: each of these makes
+-- it smaller by 2 or more, the moment of an opening by 1, and at the end it is 0
 abbrev pub steps_left : Phase → ℕ → ℕ
 steps_left (Handshake c) n = 3 * n + 1
 steps_left (SetupPhase c) n = 3 * n + 1
@@ -47,11 +50,13 @@ steps_left (Over reason) n = 0
 abbrev pub rules_in : run_setup.Setup → game.Seen → Rules
 rules_in setup g = rules_of setup.start (of_colour setup.levels) setup.patience setup.draws g.limit
 
+-- the game that was begun anew from the setup's start is played by the setup's rules
 pub plays_anew : (g h : game.Seen) (setup : run_setup.Setup)
     → h ≡ game.with_state g (from_start setup.start) → Plays h (rules_in setup g)
 plays_anew g h setup e = subst (λ (x : game.Seen). Plays x (rules_in setup g)) (sym e)
     (of_colour setup.levels, setup.patience, setup.draws, refl, refl)
 
+-- so is any game with that start and limit, in which no result is declared
 pub plays_on : (g h : game.Seen) (setup : run_setup.Setup) → h.state.start ≡ setup.start → h.limit ≡ g.limit
     → h.state.declared ≡ None → Plays h (rules_in setup g)
 plays_on g h setup s l d = (
@@ -70,6 +75,7 @@ pub begins : (r : Rules) (core : MatchState) (played : List Move) → core.phase
 unfolding given_lines
 begins r core played e s = record { stands = s; gives = λ S. rw e refl }
 
+-- the invariant holds once the first lines were sent
 pub begun : (r : Rules) (old new : Passing) (core : MatchState) (played : List Move) (failed : Colour → Bool)
     → Delivered r old new core played beginning.after (blocks_from White beginning.to) failed
     → OnTheWay r old new core played failed
@@ -165,6 +171,7 @@ opened_on r old now new core core' played failed m K S moment w opening passes s
 
 -- ---- how long lines are waited for
 
+-- the core waits only until some moment exactly where lines are limited in its phase
 until_limited : (core : MatchState) (p : CorePhase) → is_some (until_of core p) ≡ is_limited core.patience (phase_of core.opened p)
 until_limited core p = grind arith
 
@@ -180,24 +187,31 @@ limited r core played m s h = ap (λ (x : Patience). is_limited x m.phase) (sym 
 abbrev pub phase_now : MatchState → Phase
 phase_now core = phase_of core.opened core.phase
 
+-- the measure in a phase that awaits a line
 a_step : (p : Phase) (S : Colour) (n : ℕ) → awaits_line p S ≡ true → steps_left p n ≡ 3 * n + 1
 a_step p S n h1 = grind arith
 
+-- the measure is at most this, in any phase
 few_steps : (p : Phase) (n : ℕ) → steps_left p n ≤ 3 * n + 2
 few_steps p n = grind arith
 
+-- with one line or silence less to come the measure falls
 line_less : (p p' : Phase) (S : Colour) (n n' : ℕ) → awaits_line p S ≡ true → n' < n
     → steps_left p' n' < steps_left p n
 line_less p p' S n n' h less = omega (arith, a_step p S n h, few_steps p' n', less)
 
+-- when the match is over it falls
 over_less : (p p' : Phase) (S : Colour) (n n' : ℕ) → awaits_line p S ≡ true → is_over p' ≡ true
     → steps_left p' n' < steps_left p n
 over_less p p' S n n' h1 h2 = grind arith
 
+-- when the moment at the end of an opening was read it falls
 pub opened_less : (p p' : Phase) (S : Colour) (moment n n' : ℕ) → n' ≡ n → p ≡ Opening S
     → BeforeMove S moment ≡ p' → steps_left p' n' < steps_left p n
 opened_less p p' S moment n n' h1 h2 h3 = grind arith
 
+-- each event of an output makes it fall: after a line or a silence less is to come, and an end or a failed read ends
+-- the match
 pub went_less : (r : Rules) (between new : Passing) (core core' : MatchState) (played' : List Move) (m : Match)
     (S : Colour) (e : Event) (due : List Block) (failed' : Colour → Bool) (n n' n'' : ℕ)
     → awaits_line (phase_now core) S ≡ true → is_of_output S e ≡ true
@@ -220,6 +234,7 @@ went_less r between new core core' played' m S e due failed' n n' n'' awaits is 
 
 -- ---- the end
 
+-- the name by its definition (`name_by`), opened
 name_kept : (items : List Item) (name : List ℕ) → name ≡ name_by items
     → name ≡ cut_tag (last_said (λ v. v.text) [] (codes "myname") items)
 unfolding name_by
@@ -269,6 +284,7 @@ reported_outcome h h' reason outcome e o =
     at None = refl
     at (Some v) = refl
 
+-- the contract of `run_match_at` at the end of the loop, from the invariant and from what `end_of` reports
 pub played_at : (setup : run_setup.Setup) (old new : Passing) (g h h' : game.Seen) (core : MatchState)
     (reason : Reason) (failed : ByColour Bool) (end : MatchEnd)
     → OnTheWay (rules_in setup g) old new core h.state.moves (of_colour failed)

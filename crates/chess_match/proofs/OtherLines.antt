@@ -1,4 +1,5 @@
--- A line that none of the cases above takes is one of the other kinds.
+-- The last arm (`_`) of each `match` on an engine's line: what the definitions do with a line that none of the arms
+-- before it takes.
 use Rattle.std.proofs.Common.{◌≡◌, ℕ, List, [], Option, arith, Bor}
 use Rattle.chess_base.specs.declared.man.Colour.{Colour}
 use Rattle.cecp_engine.specs.{Seen.seen, declared.engine_line.EngineLine.EngineLine}
@@ -14,7 +15,7 @@ pub no_items_said : (line : EngineLine) → ((text : Bor (List ℕ)) → line �
     → items_in_line (seen line) ≡ []
 no_items_said line h1 = grind arith
 
--- after no other line the time for a reply runs anew
+-- a line without items leaves the moment from which the time for a reply runs
 pub uncounted : (line : EngineLine) (moment : ℕ) (since : Option ℕ)
     → ((text : Bor (List ℕ)) → line ≡ Features text → ⊥) → since_counted (seen line) moment since ≡ since
 uncounted line moment since h1 = grind arith

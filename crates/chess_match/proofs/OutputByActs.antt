@@ -59,10 +59,12 @@ still_read r r' h given texts last none s = record {
       ∙ ap (λ ls. map text_read ls) (output_all r r' h given [] texts s (none e)) ∙ s.lines.1;
 }
 
+-- after an end or a failed read the lines that were returned are all lines that came
 all_lines : (r r' : InputState) (given : List ℕ) (texts : List (Option (List ℕ))) → OutputEnded r r' given texts
     → engine_lines given ≡ texts
 all_lines r r' given texts s = ap (λ ls. map text_read ls) s.lines.2 ∙ s.lines.1
 
+-- the output ended
 read_to_end : (r r' : InputState) (given : List ℕ) (texts : List (Option (List ℕ))) (last : Option Bool)
     → OutputEnded r r' given texts × (r'.end_count ≡ saturating_increment r.end_count) × (r'.failure_count ≡ r.failure_count)
     × IsAtEnd r'.known_bytes → ReadTo texts true false last r r' given
@@ -76,6 +78,7 @@ read_to_end r r' given texts last (s, ends, failures, at_end) = record {
   all_if_silent = λ h. all_lines r r' given texts s;
 }
 
+-- a read failed
 read_to_fault : (r r' : InputState) (given : List ℕ) (texts : List (Option (List ℕ))) (last : Option Bool)
     → OutputEnded r r' given texts × (r'.end_count ≡ r.end_count) × (r'.failure_count ≡ saturating_increment r.failure_count)
     → ReadTo texts false true last r r' given
@@ -89,12 +92,12 @@ read_to_fault r r' given texts last (s, ends, failures) = record {
   all_if_silent = λ h. all_lines r r' given texts s;
 }
 
--- an act that is none of this output leaves it
+-- an act that reads nothing of this output leaves what came of it so far
 still : (r v v' : InputState) (h k : Held) (given : List ℕ) (texts : List (Option (List ℕ))) → (v' ≡ v) × (k ≡ h)
     → OutputSoFar r v h given texts → OutputSoFar r v' k given texts
 still r v v' h k given texts (same, kept) s = rw (same, kept) s
 
--- nor what is held of it
+-- it also leaves what is held of it
 still_none : (last : Option Bool) (h k : Held) → k ≡ h → NoneHeld last h → NoneHeld last k
 still_none last h k kept none e = ap (λ (x : Held). lines_held ENGINE_LINE_LEN false x []) kept ∙ none e
 
@@ -104,6 +107,7 @@ silent_none : (v v' : InputState) (h k : Held) (more : List ℕ) → GotSilence 
 silent_none v v' h k more got e =
     sym (got.lines false []) ∙ ap (λ (l : List ℕ). lines_held ENGINE_LINE_LEN false h l) (append-nil more) ∙ got.whole
 
+-- the same with each part in other words
 as_read : (r v v' : InputState) (given : List ℕ) (texts texts' : List (Option (List ℕ))) (a a' b b' : Bool)
     (last last' : Option Bool) → texts' ≡ texts → a' ≡ a → b' ≡ b → last' ≡ last → v' ≡ v
     → ReadTo texts a b last r v given → ReadTo texts' a' b' last' r v' given
@@ -125,6 +129,7 @@ no_look S (Happens (Silent c n) ∷ H) u = absurd cc
 no_look S (Happens (OutputEnds c) ∷ H) u = absurd cc
 no_look S (Happens (FailsToRead c) ∷ H) u = absurd cc
 
+-- so the last look found what it found before
 no_look_more : (last : Option Bool) (found more : List Bool) → more ≡ []
     → last_or last (found ++ more) ≡ last_or last found
 no_look_more last found more e = ap (λ (l : List Bool). last_or last (found ++ l)) e
@@ -133,7 +138,8 @@ no_look_more last found more e = ap (λ (l : List Bool). last_or last (found ++ 
 or_none : (a b : Bool) → b ≡ false → (a || b) ≡ a
 or_none a b e = ap (λ (x : Bool). a || x) e ∙ or-false a
 
--- after the acts `H`, if before them `texts` were read, `h` is held, and the output is at `v`
+-- by induction on the acts `H`: what was read after them, if `texts` were read before them, `h` is held then, and the
+-- output is at `v`
 reads_all : (S : Colour) (texts : List (Option (List ℕ))) (last : Option Bool) (H : List Act) (r v r' : InputState)
     (h h' : Held) (given : List ℕ) → reads_end H ≡ true → NoneHeld last h → OutputSoFar r v h given texts
     → ReadsOf S H v r' h h'
@@ -240,7 +246,7 @@ reads_all S texts last (Happens (FailsToRead c) ∷ H) r v r' h h' given end non
       still_read r v' k given texts last (still_none last h k o.1 none) (still r v v' h k given texts o s),
     )
 
--- after all acts of a match, from its beginning
+-- what came from the engine of S in all acts of a match, from its beginning
 pub all_read : (S : Colour) (H : List Act) (r r' : InputState) (h' : Held) → reads_end H ≡ true
     → ReadsOf S H r r' nothing_held h' → (i : FromInput) × InputGave r r' i × SaidBy S H i
 all_read S H r r' h' end p =

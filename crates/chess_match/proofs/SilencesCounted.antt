@@ -11,10 +11,11 @@ use Rattle.chess_match.specs.Acts.{Act, Sends, SendFails, Happens}
 use Rattle.chess_match.specs.{ByDevice.is_silence_of, Run.text_read, declared.run.TheConstants.ENGINE_LINE_LEN, ties.AtDesk.ReadsOf, ties.EngineOutput.OutputAt}
 use Rattle.chess_match.specs.Events.{Line, Opened, Silent, OutputEnds, FailsToRead, FailsToWrite}
 
+-- an output that is left as it was has the same count of silences
 kept : (r r' : InputState) → r' ≡ r → r'.silence_count ≡ r.silence_count
 kept r r' e = ap (λ (x : InputState). x.silence_count) e
 
--- what one act adds
+-- one act adds one to the count of silences of S, if it is one of S
 one_act : (S : Colour) (a : Act) (r r' : InputState) (h h' : Held) → OutputAt S a r r' h h'
     → r'.silence_count ≡ saturating_increment_if (is_silence_of S a) r.silence_count
 one_act S (Sends b) r r' h h' (e, f) = kept r r' e
@@ -63,6 +64,7 @@ one_first S a H l m n e f =
     at false e = f ∙ ap (λ c. saturating_add c (count_by (is_silence_of S) H)) e
         ∙ ap (saturating_add l) (sym (zero-add (count_by (is_silence_of S) H)))
 
+-- the acts `H` add as many as they have silences of S (a count that is full stays)
 pub silences_counted : (S : Colour) (H : List Act) (r r' : InputState) (h h' : Held) → ReadsOf S H r r' h h'
     → r'.silence_count ≡ saturating_add r.silence_count (count_by (is_silence_of S) H)
 silences_counted S [] r r' h h' (e, f) = kept r r' e

@@ -23,6 +23,7 @@ Fine r m = IsSane r m × IsWritten m
 
 -- ---- a match that ends, or goes on
 
+-- a sane match is fine when it ends for a reason that is no failed write
 over_fine : (r : Rules) (m : Match) (reason : Reason) → IsSane r m → ((S : Colour) → is_write_fault_of reason S ≡ false)
     → Fine r (record m { phase = Over reason })
 over_fine r m reason s mild = (
@@ -30,15 +31,17 @@ over_fine r m reason s mild = (
   λ why e S. let same : reason ≡ why = cc in subst (λ x. is_write_fault_of x S ≡ false) same (mild S),
 )
 
+-- a sane match that goes on is fine
 on_fine : (r : Rules) (m : Match) → is_over m.phase ≡ false → IsSane r m → Fine r m
 on_fine r m on s = (s, λ why e S. let no : true ≡ false = sym (ap is_over e) ∙ on in absurd cc)
 
--- in a phase that is no turn
+-- so is one that enters a phase with lines counted from 0; a turn only if the board has no verdict
 entered_fine : (r : Rules) (m : Match) (p : Phase) → is_over p ≡ false
     → (in_turn p ≡ true → verdict r.start m.played ≡ None) → IsSane r m → Fine r (record m { phase = p; count = 0 })
 entered_fine r m p on none s =
     on_fine r _ on (record { undecided = none; few = s.few; count = omega arith })
 
+-- after a move each side's moves are still among those played
 moved_few : (m : Match) (S X : Colour) (move : Move) (used : ℕ) → length (m.seat X).used ≤ length m.played
     → length ((moved S move used m).seat X).used ≤ length (m.played ++ move ∷ [])
 moved_few m S X move used h =
@@ -49,13 +52,16 @@ sane_since : (r : Rules) (m : Match) (since : Option ℕ) → IsSane r m → IsS
 sane_since r m since s = record { undecided = s.undecided; few = s.few; count = s.count }
 
 module _ (r : Rules) (S : Colour) (kind : LineKind) (m : Match) (on : is_over m.phase ≡ false) (s : IsSane r m) where
+  -- after the items of a line were added the match is sane
   said : IsSane r (said_by S kind m)
   said = record { undecided = s.undecided; few = λ X. rw (said_used S X kind m) (s.few X); count = s.count }
 
+  -- after one line more was counted, of fewer than 10,000, it is fine
   counted : m.count + 1 < 10000 → Fine r (record m { count = m.count + 1 })
   counted few = on_fine r (record m { count = m.count + 1 }) on
       (record { undecided = s.undecided; few = s.few; count = few })
 
+  -- each effect that a line can have leaves the match fine
   line_fits : (moment : ℕ) → LineCases r S kind moment m (λ e. Fine r e.after)
   line_fits moment = record {
     handshake_stops = λ p reason k most w. over_fine r (record (said_by S kind m) { count = k }) reason (record {
@@ -102,7 +108,7 @@ line_fine : (r : Rules) (S : Colour) (kind : LineKind) (moment : ℕ) (m : Match
 line_fine r S kind moment m aw s = line_cases r S kind moment m (λ e. Fine r e.after) aw
     (λ since. line_fits r S kind (record m { since = since }) (on_when_read m.phase S aw) (sane_since r m since s) moment)
 
--- a line that had not come
+-- a silence
 silence_fine : (r : Rules) (S : Colour) (moment : ℕ) (m : Match) → awaits_line m.phase S ≡ true → IsSane r m
     → Fine r (effect r m (Silent S moment)).after
 silence_fine r S moment m aw s = silence_cases r S moment m (λ e. Fine r e.after) (record {

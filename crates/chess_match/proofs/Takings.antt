@@ -8,7 +8,8 @@ use Rattle.chess_match.specs.{Acts.Happens, Acts.awaits_line, Effects.Match, Eff
 use Rattle.chess_match.specs.Table.{Does, LooksFor, ReadsLine, FindsNoLine, Passing, Passes, reading_until}
 use Rattle.chess_match.specs.ties.Driving.{is_line_event, is_of_output, is_silence, looks_of, steps_of}
 
--- an event without items that is no line and no silence
+-- what `take_next` ensures (its clause `taken`), if the event is an end or a failed read: it has no items, so nothing
+-- is answered
 pub without_items : (plays : Rules → Type 0) (old new : Passing) (core : MatchState) (played : List Move)
     (core' : MatchState) (given : Actions) (text : List ℕ) (S : Colour) (n n' : ℕ) (until : Option ℕ) (e : Event)
     → is_of_output S e ≡ true → is_line_event e ≡ false → is_silence e ≡ false → text ≡ []
@@ -36,7 +37,7 @@ without_items plays old new core played core' given text S n n' until e is line 
 
 -- ---- the step of a read
 
--- by its result, and by the moment until which it waits
+-- the step of a read whose result is `shown` and which waited until `until`
 by_result : {E : Type 0} (old new : Passing) (S : Colour) (result shown : Result (Option Bool) E) (line : LineSeen)
     (u until : Option ℕ) → u ≡ until → result ≡ shown
     → Passes old new (LooksFor S u ∷ reading_until S result line ∷ [])
@@ -45,28 +46,28 @@ by_result old new S result shown line u until at e p =
     subst (λ v. Passes old new (LooksFor S until ∷ reading_until S v line ∷ [])) e
     (subst (λ (x : Option ℕ). Passes old new (LooksFor S x ∷ reading_until S result line ∷ [])) at p)
 
--- of one that failed
+-- the step of a read that failed
 pub as_fault : {E : Type 0} (old new : Passing) (S : Colour) (result : Result (Option Bool) E) (line : LineSeen) (x : E)
     (u until : Option ℕ) → u ≡ until → result ≡ Err x
     → Passes old new (LooksFor S u ∷ reading_until S result line ∷ [])
     → Passes old new (LooksFor S until ∷ Does (Happens (FailsToRead S)) ∷ [])
 as_fault old new S result line x u until at e p = by_result old new S result (Err x) line u until at e p
 
--- of one that found no line in time
+-- the step of one that found no line in time
 pub as_silence : {E : Type 0} (old new : Passing) (S : Colour) (result : Result (Option Bool) E) (line : LineSeen)
     (u until : Option ℕ) → u ≡ until → result ≡ Ok None
     → Passes old new (LooksFor S u ∷ reading_until S result line ∷ [])
     → Passes old new (LooksFor S until ∷ FindsNoLine S ∷ [])
 as_silence old new S result line u until at e p = by_result old new S result (Ok None) line u until at e p
 
--- of one that found no line at the end
+-- the step of one that found no line at the end of the output
 pub as_none : {E : Type 0} (old new : Passing) (S : Colour) (result : Result (Option Bool) E) (line : LineSeen)
     (u until : Option ℕ) → u ≡ until → result ≡ Ok (Some false)
     → Passes old new (LooksFor S u ∷ reading_until S result line ∷ [])
     → Passes old new (LooksFor S until ∷ Does (Happens (OutputEnds S)) ∷ [])
 as_none old new S result line u until at e p = by_result old new S result (Ok (Some false)) line u until at e p
 
--- of one that found a last line
+-- the step of one that found a last line, without `\n`: it counts as the end
 pub as_last : {E : Type 0} (old new : Passing) (S : Colour) (result : Result (Option Bool) E) (line : LineSeen)
     (u until : Option ℕ) → u ≡ until → result ≡ Ok (Some true) → line.ended ≡ false
     → Passes old new (LooksFor S u ∷ reading_until S result line ∷ [])
@@ -75,7 +76,7 @@ as_last old new S result line u until at e last p = subst (λ (b : Bool). Passes
     (LooksFor S until ∷ (if b then ReadsLine S (text_read line) else Does (Happens (OutputEnds S))) ∷ [])) last
     (by_result old new S result (Ok (Some true)) line u until at e p)
 
--- of one that found a line
+-- the step of one that found a line
 pub as_line : {E : Type 0} (old new : Passing) (S : Colour) (result : Result (Option Bool) E) (line : LineSeen)
     (u until : Option ℕ) → u ≡ until → result ≡ Ok (Some true) → line.ended ≡ true
     → Passes old new (LooksFor S u ∷ reading_until S result line ∷ [])

@@ -1,4 +1,4 @@
-//! The table of separate devices.
+//! A desk: the table of a match whose pipes, clock and witness are devices of their own.
 
 ghost use Rattle.std.specs.Prelude.{◌≡◌, ◌<◌, ℕ, List, Option, None, Some, Ok};
 ghost use Rattle.std.specs.Result.{is_err};
@@ -28,6 +28,7 @@ pub(crate) struct Desk<'a, 'b, 'c, 'd, 'e, 'f, R, W, M, L> {
     pub black_writer: &'d mut W,
     pub moments: &'e mut M,
     pub witness: &'f mut L,
+    /// What was read of each engine's output and not yet returned as lines.
     pub lines: ByColour<Lines<ENGINE_LINE_LEN>>,
 }
 
@@ -77,7 +78,8 @@ impl<R: Input, W: Output, M: Moments, L: Witness> MatchTable
         }
     }
 
-    // Reads the next line of this side's engine, of what is held of it or of its pipe, if it comes by then.
+    // Reads the next line of this side's engine, of what is held of it or of its pipe, if it comes before the clock
+    // shows `until`.
     fn read_line_until(
         &mut self,
         side: Colour,

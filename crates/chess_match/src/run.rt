@@ -1,4 +1,4 @@
-//! The run of a match.
+//! The run of a match: a loop in which the core takes each event, and what it gives is then sent.
 
 ghost use Rattle.std.specs.Prelude.{◌≡◌, List, [], ◌∷◌, ◌++◌, ℕ, length, true, false, None, Ok, Option, is_some, option_map, ◌≤◌, ◌<◌};
 ghost use Rattle.arrayvec.specs.ArrayVec.{array_vec_len};
@@ -90,8 +90,8 @@ pub struct MatchEnd {
     pub white_name: TagText,
     /// The name that Black's engine gave itself; empty where it gave none.
     pub black_name: TagText,
-    /// The first fault, and whose it is. One that first comes in the end lines leaves the outcome; so does one before
-    /// the first turn if the start has a verdict.
+    /// The first fault, and whose it is. A failed write of the end lines leaves the outcome as it is; so does a fault
+    /// before the first turn, if the start has a verdict.
     pub fault: Option<(Colour, MatchFault)>,
 }
 
@@ -298,7 +298,7 @@ fn send_last<T: MatchTable, G: MatchGame>(
     }
 }
 
-// The value for each side, of `own` for this side and `others` for the other.
+// A value by colour: `own` for this side, and `others` for the other.
 fn in_turn(side: Colour, own: bool, others: bool) -> ByColour<bool>
     ensures { (S : Colour) → of_colour result S ≡ by_turn side own others S }
 {

@@ -1,4 +1,4 @@
-//! The core of a match, without devices.
+//! The core of a match, without devices: its state, and what is kept of each engine.
 
 ghost use Rattle.std.specs.Prelude.{◌≡◌, ◌++◌, ◌∷◌, [], List, false, ◌+◌, ◌*◌, ◌≤◌, length};
 ghost use Rattle.std.specs.List.{list_any};
@@ -51,7 +51,7 @@ pub(crate) struct MatchState {
     pub last: Option<LastMove>,
     /// How many lines the handshake has had, or how many lines of the setup or turn were ignored.
     pub count: u32,
-    /// The moment at the end of the turn's opening.
+    /// The moment at which the turn's opening was sent: the time of its move runs from there.
     pub opened: u64,
     /// The moment from which the time for a reply runs, once there is one.
     pub since: Option<u64>,
@@ -73,7 +73,7 @@ pub(crate) const NOTHING: Actions = Actions {
     entered: false,
 };
 
-/// The lines of the phase are sent, which was entered.
+/// The lines of the phase that was just entered are sent.
 pub(crate) const ENTRY: Actions = Actions {
     draw: None,
     entered: true,

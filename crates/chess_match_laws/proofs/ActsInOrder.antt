@@ -1,4 +1,5 @@
--- The acts of a match are in order.
+-- In the steps of a match (`watched`) each line that is read, and each silence, is followed by reading the clock and by
+-- the note of it (`in_order`, by induction over the acts); and when an event is read no block is due (`none_due`).
 use Rattle.std.proofs.Common.{◌≡◌, ℕ, Bool, true, false, List, [], ◌∷◌, ◌++◌, refl, Option, None, Some, if◌then◌else◌}
 use Rattle.chess_base.specs.{Options.list_if, declared.man.Colour.Colour}
 use Rattle.chess_match.specs.Acts.{Act, Sends, SendFails, Happens, is_over}
@@ -7,21 +8,22 @@ use Rattle.chess_match.specs.Events.{Event, Line, Opened, Silent, OutputEnds, Fa
 use Rattle.chess_match.specs.Table.{Step, Does, LooksFor, ReadsLine, FindsNoLine, ReadsClock, Notes, watched}
 use Rattle.chess_match_laws.specs.OfActs.{LinesAreReadInOrder, NothingIsDueAtEvents, SilencesAreReadInOrder}
 
--- the step of a look for a line of this side, by what it found: a line, or none; and the event that this is
+-- the step that says what a look for a line of this side found: a line (`Some`), or none yet
 abbrev looks : Colour → Option (Option (List ℕ)) → Step
 looks S (Some text) = ReadsLine S text
 looks S None = FindsNoLine S
 
+-- the event that this is, at this moment
 abbrev looked : Colour → Option (Option (List ℕ)) → ℕ → Event
 looked S (Some text) moment = Line S text moment
 looked S None moment = Silent S moment
 
--- in these steps the clock is read after such a look, and then what it found is noted
+-- the steps `after` begin with reading the clock for this side and noting what the look found
 abbrev Followed : Colour → Option (Option (List ℕ)) → List Step → Type 0
 Followed S found after =
     (moment : ℕ) × (rest : List Step) × (after ≡ ReadsClock S moment ∷ Notes (Happened (looked S found moment)) ∷ rest)
 
--- and so after each look
+-- after each look among these steps it is so (`Followed`)
 abbrev InOrder : List Step → Type 0
 InOrder K = (before after : List Step) (S : Colour) (found : Option (Option (List ℕ)))
     → K ≡ before ++ looks S found ∷ after → Followed S found after
@@ -30,6 +32,8 @@ none : InOrder []
 none [] after S found e = cc
 none (s ∷ before) after S found e = cc
 
+-- steps in order stay so with a note in front, as also (in the next lemmas) with an act, a reading of the clock or the
+-- beginning of a look in front, and with a line or a silence whose clock and note follow it
 after_note : (n : Note) (K : List Step) → InOrder K → InOrder (Notes n ∷ K)
 after_note n K p [] after S (Some text) e = cc
 after_note n K p [] after S None e = cc
@@ -64,11 +68,13 @@ after_silence c n K p [] after S None e = (n, K, cc)
 after_silence c n K p (s ∷ before) after S found e =
     after_clock c n _ (after_note (Happened (Silent c n)) K p) before after S found cc
 
+-- with the note of a failed write in front, if it is given
 after_failure : (noted : Bool) (c : Colour) (K : List Step) → InOrder K
     → InOrder (list_if noted (Notes (Happened (FailsToWrite c)) ∷ []) ++ K)
 after_failure true c K p = after_note (Happened (FailsToWrite c)) K p
 after_failure false c K p = p
 
+-- the steps of any acts are in order
 in_order : (r : Rules) (reason : Reason) (m : Match) (H : List Act) → InOrder (watched r reason m H)
 in_order r reason m [] = none
 in_order r reason m (Sends b ∷ H) = after_note _ _ (after_act (Sends b) _ (in_order r reason m H))

@@ -1,4 +1,5 @@
--- Each item of a `feature` line is answered.
+-- Each item of a `feature` line is answered by its name, in order. The invariant (`SentTo`), which each event keeps
+-- (`tells`): the names that were answered are those of the items known of the side.
 use Rattle.std.proofs.Common.{◌≡◌, ◌∙◌, ℕ, ◌-◌, Bool, true, false, List, [], ◌∷◌, ◌++◌, map, refl, sym, ap, subst, append-nil, arith, flat_map, codes, if◌then◌else◌}
 use Rattle.std.proofs.{lemmas.Grind.flat_map-append, lemmas.List.map-append}
 use Rattle.chess_base.specs.{declared.man.Colour.Colour, declared.man.Colour.TheVariants.White, declared.man.Colour.TheVariants.Black, Men.other, Men.same_colour, Options.list_if}
@@ -12,6 +13,7 @@ use Rattle.chess_match_laws.proofs.{Givings.lines_due, Points.Kept, Points.moved
 
 -- ---- lines
 
+-- no answer is among the lines of a setup, of an opening (`opening_none`) or of an offer (`draw_none`)
 setup_none : (r : Rules) (C : Colour) → flat_map name_answered (setup_lines r C) ≡ []
 unfolding setup_lines
 setup_none r C = grind (arith, flat_map-append, append-nil)
@@ -33,6 +35,7 @@ named : (known : Bool) (name : List ℕ)
 named true name = refl
 named false name = refl
 
+-- so the answers to items name these items
 all_named : (items : List Item) → flat_map name_answered (answers_to items) ≡ map (λ (i : Item). i.name) items
 all_named [] = refl
 all_named (i ∷ items) =
@@ -41,18 +44,20 @@ all_named (i ∷ items) =
 
 -- ---- steps
 
--- in this phase, with these items said: which names were answered
+-- the invariant by phase: the names `X` that were answered are those of these items; after the end nothing is claimed
 abbrev AnsweredIn : Phase → List Item → List (List ℕ) → Type 0
 AnsweredIn (Over reason) items X = Unit {0}
 AnsweredIn p items X = X ≡ map (λ (i : Item). i.name) items
 
+-- the invariant of a match, for the side S
 abbrev SentTo : Colour → Match → List (List ℕ) → Type 0
 SentTo S m X = AnsweredIn m.phase (m.seat S).items X
 
--- no answer more
+-- what is sent has no answer (`Z`)
 same : (X Z : List (List ℕ)) → Z ≡ [] → X ≡ X ++ Z
 same X Z none = sym (ap (λ (z : List (List ℕ)). X ++ z) none ∙ append-nil X)
 
+-- with no answer more and the same items the invariant stays (`stays`: the same, in a phase that is not the end)
 keeps : (p : Phase) (items more : List Item) (X Z : List (List ℕ)) → Z ≡ [] → items ≡ more → AnsweredIn p items X
     → AnsweredIn p more (X ++ Z)
 keeps p items more X Z none is so_far =
@@ -64,6 +69,7 @@ stays : (X Z : List (List ℕ)) (items more : List Item) → Z ≡ [] → items 
 stays X Z items more none is so_far =
     sym (same X Z none) ∙ so_far ∙ ap (λ (js : List Item). map (λ (i : Item). i.name) js) is
 
+-- the items `its` of a line were added, and their answers are sent first
 answers_more : (X : List (List ℕ)) (items its : List Item) (rest : List SentLine) → flat_map name_answered rest ≡ []
     → X ≡ map (λ (i : Item). i.name) items
     → X ++ flat_map name_answered (answers_to its ++ rest) ≡ map (λ (i : Item). i.name) (items ++ its)
@@ -75,6 +81,7 @@ answers_more X items its rest none so_far =
     ∙ ap (λ (Y : List (List ℕ)). Y ++ map (λ (i : Item). i.name) its) so_far
     ∙ sym (map-append (λ (i : Item). i.name) items its)
 
+-- the items stay, and what is sent has no answer
 answers_none : (X : List (List ℕ)) (items : List Item) (rest : List SentLine) → flat_map name_answered rest ≡ []
     → X ≡ map (λ (i : Item). i.name) items → X ++ flat_map name_answered rest ≡ map (λ (i : Item). i.name) items
 answers_none X items rest none so_far = sym (same X (flat_map name_answered rest) none) ∙ so_far
@@ -94,6 +101,7 @@ said Black White kind m X rest none so_far = answers_none X (m.seat White).items
 -- ---- any line
 
 module _ (r : Rules) (S : Colour) where
+  -- any line keeps the invariant
   line : (C : Colour) (kind : LineKind) (moment : ℕ) (m : Match) (X : List (List ℕ)) → awaits_line m.phase C ≡ true
       → Kept r m → SentTo S m X
       → SentTo S (line_row r m.phase kind moment m).after
@@ -142,6 +150,7 @@ module _ (r : Rules) (S : Colour) where
     opened = λ m C k X e so_far. subst (λ (q : Phase). AnsweredIn q (m.seat S).items X) e so_far;
   }
 
+-- the invariant holds at the beginning
 begun : (S : Colour) → SentTo S beginning.after (flat_map name_answered (beginning.to S))
 begun White = refl
 begun Black = refl

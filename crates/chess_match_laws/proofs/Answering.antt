@@ -1,4 +1,6 @@
--- An engine that answers has no fault, and loses only by mate.
+-- An engine that answers has no fault, and loses only by mate. Along the acts (`clean_at_end`): a line that is expected
+-- of S (`own_line`), any line of the other side (`other_line`) and any silence leave the match on, or end it for a
+-- reason for which S is not to blame (`clean`).
 use Rattle.std.proofs.Common.{◌≡◌, ◌⊎◌, inl, inr, ℕ, suc, ◌+◌, ◌-◌, ◌<◌, Bool, true, false, not, List, [], ◌∷◌, ◌++◌, length, refl, ap, sym, ◌∙◌, subst, Option, None, Some, arith, if◌then◌else◌, nat_le, nat_lt, unwrap_or, ◌==◌}
 use Rattle.std.specs.{List.list_any, Option.option_map, Option.option_map_or}
 use Rattle.std.proofs.{lemmas.Bool.or_parts, lemmas.Bool.Decides.nat_tests}
@@ -52,6 +54,8 @@ Ready r p S m = Unit {0}
 -- ---- the other side's lines
 
 module _ (r : Rules) (S C : Colour) (apart : same_colour C S ≡ false) where
+  -- a line of the other side C, of each kind, leaves the match clean for S: an ignored one, an offer (`offered`), one
+  -- in a turn, a move, and one after which the flag has fallen
   ignored : (m : Match) → clean S m.phase ≡ true → clean S (ignores r C m).after.phase ≡ true
   ignored m h = grind (arith, apart, h)
 
@@ -143,9 +147,11 @@ other_done r Black Black items m apart ready = absurd (cc)
 other_done r Black White items m apart ready = refl
 other_done r White Black items m apart ready = judged_so r White _ _ _ (λ e. ready) (λ e. absurd (cc))
 
+-- the end of a setup is no fault
 set_up : (r : Rules) (S C : Colour) (m : Match) → clean S (setup_done r C m).after.phase ≡ true
 set_up r S C m = grind arith
 
+-- any line of the other side C
 other_line : (r : Rules) (S C : Colour) → same_colour C S ≡ false → (kind : LineKind) (moment : ℕ) (m : Match)
     (p : Phase) → awaits_line p C ≡ true → clean S m.phase ≡ true → Ready r p S m
     → clean S (line_row r p kind moment m).after.phase ≡ true
@@ -198,6 +204,7 @@ other_line r S C apart kind moment m (Over reason) aw h ready = absurd (cc)
 
 -- ---- its own lines
 
+-- the handshake of S is done, and its engine lacks nothing
 own_done : (r : Rules) (S : Colour) (items : List Item) (m : Match) → missing r ((m.seat S).items ++ items) ≡ None
     → clean S (handshake_done r S (with_seat S (λ s. record s { items = s.items ++ items }) m)).after.phase ≡ true
 own_done r White items m h = refl
@@ -211,6 +218,7 @@ quiet r S m h few =
     ap (λ (b : Bool). clean S (if b then ends r (Faulted S Flood) m
     else sends_nothing (record m { count = m.count + 1 })).after.phase) most ∙ h
 
+-- a line of S that is expected of it (`IsExpected`)
 own_line : (r : Rules) (S : Colour) (kind : LineKind) (moment : ℕ) (m : Match) (p : Phase) → awaits_line p S ≡ true
     → clean S m.phase ≡ true → IsExpected r m p kind moment → clean S (line_row r p kind moment m).after.phase ≡ true
 own_line r S kind moment m (Handshake c) aw h due =
@@ -287,7 +295,7 @@ not_lacking r S (Features text) moment m due e = due.0 e
 not_lacking r S SaysElse moment m due e = absurd (cc)
 not_lacking r S _ moment m due e = absurd due
 
--- another match with the same items
+-- `Ready` holds of another match in which White's items are the same
 ready_so : (r : Rules) (p : Phase) (S : Colour) (m n : Match) → (n.seat White).items ≡ (m.seat White).items
     → Ready r p S m → Ready r p S n
 ready_so r (Handshake Black) White m n e h = ap (missing r) e ∙ h
@@ -299,7 +307,7 @@ ready_so r (BeforeMove c opened) S m n e h = tt
 ready_so r (AfterMove c) S m n e h = tt
 ready_so r (Over reason) S m n e h = tt
 
--- once White's handshake is done
+-- `Ready` holds once White's handshake is done
 next_ready : (r : Rules) (S C : Colour) (kind : LineKind) (moment : ℕ) (m : Match)
     → (S ≡ C → IsExpected r m m.phase kind moment) → m.phase ≡ Handshake C → C ≡ White
     → list_any ends_handshake (items_in_line kind) ≡ true → Ready r (Handshake Black) S (said_by C kind m)
@@ -308,16 +316,18 @@ next_ready r White White kind moment m due p s d =
 next_ready r White Black kind moment m due p s d = absurd (cc)
 next_ready r Black C kind moment m due p s d = tt
 
--- while a handshake goes on
+-- `Ready` stays while a handshake goes on
 still_ready : (r : Rules) (S C : Colour) (kind : LineKind) (m : Match) → m.phase ≡ Handshake C → Ready r m.phase S m
     → Ready r m.phase S (said_by C kind m)
 still_ready r S White kind m p ready = subst (λ (q : Phase). Ready r q S (said_by White kind m)) (sym p) tt
 still_ready r S Black kind m p ready = ready_so r m.phase S m (said_by Black kind m) refl ready
 
+-- an offer leaves White's items
 offered_items : (C : Colour) (m : Match) → ((offering C m).after.seat White).items ≡ (m.seat White).items
 offered_items White m = refl
 offered_items Black m = refl
 
+-- any line keeps `Ready`
 ready_after : (r : Rules) (S C : Colour) (kind : LineKind) (moment : ℕ) (m : Match) → awaits_line m.phase C ≡ true
     → (S ≡ C → IsExpected r m m.phase kind moment) → Ready r m.phase S m
     → Ready r (line_row r m.phase kind moment m).after.phase S (line_row r m.phase kind moment m).after
@@ -348,11 +358,14 @@ ready_after r S C kind moment m aw due ready =
 
 -- from a moment on, at which the match is `m`, the engine of S answers
 record AnswersFrom (r : Rules) (S : Colour) (m : Match) (K : List Act) : Type 0 where
+  -- each line of S is expected when it comes
   lines : (before after : List Act) (text : Option (List ℕ)) (moment : ℕ)
       → K ≡ before ++ Happens (Line S text moment) ∷ after
       → let n = match_after r m before in IsExpected r n n.phase (line_kind text) moment
+  -- at no silence of S its time is over
   waits : (before after : List Act) (moment : ℕ) → K ≡ before ++ Happens (Silent S moment) ∷ after
       → let n = match_after r m before in is_beyond r n n.phase S moment ≡ false
+  -- its output doesn't end, and no read from it and no write to it fails
   goes_on : has_ended S K ≡ false
   is_read : has_failed_read S K ≡ false
   is_written : is_broken K S ≡ false
@@ -360,6 +373,7 @@ record AnswersFrom (r : Rules) (S : Colour) (m : Match) (K : List Act) : Type 0 
 some : (n : ℕ) → nat_lt 0 (suc n) ≡ true
 some n = grind (arith, nat_tests)
 
+-- if no block among these failed, none among the later ones did
 none_more : (xs ys : List (List SentLine)) → nat_lt 0 (length (xs ++ ys)) ≡ false → nat_lt 0 (length ys) ≡ false
 none_more [] ys h = h
 none_more (x ∷ xs) ys h = let never : true ≡ false = sym (some (length (xs ++ ys))) ∙ h in absurd (cc)
@@ -368,10 +382,11 @@ none_more (x ∷ xs) ys h = let never : true ≡ false = sym (some (length (xs +
 abbrev Fine : Rules → Colour → Match → Type 0
 Fine r S m = (clean S m.phase ≡ true) × Ready r m.phase S m
 
+-- a match that is not over is clean
 on_is_clean : (S : Colour) (p : Phase) → is_over p ≡ false → clean S p ≡ true
 on_is_clean S p h = grind (arith, h)
 
--- no line of the other side had come
+-- a silence of the other side
 others_silence : (r : Rules) (S c : Colour) (k : ℕ) (m : Match) (p : Phase) → same_colour c S ≡ false
     → clean S m.phase ≡ true → clean S (silence_row r p c k m).after.phase ≡ true
 others_silence r S c k m p apart h = at p
@@ -400,6 +415,7 @@ others_silence r S c k m p apart h = at p
     at (Over reason) = h
 
 module _ (r : Rules) (S : Colour) where
+  -- if S answers in some acts, so it does in those after the first
   later : (m n : Match) (a : Act) (K : List Act) → ((before : List Act) → match_after r m (a ∷ before) ≡ match_after r n before)
       → AnswersFrom r S m (a ∷ K) → AnswersFrom r S n K
   later m n a K goes h = record {
@@ -412,7 +428,7 @@ module _ (r : Rules) (S : Colour) where
     is_written = none_more (broken_block S a) (broken_blocks S K) h.is_written;
   }
 
-  -- a line of a side
+  -- a line of either side keeps the match fine
   line_fine : (m : Match) (c : Colour) (t : Option (List ℕ)) (k : ℕ) (K : List Act) → awaits_line m.phase c ≡ true
       → AnswersFrom r S m (Happens (Line c t k) ∷ K) → Fine r S m → Fine r S (effect r m (Line c t k)).after
   line_fine m c t k K aw h fine = (
@@ -430,7 +446,7 @@ module _ (r : Rules) (S : Colour) where
           (due own)
       by_side false e = other_line r S c e (line_kind t) k m m.phase aw fine.0 fine.1
 
-  -- no line of a side had come
+  -- a silence of either side does, too
   silence_fine : (m : Match) (c : Colour) (k : ℕ) (K : List Act) → awaits_line m.phase c ≡ true
       → AnswersFrom r S m (Happens (Silent c k) ∷ K) → Fine r S m → Fine r S (effect r m (Silent c k)).after
   silence_fine m c k K aw h fine = (
@@ -450,6 +466,7 @@ module _ (r : Rules) (S : Colour) where
           ∙ h.waits [] K k (ap (λ (x : Colour). Happens (Silent x k) ∷ K) own))
       by_side false e = others_silence r S c k m m.phase e fine.0
 
+  -- so the match is fine at its end
   clean_at_end : (H : List Act) (final : Match) → IsMatch r H final → AnswersFrom r S beginning.after H
       → Fine r S final
   clean_at_end H final g answers =
@@ -503,13 +520,14 @@ by_mate Black InsufficientMaterial e = absurd (cc)
 by_mate Black FivefoldRepetition e = absurd (cc)
 by_mate Black SeventyFiveMoves e = absurd (cc)
 
--- a side that is another is not the loser, a draw is no win, and neither is an unfinished game
+-- if the other side of S wins because `c` lost, then `c` is S
 other_loses : (S c : Colour) → not (same_colour c S) ≡ true → win_of (other c) ≡ win_of (other S) → ⊥
 other_loses White White apart e = cc
 other_loses White Black apart e = cc
 other_loses Black White apart e = cc
 other_loses Black Black apart e = cc
 
+-- neither side wins a drawn or an unfinished game
 no_win : (outcome : Outcome) (S : Colour) → (outcome ≡ Draw) ⊎ (outcome ≡ Unfinished) → outcome ≡ win_of (other S) → ⊥
 no_win outcome White (inl drawn) e = let no : Draw ≡ BlackWins = sym drawn ∙ e in cc
 no_win outcome White (inr open_) e = let no : Unfinished ≡ BlackWins = sym open_ ∙ e in cc

@@ -1,4 +1,5 @@
--- After a block that could not be sent, nothing is sent to its side.
+-- After a block that could not be sent, nothing is sent to its side (MatchCases.all_sends_end of chess_match), so at
+-- most one block for each side fails; and a match that ended by a failed write has one.
 use Rattle.std.proofs.Common.{◌≡◌, ◌≤◌, Bool, true, false, List, [], ◌∷◌, ◌++◌, length, refl, ap, arith, if◌then◌else◌}
 use Rattle.chess_base.specs.{declared.man.Colour.Colour, Men.same_colour, Options.list_if}
 use Rattle.chess_base.proofs.shared.Men.{same_colour-self}
@@ -8,6 +9,7 @@ use Rattle.chess_match_laws.specs.OfActs.{FailedBlocksAreLast, InEachMatch, OneB
 use Rattle.chess_match.proofs.shared.MatchCases.{all_sends_end, both_not, sends_end, unsent_in}
 use Rattle.chess_match_laws.proofs.{MoveLaw.written, OneLaw.not_to, OneLaw.silent_unbroken}
 
+-- acts that send nothing to S (`unsent_in`) have no block for S
 none_given : (S : Colour) (H : List Act) → unsent_in S H ≡ true → blocks_given S H ≡ []
 none_given S [] u = refl
 none_given S (Sends b ∷ H) u =
@@ -16,7 +18,7 @@ none_given S (SendFails b ∷ H) u =
     let (other, more) = not_to (same_colour b.to S) (unsent_in S H) u in rw other (none_given S H more)
 none_given S (Happens e ∷ H) u = none_given S H u
 
--- nor later
+-- if some acts send nothing to S, neither do the later ones of them
 unsent_later : (S : Colour) (before after : List Act) → unsent_in S (before ++ after) ≡ true → unsent_in S after ≡ true
 unsent_later S [] after u = u
 unsent_later S (Sends b ∷ before) after u =
@@ -25,10 +27,12 @@ unsent_later S (SendFails b ∷ before) after u =
     unsent_later S before after (not_to (same_colour b.to S) (unsent_in S (before ++ after)) u).1
 unsent_later S (Happens e ∷ before) after u = unsent_later S before after u
 
+-- the first branch of an `if`, where its test passes
 chosen : (x a b : Bool) → x ≡ true → (if x then a else b) ≡ true → a ≡ true
 chosen true a b e h = h
 chosen false a b e h = absurd cc
 
+-- after a failed block for S nothing is sent to S
 unsent_after : (S : Colour) (before after : List Act) (b : Block) → same_colour b.to S ≡ true
     → sends_end S (before ++ SendFails b ∷ after) ≡ true → unsent_in S after ≡ true
 unsent_after S [] after b e h = chosen (same_colour b.to S) (unsent_in S after) (sends_end S after) e h
@@ -47,6 +51,7 @@ failed_blocks_are_last r before after b final g = none_given b.to after
     (unsent_after b.to before after b (same_colour-self b.to)
     (all_sends_end r (before ++ SendFails b ∷ after) final b.to g))
 
+-- so at most one block for S fails
 one_broken : (S : Colour) (H : List Act) → sends_end S H ≡ true → length (broken_blocks S H) ≤ 1
 one_broken S [] h = omega arith
 one_broken S (Sends b ∷ H) h = one_broken S H h

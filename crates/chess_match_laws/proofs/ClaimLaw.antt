@@ -11,16 +11,18 @@ use Rattle.chess_match_laws.proofs.IgnoredLaw.{in_time}
 
 module _ (r : Rules) (S : Colour) (m : Match) (claim : DrawClaim)
     (holds : draw_claim (claims r.start m.played) ≡ Some claim) where
-  -- the match, with its reply awaited since another moment
+  -- the match, but a reply is awaited since another moment
   abbrev since_then : Option ℕ → Match
   since_then since = record m { since = since }
 
+  -- in a turn `1/2-1/2` ends the match by this claim
   claimed : (since : Option ℕ) → (turn_row r S ClaimsDraw (since_then since)).after.phase ≡ Over (Claimed claim)
   claimed since =
       ap (λ (c : Option DrawClaim). (option_map_or (λ x. ends r (Claimed x) (since_then since)) c
       (offer_row r S (since_then since))).after.phase) holds
 
   module _ (moment : ℕ) where
+    -- so does the line before a move, if it comes in time
     timely : (opened : ℕ) → moment - opened ≤ clock r m S
         → (line_row r (BeforeMove S opened) ClaimsDraw moment m).after.phase ≡ Over (Claimed claim)
     timely opened time =
@@ -32,7 +34,7 @@ module _ (r : Rules) (S : Colour) (m : Match) (claim : DrawClaim)
         at true e = absurd (cc)
         at false e = claimed (Some moment)
 
-    -- by the phase and the kind of the line
+    -- what was shown of a claim in the phase `p` holds of the line and the phase of the match, which are these
     in_phase : (p : Phase) (kind : LineKind) → m.phase ≡ p → kind ≡ ClaimsDraw
         → (line_row r p ClaimsDraw moment m).after.phase ≡ Over (Claimed claim)
         → (line_row r m.phase kind moment m).after.phase ≡ Over (Claimed claim)

@@ -1,4 +1,5 @@
--- No clock underflows.
+-- No clock underflows: the moves of a side take no more time than it was given (`AreInTime`). Each act keeps this,
+-- since a move is played only in time, and more moves give no less time.
 use Rattle.std.proofs.Common.{◌≡◌, ℕ, ◌+◌, ◌-◌, ◌≤◌, Bool, true, false, List, [], ◌∷◌, ◌++◌, length, length-append, refl, subst, arith, ap, ◌∙◌, zero-add, if◌then◌else◌, sum}
 use Rattle.chess_base.specs.{declared.man.Colour.Colour, declared.man.Move.Move, Men.same_colour}
 use Rattle.chess_base.proofs.shared.Men.{same_colour-true}
@@ -14,6 +15,7 @@ use Rattle.chess_match_laws.proofs.Points.{by_points, moved_used}
 pub sum-snoc : (xs : List ℕ) (x : ℕ) → sum (xs ++ x ∷ []) ≡ sum xs + x
 sum-snoc xs x = sum_by-append (λ (n : ℕ). n) xs (x ∷ []) ∙ ap (λ n. sum xs + n) (zero-add x)
 
+-- moves that took these times took no more than the time control gives after as many moves
 abbrev InTime : LevelSeen → List ℕ → Type 0
 InTime level used = sum used ≤ allotted level (length used)
 
@@ -21,12 +23,14 @@ InTime level used = sum used ≤ allotted level (length used)
 abbrev AreInTime : Rules → Match → Type 0
 AreInTime r m = (C : Colour) → InTime (r.level C) (m.seat C).used
 
+-- one move more, which took no more than was left
 used_more : (level : LevelSeen) (xs : List ℕ) (x : ℕ) → InTime level xs
     → x ≤ allotted level (length xs) - sum xs → InTime level (xs ++ x ∷ [])
 used_more level xs x w timely =
     let grows : allotted level (length xs) ≤ allotted level (length xs + 1) = allotted_grows level (length xs) in
     rw (sum-snoc xs x, length-append xs (x ∷ [])) (omega (arith, grows, w, timely))
 
+-- a move of S in time keeps it for each side C
 played : (r : Rules) (S C : Colour) (move : Move) (used : ℕ) (m : Match) → used ≤ clock r m S → AreInTime r m
     → InTime (r.level C) ((moved S move used m).seat C).used
 played r S C move used m timely w = rw (moved_used S C move used m) (at (same_colour S C) (same_colour-true S C))
@@ -37,6 +41,7 @@ played r S C move used m timely w = rw (moved_used S C move used m) (at (same_co
         used_more (r.level C) (m.seat C).used used (w C) (subst (λ (x : Colour). used ≤ clock r m x) same timely)
     at false e = w C
 
+-- any line keeps it
 line_in_time : (r : Rules) (S : Colour) (kind : LineKind) (moment : ℕ) (m : Match) → awaits_line m.phase S ≡ true
     → AreInTime r m → AreInTime r (line_row r m.phase kind moment m).after
 line_in_time r S kind moment m aw w = line_cases r S kind moment m (λ e. AreInTime r e.after) aw (λ since. record {
@@ -61,6 +66,7 @@ line_in_time r S kind moment m aw w = line_cases r S kind moment m (λ e. AreInT
     said : (C : Colour) → InTime (r.level C) ((said_by S kind m).seat C).used
     said C = rw (said_used S C kind m) (w C)
 
+-- a silence keeps it
 silent_in_time : (r : Rules) (S : Colour) (moment : ℕ) (m : Match) → AreInTime r m
     → AreInTime r (effect r m (Silent S moment)).after
 silent_in_time r S moment m w = silence_cases r S moment m (λ e. AreInTime r e.after) (record {

@@ -1,4 +1,5 @@
--- Why a match ended: by a draw that needs no claim.
+-- Where draws are automatic, a match after whose moves a draw may be claimed ended for it. The invariant is `Drawn`,
+-- which each act keeps.
 use Rattle.std.proofs.Common.{◌≡◌, ◌⊎◌, true, false, List, [], refl, ap, sym, ◌∙◌, subst, inl, inr, None, Some}
 use Rattle.chess_base.specs.{declared.man.Colour.Colour, declared.man.Colour.TheVariants.White, declared.man.Move.Move}
 use Rattle.chess_game.specs.{declared.verdicts.DrawClaim.DrawClaim, declared.verdicts.Verdict.Verdict, Ends.claims, Ends.draw_claim, Ends.verdict}
@@ -24,10 +25,12 @@ ByDraw r played (Handshake c) = played ≡ []
 ByDraw r played (Setup c) = played ≡ []
 ByDraw r played _ = draw_by_itself r played ≡ None
 
+-- `ByDraw` of a match's moves and phase
 abbrev Drawn : Rules → Match → Type 0
 Drawn r m = ByDraw r m.played m.phase
 
--- a match that is on ends, out of a turn by a fault
+-- a match that is on ends for this reason: before the first turn it is a fault, and no move was played; later there is
+-- no draw that needs no claim
 ended : (r : Rules) (played : List Move) (reason : Reason) (p : Phase) → is_over p ≡ false → ByDraw r played p
     → (in_turn p ≡ false → is_fault reason ≡ true) → EndedBy r played reason
 ended r played reason (Handshake c) on j fault = inr (inl (fault refl, j))
@@ -35,6 +38,7 @@ ended r played reason (Setup c) on j fault = inr (inl (fault refl, j))
 ended r played reason (Over x) on j fault = absurd cc
 ended r played reason _ on j fault = inl j
 
+-- any line keeps `Drawn`
 line_drawn : (r : Rules) (S : Colour) (kind : LineKind) (moment : _) (m : Match) → awaits_line m.phase S ≡ true
     → Drawn r m → Drawn r (line_row r m.phase kind moment m).after
 line_drawn r S kind moment m aw j = line_cases r S kind moment m (λ e. Drawn r e.after) aw (λ since. record {
@@ -59,6 +63,7 @@ line_drawn r S kind moment m aw j = line_cases r S kind moment m (λ e. Drawn r 
     by : {p : Phase} → m.phase ≡ p → ByDraw r m.played p
     by e = subst (λ (q : Phase). ByDraw r m.played q) e j
 
+-- a silence keeps it
 silent_drawn : (r : Rules) (S : Colour) (moment : _) (m : Match) → awaits_line m.phase S ≡ true → Drawn r m
     → Drawn r (effect r m (Silent S moment)).after
 silent_drawn r S moment m aw j = silence_cases r S moment m (λ e. Drawn r e.after) (record {
@@ -66,7 +71,7 @@ silent_drawn r S moment m aw j = silence_cases r S moment m (λ e. Drawn r e.aft
   goes_on = λ since. j;
 })
 
--- what each act keeps
+-- `Drawn` holds at the beginning, and each act keeps it, so it holds at the end, where the match is over
 drawn_at_end : (r : Rules) (H : List Act) (final : Match) → IsMatch r H final
     → (is_over final.phase ≡ true) × Drawn r final
 drawn_at_end r H final g = by_cases r final (λ m due K. Drawn r m → (is_over final.phase ≡ true) × Drawn r final)

@@ -1,4 +1,5 @@
--- No move is made after a verdict or a draw that needs no claim, and none beyond the limit.
+-- No move is made after a verdict or a draw that needs no claim, and none beyond the limit. The invariant is `Goes`,
+-- which each act keeps.
 use Rattle.std.proofs.Common.{◌≡◌, ◌∙◌, ℕ, ◌+◌, ◌≤◌, ◌<◌, Bool, true, false, List, [], ◌∷◌, ◌++◌, length, length-append, take, refl, sym, ap, subst, None, arith, nat_lt}
 use Rattle.std.proofs.{Math.Seq.take-append_seam, lemmas.Bool.Decides.nat_tests, lemmas.List.take-append-le}
 use Rattle.chess_base.specs.{declared.man.Colour.Colour, declared.man.Colour.TheVariants.White, declared.man.Move.Move}
@@ -20,13 +21,16 @@ in_game _ = false
 abbrev Undecided : Rules → List Move → Type 0
 Undecided r ms = (verdict r.start ms ≡ None) × (draw_by_itself r ms ≡ None)
 
--- so it was before the last of these moves
+-- so it was before each of these moves
 abbrev WasUndecided : Rules → List Move → Type 0
 WasUndecided r ms = (k : ℕ) → k < length ms → Undecided r (take k ms)
 
+-- the invariant: there are no more moves than the limit, before each of them there was neither verdict nor such a draw,
+-- and in a turn there is neither now
 abbrev Goes : Rules → Match → Type 0
 Goes r m = (length m.played ≤ r.limit) × WasUndecided r m.played × (in_game m.phase ≡ true → Undecided r m.played)
 
+-- with one move more, made where there was neither, there was neither before each move
 one_more : (r : Rules) (ms : List Move) (move : Move) → WasUndecided r ms → Undecided r ms
     → WasUndecided r (ms ++ move ∷ [])
 one_more r ms move before now k few = at (nat_lt k (length ms)) refl
@@ -46,6 +50,7 @@ one_more r ms move before now k few = at (nat_lt k (length ms)) refl
 room_for : (limit : ℕ) (ms : List Move) (move : Move) → length ms < limit → length (ms ++ move ∷ []) ≤ limit
 room_for limit ms move room = let longer = length-append ms (move ∷ []) in omega (arith, room, longer)
 
+-- any line keeps the invariant
 line_goes : (r : Rules) (S : Colour) (kind : LineKind) (moment : ℕ) (m : Match) → awaits_line m.phase S ≡ true
     → Goes r m → Goes r (line_row r m.phase kind moment m).after
 line_goes r S kind moment m aw g = line_cases r S kind moment m (λ e. Goes r e.after) aw (λ since. record {
@@ -79,6 +84,7 @@ line_goes r S kind moment m aw g = line_cases r S kind moment m (λ e. Goes r e.
   passes = λ p said. (g.0, g.1, λ on. g.2 (ap in_game p));
 })
 
+-- a silence keeps it
 silent_goes : (r : Rules) (S : Colour) (moment : ℕ) (m : Match) → Goes r m → Goes r (effect r m (Silent S moment)).after
 silent_goes r S moment m g = silence_cases r S moment m (λ e. Goes r e.after) (record {
   stops = λ reason w. (g.0, g.1, λ on. absurd (cc));

@@ -1,4 +1,5 @@
--- What two engines and a clock give fixes what happens, whichever end lines can be sent.
+-- Two matches that read the same from engines and clock have the same events, whichever end lines could be sent. With
+-- each failed block sent after all (`mended`) both are matches of the same engines, so OneLaw.only_one_match applies.
 use Rattle.std.proofs.Common.{◌≡◌, ℕ, Bool, true, false, ◌||◌, List, [], ◌∷◌, ◌++◌, refl, ap, sym, ◌∙◌, ◌<◌, subst, None, Some, Option, length, if◌then◌else◌, nat_lt, slice_get}
 use Rattle.chess_base.specs.{declared.man.Colour.Colour, declared.man.Colour.TheVariants.White}
 use Rattle.std.proofs.lemmas.Bool.{and_from}
@@ -21,6 +22,7 @@ mended (Sends b ∷ H) = Sends b ∷ mended H
 mended (SendFails b ∷ H) = Sends b ∷ mended H
 mended (Happens e ∷ H) = Happens e ∷ mended H
 
+-- mended acts read the same lines; and by the next lemmas the same ends, failures, moments and looks
 mended_lines : (S : Colour) (H : List Act) → lines_read S (mended H) ≡ lines_read S H
 mended_lines S [] = refl
 mended_lines S (Sends b ∷ H) = mended_lines S H
@@ -51,6 +53,7 @@ mended_looks S (Sends b ∷ H) = mended_looks S H
 mended_looks S (SendFails b ∷ H) = mended_looks S H
 mended_looks S (Happens e ∷ H) = ap (λ (l : List Bool). look S (Happens e) ++ l) (mended_looks S H)
 
+-- no block of mended acts fails
 none_broken : (S : Colour) (H : List Act) → broken_blocks S (mended H) ≡ []
 none_broken S [] = refl
 none_broken S (Sends b ∷ H) = none_broken S H
@@ -60,10 +63,11 @@ none_broken S (Happens e ∷ H) = none_broken S H
 unbroken : (S : Colour) (H : List Act) → is_broken (mended H) S ≡ false
 unbroken S H = ap (λ (l : List (List SentLine)). nat_lt 0 (length l)) (none_broken S H)
 
--- no block of the mended acts fails
+-- these engines and this clock, but sending a block never fails
 abbrev unfailing : Streams → Streams
 unfailing s = record s { breaks = λ S. None }
 
+-- mended acts come from engines to which sending never fails
 of_mended : (s : Streams) (H : List Act) → ReadFrom s H → AreOf (unfailing s) (mended H)
 of_mended s H o = record {
   reads = record {
@@ -86,23 +90,28 @@ module _ (r : Rules) (final : Match) (unended : (S : Colour) → ended_by_write_
   Mends m due H = (is_over m.phase ≡ true → m.phase ≡ final.phase) × IsMatchFrom r m due (mended H) final
       × (events_of r m (mended H) ≡ events_of r m H)
 
+  -- a failed write would end the match, which it did not
   no_failure : {A : Type 0} (m : Match) (S : Colour) → (effect r m (FailsToWrite S)).after.phase ≡ final.phase → A
   no_failure m S e = both_not (ended_by_write_to S final.phase) (unended S)
       (ap (λ (p : Phase). ended_by_write_to S p) (sym e) ∙ same_colour-self S)
 
+  -- a block that fails after the end is no event
   late : (m : Match) (b : Block) (H : List Act) → is_over m.phase ≡ true
       → events_of r m (mended H) ≡ events_of r m H → events_of r m (mended H) ≡ events_of r m (SendFails b ∷ H)
   late m b H o e = e ∙ sym (ap (λ (x : Bool). if x then events_of r m H
       else FailsToWrite b.to ∷ events_of r (effect r m (FailsToWrite b.to)).after H) o)
 
+  -- a match that waits for a line is not over
   on : {A : Type 0} (m : Match) (S : Colour) → awaits_line m.phase S ≡ true → is_over m.phase ≡ true → A
   on m S aw o = both_not (is_over m.phase) (on_when_read m.phase S aw) o
 
+  -- an event more in front
   happens : (m : Match) (e : Event) (H : List Act)
       → events_of r (effect r m e).after (mended H) ≡ events_of r (effect r m e).after H
       → events_of r m (Happens e ∷ mended H) ≡ events_of r m (Happens e ∷ H)
   happens m e H same = ap (λ (es : List Event). e ∷ es) same
 
+  -- each act keeps it
   mends : (H : List Act) → IsMatch r H final → Mends beginning.after (blocks_from White beginning.to) H
   mends H g = by_cases r final Mends (record {
     sends = λ m end b due H p. (p.0, (refl, p.1), p.2);

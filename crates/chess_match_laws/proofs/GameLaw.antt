@@ -9,6 +9,7 @@ use Rattle.chess_match_laws.specs.{Streams.AreRead, Streams.moves_of, OfActs.Gam
 use Rattle.chess_match_laws.proofs.{Points.in_each, ReadLaw.moves_are_read}
 use Rattle.chess_game.proofs.shared.Lines.{position_after-snoc}
 
+-- the moves `ms`, which texts denote in turn after the moves `before`, are legal one after the other
 line_from : ReadMovesAreLegal → (start : Setup) (level : Colour → LevelSeen) (patience : Patience) (draws : Draws) (limit : ℕ)
     (before ms : List Move) (mine theirs : List (List ℕ))
     → AreRead (rules_of start level patience draws limit) before ms mine theirs

@@ -1,4 +1,7 @@
--- Lines of one kind that an engine is sent, along the acts of a match.
+-- A scheme for laws of this form: what an engine O was sent by one kind of line is, in order, all that the match says
+-- (`all`), but for at most one that is not sent yet (`rest`). `f` takes it out of a line, such as the text of a move.
+-- Who shows for each event what it adds and sends (`Gives`), has the law at each moment (`given_at`). MoveLaw and
+-- TimeLaw are such laws.
 use Rattle.std.proofs.Common.{◌≡◌, ℕ, ◌+◌, ◌-◌, ◌≤◌, ◌<◌, Bool, true, false, List, [], ◌∷◌, ◌++◌, length, length-append, refl, ap, sym, ◌∙◌, subst, append-nil, append_assoc, Option, arith, if◌then◌else◌, flat_map}
 use Rattle.std.proofs.lemmas.Grind.{flat_map-append}
 use Rattle.chess_base.specs.{declared.man.Colour.Colour, declared.man.Colour.TheVariants.White, declared.man.Colour.TheVariants.Black, declared.man.Move.Move, Men.other, Men.same_colour, Options.list_if}
@@ -13,6 +16,7 @@ use Rattle.chess_match_laws.proofs.{Points.Kept, Points.by_points, Silences.by_s
 
 -- ---- lines that only say something
 
+-- whether none of these lines is a move, `time` or `otim`
 abbrev pub all_say : List SentLine → Bool
 all_say [] = true
 all_say (Says text ∷ ls) = all_say ls
@@ -20,6 +24,7 @@ all_say (MoveSent prefixed text ∷ ls) = false
 all_say (Time n ∷ ls) = false
 all_say (Otim n ∷ ls) = false
 
+-- the lines of a setup are none, nor are answers (`answers_say`) or an offer (`draw_says`)
 setup_says : (r : Rules) (S : Colour) → all_say (setup_lines r S) ≡ true
 unfolding setup_lines
 setup_says r S = grind arith
@@ -42,6 +47,7 @@ abbrev pub lines_due : Colour → List Block → List SentLine
 lines_due O [] = []
 lines_due O (b ∷ due) = list_if (same_colour b.to O) b.lines ++ lines_due O due
 
+-- the lines for O of one block
 due_one : (S O : Colour) (x : List SentLine) → lines_due O (block_of S x) ≡ list_if (same_colour S O) x
 due_one S O [] = at (same_colour S O)
   where
@@ -56,6 +62,7 @@ due-append O (b ∷ due) more = ap (λ (l : List SentLine). list_if (same_colour
     (due-append O due more)
     ∙ sym (append_assoc (list_if (same_colour b.to O) b.lines) (lines_due O due) (lines_due O more))
 
+-- the blocks of an effect have for O just the lines that it sends O
 pub both_due : (first O : Colour) (to : Colour → List SentLine) → lines_due O (blocks_from first to) ≡ to O
 both_due first O to =
     due-append O (block_of first (to first)) (block_of (other first) (to (other first)))
@@ -84,7 +91,9 @@ GoesFrom {A} all Rest old rest Z m' = (more : List A) × (rest' : List A) × (al
 abbrev pub Goes : {A : Type 0} → (Match → List A) → (Match → List A → Type 0) → Match → List A → List A → Match → Type 0
 Goes {A} all Rest m rest Z m' = GoesFrom all Rest (all m) rest Z m'
 
--- what each event does
+-- for each kind of event: what it adds to `all` and what it sends of that to O, where `Rest m rest` says that in the
+-- match `m` just `rest` is not sent yet, nor due. `said` is about the items of a line, `waits` about the time for a
+-- reply
 pub record Gives {A : Type 0} (f : SentLine → List A) (r : Rules) (O : Colour) (all : Match → List A)
     (Rest : Match → List A → Type 0) : Type 0 where
   pub stops : (m : Match) (reason : Reason) (rest : List A) → is_over m.phase ≡ false → length rest ≤ 1 → Rest m rest
@@ -138,6 +147,7 @@ grows all Rest m m' rest more Z rest' n l e q h = rw n (more, rest', e, q, l, h)
 
 module _ {A : Type 0} (f : SentLine → List A) (says : (text : List ℕ) → f (Says text) ≡ []) (r : Rules) (O : Colour)
     (all : Match → List A) (Rest : Match → List A → Type 0) (k : Gives f r O all Rest) where
+  -- lines that are no move, `time` or `otim` send none of these
   quiet : (ls : List SentLine) → all_say ls ≡ true → flat_map f ls ≡ []
   quiet [] h = refl
   quiet (Says text ∷ ls) h = rw (says text) (quiet ls h)
@@ -160,6 +170,7 @@ module _ {A : Type 0} (f : SentLine → List A) (says : (text : List ℕ) → f 
         h',
       )
 
+  -- the same, where what is sent is written in another way
   instead : (m n : Match) (rest Z Z' : List A) → Z' ≡ Z → Goes all Rest m rest Z n → Goes all Rest m rest Z' n
   instead m n rest Z Z' e g = subst (λ (z : List A). Goes all Rest m rest z n) (sym e) g
 
@@ -170,6 +181,7 @@ module _ {A : Type 0} (f : SentLine → List A) (says : (text : List ℕ) → f 
       ∙ ap (λ (l : List A). l ++ flat_map f ls) (quiet (list_if b (answers_to items)) (if_says b (answers_to items)
       (answers_say items)))
 
+  -- after answers, lines that are none of these
   after_answers : (b : Bool) (items : List Item) (ls : List SentLine) → all_say ls ≡ true
       → flat_map f (list_if b (answers_to items) ++ ls) ≡ []
   after_answers b items ls h = answered b items ls ∙ quiet ls h
@@ -230,6 +242,7 @@ module _ {A : Type 0} (f : SentLine → List A) (says : (text : List ℕ) → f 
       counted : Goes all Rest m rest [] (record m { count = m.count + 1 })
       counted = keeps all Rest m (record m { count = m.count + 1 }) rest l (k.counts m (m.count + 1) rest h)
 
+  -- what any line does
   line : (S : Colour) (kind : LineKind) (moment : ℕ) (m : Match) (rest : List A) → awaits_line m.phase S ≡ true
       → Kept r m → length rest ≤ 1 → Rest m rest
       → Goes all Rest m rest (flat_map f ((line_row r m.phase kind moment m).to O))
@@ -248,10 +261,12 @@ module _ {A : Type 0} (f : SentLine → List A) (says : (text : List ℕ) → f 
   abbrev Apart : Colour → Effect → Type 0
   Apart S e = is_over e.after.phase ≡ false → 0 < length (e.to S) → flat_map f (e.to (other S)) ≡ []
 
+  -- an empty list has no line
   not_some : {P : Type 0} (xs : List SentLine) → xs ≡ [] → 0 < length xs → P
   not_some [] e h = absurd (omega (arith, h))
   not_some (x ∷ xs) e h = absurd cc
 
+  -- the opening of a turn is sent to one side only
   apart_turn : (S c : Colour) (m : Match) → Apart S (begins_turn r c m)
   apart_turn White White m on some = refl
   apart_turn Black Black m on some = refl
@@ -262,6 +277,7 @@ module _ {A : Type 0} (f : SentLine → List A) (says : (text : List ℕ) → f 
   apart_own White ls = refl
   apart_own Black ls = refl
 
+  -- any line of S
   apart : (S : Colour) (kind : LineKind) (moment : ℕ) (m : Match) → awaits_line m.phase S ≡ true
       → Apart S (line_row r m.phase kind moment m)
   apart S kind moment m aw = line_cases r S kind moment m (Apart S) aw (λ since. record {
@@ -300,6 +316,7 @@ module _ {A : Type 0} (f : SentLine → List A) (says : (text : List ℕ) → f 
   first_more (b ∷ due) h = none_more (flat_map f (list_if (same_colour b.to O) b.lines)) (flat_map f (lines_due O due))
       (sym (flat_map-append f (list_if (same_colour b.to O) b.lines) (lines_due O due)) ∙ h)
 
+  -- after a line of S only the first of the blocks due has any of these lines
   first_after : (S : Colour) (e : Effect) → is_over e.after.phase ≡ false → Apart S e → First (blocks_after S e)
   first_after S e on a = rw on (at (e.to S) (a on))
     where
@@ -336,6 +353,7 @@ module _ {A : Type 0} (f : SentLine → List A) (says : (text : List ℕ) → f 
         h',
       )
 
+  -- the second part of at most one is at most one
   fewer : (y z : List A) → length (y ++ z) ≤ 1 → length z ≤ 1
   fewer y z h = let e = length-append y z in omega (arith, h, e)
 
@@ -357,7 +375,8 @@ module _ {A : Type 0} (f : SentLine → List A) (says : (text : List ℕ) → f 
   given_more C X ls given c = subst C (append_assoc X (flat_map f ls) (flat_map f given)
       ∙ ap (λ (xs : List A). X ++ xs) (sym (flat_map-append f ls given))) c
 
-  -- what holds at a moment of what was sent and is due then, holds of all that is sent in the acts before
+  -- what follows (`C`) at a moment from what was sent and is due then, follows of all that was sent in the acts `H` up
+  -- to then (`K` are the later ones)
   pub given_at : (C : Match → List A → Type 0) (H K : List Act) (final : Match)
       → ((m : Match) (due : List Block) → IsMatchFrom r m due K final → (X : List A)
       → Sofar X (flat_map f (lines_due O due)) m → C m X)

@@ -1,4 +1,5 @@
--- Each side is sent `go` once, with the opening of its first turn.
+-- Each side is sent `go` once, with the opening of its first turn. The invariant (`ToldIn`), which each event keeps
+-- (`tells`), says by the phase how many `go` a side was sent.
 use Rattle.std.proofs.Common.{◌≡◌, ◌∙◌, ℕ, zero, suc, ◌-◌, ◌≤◌, Bool, true, false, ◌||◌, List, [], ◌∷◌, ◌++◌, length, length-append, refl, sym, ap, subst, append-nil, arith, flat_map, codes, if◌then◌else◌, nat_lt}
 use Rattle.std.proofs.{lemmas.Grind.flat_map-append, lemmas.Bool.Decides.nat_tests}
 use Rattle.chess_base.specs.{declared.man.Colour.Colour, declared.man.Colour.TheVariants.White, declared.man.Colour.TheVariants.Black, declared.man.Move.Move, Men.other, Men.same_colour, Options.list_if}
@@ -13,6 +14,7 @@ use Rattle.chess_match_laws.proofs.{Givings.lines_due, Points.Kept, Points.turn_
 
 -- ---- lines
 
+-- no `go` is among the lines of a setup, nor among answers (`answer_goes`)
 setup_goes : (r : Rules) (C : Colour) → flat_map go_text (setup_lines r C) ≡ []
 unfolding setup_lines
 setup_goes r C = grind (arith, flat_map-append, append-nil)
@@ -21,10 +23,12 @@ answer_goes : (items : List Item) → flat_map go_text (answers_to items) ≡ []
 answer_goes [] = refl
 answer_goes (i ∷ items) = grind (arith, answer_goes items)
 
+-- an opening has `go` only before the first move of S
 opening_goes : (r : Rules) (m : Match) (S : Colour)
     → flat_map go_text (opening r m S) ≡ (if nat_lt 0 (length (m.seat S).used) then [] else codes "go" ∷ [])
 opening_goes r m S = grind (arith, flat_map-append, append-nil)
 
+-- the end has none, nor has an offer (`draw_goes`)
 end_goes : (r : Rules) (m : Match) (reason : Reason) (S : Colour) → flat_map go_text ((ends r reason m).to S) ≡ []
 end_goes r m reason S = grind arith
 
@@ -54,10 +58,12 @@ Counts S (BeforeMove c opened) used n = n ≡ (if same_colour c S || nat_lt 0 (l
 Counts S (AfterMove c) used n = n ≡ (if nat_lt 0 (length used) then 1 else 0)
 Counts S (Over reason) used n = Unit {0}
 
+-- `X`, the `go` that S was sent or is due, are at most one, and as many as `Counts` says
 record ToldIn (S : Colour) (p : Phase) (used : List ℕ) (X : List (List ℕ)) : Type 0 where
   few : length X ≤ 1
   count : Counts S p used (length X)
 
+-- `ToldIn` of a match
 abbrev Told : Colour → Match → List (List ℕ) → Type 0
 Told S m X = ToldIn S m.phase (m.seat S).used X
 
@@ -81,6 +87,7 @@ over_told S p us vs reason X Y Z none told =
     let few = told.few in
     subst (ToldIn S (Over reason) vs) same (record { few = omega (arith, few, l); count = tt })
 
+-- the match is over, and nothing was due
 ends_told : (S : Colour) (p : Phase) (us vs : List ℕ) (reason : Reason) (X Z : List (List ℕ)) → Z ≡ []
     → ToldIn S p us X → ToldIn S (Over reason) vs (X ++ Z)
 ends_told S p us vs reason X Z none told =
@@ -127,6 +134,7 @@ turn_opened r S c m X count = at (same_colour c S) refl
 some : (us : List ℕ) (u : ℕ) → nat_lt 0 (length (us ++ u ∷ [])) ≡ true
 some us u = let longer = length-append us (u ∷ []) in grind (arith, nat_tests, longer)
 
+-- a move of C, after which S was sent as many as its moves say
 played : (C S : Colour) (opened : ℕ) (move : Move) (used : ℕ) (m : Match) (k : ℕ)
     → Counts S (BeforeMove C opened) (m.seat S).used k → Counts S (AfterMove C) ((moved C move used m).seat S).used k
 played White White opened move used m k e = e ∙ sym (ap one_if (some (m.seat White).used used))
@@ -134,11 +142,13 @@ played Black Black opened move used m k e = e ∙ sym (ap one_if (some (m.seat B
 played White Black opened move used m k e = e
 played Black White opened move used m k e = e
 
+-- a side without a move was sent none
 at_first : (n k : ℕ) → n ≡ 0 → k ≡ 0 → k ≡ one_if (nat_lt 0 n)
 at_first zero k e h = h
 at_first (suc n) k e h = absurd (omega (arith, e))
 
 module _ (r : Rules) (S : Colour) where
+  -- any line keeps the invariant
   line : (C : Colour) (kind : LineKind) (moment : ℕ) (m : Match) (X : List (List ℕ)) → awaits_line m.phase C ≡ true
       → Kept r m → Told S m X
       → Told S (line_row r m.phase kind moment m).after
@@ -195,6 +205,7 @@ module _ (r : Rules) (S : Colour) where
     };
   }
 
+-- the invariant holds at the beginning
 begun : (S : Colour) → Told S beginning.after (flat_map go_text (beginning.to S))
 begun White = record { few = omega arith; count = refl }
 begun Black = record { few = omega arith; count = refl }

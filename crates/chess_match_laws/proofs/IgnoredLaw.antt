@@ -7,15 +7,16 @@ use Rattle.chess_match.specs.Effects.{Match, Phase, Setup, BeforeMove, AfterMove
 use Rattle.chess_match.specs.{Rules.Rules, declared.reason.MatchFault.TheVariants.Flood, declared.reason.Reason.TheVariants.Faulted, declared.reason.Reason.TheVariants.RejectsLegalMove, laws.Laws.is_pong, laws.Laws.line_kind}
 use Rattle.chess_match_laws.specs.Ignored.{IsIgnored, OtherLinesAreIgnored, is_talk}
 
--- the time is not yet used up
+-- if no more was used than was left, the flag has not fallen
 pub in_time : (left used : ℕ) → used ≤ left → nat_lt left used ≡ false
 in_time left used h = grind (arith, nat_tests, h)
 
 module _ (r : Rules) (S : Colour) (m : Match) where
-  -- the match, with its reply awaited since another moment
+  -- the match, but a reply is awaited since another moment
   abbrev since_then : Option ℕ → Match
   since_then since = record m { since = since }
 
+  -- an ignored line only counts, and the 10,000th ends the match
   ignored : (since : Option ℕ) → IsIgnored S m (ignores r S (since_then since))
   ignored since = at (nat_le 10000 (m.count + 1)) refl
     where
@@ -37,7 +38,7 @@ module _ (r : Rules) (S : Colour) (m : Match) where
         many = λ h. absurd (omega (arith, more, h));
       }
 
-  -- the other side made no move
+  -- `Illegal move`, where the other side made no move
   rejected : (since : Option ℕ) → (m.seat (other S)).used ≡ [] → IsIgnored S m (turn_row r S Rejects (since_then since))
   rejected since none = at (nat_lt 0 (length (m.seat (other S)).used)) (ap (λ (us : List ℕ). nat_lt 0 (length us)) none)
     where
@@ -47,6 +48,7 @@ module _ (r : Rules) (S : Colour) (m : Match) where
       at false e = ignored since
 
   module _ (moment : ℕ) where
+    -- a line in a setup that is not `pong 1`
     in_setup : (kind : LineKind) → is_pong 1 kind ≡ false → IsIgnored S m (line_row r (Setup S) kind moment m)
     in_setup (Answers n) off = at (n == 1) off
       where
@@ -56,7 +58,7 @@ module _ (r : Rules) (S : Colour) (m : Match) where
         at false e = ignored m.since
     in_setup _ off = ignored m.since
 
-    -- before a move, in time
+    -- before a move, in time, the line does what `before_move` says
     timely : (kind : LineKind) (opened : ℕ) → moment - opened ≤ clock r m S
         → IsIgnored S m (before_move r S (moment - opened) kind (awaited_since moment m))
         → IsIgnored S m (line_row r (BeforeMove S opened) kind moment m)
@@ -68,6 +70,7 @@ module _ (r : Rules) (S : Colour) (m : Match) where
         at true e = absurd (cc)
         at false e = h
 
+    -- talk before a move
     talks : (kind : LineKind) (used : ℕ) → is_talk kind ≡ true
         → IsIgnored S m (before_move r S used kind (awaited_since moment m))
     talks SaysElse used is = ignored (Some moment)
@@ -80,6 +83,7 @@ module _ (r : Rules) (S : Colour) (m : Match) where
     talks (ClaimsWin winner) used is = absurd (cc)
     talks Rejects used is = absurd (cc)
 
+    -- after a move, a `pong` with another number
     other_pong : (n : ℕ) → (n == length (m.seat S).used + 1) ≡ false
         → IsIgnored S m (line_row r (AfterMove S) (Answers n) moment m)
     other_pong n off = at (n == ping_number m S) off
@@ -88,7 +92,7 @@ module _ (r : Rules) (S : Colour) (m : Match) where
         at true e = absurd (cc)
         at false e = ignored m.since
 
-    -- by the phase and the kind of the line
+    -- what was shown of a kind `k` in the phase `p` holds of the line and the phase of the match, which are these
     in_phase : (p : Phase) (kind k : LineKind) → m.phase ≡ p → kind ≡ k → IsIgnored S m (line_row r p k moment m)
         → IsIgnored S m (line_row r m.phase kind moment m)
     in_phase p kind k e is h =

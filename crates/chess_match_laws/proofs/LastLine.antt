@@ -1,4 +1,5 @@
--- Whose line ended a match.
+-- A match that a side lost by a line of its own (`whose_line`) ended with a line of that side: a line can end a match
+-- so only for the side that sent it (`line_theirs`), and after the end only blocks are sent.
 use Rattle.std.proofs.Common.{◌≡◌, ℕ, Bool, true, false, List, [], ◌∷◌, ◌++◌, refl, ap, sym, ◌∙◌, Option, None, Some}
 use Rattle.chess_base.specs.declared.man.Colour.{Colour}
 use Rattle.cecp_engine.specs.EngineLines.{LineKind}
@@ -13,11 +14,13 @@ use Rattle.chess_match_laws.proofs.{Points.Stays, Points.by_points, Points.whole
 abbrev Theirs : Patience → Colour → Phase → Type 0
 Theirs patience S p = (reason : Reason) (c : Colour) → p ≡ Over reason → whose_line patience reason ≡ Some c → S ≡ c
 
+-- an end for this reason, if the reason is the line of no side but S
 stopped : (patience : Patience) (S : Colour) (reason : Reason)
     → ((c : Colour) → whose_line patience reason ≡ Some c → S ≡ c) → Theirs patience S (Over reason)
 stopped patience S reason w other c e h =
     let same : reason ≡ other = cc in w c (ap (λ x. whose_line patience x) same ∙ h)
 
+-- a line of S ends no match for what the other side's line did
 line_theirs : (r : Rules) (S : Colour) (kind : LineKind) (n : ℕ) (m : Match) → awaits_line m.phase S ≡ true
     → Theirs r.patience S (line_row r m.phase kind n m).after.phase
 line_theirs r S kind n m aw = line_cases r S kind n m (λ e. Theirs r.patience S e.after.phase) aw (λ since. record {
@@ -47,12 +50,13 @@ abbrev EndsWith : Colour → List Act → Type 0
 EndsWith S H = (before : List Act) × (text : Option (List ℕ)) × (moment : ℕ) × (after : List Act)
     × (H ≡ before ++ Happens (Line S text moment) ∷ after) × (only_sends after ≡ true)
 
+-- with an act in front the acts still end so
 one_more : (S : Colour) (a : Act) (H : List Act) → EndsWith S H → EndsWith S (a ∷ H)
 one_more S a H (before, text, moment, after, e, o) =
     (a ∷ before, text, moment, after, ap (λ (l : List Act). a ∷ l) e, o)
 
 module _ (r : Rules) (reason : Reason) (S : Colour) (theirs : whose_line r.patience reason ≡ Some S) where
-  -- a match that is on, and is over for this reason then, ends with such a line
+  -- a match that is on, and ends for this reason, ends with such a line
   abbrev Lasts : Match → List Act → Match → Type 0
   Lasts m H n = is_over m.phase ≡ false → n.phase ≡ Over reason → EndsWith S H
 
@@ -69,6 +73,7 @@ module _ (r : Rules) (reason : Reason) (S : Colour) (theirs : whose_line r.patie
       → n.phase ≡ Over reason → A
   faulted c f n e o = no_line (Faulted c f) n refl e o
 
+  -- a line of `c`: it ended the match, or a later one did
   line_last : (m n : Match) (c : Colour) (t : Option (List ℕ)) (k : ℕ) (H : List Act) → awaits_line m.phase c ≡ true
       → Stays (effect r m (Line c t k)).after H n → Lasts (effect r m (Line c t k)).after H n → n.phase ≡ Over reason
       → EndsWith S (Happens (Line c t k) ∷ H)

@@ -14,6 +14,7 @@ no_look S (Sends b ∷ H) h = no_look S H h
 no_look S (SendFails b ∷ H) h = no_look S H h
 no_look S (Happens e ∷ H) h = absurd cc
 
+-- the last of some values and then more
 last_more : (last : Option Bool) (found more : List Bool)
     → last_or last (found ++ more) ≡ last_or (last_or last found) more
 last_more last [] more = refl

@@ -1,4 +1,5 @@
--- The numbers of a level that a text denotes are within its ranges.
+-- A text that is parsed as a level has numbers within the ranges of levels (`read_in_range`), so what is written of the
+-- level is parsed as the same level (`read_back`).
 use Rattle.std.proofs.Common.{◌≡◌, ℕ, zero, suc, ◌+◌, ◌-◌, ◌*◌, ◌^◌, ◌<◌, ◌≤◌, Bool, true, false, List, length, take, drop, Option, None, Some, Err, refl, ap, subst, arith, ◌==◌, ◌&&◌, ◌||◌, nat_lt, nat_le, if◌then◌else◌, option_and_then, option_map}
 use Rattle.std.specs.{List.list_all, List.position_or_len, Result.result_ok, Str.Parse.digits_value}
 use Rattle.std.proofs.{lemmas.Bool.Decides.nat_tests, lemmas.Str.Parse.digits_value_short}
@@ -17,6 +18,7 @@ same_value {a} {b} e = ap (λ (o : Option ℕ). or_zero o) e
 
 -- ---- numbers
 
+-- a number of at most `k` digits is below 10 ^ k
 number_below : (k most : ℕ) (text : List ℕ) (n : ℕ) → length text ≤ k → short_number most text ≡ Some n → n < 10 ^ k
 number_below k most text n few e =
     by_tests (nat_lt 0 (length text)) (nat_le (length text) most) (list_all is_digit text) refl e
@@ -31,6 +33,7 @@ number_below k most text n few e =
     by_tests true false c h e = cc
     by_tests false b c h e = cc
 
+-- a number that is read has at least one digit, and at most `most`
 few_digits : (most : ℕ) (text : List ℕ) (n : ℕ) → short_number most text ≡ Some n
     → (0 < length text) × (length text ≤ most)
 few_digits most text n e =
@@ -78,6 +81,7 @@ part_small false text n e = thousandths_small text n e
 abbrev mark_at : ℕ → List ℕ → ℕ
 mark_at mark text = position_or_len (λ c. c == mark) text
 
+-- seconds of at most three digits and thousandths are at most 999,999 milliseconds
 seconds_small : (s t : Option ℕ) (n : ℕ) → ((v : ℕ) → s ≡ Some v → v < 10 ^ 3) → ((v : ℕ) → t ≡ Some v → v ≤ 999)
     → option_and_then (λ seconds. option_and_then (λ part. Some (1000 * seconds + part)) t) s ≡ Some n → n ≤ 999999
 seconds_small None t n h k e = cc
@@ -97,6 +101,7 @@ milliseconds_small text n e =
     (λ v is. number_small 3 (take point text) v is)
     (λ v is. part_small (point == length text) (drop (point + 1) text) v is) e
 
+-- minutes of at most three digits and seconds below 60
 below_minute : (b : Bool) (m s n : ℕ) → nat_lt s 60000 ≡ b → m < 10 ^ 3
     → (if b then Some (60000 * m + s) else None) ≡ Some n → n ≤ 59999999
 below_minute true m s n below minutes e =
@@ -105,6 +110,7 @@ below_minute true m s n below minutes e =
     omega (arith, minutes, same, less)
 below_minute false m s n below minutes e = cc
 
+-- minutes of at most three digits, and seconds if there are any
 minutes_small : (m s : Option ℕ) (n : ℕ) → ((v : ℕ) → m ≡ Some v → v < 10 ^ 3)
     → option_and_then (λ minutes. option_and_then (λ milliseconds. if nat_lt milliseconds 60000
     then Some (60000 * minutes + milliseconds) else None) s) m ≡ Some n → n ≤ 59999999
@@ -135,6 +141,7 @@ same_level {a} {b} e = ap (λ (o : Option LevelSeen). or_this o) e
     or_this None = a
     or_this (Some x) = x
 
+-- a level put together from a number of moves, a base and an increment that are within the ranges
 with_small : (m b i : Option ℕ) (level : LevelSeen) → ((n : ℕ) → m ≡ Some n → n ≤ 999)
     → ((n : ℕ) → b ≡ Some n → n ≤ 59999999) → ((n : ℕ) → i ≡ Some n → n ≤ 999999)
     → result_ok (level_with m b i) ≡ Some level → IsInRange level

@@ -33,6 +33,7 @@ dropped_one (x ∷ xs) c ys =
     let more : suc (length xs) + 1 ≡ suc (length xs + 1) = omega arith in
     ap (λ n. drop n (x ∷ (xs ++ c ∷ ys))) more ∙ dropped_one xs c ys
 
+-- the word before a space is read whole
 word_before : (xs rest : List ℕ) → Solid xs → word_of (xs ++ byte " " ∷ rest) ≡ xs
 word_before [] rest h = refl
 word_before (c ∷ cs) rest h = rw h.0 (ap (λ v. c ∷ v) (word_before cs rest h.1))
@@ -45,6 +46,7 @@ front_solid : (xs rest : List ℕ) → 0 < length xs → Solid xs → without_fr
 front_solid [] rest some h = absurd (omega arith)
 front_solid (c ∷ cs) rest some h = rw h.0 refl
 
+-- what follows a word and a space
 argument_before : (xs rest : List ℕ) → Solid xs → argument_of (xs ++ byte " " ∷ rest) ≡ without_front_blanks rest
 unfolding argument_of
 argument_before xs rest h = rw (word_before xs rest h, dropped xs (byte " " ∷ rest)) refl
@@ -56,6 +58,7 @@ argument_whole xs h = rw (word_whole xs h) (ap without_front_blanks (
 
 -- ---- numbers
 
+-- digits and their value, in the form in which the lemmas on numerals ask for them
 pub numeral : IsNumeralModel (λ ds. list_all is_digit ds ≡ true) (digits_value 10)
 numeral = numerals_by_value _ (search rules)
 
@@ -73,6 +76,7 @@ digits_solid (c ∷ cs) h =
 decimal_solid : (n : ℕ) → n ≤ 999 → Solid (decimal n)
 decimal_solid n h = digits_solid (decimal n) (are_digits n h)
 
+-- a number of at most three digits is read back from its digits
 number_back : (n : ℕ) → n ≤ 999 → short_number 3 (decimal n) ≡ Some n
 number_back n h =
     let some : 0 < length (decimal n) = decimal_nonempty n (omega arith) in
@@ -221,6 +225,7 @@ one_more h = omega (arith, h)
 same_mark : (mark : ℕ) → eqb mark mark ≡ true
 same_mark mark = grind (arith, nat_tests)
 
+-- the first `mark` comes right after the digits
 mark_after : (mark : ℕ) → IsNoDigit mark → (ds rest : List ℕ) → list_all is_digit ds ≡ true
     → mark_at mark (ds ++ mark ∷ rest) ≡ length ds
 mark_after mark other [] rest h = rw (same_mark mark) refl
@@ -234,6 +239,7 @@ no_mark mark other (c ∷ cs) h =
     let p = and_parts (is_digit c) (list_all is_digit cs) h in
     rw (other c p.0) (one_more (no_mark mark other cs p.1))
 
+-- digits with a mark and more after them are not the whole text
 not_all : (ds : List ℕ) (mark : ℕ) (rest : List ℕ) → eqb (length ds) (length (ds ++ mark ∷ rest)) ≡ false
 not_all ds mark rest =
     let more : length (ds ++ mark ∷ rest) ≡ length ds + length (mark ∷ rest) = length-append ds (mark ∷ rest) in
@@ -245,6 +251,7 @@ all_of ds = grind (arith, nat_tests)
 
 -- ---- seconds
 
+-- seconds and `n` thousandths are read back from digits and decimals
 seconds_back : (most s n : ℕ) (ds : List ℕ) → list_all is_digit ds ≡ true → short_number most ds ≡ Some s → n < 1000
     → milliseconds_of most (ds ++ decimals_text n) ≡ Some (1000 * s + n)
 unfolding milliseconds_of
@@ -376,6 +383,7 @@ increment_some increment h =
 
 -- ---- the level
 
+-- the three words of a level, each read back as its number
 pub level_back : (moves base increment : ℕ) → moves ≤ 999 → base ≤ 59999999 → increment ≤ 999999
     → level_of (level_text (record { moves = moves; base = base; increment = increment }))
     ≡ Some (record { moves = moves; base = base; increment = increment })

@@ -1,4 +1,5 @@
--- A match ends within so many lines.
+-- A match reads at most 22,000 + 10,002 * (limit + 1) lines. The invariant (`AreFew`), which each act keeps, bounds the
+-- lines read so far by the phase, the lines counted in it, the moves played and the open offer.
 use Rattle.std.proofs.Common.{◌≡◌, ℕ, ◌+◌, ◌*◌, ◌≤◌, ◌<◌, Bool, true, false, List, [], ◌∷◌, ◌++◌, length, length-append, refl, subst, arith, Option}
 use Rattle.chess_base.specs.{declared.man.Colour.Colour, declared.man.Colour.TheVariants.White, declared.man.Colour.TheVariants.Black, Men.same_colour, Options.list_if}
 use Rattle.cecp_engine.specs.EngineLines.{LineKind}
@@ -12,8 +13,8 @@ abbrev one_if : Bool → ℕ
 one_if true = 1
 one_if false = 0
 
--- before a match in this phase, with so many lines ignored, so many moves played, and an offer of that side or none,
--- there were at most so many lines
+-- in a match in this phase `k`, the number of lines read so far, is at most this, if `count` lines were counted in the
+-- phase and `n` moves were played; `offers` says which sides' offers are open, since an offer is not counted
 abbrev AreFew : ℕ → ℕ → Phase → ℕ → ℕ → (Colour → Bool) → Type 0
 AreFew limit k (Handshake White) count n offers = (k ≤ count) × (count < 1000) × (n ≡ 0)
 AreFew limit k (Handshake Black) count n offers = (k ≤ 1000 + count) × (count < 1000) × (n ≡ 0)
@@ -26,9 +27,11 @@ AreFew limit k (AfterMove c) count n offers = (k + 10001 ≤ 22000 + 10002 * n +
     × (count < 10000) × (n ≤ limit)
 AreFew limit k (Over reason) count n offers = k ≤ 22000 + 10002 * (limit + 1)
 
+-- `AreFew` of a match, as if it were in the phase `p`
 abbrev FewIn : Rules → ℕ → Phase → Match → Type 0
 FewIn r k p m = AreFew r.limit k p m.count (length m.played) (λ c. (m.seat c).offers)
 
+-- `AreFew` of a match
 abbrev Few : Rules → ℕ → Match → Type 0
 Few r k m = FewIn r k m.phase m
 
@@ -36,11 +39,11 @@ at_most_one : (b : Bool) → one_if b ≤ 1
 at_most_one true = omega arith
 at_most_one false = omega arith
 
--- a match that is over had no more lines than all
+-- so a match has at most as many lines as the law says
 few_over : (r : Rules) (k : ℕ) (m : Match) → Few r k m → k ≤ 22000 + 10002 * (r.limit + 1)
 few_over r k m w = grind (arith, at_most_one (m.seat White).offers, at_most_one (m.seat Black).offers)
 
--- one line more
+-- any line, which is one more, keeps the invariant
 lines : (r : Rules) (k : ℕ) (S : Colour) (kind : LineKind) (moment : ℕ) (m : Match) → awaits_line m.phase S ≡ true
     → Few r k m → Few r (k + 1) (line_row r m.phase kind moment m).after
 lines r k S kind moment m aw w = line_cases r S kind moment m (λ e. Few r (k + 1) e.after) aw (λ since. record {
@@ -74,10 +77,12 @@ silent_few r k S moment m w = silence_cases r S moment m (λ e. Few r k e.after)
   goes_on = λ since. w;
 })
 
+-- the moment at the end of an opening keeps it
 opened : (r : Rules) (k : ℕ) (S : Colour) (moment : ℕ) (m : Match) → FewIn r k (Opening S) m
     → FewIn r k (BeforeMove S moment) m
 opened r k S moment m h1 = grind arith
 
+-- a line of S is one more, whichever side's list has it
 more_lines : (S : Colour) (t : Option (List ℕ)) (xs ys : List (Option (List ℕ))) (k n : ℕ)
     → k + 1 + length xs + length ys ≤ n
     → k + length (list_if (same_colour S White) (t ∷ []) ++ xs) + length (list_if (same_colour S Black) (t ∷ []) ++ ys)

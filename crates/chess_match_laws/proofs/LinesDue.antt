@@ -1,4 +1,5 @@
--- A line that is due, by the lines that its engine was sent and has said, is one that the match waits for.
+-- A line that is due (`IsDue`), by the lines that its engine was sent and has said, is one that the match expects in
+-- its phase (`IsExpected`); so `due_is_expected`, from what holds whenever a line of S is read (`Facts`).
 use Rattle.std.proofs.Common.{◌≡◌, ◌∙◌, ℕ, ◌+◌, ◌-◌, ◌≤◌, ◌<◌, Bool, true, false, List, [], ◌∷◌, ◌++◌, length, length-append, refl, sym, ap, subst, append-nil, append_assoc, Option, None, arith, ◌/◌, codes, if◌then◌else◌, nat_lt}
 use Rattle.std.specs.List.{flat_map, list_any}
 use Rattle.std.proofs.lemmas.Bool.Decides.{nat_tests}
@@ -23,7 +24,8 @@ use Rattle.chess_match_laws.proofs.Points.{Kept, by_points, turn_in, turns_of}
 
 -- ---- what is expected
 
--- a line of this kind, which came at `moment`, is one that an engine is to send, if the match `m` waits for this
+-- a line of this kind, which comes at `moment`, is one that an engine which answers sends, if the match `m` is in this
+-- phase
 abbrev pub IsExpected : Rules → Match → Phase → LineKind → ℕ → Type 0
 IsExpected r m (Handshake S) (Features text) moment =
     (list_any ends_handshake (items_of text) ≡ true → missing r ((m.seat S).items ++ items_of text) ≡ None)
@@ -46,18 +48,19 @@ singles : (ls : List SentLine) → flat_map single ls ≡ ls
 singles [] = refl
 singles (l ∷ ls) = ap (λ xs. l ∷ xs) (singles ls)
 
+-- whether lines end in a ping, by the last of them
 last_is : (X : List SentLine) (l : SentLine) → ends_in_ping (X ++ l ∷ []) ≡ nat_lt 0 (length (ping_text l))
 last_is [] l = refl
 last_is (x ∷ []) l = refl
 last_is (x ∷ y ∷ X) l = last_is (y ∷ X) l
 
--- in its turn, and when it is opened, S was last sent a line that is no `ping`
+-- the line that S was sent last is no `ping`, in its turn and when it is opened
 abbrev LastIn : Colour → Phase → List SentLine → Type 0
 LastIn S (Opening c) X = same_colour c S ≡ true → ends_in_ping X ≡ false
 LastIn S (BeforeMove c opened) X = same_colour c S ≡ true → ends_in_ping X ≡ false
 LastIn S p X = Unit {0}
 
--- the opening of a turn ends so
+-- the opening of a turn ends with the last move or with `go`
 opening_last : (r : Rules) (n : Match) (c : Colour) (X : List SentLine)
     → (nat_lt 0 (length (n.seat c).used) ≡ true → nat_lt 0 (length n.played) ≡ true)
     → ends_in_ping (X ++ opening r n c) ≡ false
@@ -84,7 +87,7 @@ opening_last r n c X some = at (nat_lt 0 (length (n.seat c).used)) some
         ∙ sym (append_assoc X (first ++ clocks) (Says (codes "go") ∷ [])))
         ∙ last_is (X ++ (first ++ clocks)) (Says (codes "go"))
 
--- a turn of `c` is opened
+-- a turn of S is opened
 opens : (r : Rules) (S c : Colour) (n : Match) (X : List SentLine)
     → (nat_lt 0 (length (n.seat c).used) ≡ true → nat_lt 0 (length n.played) ≡ true)
     → same_colour c S ≡ true
@@ -93,7 +96,7 @@ opens r S c n X some own =
     ap (λ (b : Bool). ends_in_ping (X ++ flat_map single (list_if b (opening r n c)))) own
     ∙ ap (λ ls. ends_in_ping (X ++ ls)) (singles (opening r n c)) ∙ opening_last r n c X some
 
--- an offer is passed on to the side that is not on move
+-- an offer of the side on move is passed on to the other
 not_other : (c C S : Colour) → same_colour c C ≡ true → same_colour c S ≡ true → same_colour (other C) S ≡ false
 not_other White White White e h = refl
 not_other Black Black Black e h = refl
@@ -102,6 +105,7 @@ not_other White Black S e h = absurd (cc)
 not_other Black White S e h = absurd (cc)
 not_other Black Black White e h = absurd (cc)
 
+-- an offer keeps `LastIn`
 offered_last : (C S : Colour) (p : Phase) (X ls : List SentLine) → awaits_line p C ≡ true → LastIn S p X
     → LastIn S p (X ++ flat_map single (list_if (same_colour (other C) S) ls))
 offered_last C S (BeforeMove c opened) X ls aw h = λ own.
@@ -114,6 +118,7 @@ offered_last C S (AfterMove c) X ls aw h = tt
 offered_last C S (Over reason) X ls aw h = tt
 
 module _ (r : Rules) (S : Colour) where
+  -- any line keeps `LastIn`
   last_line : (C : Colour) (kind : LineKind) (moment : ℕ) (m : Match) (X : List SentLine)
       → awaits_line m.phase C ≡ true → Kept r m → LastIn S m.phase X
       → LastIn S (line_row r m.phase kind moment m).after.phase
@@ -168,12 +173,13 @@ begun_last S = tt
 
 -- ---- how many lines came in a handshake
 
--- no more lines were counted in the handshake of S than S said (`k`)
+-- in the handshake of S no more lines were counted than S has sent (`k`)
 abbrev CountIn : Colour → Phase → ℕ → ℕ → Type 0
 CountIn S (Handshake c) count k = same_colour c S ≡ true → count ≤ k
 CountIn S p count k = Unit {0}
 
 module _ (r : Rules) (S : Colour) where
+  -- any line keeps `CountIn`
   count_line : (C : Colour) (t : Option (List ℕ)) (moment : ℕ) (m : Match) (k : ℕ) → awaits_line m.phase C ≡ true
       → CountIn S m.phase m.count k
       → CountIn S (effect r m (Line C t moment)).after.phase (effect r m (Line C t moment)).after.count
@@ -220,7 +226,7 @@ module _ (r : Rules) (S : Colour) where
           ap (λ (b : Bool). length (list_if b (t ∷ []))) own in
           let all : m.count + 1 ≤ k + length (list_if (same_colour C S) (t ∷ [])) = omega (arith, so_far, one) in all)
 
-  -- along the acts
+  -- so it holds at each moment
   counted_at : (H K : List Act) (final : Match) → IsMatch r (H ++ K) final
       → let m = match_after r beginning.after H in CountIn S m.phase m.count (length (lines_read S H))
   counted_at H K final g =
@@ -253,7 +259,8 @@ module _ (r : Rules) (S : Colour) where
 
 -- ---- a line that is due is expected
 
--- what holds when a line of S is read: of the pings that it was sent, of the last line, of its items, and of its count
+-- what holds when a line of S is read: the pings that S was sent (PingLaw), the last line that it was sent, its items,
+-- and the count of its lines
 pub record Facts (S : Colour) (before : List Act) (m : Match) : Type 0 where
   awaited : awaits_line m.phase S ≡ true
   pinged : ping_law.ToldIn S m.phase (length (m.seat S).used) (flat_map ping_text (lines_given S before))
@@ -261,10 +268,11 @@ pub record Facts (S : Colour) (before : List Act) (m : Match) : Type 0 where
   items : (m.seat S).items ≡ items_said (lines_read S before)
   counted : CountIn S m.phase m.count (length (lines_read S before))
 
--- what is known of the pings
+-- a line of S is awaited, and S was sent as many pings as PingLaw says
 abbrev Pinged : Colour → Match → List (List ℕ) → Type 0
 Pinged S m X = (awaits_line m.phase S ≡ true) × ping_law.Told S m X
 
+-- whenever a line of S is read, these facts hold
 pub facts_at : (r : Rules) (S : Colour) (before after : List Act) (text : Option (List ℕ)) (moment : ℕ) (final : Match)
     → IsMatch r (before ++ Happens (Line S text moment) ∷ after) final
     → Facts S before (match_after r beginning.after before)
@@ -292,13 +300,14 @@ facts_at r S before after text moment final g =
     by_last m (b ∷ due) q X told = absurd q
     by_last m [] (aw, q) X told = subst (LastIn S m.phase) (append-nil X) told
 
--- no ping was sent in a phase of S but its handshake
+-- in its setup S was sent just one ping
 not_yet : (S c : Colour) → same_colour c S ≡ true → (k : ℕ)
     → k ≡ (if same_colour S White then 1 else if same_colour c Black then 1 else 0) → k ≡ 1
 not_yet White c own k e = e
 not_yet Black White own k e = absurd (cc)
 not_yet Black Black own k e = e
 
+-- lines that are `pings n k` are `k` lines
 many_are : (n k : ℕ) (X : List (List ℕ)) → X ≡ pings n k → length X ≡ k
 many_are n k X e = ap length e ∙ ping_law.long n k
 
@@ -312,6 +321,7 @@ none_last [] e = refl
 none_last (l ∷ []) e = ap (λ ts. nat_lt 0 (length ts)) (sym (append-nil (ping_text l)) ∙ e)
 none_last (l ∷ k ∷ ls) e = none_last (k ∷ ls) (none_after (ping_text l) (flat_map ping_text (k ∷ ls)) e)
 
+-- by each way in which a line can be due, and each phase
 pub due_is_expected : (r : Rules) (S : Colour) (before : List Act) (m : Match) {kind : LineKind} {moment : ℕ}
     → Facts S before m → IsDue r S before m kind moment → IsExpected r m m.phase kind moment
 due_is_expected r S before m facts (of_handshake {text} {moment} none lacks few) =

@@ -1,4 +1,5 @@
--- An engine is sent the other's moves, each once and in order.
+-- An engine is sent the other's moves, each once and in order, by the scheme of Givings: `all_texts` is what O is to be
+-- sent, and `Owed` says what of it may be unsent.
 use Rattle.std.proofs.Common.{◌≡◌, ℕ, ◌+◌, ◌≤◌, Bool, true, false, List, [], ◌∷◌, ◌++◌, length, length-append, refl, ap, sym, subst, ◌∙◌, append-nil, append_assoc, lt-ltb, Option, arith, if◌then◌else◌, nat_lt, codes}
 use Rattle.std.proofs.lemmas.Grind.{flat_map-append}
 use Rattle.chess_base.specs.{declared.man.Colour.Colour, declared.man.Colour.TheVariants.White, declared.man.Colour.TheVariants.Black, declared.man.Move.Move, Men.other, Men.same_colour, Options.list_if}
@@ -16,6 +17,7 @@ use Rattle.chess_match_laws.proofs.Points.{by_points, whole, mover, moved_items,
 
 -- ---- texts of moves
 
+-- with one move more, the texts have one more if the side S made it
 texts-snoc : (r : Rules) (as_san : Bool) (S c : Colour) (before ms : List Move) (m : Move)
     → texts_from r as_san S c before (ms ++ m ∷ [])
     ≡ texts_from r as_san S c before ms ++ (if same_colour (mover c ms) S then text_of_last as_san r.start
@@ -28,6 +30,7 @@ texts-snoc r as_san S c before (x ∷ ms) m =
     (texts_from r as_san S (other c) (before ++ x ∷ []) ms)
     (if same_colour (mover (other c) ms) S then text_of_last as_san r.start (before ++ (x ∷ (ms ++ m ∷ []))) ∷ [] else [])))
 
+-- there is a text for each move of the side C
 texts-length : (r : Rules) (as_san : Bool) (C c : Colour) (before ms : List Move)
     → length (texts_from r as_san C c before ms) ≡ turns_of C c ms
 texts-length r as_san C c before [] = refl
@@ -54,28 +57,35 @@ OwedIn O text (AfterMove c) rest = rest ≡ (if same_colour (other c) O then tex
 OwedIn O text (Over reason) rest = is_write_fault_of reason O ≡ false → rest ≡ []
 OwedIn O text p rest = rest ≡ []
 
+-- all that O is to be sent: the texts of the other side's moves
 abbrev all_texts : Rules → Colour → Match → List (List ℕ)
 all_texts r O m = others_moves r O (m.seat O).items m.played
 
+-- in the match `m` just `rest` is still to be sent to O
 abbrev Owed : Rules → Colour → Match → List (List ℕ) → Type 0
 Owed r O m rest = OwedIn O (last_text r O m) m.phase rest
 
+-- the same in the phase `p`, which is the match's
 owed_in : (r : Rules) (O : Colour) (m : Match) (p : Phase) (rest : List (List ℕ)) → m.phase ≡ p → Owed r O m rest
     → OwedIn O (last_text r O m) p rest
 owed_in r O m p rest e h = subst (λ (q : Phase). OwedIn O (last_text r O m) q rest) e h
 
+-- an opening has the last move, if one was made
 opening_moves : (r : Rules) (m : Match) (S : Colour) → moves_sent (opening r m S)
     ≡ (if nat_lt 0 (length m.played) then last_text r S m else [])
 opening_moves r m S = grind (arith, flat_map-append, append-nil)
 
+-- the end has it for the side that is owed it, unless a failed write to that side was the end
 end_moves : (r : Rules) (m : Match) (reason : Reason) (O : Colour) → moves_sent ((ends r reason m).to O)
     ≡ (if is_write_fault_of reason O then [] else if is_owed_move m.phase O then last_text r O m else [])
 end_moves r m reason O = grind arith
 
+-- in a match that is on, O is owed the last move or nothing
 owed_on : (O : Colour) (text : List (List ℕ)) (p : Phase) (rest : List (List ℕ)) → is_over p ≡ false
     → OwedIn O text p rest → rest ≡ (if is_owed_move p O then text else [])
 owed_on O text p rest h1 h2 = grind arith
 
+-- the match ends, and what O is owed is sent, unless a failed write to O was the end
 stops : (r : Rules) (O : Colour) (m : Match) (reason : Reason) (rest : List (List ℕ)) → is_over m.phase ≡ false
     → length rest ≤ 1 → Owed r O m rest
     → Goes (all_texts r O) (Owed r O) m rest (moves_sent ((ends r reason m).to O)) (ends r reason m).after
@@ -91,7 +101,7 @@ stops r O m reason rest on l h =
         e)
     at false e = sends (all_texts r O) (Owed r O) m n rest rest [] l (sym (append-nil rest)) refl (λ w. refl)
 
--- a turn begins
+-- a turn of `c` begins: its opening has the last move
 begins : (r : Rules) (O c : Colour) (m : Match) (rest : List (List ℕ)) → length rest ≤ 1
     → rest ≡ (if same_colour c O then (if nat_lt 0 (length m.played) then last_text r O m else []) else [])
     → Goes (all_texts r O) (Owed r O) m rest (moves_sent ((begins_turn r c m).to O)) (begins_turn r c m).after
@@ -106,6 +116,7 @@ begins r O c m rest l e =
         ∙ ap (λ (x : Colour). if nat_lt 0 (length m.played) then last_text r x m else []) (h refl)
     at false h = refl
 
+-- what each event does, as Givings asks for it
 gives : (r : Rules) (O : Colour) → Gives move_sent r O (all_texts r O) (Owed r O)
 gives r O = record {
   stops = stops r O;
@@ -150,7 +161,8 @@ gives r O = record {
     turned : (S O : Colour) → same_colour S (other O) ≡ same_colour (other S) O
     turned S O = grind arith
 
--- at a moment, of what was sent so far
+-- what follows at a moment of what was sent to O (`X`), is due (`Y`) and is left (`rest`), follows of the blocks given
+-- so far
 sent_at : (r : Rules) (O : Colour) (C : Match → List (List ℕ) → Type 0) (H K : List Act) (final : Match)
     → ((m : Match) (due : List Block) → IsMatchFrom r m due K final → (X Y rest : List (List ℕ)) → (due ≡ [] → Y ≡ [])
     → length (Y ++ rest) ≤ 1 → X ++ (Y ++ rest) ≡ all_texts r O m → Owed r O m rest → C m X)
@@ -200,6 +212,7 @@ all_sent S (SendFails b ∷ H) h = at (same_colour b.to S) h (all_sent S H)
     at false h more = more h
 all_sent S (Happens e ∷ H) h = all_sent S H h
 
+-- if no block for O failed, the first act is no failed block for O, and no later one is
 broken_more : (b : Block) (H : List Act) (O : Colour) → is_broken (SendFails b ∷ H) O ≡ false
     → (same_colour b.to O ≡ false) × (is_broken H O ≡ false)
 broken_more b H O h = at (same_colour b.to O) h
@@ -210,10 +223,11 @@ broken_more b H O h = at (same_colour b.to O) h
         (lt-ltb 0 (length (b.lines ∷ broken_blocks O H)) (omega arith))
     at false h = (refl, h)
 
+-- a match that is on did not end by a failed write
 on_written : (O : Colour) (p : Phase) → is_over p ≡ false → ended_by_write_to O p ≡ false
 on_written O p h1 = grind arith
 
--- a line ends no match since a write failed, nor does a silence
+-- a line ends no match by a failed write
 pub line_written : (r : Rules) (O S : Colour) (t : Option (List ℕ)) (x : ℕ) (m : Match) → awaits_line m.phase S ≡ true
     → ended_by_write_to O (effect r m (Line S t x)).after.phase ≡ false
 line_written r O S t x m aw =
@@ -236,6 +250,7 @@ line_written r O S t x m aw =
       passes = λ p none. refl;
     })
 
+-- nor does a silence
 pub silent_written : (r : Rules) (O S : Colour) (x : ℕ) (m : Match) → awaits_line m.phase S ≡ true
     → ended_by_write_to O (effect r m (Silent S x)).after.phase ≡ false
 silent_written r O S x m aw = silence_cases r S x m (λ e. ended_by_write_to O e.after.phase ≡ false) (record {
@@ -259,6 +274,7 @@ written_so_far r O H K final g = by_points r
       read_fails = λ m n S H aw q only same p w h. p refl h;
     }) H K final (λ m due q g w h. w) g refl
 
+-- in a whole match, too
 pub written : (r : Rules) (O : Colour) (H : List Act) (final : Match) → IsMatch r H final → is_broken H O ≡ false
     → ended_by_write_to O final.phase ≡ false
 written r O H final g unbroken =
@@ -288,7 +304,7 @@ all_moves_are_sent r H final g O unbroken = ap moves_sent (all_sent O H unbroken
 
 -- ---- when a line or the clock is read
 
--- no write failed before
+-- in a match that is on no write to S failed before
 unbroken_on : (r : Rules) (S : Colour) (H K : List Act) (final : Match) → IsMatch r (H ++ K) final
     → is_over (match_after r beginning.after H).phase ≡ false → is_broken H S ≡ false
 unbroken_on r S H K final g = by_points r (λ m due H n. is_over n.phase ≡ false → is_broken H S ≡ false) (record {
@@ -308,6 +324,7 @@ abbrev IsSettled : Rules → Colour → List Act → Match → Type 0
 IsSettled r S K final = (m : Match) (due : List Block) → IsMatchFrom r m due K final
     → (due ≡ []) × (is_over m.phase ≡ false) × (is_owed_move m.phase S ≡ false)
 
+-- so S was sent all moves in the acts before
 all_sent_before : (r : Rules) (S : Colour) (H K : List Act) (final : Match) → IsSettled r S K final
     → IsMatch r (H ++ K) final → IsSentAllMoves r S H (match_after r beginning.after H)
 all_sent_before r S H K final settled g =
@@ -342,7 +359,7 @@ all_sent_at_openings r H after S moment final g =
     settled m [] (o, q) = (refl, ap is_over o, ap (λ p. is_owed_move p S) o)
     settled m (b ∷ due) q = absurd q
 
--- there is a used time for each move
+-- each side has a used time for each of its moves
 used_are_turns : (r : Rules) (C : Colour) (H K : List Act) (final : Match) → IsMatch r (H ++ K) final
     → (let m = match_after r beginning.after H in length (m.seat C).used ≡ turns_of C r.start.side m.played)
 used_are_turns r C H K final g = by_points r

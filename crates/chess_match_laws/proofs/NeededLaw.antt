@@ -1,4 +1,5 @@
--- Engines whose handshakes are done have what the match needs.
+-- Engines whose handshakes are done have what the match needs. The invariant (`Needed`) says so of each match whose
+-- handshakes are done; each act keeps it.
 use Rattle.std.proofs.Common.{◌≡◌, ℕ, ◌+◌, ◌-◌, Bool, true, false, not, ◌&&◌, List, [], ◌∷◌, refl, sym, ap, subst, Option, None, Some, codes, if◌then◌else◌, is_some, nat_le}
 use Rattle.std.specs.List.{list_any}
 use Rattle.chess_base.specs.{declared.man.Colour.Colour, declared.man.Colour.TheVariants.White, declared.man.Colour.TheVariants.Black}
@@ -17,6 +18,7 @@ use Rattle.chess_match_laws.proofs.{OfferedLaw.not_early, Points.by_points, Poin
 
 -- ---- nothing is missing
 
+-- what follows of `missing`, if it is `None`: each test that it makes fails
 parts : (ping sent set is_960 plays : Bool)
     → (if not ping then Some NoPing else if sent && not set then Some NoSetboard
     else if is_960 && not plays then Some NoVariant else None) ≡ None
@@ -31,6 +33,7 @@ parts true false set true true e = (refl, λ h. absurd (let f : false ≡ true =
 parts true false set false plays e =
     (refl, λ h. absurd (let f : false ≡ true = h in cc), λ h. absurd (let f : false ≡ true = h in cc))
 
+-- an engine that lacks nothing has what is needed
 has_all : (r : Rules) (items : List Item) → missing r items ≡ None → HasNeeded r items
 has_all r items e =
     let q = parts (takes (codes "ping") items) (is_some (start_fen r.start)) (takes (codes "setboard") items)
@@ -48,6 +51,7 @@ is_shaken (Handshake c) = false
 is_shaken (Over reason) = false
 is_shaken _ = true
 
+-- a phase that awaits a line, with the handshakes done, is such a phase
 shaken_by : (p : Phase) (C : Colour) → handshakes_done p ≡ true → awaits_line p C ≡ true → is_shaken p ≡ true
 shaken_by (Handshake c) C done aw = absurd (cc)
 shaken_by (Setup c) C done aw = refl
@@ -57,11 +61,13 @@ shaken_by (AfterMove c) C done aw = refl
 shaken_by (Over reason) C done aw = absurd (cc)
 
 module _ (r : Rules) where
+  -- the invariant: once both handshakes are done, each engine has what the match needs
   abbrev Needed : Match → Type 0
   Needed m = is_shaken m.phase ≡ true → (X : Colour) → HasNeeded r (m.seat X).items
 
   -- ---- a line of a handshake
 
+  -- both engines are judged by what they lack
   judged_needed : (m : Match) (w b : Option MatchFault) → missing r (m.seat White).items ≡ w
       → missing r (m.seat Black).items ≡ b → Needed (judged r w b m).after
   judged_needed m (Some f) b e h = λ on. not_early on
@@ -72,11 +78,13 @@ module _ (r : Rules) where
       at White = has_all r (m.seat White).items e
       at Black = has_all r (m.seat Black).items h
 
+  -- a handshake is done
   done_needed : (c : Colour) (m : Match) → Needed (handshake_done r c m).after
   done_needed White m = λ on. not_early on
   done_needed Black m =
       judged_needed m (missing r (m.seat White).items) (missing r (m.seat Black).items) refl refl
 
+  -- a line in a handshake
   shaking : (C : Colour) (kind : LineKind) (m : Match) → is_shaken m.phase ≡ false
       → Needed (handshake_row r C (items_in_line kind) m).after
   shaking C kind m off = at (list_any ends_handshake (items_in_line kind)) (nat_le 1000 (m.count + 1))
@@ -92,6 +100,7 @@ module _ (r : Rules) where
 
   -- ---- any line
 
+  -- any line keeps the invariant
   line : (C : Colour) (kind : LineKind) (moment : ℕ) (m : Match) → awaits_line m.phase C ≡ true → Needed m
       → Needed (line_row r m.phase kind moment m).after
   line C kind moment m aw needed = at (handshakes_done m.phase) refl

@@ -13,11 +13,13 @@ use Rattle.chess_match_laws.proofs.{MoveLaw.line_written, MoveLaw.silent_written
 
 -- ---- lines
 
+-- a block in front, which is for S (`x`) or not: its bytes come first, or none
 block_bytes : (x : Bool) (lines more : List SentLine) (given : List ℕ) → given ≡ bytes_of more
     → list_if x (bytes_of lines) ++ given ≡ bytes_of (list_if x lines ++ more)
 block_bytes true lines more given e = ap (λ (l : List ℕ). bytes_of lines ++ l) e ∙ sym (bytes_of-append lines more)
 block_bytes false lines more given e = e
 
+-- the note of an event has no bytes for an engine
 no_bytes : (x : Bool) (S : Colour) (e : Event) (notes : List Note)
     → given_in S (list_if x (Happened e ∷ []) ++ notes) ≡ given_in S notes
 no_bytes true S e notes = refl
@@ -76,11 +78,13 @@ abbrev AreWritten : Reason → List Block → Type 0
 AreWritten reason [] = Unit {0}
 AreWritten reason (b ∷ due) = (is_write_fault_of reason b.to ≡ false) × AreWritten reason due
 
+-- if no side's failed write was the end, no block is for such a side
 all_written : (reason : Reason) (due : List Block) → ((O : Colour) → is_write_fault_of reason O ≡ false) → AreWritten reason
     due
 all_written reason [] w = tt
 all_written reason (b ∷ due) w = (w b.to, all_written reason due w)
 
+-- after a failed write to `c` no block is due for `c`
 failed_written : (r : Rules) (m : Match) (c : Colour)
     → AreWritten (Faulted c Write) (blocks_from White (effect r m (FailsToWrite c)).to)
 failed_written r m White = at (farewell r m (Faulted White Write) Black)
@@ -97,20 +101,23 @@ failed_written r m Black = at (farewell r m (Faulted Black Write) White)
     at (l ∷ ls) = (refl, tt)
 
 module _ (r : Rules) (reason : Reason) (final : Match) (over : final.phase ≡ Over reason) where
-  -- the events of the notes are those of the acts; a match that is over stays so
+  -- the events in the notes are those of the acts, if no block due is for a side to which a write ended the match; and
+  -- a match that is over stays so
   abbrev Ordered : Match → List Block → List Act → Type 0
   Ordered m due H = (is_over m.phase ≡ true → m.phase ≡ final.phase)
       × ((is_over m.phase ≡ true → AreWritten reason due) → events_in (notes_given reason H) ≡ events_of r m H)
 
+  -- a match that is on is not over
   on_not_over : {A : Type 0} (m : Match) → is_over m.phase ≡ false → is_over m.phase ≡ true → A
   on_not_over m on o = both_not (is_over m.phase) on o
 
-  -- blocks after what ended the match
+  -- the blocks due after a line or a silence that ended the match are for sides to which no write failed
   due_written : (m : Match) (due : List Block) → ((O : Colour) → ended_by_write_to O m.phase ≡ false)
       → m.phase ≡ final.phase → AreWritten reason due
   due_written m due w e = all_written reason due
       (λ O. subst (λ (p : Phase). ended_by_write_to O p ≡ false) (e ∙ over) (w O))
 
+  -- a failed write that ends the match is noted, and is an event
   broken : (m : Match) (b : Block) (H : List Act) → is_over m.phase ≡ false
       → Ordered (effect r m (FailsToWrite b.to)).after (blocks_from White (effect r m (FailsToWrite b.to)).to) H
       → events_in (list_if (is_write_fault_of reason b.to) (Happened (FailsToWrite b.to) ∷ []) ++ notes_given reason H)
@@ -123,6 +130,7 @@ module _ (r : Rules) (reason : Reason) (final : Match) (over : final.phase ≡ O
       (λ (x : Reason). AreWritten x (blocks_from White (effect r m (FailsToWrite b.to)).to)) is
       (failed_written r m b.to))))
 
+  -- one after the end is neither
   late : (m : Match) (b : Block) (H : List Act) → is_over m.phase ≡ true → is_write_fault_of reason b.to ≡ false
       → events_in (notes_given reason H) ≡ events_of r m H
       → events_in (list_if (is_write_fault_of reason b.to) (Happened (FailsToWrite b.to) ∷ []) ++ notes_given reason H)

@@ -1,4 +1,5 @@
--- A draw is agreed by two offers, and no move of the side that answers in between.
+-- A draw is agreed by an offer and another that answers it, and in between the side that answers makes no move. Going
+-- back from the end (`EndsAgreed`): before each act the first offer is open, or comes among the acts that follow.
 use Rattle.std.proofs.Common.{◌≡◌, ◌∙◌, ◌⊎◌, ℕ, ◌-◌, Bool, true, false, not, ◌&&◌, ◌||◌, List, [], ◌∷◌, ◌++◌, length, refl, sym, ap, subst, inl, inr, Option, Some, None, arith, if◌then◌else◌, nat_lt, nat_le, unwrap_or, ◌==◌}
 use Rattle.std.specs.{List.list_any, Option.option_map_or}
 use Rattle.std.proofs.lemmas.Bool.{and_parts, or_cases}
@@ -38,10 +39,13 @@ Open O C kind m =
     (m.seat O).offers && not (same_colour C (other O) && is_move kind) || same_colour C O && is_offer kind
 
 module _ (r : Rules) (O C : Colour) (m : Match) where
+  -- after an offer of C, an offer of O that is open was open before, or is this one
   offered : (e : Effect) → e ≡ offer_row r C m → is_over e.after.phase ≡ false → (e.after.seat O).offers ≡ true
       → ((m.seat O).offers || same_colour C O) ≡ true
   offered e h1 h2 h3 = grind (arith, h1, h2, h3)
 
+  -- after a line of C that is no move, an open offer is as `Open` says; by the next lemmas so after each line before
+  -- the move and after it
   turn_open : (kind : LineKind) → is_move kind ≡ false → is_over (turn_row r C kind m).after.phase ≡ false
       → ((turn_row r C kind m).after.seat O).offers ≡ true → Open O C kind m ≡ true
   turn_open kind h1 h2 h3 = grind (arith, h1, h2, h3)
@@ -85,11 +89,13 @@ module _ (r : Rules) (O C : Colour) (m : Match) where
   after_open Rejects moment h1 h2 = turn_open Rejects refl h1 h2
   after_open SaysElse moment h1 h2 = turn_open SaysElse refl h1 h2
 
-  -- by such a line the draw is agreed
+  -- a line of C that is no move, and by which the draw is agreed, is an offer while the other side's is open; the same
+  -- of any line by the next lemmas
   turn_agreed : (kind : LineKind) → is_move kind ≡ false → (turn_row r C kind m).after.phase ≡ Over Agreed
       → is_over m.phase ≡ false → ((m.seat (other C)).offers && is_offer kind) ≡ true
   turn_agreed kind h1 h2 h3 = grind (arith, h1, h2, h3)
 
+  -- by a move no draw is agreed
   no_move_agreed : {A : Type 0} (used : ℕ) (read : Reading) → (move_row r C used read m).after.phase ≡ Over Agreed → A
   no_move_agreed used reads.Ambiguous h = absurd (cc)
   no_move_agreed used reads.NoSuch h = absurd (cc)
@@ -146,6 +152,7 @@ module _ (r : Rules) (O C : Colour) (m : Match) where
 
 -- ---- before the first turn
 
+-- no phase is both before the first turn and in one
 not_both : {A : Type 0} (p : Phase) → is_early p ≡ true → in_turn p ≡ true → A
 not_both (Handshake c) early on = absurd (cc)
 not_both (Setup c) early on = absurd (cc)
@@ -154,11 +161,13 @@ not_both (BeforeMove c opened) early on = absurd (cc)
 not_both (AfterMove c) early on = absurd (cc)
 not_both (Over reason) early on = absurd (cc)
 
+-- a fault is no agreement
 no_fault_agreed : {A : Type 0} (reason : Reason) → is_fault reason ≡ true → Over reason ≡ Over Agreed → A
 no_fault_agreed (Faulted c f) is e = absurd (cc)
 no_fault_agreed Agreed is e = absurd (cc)
 no_fault_agreed _ is e = absurd (cc)
 
+-- the items of a line open no offer
 pub said_offers : (C O : Colour) (kind : LineKind) (m : Match) → ((said_by C kind m).seat O).offers ≡ (m.seat O).offers
 said_offers C O kind m = grind arith
 
@@ -170,7 +179,7 @@ early_in_turn (BeforeMove c opened) early = absurd (cc)
 early_in_turn (AfterMove c) early = absurd (cc)
 early_in_turn (Over reason) early = absurd (cc)
 
--- nothing is offered by a line then, and nothing is agreed
+-- before the first turn a line opens no offer, and agrees to none
 early_line : (r : Rules) (C O : Colour) (kind : LineKind) (moment : ℕ) (m : Match) → awaits_line m.phase C ≡ true
     → is_early m.phase ≡ true → (m.seat O).offers ≡ false
     → (((line_row r m.phase kind moment m).after.seat O).offers ≡ false)
@@ -212,6 +221,7 @@ early_line r C O kind moment m aw early none =
 
 -- ---- any line
 
+-- after any line of C, an open offer of O is as `Open` says
 pub line_open : (r : Rules) (O C : Colour) (kind : LineKind) (moment : ℕ) (m : Match) → Fresh m
     → awaits_line m.phase C ≡ true → is_over (line_row r m.phase kind moment m).after.phase ≡ false
     → ((line_row r m.phase kind moment m).after.seat O).offers ≡ true → Open O C kind m ≡ true
@@ -245,6 +255,7 @@ line_open r O C kind moment m fresh aw on still = at m.phase refl aw on still
         by_flag true k h = absurd (cc)
         by_flag false k h = before_open r O C (awaited_since moment m) (moment - opened) kind k h
 
+-- a line of C by which a draw is agreed answers an open offer of the other side
 line_agreed : (r : Rules) (C : Colour) (kind : LineKind) (moment : ℕ) (m : Match) → Fresh m
     → awaits_line m.phase C ≡ true → (line_row r m.phase kind moment m).after.phase ≡ Over Agreed
     → ((m.seat (other C)).offers && is_offer kind) ≡ true
@@ -305,7 +316,8 @@ record EndsAgreed (m : Match) (H : List Act) : Type 0 where
   last : only_sends after ≡ true
   found : (((m.seat (other side)).offers ≡ true) × (list_any (is_move_of side) middle ≡ false)) ⊎ Found side middle
 
--- an act more in front
+-- one act more in front: an offer that is open after it was open before it, and the act is no move of the other side;
+-- or the act is the offer
 prepend : (a : Act) (m m' : Match) (H : List Act)
     → ((S : Colour) → (m'.seat (other S)).offers ≡ true
     → (((m.seat (other S)).offers ≡ true) × (is_move_of S a ≡ false)) ⊎ IsOfferOf (other S) a)
@@ -355,6 +367,7 @@ not_true : (b : Bool) → not b ≡ true → b ≡ false
 not_true true h = absurd (cc)
 not_true false h = refl
 
+-- a turn is no phase before the first turn
 in_turn_late : (p : Phase) → in_turn p ≡ true → is_early p ≡ false
 in_turn_late (Handshake c) on = absurd (cc)
 in_turn_late (Setup c) on = absurd (cc)
@@ -363,7 +376,7 @@ in_turn_late (BeforeMove c opened) on = refl
 in_turn_late (AfterMove c) on = refl
 in_turn_late (Over reason) on = refl
 
--- a line that is awaited later is one in a turn
+-- a line that is awaited, but not before the first turn, is one in a turn
 read_in_turn : (p : Phase) (C : Colour) → awaits_line p C ≡ true → is_early p ≡ false → in_turn p ≡ true
 read_in_turn (Handshake c) C aw late = absurd (cc)
 read_in_turn (Setup c) C aw late = absurd (cc)
@@ -373,13 +386,16 @@ read_in_turn (AfterMove c) C aw late = refl
 read_in_turn (Over reason) C aw late = absurd (cc)
 
 module _ (r : Rules) where
+  -- a match that is on, and after the acts `H` is over by agreement, ends so
   abbrev Agrees : Match → List Act → Match → Type 0
   Agrees m H n = Fresh m → is_over m.phase ≡ false → n.phase ≡ Over Agreed → EndsAgreed m H
 
+  -- a match that ended by a fault was not agreed
   by_fault : {A : Type 0} (c : Colour) (f : MatchFault) (n m : Match) → n ≡ (ends r (Faulted c f) m).after
       → n.phase ≡ Over Agreed → A
   by_fault c f n m e o = absurd (let both : Over (Faulted c f) ≡ Over Agreed = sym (ap (λ (x : Match). x.phase) e) ∙ o in cc)
 
+  -- any line keeps `Fresh`
   pub line_fresh : (C : Colour) (kind : LineKind) (moment : ℕ) (m : Match) → awaits_line m.phase C ≡ true → Fresh m
       → Fresh (line_row r m.phase kind moment m).after
   line_fresh C kind moment m aw fresh = by_early (is_early m.phase) refl
@@ -410,6 +426,7 @@ module _ (r : Rules) where
       by_early false e early O =
           absurd (let no : false ≡ true = sym (turn (read_in_turn m.phase C aw e) _ refl) ∙ early in cc)
 
+  -- a line: it agrees to the draw, or a later one does
   line_agrees : (m n : Match) (c : Colour) (t : Option (List ℕ)) (k : ℕ) (H : List Act) → awaits_line m.phase c ≡ true
       → Fresh m → Stays (effect r m (Line c t k)).after H n → Agrees (effect r m (Line c t k)).after H n
       → n.phase ≡ Over Agreed → EndsAgreed m (Happens (Line c t k) ∷ H)
@@ -461,6 +478,7 @@ module _ (r : Rules) where
   abbrev Follows : Match → Match → Colour → ℕ → List Act → Effect → Type 0
   Follows m n c k H e = Stays e.after H n → Agrees e.after H n → EndsAgreed m (Happens (Silent c k) ∷ H)
 
+  -- a silence agrees to nothing
   silent_agrees : (m n : Match) (c : Colour) (k : ℕ) (H : List Act) → awaits_line m.phase c ≡ true
       → Fresh m → Stays (effect r m (Silent c k)).after H n → Agrees (effect r m (Silent c k)).after H n
       → n.phase ≡ Over Agreed → EndsAgreed m (Happens (Silent c k) ∷ H)

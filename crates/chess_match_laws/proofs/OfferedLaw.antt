@@ -1,4 +1,5 @@
--- A side is sent `draw` only where the other side offers one.
+-- A side is sent `draw` at most as often as the other side offers a draw: a line makes at most one `draw` due, and only
+-- if it is an offer (`line_draws`).
 use Rattle.std.proofs.Common.{◌≡◌, ◌∙◌, ◌⊎◌, ℕ, suc, ◌+◌, ◌-◌, ◌≤◌, Bool, true, false, not, ◌&&◌, List, [], ◌∷◌, ◌++◌, length, length-append, refl, sym, ap, subst, inl, inr, arith, Option, flat_map, codes, if◌then◌else◌}
 use Rattle.std.proofs.{lemmas.Bool.and_parts, lemmas.Bool.or_cases, lemmas.Grind.flat_map-append}
 use Rattle.chess_base.specs.{declared.man.Colour.Colour, declared.man.Colour.TheVariants.White, declared.man.Colour.TheVariants.Black, Men.other, Men.same_colour, Options.list_if}
@@ -28,6 +29,7 @@ offers_in lines = length (flat_map offer_of lines)
 
 -- ---- counting
 
+-- lines in two parts have as many `draw` as both parts
 split : (ls more : List SentLine) → draws (ls ++ more) ≡ draws ls + draws more
 split ls more =
     ap (λ (texts : List (List ℕ)). length texts) (flat_map-append draw_text ls more)
@@ -39,6 +41,7 @@ zero_more n = omega arith
 one_more : (n : ℕ) → suc n ≡ 1 + n
 one_more n = omega arith
 
+-- with one line more there is one offer more, if the line is one and of the side that counts (`b`)
 offers_more : (b : Bool) (t : Option (List ℕ)) (lines : List (Option (List ℕ)))
     → offers_in (list_if b (t ∷ []) ++ lines) ≡ one_if (b && is_offer (line_kind t)) + offers_in lines
 offers_more false t lines = zero_more (offers_in lines)
@@ -64,7 +67,7 @@ le_less g j a f all e h = omega (arith, e, h)
 le_split : (k a g all j f : ℕ) → all ≡ a + g → k + a + g ≤ j + f → k + all ≤ j + f
 le_split k a g all j f e h = omega (arith, e, h)
 
--- the first of these lines are sent
+-- a block with the lines `ls` is sent: if the bound holds of what is due and given after it, it holds with the block
 step : (ls due given : List SentLine) (j k f : ℕ) → ((i : ℕ) → i + draws due ≤ j → i + draws given ≤ j + f)
     → k + draws (ls ++ due) ≤ j → k + draws (ls ++ given) ≤ j + f
 step ls due given j k f p h =
@@ -79,7 +82,7 @@ end_due r m reason S =
     ap (λ (ls : List SentLine). draws ls) (both_due White S (ends r reason m).to)
     ∙ ap (λ (texts : List (List ℕ)). length texts) (end_none r m reason S)
 
--- if the lines that are due may be lost, fewer are sent
+-- what else was due may be lost in a failure, and the end sends no `draw`: so fewer are sent
 fewer : (ls due ended : List SentLine) (j k : ℕ) → draws ended ≡ 0 → k + draws (ls ++ due) ≤ j
     → k + draws ls + draws ended ≤ j
 fewer ls due ended j k none h =
@@ -100,6 +103,7 @@ module _ (r : Rules) (S : Colour) where
       ⊎ ((draws (e.to S) ≤ 1) × (is_over e.after.phase ≡ false) × ((m.seat (other S)).offers ≡ false)
       × ((e.after.seat (other S)).offers ≡ true))
 
+  -- a match in a turn is not over
   turn_on : (p : Phase) → in_turn p ≡ true → is_over p ≡ false
   turn_on (Handshake c) on = refl
   turn_on (Setup c) on = refl
@@ -112,6 +116,7 @@ module _ (r : Rules) (S : Colour) where
   if_taken true = one_is
   if_taken false = none_is
 
+  -- an offer makes at most one `draw` due
   offers_once : (c X : Colour) (m : Match) → in_turn m.phase ≡ true → (m.seat c).offers ≡ false
       → (flat_map draw_text ((offering c m).to X) ≡ [])
       ⊎ ((draws ((offering c m).to X) ≤ 1) × (is_over (offering c m).after.phase ≡ false)
@@ -123,6 +128,7 @@ module _ (r : Rules) (S : Colour) where
   offers_once Black White m on own =
       inr (if_taken (takes (codes "draw") (m.seat White).items), turn_on m.phase on, own, refl)
 
+  -- any line of C
   line_once : (C : Colour) (kind : LineKind) (moment : ℕ) (m : Match) → awaits_line m.phase C ≡ true
       → OneAtMost m (line_row r m.phase kind moment m)
   line_once C kind moment m aw =

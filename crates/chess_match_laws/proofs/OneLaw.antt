@@ -1,4 +1,6 @@
--- There is only one match of two engines and a clock.
+-- Two matches of the same engines and clock are the same. By induction over the acts of one (`one_by`): what comes next
+-- in it is what the engines and the clock give, so it comes next in the other too; and both go on with what these give
+-- after that act.
 use Rattle.std.proofs.Common.{◌≡◌, ℕ, ◌+◌, ◌-◌, ◌<◌, ◌≤◌, Bool, true, false, List, [], ◌∷◌, ◌++◌, length, drop, suc, subst, refl, ap, sym, ◌∙◌, append_assoc, lt-ltb, Option, None, Some, arith, IfSome, if◌then◌else◌, nat_lt, option_map, slice_get}
 use Rattle.std.proofs.{Math.Seq.drop-append_seam, lemmas.Bool.and_parts, lemmas.Bool.or_left, lemmas.Bool.or_right}
 use Rattle.chess_base.specs.{declared.man.Colour.Colour, declared.man.Colour.TheVariants.White, declared.man.Colour.TheVariants.Black, Men.same_colour, Options.list_if}
@@ -30,6 +32,7 @@ Begins r m final K J (Some (FailsToRead S)) = (K ≡ Happens (FailsToRead S) ∷
     × IsMatchFrom r (effect r m (FailsToRead S)).after (blocks_from White (effect r m (FailsToRead S)).to) J final
 Begins r m final K J (Some (FailsToWrite S)) = ⊥
 
+-- what comes next in a match in which no block is due
 next : (r : Rules) (m final : Match) (K : List Act) → IsMatchFrom r m [] K final
     → (e : Option Event) × (J : List Act) × Begins r m final K J e
 next r m final [] (o, e) = (None, [], (refl, o))
@@ -50,7 +53,7 @@ next r m final (SendFails b ∷ J) g = absurd g
 one_awaits : (p : Phase) (c d : Colour) → awaits_line p c ≡ true → awaits_line p d ≡ true → c ≡ d
 one_awaits p c d h1 h2 = grind arith
 
--- one that awaits a line opens no turn
+-- a phase that awaits a line opens no turn
 awaits_or_opens : {A : Type 0} (p : Phase) (c d : Colour) → awaits_line p c ≡ true → p ≡ Opening d → A
 awaits_or_opens p c d h1 h2 = grind arith
 
@@ -62,13 +65,16 @@ drop_front a b c xs e = rw (e, append_assoc a b c) (drop-append_seam a (b ++ c))
 drop_exact : {A : Type 0} (a b xs : List A) → xs ≡ a ++ b → drop (length a) xs ≡ b
 drop_exact a b xs e = rw e (drop-append_seam a b)
 
+-- the values `shown` are the first of those that are given
 abbrev Shown : {A : Type 0} → List A → (ℕ → A) → Type 0
 Shown shown given = (n : ℕ) → n < length shown → slice_get shown n ≡ Some (given n)
 
+-- those after the first
 later : {A : Type 0} (x : A) (shown : List A) (given : ℕ → A) → Shown (x ∷ shown) given
     → Shown shown (λ n. given (suc n))
 later x shown given h1 n h2 = grind arith
 
+-- the first
 first_shown : {A : Type 0} (x : A) (shown : List A) (given : ℕ → A) → Shown (x ∷ shown) given
     → Some x ≡ Some (given 0)
 first_shown x shown given h = h 0 (omega arith)
@@ -77,6 +83,7 @@ first_shown x shown given h = h 0 (omega arith)
 abbrev later_looks : Bool → (ℕ → Bool) → ℕ → Bool
 later_looks own silent n = if own then silent (suc n) else silent n
 
+-- the later looks of a side, if the first act is a look of this side (`own`) or of the other
 later_if : (own none : Bool) (shown : List Bool) (silent : ℕ → Bool)
     → Shown (list_if own (none ∷ []) ++ shown) silent → Shown shown (later_looks own silent)
 later_if true none shown silent h = later none shown silent h
@@ -107,6 +114,8 @@ pub not_to : (x more : Bool) → (if x then false else more) ≡ true → (x ≡
 not_to true more h = absurd cc
 not_to false more h = (refl, h)
 
+-- in acts that send nothing to S no block for S fails; by the next lemmas nothing weighs anything, and nothing is sent
+-- to S after a failure
 pub silent_unbroken : (S : Colour) (H : List Act) → unsent_in S H ≡ true → broken_blocks S H ≡ []
 silent_unbroken S [] u = refl
 silent_unbroken S (Sends b ∷ H) u = silent_unbroken S H (not_to (same_colour b.to S) (unsent_in S H) u).1
@@ -129,7 +138,7 @@ silent_ends S (SendFails b ∷ H) u =
     let (other, more) = not_to (same_colour b.to S) (unsent_in S H) u in rw other (silent_ends S H more)
 silent_ends S (Happens e ∷ H) u = silent_ends S H u
 
--- a block is sent
+-- how much can still be sent, after `x` was
 abbrev less_by : ℕ → Option ℕ → Option ℕ
 less_by x n = option_map (λ k. k - x) n
 
@@ -140,6 +149,7 @@ less_or x y (Some k) h = omega (arith, h)
 less_is : (x y : ℕ) (n : Option ℕ) → n ≡ Some (x + y) → less_by x n ≡ Some y
 less_is x y n e = let same : (x + y) - x ≡ y = omega arith in ap (less_by x) e ∙ ap Some same
 
+-- after a block was sent, that much less can be sent
 breaks_sent : (w : Block → ℕ) (S : Colour) (n : Option ℕ) (b : Block) (H : List Act) → Breaks w S n (Sends b ∷ H)
     → Breaks w S (less_by (if same_colour b.to S then w b else 0) n) H
 breaks_sent w S n b H (whole, broke, end) = (
@@ -148,10 +158,11 @@ breaks_sent w S n b H (whole, broke, end) = (
   end,
 )
 
--- a block fails: the side could be sent no more, and is sent no more
+-- a list that begins with a failed block has one
 some_broken : (lines : List SentLine) (more : List (List SentLine)) → nat_lt 0 (length (lines ∷ more)) ≡ true
 some_broken lines more = lt-ltb 0 (length (lines ∷ more)) (omega arith)
 
+-- a block fails now: so its side could be sent no more
 breaks_at : (w : Block → ℕ) (n : Option ℕ) (b : Block) (H : List Act) → Breaks w b.to n (SendFails b ∷ H)
     → n ≡ Some 0
 breaks_at w n b H (whole, broke, end) = at (same_colour b.to b.to) (same_colour-self b.to) broke end
@@ -163,6 +174,7 @@ breaks_at w n b H (whole, broke, end) = at (same_colour b.to b.to) (same_colour-
     at true e broke end = broke (some_broken b.lines (broken_blocks b.to H)) ∙ ap Some (silent_weight w b.to H end)
     at false e broke end = absurd cc
 
+-- and after it neither side's limit changes
 breaks_failed : (w : Block → ℕ) (S : Colour) (n : Option ℕ) (b : Block) (H : List Act)
     → Breaks w S n (SendFails b ∷ H) → Breaks w S n H
 breaks_failed w S n b H (whole, broke, end) = at (same_colour b.to S) whole broke end
@@ -180,7 +192,7 @@ breaks_failed w S n b H (whole, broke, end) = at (same_colour b.to S) whole brok
         )
     at false whole broke end = (whole, broke, end)
 
--- where one block fails, it is not sent
+-- a block can't both be sent and fail, for the same limit
 apart : {A : Type 0} (w : Block → ℕ) (n : Option ℕ) (b : Block) (H K : List Act) → 0 < w b
     → Breaks w b.to n (Sends b ∷ H) → Breaks w b.to n (SendFails b ∷ K) → A
 apart w n b H K weighs (whole, broke, end) q =
@@ -212,6 +224,7 @@ Held w s H = ((S : Colour) → (rest : List (Option (List ℕ))) × (s.lines S �
     × Shown (moments_shown H) s.moments × ((S : Colour) → Shown (looks S H) (s.silent S))
     × ((S : Colour) → Breaks w S (s.breaks S) H) × Weigh w H
 
+-- the line of S, as a list of one for S and empty for the other side
 abbrev line_of : Colour → Option (List ℕ) → Colour → List (Option (List ℕ))
 line_of S t X = list_if (same_colour S X) (t ∷ [])
 
@@ -219,15 +232,18 @@ line_of S t X = list_if (same_colour S X) (t ∷ [])
 abbrev after_look : Colour → Streams → Streams
 after_look S s = record s { silent = λ X. later_looks (same_colour S X) (s.silent X) }
 
+-- what the engines and the clock give after a line of S was read
 abbrev after_read : Colour → Option (List ℕ) → Streams → Streams
 after_read S t s = record (after_look S s) {
   lines = λ X. drop (length (line_of S t X)) (s.lines X);
   moments = λ n. s.moments (suc n);
 }
 
+-- what they give after a silence of S
 abbrev after_silence : Colour → Streams → Streams
 after_silence S s = record (after_look S s) { moments = λ n. s.moments (suc n) }
 
+-- what they give after a block was sent
 abbrev after_sent : (Block → ℕ) → Block → Streams → Streams
 after_sent w b s = record s { breaks = λ X. less_by (if same_colour b.to X then w b else 0) (s.breaks X) }
 
@@ -238,6 +254,8 @@ same_end r H K final final' h k e = sym (end_after_acts r H final h)
     ∙ ap (λ (L : List Act). match_after r beginning.after L) e ∙ end_after_acts r K final' k
 
 module _ (w : Block → ℕ) where
+  -- if the acts come from these engines, those after the first come from what these give after it: after a line, and by
+  -- the next lemmas after each other act
   of_read : (s : Streams) (S : Colour) (t : Option (List ℕ)) (n : ℕ) (H : List Act)
       → Held w s (Happens (Line S t n) ∷ H) → Held w (after_read S t s) H
   of_read s S t n H (lines, ends, failures, moments, looked, breaks, weigh) = (
@@ -307,10 +325,11 @@ module _ (w : Block → ℕ) where
       of_some : {x y : Bool} → Some x ≡ Some y → y ≡ x
       of_some e = cc
 
+  -- a look of S counts for S
   own_look : (S : Colour) (none : Bool) → list_if (same_colour S S) (none ∷ []) ≡ none ∷ []
   own_look S none = ap (λ (b : Bool). list_if b (none ∷ [])) (same_colour-self S)
 
-  -- it can't find none and, at once, a line, an end or a failure
+  -- the same look can't find none and, in the other match, a line, an end or a failure
   none_or_some : {A : Type 0} (s : Streams) (S c : Colour) (n : ℕ) (a : Act) (H K : List Act) → S ≡ c
       → look c a ≡ false ∷ [] → Held w s (Happens (Silent S n) ∷ H) → Held w s (a ∷ K) → A
   none_or_some s S c n a H K same e o q = both_not (s.silent c 0) (first_look s c a false K e q)
@@ -319,11 +338,13 @@ module _ (w : Block → ℕ) where
 
   -- ---- the first line, or none
 
+  -- a line that is read is the first that the engine gives
   first_line : (s : Streams) (S : Colour) (t : Option (List ℕ)) (n : ℕ) (H : List Act)
       → Held w s (Happens (Line S t n) ∷ H) → (rest : List (Option (List ℕ))) × (s.lines S ≡ t ∷ rest)
   first_line s White t n H o = (lines_read White H ++ (o.0 White).0, (o.0 White).1)
   first_line s Black t n H o = (lines_read Black H ++ (o.0 Black).0, (o.0 Black).1)
 
+  -- acts that read nothing have no lines
   unread_none : (S : Colour) (H : List Act) → unread H ≡ true → lines_read S H ≡ []
   unread_none S [] h = refl
   unread_none S (Sends b ∷ H) h = unread_none S H h
@@ -342,12 +363,14 @@ module _ (w : Block → ℕ) where
       let e = o.1 S (or_left (same_colour S S) (has_ended S H) (same_colour-self S)) in
       (e.0 ∙ unread_none S H u, e.1)
 
+  -- so has one of which a read failed
   failed_none : (s : Streams) (S : Colour) (H : List Act) → unread H ≡ true
       → Held w s (Happens (FailsToRead S) ∷ H) → (s.lines S ≡ []) × (s.fails S ≡ true)
   failed_none s S H u o =
       let e = o.2 S (or_left (same_colour S S) (has_failed_read S H) (same_colour-self S)) in
       (e.0 ∙ unread_none S H u, e.1)
 
+  -- an engine that gives no line gives none to be read
   line_not_none : {A : Type 0} (s : Streams) (S c : Colour) (t : Option (List ℕ)) (n : ℕ) (H : List Act) → S ≡ c
       → Held w s (Happens (Line S t n) ∷ H) → s.lines c ≡ [] → A
   line_not_none s S c t n H e o k = absurd (at (s.lines S) (first_line s S t n H o).1 (ap s.lines e ∙ k))
@@ -355,6 +378,7 @@ module _ (w : Block → ℕ) where
       at : (xs : List (Option (List ℕ))) → xs ≡ t ∷ (first_line s S t n H o).0 → xs ≡ [] → ⊥
       at xs e k = cc
 
+  -- two first lines of the same engine, with the same moment, are the same event; in the same way silences and openings
   same_line : (c d : Colour) (t u : Option (List ℕ)) (n k m : ℕ) (rest rest' lines lines' : List (Option (List ℕ)))
       → c ≡ d → lines ≡ t ∷ rest → lines' ≡ u ∷ rest' → lines ≡ lines' → Some n ≡ Some m → Some k ≡ Some m
       → Line c t n ≡ Line d u k
@@ -369,11 +393,13 @@ module _ (w : Block → ℕ) where
 
   -- ---- the whole
 
-  -- two engines and a clock fix what follows
+  -- the acts `H` are what follows in the match `m`: any acts that follow there, and come from the same engines and
+  -- clock, are these
   abbrev One : Rules → Match → List Block → List Act → Type 0
   One r m due H = (s : Streams) (K : List Act) (final : Match) → IsMatchFrom r m due K final → Held w s H → Held w s K
       → H ≡ K
 
+  -- the first act is a block that was sent; in the lemmas after it, another kind of act
   one_sends : (r : Rules) (m : Match) (b : Block) (due : List Block) (H : List Act) → One r m due H
       → One r m (b ∷ due) (Sends b ∷ H)
   one_sends r m b due H p s (Sends c ∷ K) final (e, g) o q =
@@ -385,7 +411,7 @@ module _ (w : Block → ℕ) where
   one_sends r m b due H p s [] final g o q = absurd g
   one_sends r m b due H p s (Happens e ∷ K) final g o q = absurd g
 
-  -- a failure that ends the match, and one after the end
+  -- what follows after a block that fails and ends the match, and (`fails_over`) after one that fails after the end
   fails_on : (r : Rules) (m final : Match) (b c : Block) (due : List Block) (K : List Act) → is_over m.phase ≡ false
       → IsMatchFrom r m (b ∷ due) (SendFails c ∷ K) final
       → IsMatchFrom r (effect r m (FailsToWrite b.to)).after (blocks_from White (effect r m (FailsToWrite b.to)).to) K
@@ -408,6 +434,7 @@ module _ (w : Block → ℕ) where
         blocks_from White (effect r m (FailsToWrite c.to)).to,
       ) in IsMatchFrom r n.0 n.1 K final) over g
 
+  -- the first act is a block that failed
   one_breaks : (r : Rules) (m m' : Match) (b : Block) (due due' : List Block) (H : List Act) → One r m' due' H
       → ((c : Block) (K : List Act) (final : Match) → IsMatchFrom r m (b ∷ due) (SendFails c ∷ K) final
       → IsMatchFrom r m' due' K final)
@@ -421,6 +448,7 @@ module _ (w : Block → ℕ) where
   one_breaks r m m' b due due' H p next s [] final g o q = absurd g
   one_breaks r m m' b due due' H p next s (Happens e ∷ K) final g o q = absurd g
 
+  -- the first act is a line
   one_reads : (r : Rules) (m : Match) (S : Colour) (t : Option (List ℕ)) (n : ℕ) (H : List Act)
       → awaits_line m.phase S ≡ true
       → One r (effect r m (Line S t n)).after (blocks_after S (effect r m (Line S t n))) H
@@ -449,6 +477,7 @@ module _ (w : Block → ℕ) where
           (failed_none s c J (none_read r _ final _ J x.2 refl) (subst (λ (L : List Act). Held w s L) x.0 q)).0
       at (Some (FailsToWrite c)) J x = absurd x
 
+  -- it is a silence
   one_silent : (r : Rules) (m : Match) (S : Colour) (n : ℕ) (H : List Act) → awaits_line m.phase S ≡ true
       → One r (effect r m (Silent S n)).after (blocks_from White (effect r m (Silent S n)).to) H
       → One r m [] (Happens (Silent S n) ∷ H)
@@ -475,6 +504,7 @@ module _ (w : Block → ℕ) where
       at (Some (Opened c k)) J x = awaits_or_opens m.phase S c aw x.1
       at (Some (FailsToWrite c)) J x = absurd x
 
+  -- it is the moment of an opening
   one_opens : (r : Rules) (m : Match) (S : Colour) (n : ℕ) (H : List Act) → m.phase ≡ Opening S
       → One r (effect r m (Opened S n)).after [] H → One r m [] (Happens (Opened S n) ∷ H)
   one_opens r m S n H opening p s K final g o q = let (e, J, x) = next r m final K g in at e J x
@@ -496,6 +526,7 @@ module _ (w : Block → ℕ) where
       at (Some (FailsToRead c)) J x = awaits_or_opens m.phase c S x.1 opening
       at (Some (FailsToWrite c)) J x = absurd x
 
+  -- it is the end of an output
   one_ends : (r : Rules) (m : Match) (S : Colour) (H : List Act) → awaits_line m.phase S ≡ true → unread H ≡ true
       → One r (effect r m (OutputEnds S)).after (blocks_from White (effect r m (OutputEnds S)).to) H
       → One r m [] (Happens (OutputEnds S) ∷ H)
@@ -520,6 +551,7 @@ module _ (w : Block → ℕ) where
       at (Some (Opened c k)) J x = awaits_or_opens m.phase S c aw x.1
       at (Some (FailsToWrite c)) J x = absurd x
 
+  -- it is a failed read
   one_fails : (r : Rules) (m : Match) (S : Colour) (H : List Act) → awaits_line m.phase S ≡ true → unread H ≡ true
       → One r (effect r m (FailsToRead S)).after (blocks_from White (effect r m (FailsToRead S)).to) H
       → One r m [] (Happens (FailsToRead S) ∷ H)
@@ -544,6 +576,7 @@ module _ (w : Block → ℕ) where
       at (Some (Opened c k)) J x = awaits_or_opens m.phase S c aw x.1
       at (Some (FailsToWrite c)) J x = absurd x
 
+  -- the match is over, and nothing follows
   one_over : (r : Rules) (m : Match) → is_over m.phase ≡ true → One r m [] []
   one_over r m over s K final g o q = let (e, J, x) = next r m final K g in at e J x
     where
@@ -556,6 +589,7 @@ module _ (w : Block → ℕ) where
       at (Some (FailsToRead c)) J x = both_not (is_over m.phase) (on_when_read m.phase c x.1) over
       at (Some (FailsToWrite c)) J x = absurd x
 
+  -- by induction over the acts of a match
   one_by : (r : Rules) (H : List Act) (final : Match) → IsMatch r H final
       → One r beginning.after (blocks_from White beginning.to) H
   one_by r H final h = (by_cases r final
@@ -591,9 +625,11 @@ module _ (w : Block → ℕ) where
 
 -- ---- blocks, each of which counts 1
 
+-- the weight of a block, where each counts 1
 abbrev one_each : Block → ℕ
 one_each b = 1
 
+-- then what is sent weighs as much as there are blocks
 counts : (S : Colour) (H : List Act) → weight_sent one_each S H ≡ length (blocks_sent S H)
 counts S [] = refl
 counts S (Sends b ∷ H) = at (same_colour b.to S) (counts S H)

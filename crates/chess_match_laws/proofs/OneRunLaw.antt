@@ -1,4 +1,6 @@
--- There is only one match of a run whose devices show all.
+-- There is only one match of a run whose devices show all: they fix the same bytes, moments and failures for both
+-- matches (`held`), so that both come from the same engines and clock (`given_by`), and OneLaw.only_one_by applies,
+-- where a block weighs as many bytes as it has.
 use mathlib.Core.Bool.{or-true}
 use Rattle.std.proofs.Common.{◌≡◌, ℕ, ◌+◌, ◌<◌, ◌≤◌, ◌^◌, ◌-◌, zero, suc, ◌||◌, ◌⊎◌, inl, inr, Bool, true, false, List, [], ◌∷◌, ◌++◌, length, length-append, refl, ap, sym, ◌∙◌, Option, None, Some, arith, IfSome, if◌then◌else◌, is_some, nat_lt, slice_get}
 use Rattle.std.specs.Io.KnownBytes.{Appends, Consumes}
@@ -18,13 +20,14 @@ use Rattle.chess_match_laws.proofs.OneLaw.{Held, Weigh, only_one_by, weight_sent
 use Rattle.chess_match.proofs.shared.Lines.{bytes_of-append}
 use Rattle.chess_match_laws.proofs.Silences.{silences_are_asked_for}
 
--- one run's reader gave one list of bytes
+-- from one state of a reader to another only one list of bytes can have come, if the bytes are known
 one_given : (old new : Option (List ℕ)) (a b : List ℕ) → is_some old ≡ true → Consumes old new a → Consumes old new b
     → a ≡ b
 one_given None new a b h x y = cc
 one_given (Some xs) None a b h x y = absurd x
 one_given (Some xs) (Some ys) a b h x y = append_cancel_right a b ys (sym x ∙ y)
 
+-- a count that is not full can't be the same after it rose
 rises : {A : Type 0} (n : ℕ) → n < 2 ^ 64 - 1 → n ≡ saturating_increment n → A
 unfolding saturating_increment
 rises n small e = absurd (omega (arith, small, e))
@@ -46,13 +49,14 @@ broken_is sent [] o was = sym (ap (λ (x : ToOutput). x.failed) was)
 broken_is sent (b ∷ []) o was = sym (ap (λ (x : ToOutput). x.failed) was.2)
 broken_is sent (b ∷ c ∷ more) o was = absurd was
 
+-- what was flushed are the bytes of the lines that were sent
 flushed_is : (sent : List SentLine) (broken : List (List SentLine)) (o : ToOutput) → WasSent sent broken o
     → o.flushed ≡ bytes_of sent
 flushed_is sent [] o was = ap (λ (x : ToOutput). x.flushed) was
 flushed_is sent (b ∷ []) o was = ap (λ (x : ToOutput). x.flushed) was.2
 flushed_is sent (b ∷ c ∷ more) o was = absurd was
 
--- of two accounts of what an output took, whose length is known
+-- between two states of an output only one list of bytes can have gone to it, if the bytes are known
 one_taken : (old new : Option (List ℕ)) (a b : List ℕ) → is_some old ≡ true → Appends old new a → Appends old new b
     → a ≡ b
 one_taken None new a b h x y = cc
@@ -103,10 +107,12 @@ no_failure S (Happens (FailsToWrite c) ∷ H) e h = no_failure S H e h
 no_failure S (Happens (OutputEnds c) ∷ H) e h = (quiet_read S H e).2
 no_failure S (Happens (FailsToRead c) ∷ H) e h = both_not (has_ended S H) (quiet_read S H e).1 h
 
+-- a moment; 0, if it is not known
 abbrev moment_or : Option ℕ → ℕ
 moment_or None = 0
 moment_or (Some n) = n
 
+-- a known moment is the one that was shown
 shown_moment : (o : Option ℕ) (shown : Option ℕ) → is_some o ≡ true → IfSome o (λ t. shown ≡ Some t) → shown
     ≡ Some (moment_or o)
 shown_moment None shown h k = cc
@@ -130,6 +136,7 @@ given_by H given silent coming = record {
 abbrev size : Block → ℕ
 size b = length (bytes_of b.lines)
 
+-- what is sent weighs as many bytes as its lines have
 sizes : (S : Colour) (H : List Act) → weight_sent size S H ≡ length (bytes_of (lines_sent S H))
 unfolding bytes_of
 sizes S [] = refl
@@ -151,6 +158,7 @@ abbrev HaveLines : List Block → Type 0
 HaveLines [] = Unit {0}
 HaveLines (b ∷ due) = (0 < size b) × HaveLines due
 
+-- a line has bytes, at least its `\n`
 line_bytes : (l : SentLine) (ls : List SentLine) → 0 < length (bytes_of (l ∷ ls))
 unfolding bytes_of
 line_bytes l ls =
@@ -167,6 +175,7 @@ due_lines first to = at (to first) (to (other first))
     at [] y = one y
     at (l ∷ ls) y = (line_bytes l ls, one y)
 
+-- so each block that is sent weighs something
 all_weigh : (r : Rules) (H : List Act) (final : Match) → IsMatch r H final → Weigh size H
 all_weigh r H final g = by_cases r final (λ m due H. HaveLines due → Weigh size H) (record {
   sends = λ m end b due H p have. (have.0, p have.1);
@@ -220,6 +229,7 @@ held r H K final w w' given silent found p t said same broke sent = (
 abbrev with_text : FromInput → List ℕ → FromInput
 with_text i text = record i { text = text }
 
+-- what an engine said, with its bytes written in another way
 said_alike : (S : Colour) (K : List Act) (i : FromInput) (text : List ℕ) → text ≡ i.text → SaidBy S K i
     → SaidBy S K (with_text i text)
 said_alike S K i text e h = record {
@@ -231,7 +241,7 @@ said_alike S K i text e h = record {
   all_if_silent = λ none. ap engine_lines e ∙ h.all_if_silent none;
 }
 
--- as much was sent in both, if a write failed
+-- as many bytes were sent in both matches, if a write failed
 alike_sent : (old new : OutputState) (sent sent' : List SentLine) (o o' : ToOutput) → old.failure_count < 2 ^ 64 - 1
     → (new.failure_count ≡ old.failure_count) ⊎ ShowsFlushed old new → OutputTook old new o → OutputTook old new o'
     → o.flushed ≡ bytes_of sent → o'.flushed ≡ bytes_of sent' → o'.failed ≡ true

@@ -1,4 +1,5 @@
--- Each turn is opened once.
+-- Each turn is opened once. The invariant (`OpenedOf`), which each act keeps: the turns of S were opened as often as S
+-- has moved, and once more while its move is awaited.
 use Rattle.std.proofs.Common.{◌≡◌, ◌∙◌, ℕ, ◌+◌, ◌-◌, ◌≤◌, Bool, true, false, List, [], ◌∷◌, ◌++◌, length, length-append, refl, sym, ap, subst, arith}
 use Rattle.chess_base.specs.{declared.man.Colour.Colour, declared.man.Colour.TheVariants.White, declared.man.Colour.TheVariants.Black, declared.man.Move.Move, Men.same_colour}
 use Rattle.cecp_engine.specs.EngineLines.{LineKind}
@@ -8,21 +9,23 @@ use Rattle.chess_match.proofs.shared.LineCases.{line_cases, offered_used, said_b
 use Rattle.chess_match_laws.specs.{OfActs.AtEachMoment, Rows.TurnsAreOpenedOnce, Rows.one_if, Rows.openings}
 use Rattle.chess_match_laws.proofs.{Points.by_points, Silences.by_silence}
 
--- as many, or one more
+-- `n` is `made`, or one more
 abbrev Bounds : ℕ → ℕ → Type 0
 Bounds made n = (made ≤ n) × (n ≤ made + 1)
 
--- in this phase, after so many moves of S: how often its turns were opened
+-- the invariant by phase: `n` is how often the turns of S were opened, and `made` how many moves it made
 abbrev OpenedIn : Colour → Phase → ℕ → ℕ → Type 0
 OpenedIn S (BeforeMove c opened) made n = n ≡ made + one_if (same_colour c S)
 OpenedIn S (Over reason) made n = Bounds made n
 OpenedIn S p made n = n ≡ made
 
+-- the invariant of a match
 abbrev OpenedOf : Colour → Match → ℕ → Type 0
 OpenedOf S m n = OpenedIn S m.phase (length (m.seat S).used) n
 
 -- ---- numbers
 
+-- what the law asks for, if `n` is `made`; and (`by_one`) if it may be one more
 equal_bounds : (made n : ℕ) → n ≡ made → Bounds made n
 equal_bounds made n e = (omega (arith, e), omega (arith, e))
 
@@ -39,6 +42,7 @@ to_over S (BeforeMove c opened) made n e = by_one made n (same_colour c S) e
 to_over S (AfterMove c) made n e = equal_bounds made n e
 to_over S (Over reason) made n e = e
 
+-- with one more used time there are as many as there were turns opened
 one_longer : (us : List ℕ) (u n : ℕ) → n ≡ length us + 1 → n ≡ length (us ++ u ∷ [])
 one_longer us u n e =
     let l : length (us ++ u ∷ []) ≡ length us + 1 = length-append us (u ∷ []) in omega (arith, l, e)
@@ -69,6 +73,7 @@ opens_one made n a e = omega (arith, e)
 -- ---- any line
 
 module _ (r : Rules) (S : Colour) where
+  -- any line keeps the invariant
   line : (C : Colour) (kind : LineKind) (moment : ℕ) (m : Match) (n : ℕ) → awaits_line m.phase C ≡ true
       → OpenedOf S m n → OpenedOf S (line_row r m.phase kind moment m).after n
   line C kind moment m n aw so_far =

@@ -1,4 +1,5 @@
--- An open offer of a draw was passed on, and a side is sent at most one `draw` more than it has made moves.
+-- An open offer of a draw was passed on, and a side is sent at most one `draw` more than it has made moves. The
+-- invariant is `SentTo`, which each event keeps (`tells`).
 use Rattle.std.proofs.Common.{◌≡◌, ◌∙◌, ℕ, ◌+◌, ◌-◌, ◌≤◌, Bool, true, false, List, [], ◌∷◌, ◌++◌, length, length-append, refl, sym, ap, subst, append-nil, arith, codes, flat_map}
 use Rattle.std.proofs.lemmas.Grind.{flat_map-append}
 use Rattle.chess_base.specs.{declared.man.Colour.Colour, declared.man.Colour.TheVariants.White, declared.man.Colour.TheVariants.Black, declared.man.Move.Move, Men.other, Men.same_colour, Options.list_if}
@@ -13,6 +14,7 @@ use Rattle.chess_match_laws.proofs.{Givings.lines_due, OfferLaw.said_offers, Poi
 
 -- ---- lines
 
+-- no `draw` is among the lines of a setup, nor among answers (`answer_none`), nor in an opening or an end
 pub setup_none : (r : Rules) (C : Colour) → flat_map draw_text (setup_lines r C) ≡ []
 unfolding setup_lines
 setup_none r C = grind (arith, flat_map-append, append-nil)
@@ -47,22 +49,25 @@ at_most_one : (b : Bool) → one_if b ≤ 1
 at_most_one true = omega arith
 at_most_one false = omega arith
 
--- in this phase, with an offer of the other side open or not, and a side that takes `draw` or not: what it was sent
+-- in this phase, with the other side's offer open or not (`offers`), and for a side that takes `draw` or not
+-- (`takes_it`): the `draw` that it was sent (`X`) are at least one, if it takes them and an offer is open
 abbrev Passed : Phase → Bool → Bool → List (List ℕ) → Type 0
 Passed (Handshake c) offers takes_it X = offers ≡ false
 Passed (Setup c) offers takes_it X = offers ≡ false
 Passed (Over reason) offers takes_it X = Unit {0}
 Passed p offers takes_it X = offers ≡ true → takes_it ≡ true → 1 ≤ length X
 
--- what S was sent, by the phase, the number of its moves, whether the other side's offer is open, and whether S takes
--- `draw`
+-- `X`, the `draw` that S was sent, are at most as many as its moves (`made`), and one more while the other side's offer
+-- is open; and they are as `Passed` says
 record SentIn (p : Phase) (made : ℕ) (offers takes_it : Bool) (X : List (List ℕ)) : Type 0 where
   few : length X ≤ made + one_if offers
   passed : Passed p offers takes_it X
 
+-- whether the engine of S takes `draw`
 abbrev takes_draw : Colour → Match → Bool
 takes_draw S m = takes (codes "draw") (m.seat S).items
 
+-- `SentIn` of a match, for the side S
 abbrev SentTo : Colour → Match → List (List ℕ) → Type 0
 SentTo S m X = SentIn m.phase (length (m.seat S).used) (m.seat (other S)).offers (takes_draw S m) X
 
@@ -85,6 +90,7 @@ one_move us u k b h =
     let l : length (us ++ u ∷ []) ≡ length us + 1 = length-append us (u ∷ []) in
     let one = at_most_one b in omega (arith, l, one, h)
 
+-- a move of C keeps the bound on the number of `draw`
 moved_few : (C S : Colour) (move : Move) (used : ℕ) (m : Match) (k : ℕ)
     → k ≤ length (m.seat S).used + one_if (m.seat (other S)).offers
     → k ≤ length ((moved C move used m).seat S).used + one_if ((moved C move used m).seat (other S)).offers
@@ -93,6 +99,7 @@ moved_few Black Black move used m k h = one_move (m.seat Black).used used k (m.s
 moved_few White Black move used m k h = h
 moved_few Black White move used m k h = h
 
+-- and it keeps what `Passed` says
 moved_passed : (C S : Colour) (opened : ℕ) (move : Move) (used : ℕ) (m : Match) (X : List (List ℕ))
     → Passed (BeforeMove C opened) (m.seat (other S)).offers (takes_draw S m) X
     → Passed (AfterMove C) ((moved C move used m).seat (other S)).offers (takes_draw S (moved C move used m)) X
@@ -141,10 +148,12 @@ passes_on t (Setup c) n X on h = absurd (cc)
 passes_on t (Opening c) n X on h = absurd (cc)
 passes_on t (Over reason) n X on h = absurd (cc)
 
+-- while no offer is open the bound is the number of moves
 not_open : (X : List (List ℕ)) (n : ℕ) (b : Bool) → b ≡ false → length X ≤ n + one_if b → length X ≤ n + 0
 not_open X n false e h = h
 not_open X n true e h = absurd (cc)
 
+-- an offer of C keeps the invariant: it is passed on to the other side
 offered : (C S : Colour) (m : Match) (X : List (List ℕ)) → in_turn m.phase ≡ true → (m.seat C).offers ≡ false
     → SentTo S m X → SentTo S (offering C m).after (X ++ flat_map draw_text ((offering C m).to S))
 offered White White m X on own so_far =
@@ -163,6 +172,7 @@ offered White Black m X on own so_far =
 -- ---- any line
 
 module _ (r : Rules) (S : Colour) where
+  -- any line keeps it
   line : (C : Colour) (kind : LineKind) (moment : ℕ) (m : Match) (X : List (List ℕ)) → awaits_line m.phase C ≡ true
       → Kept r m → SentTo S m X
       → SentTo S (line_row r m.phase kind moment m).after
@@ -258,6 +268,7 @@ module _ (r : Rules) (S : Colour) where
           subst (SentIn (Over reason) (length (m.seat S).used) (m.seat (other S)).offers (takes_draw S m)) same
           (record { few = omega (arith, few, l); passed = tt })
 
+-- it holds at the beginning
 begun : (S : Colour) → SentTo S beginning.after (flat_map draw_text (beginning.to S))
 begun White = record { few = omega arith; passed = refl }
 begun Black = record { few = omega arith; passed = refl }

@@ -1,4 +1,5 @@
--- The n-th ping has the number n.
+-- The n-th ping that a side is sent has the number n. The invariant (`ToldIn`), which each event keeps (`tells`), also
+-- says by the phase how many it was sent.
 use Rattle.std.proofs.Common.{◌≡◌, ◌∙◌, ℕ, zero, suc, ◌+◌, ◌-◌, Bool, true, false, List, [], ◌∷◌, ◌++◌, length, length-append, refl, sym, ap, subst, append-nil, arith, flat_map, codes, decimal, if◌then◌else◌}
 use Rattle.std.proofs.lemmas.Grind.{flat_map-append}
 use Rattle.chess_base.specs.{declared.man.Colour.Colour, declared.man.Colour.TheVariants.White, declared.man.Colour.TheVariants.Black, declared.man.Move.Move, Men.other, Men.same_colour, Options.list_if}
@@ -11,6 +12,7 @@ use Rattle.chess_match_laws.proofs.{Points.Kept, Points.turn_in, Points.turns_of
 
 -- ---- numbers
 
+-- one ping more at the end of such lines
 pings-snoc : (n k : ℕ) → pings n (suc k) ≡ pings n k ++ (codes "ping " ++ decimal (n + k)) ∷ []
 pings-snoc n zero = let same : n ≡ n + 0 = omega arith in ap (λ j. (codes "ping " ++ decimal j) ∷ []) same
 pings-snoc n (suc k) =
@@ -18,11 +20,12 @@ pings-snoc n (suc k) =
     ap (λ ls. (codes "ping " ++ decimal n) ∷ ls) (pings-snoc (n + 1) k
     ∙ ap (λ j. pings (n + 1) k ++ (codes "ping " ++ decimal j) ∷ []) same)
 
+-- so many lines
 pub long : (n k : ℕ) → length (pings n k) ≡ k
 long n zero = refl
 long n (suc k) = ap suc (long (n + 1) k)
 
--- the first of such lines are such lines
+-- the first ones of lines that are numbered from `n` are numbered from `n`
 first_of : (n k : ℕ) (X Y : List (List ℕ)) → X ++ Y ≡ pings n k → (j : ℕ) × (X ≡ pings n j)
 first_of n k [] Y e = (zero, refl)
 first_of n zero (x ∷ X) Y e = absurd (cc)
@@ -34,6 +37,7 @@ first_of n (suc k) (x ∷ X) Y e =
 
 -- ---- lines
 
+-- a setup has `ping 1`; answers, openings, ends and offers have no ping (the next lemmas)
 setup_pings : (r : Rules) (C : Colour) → flat_map ping_text (setup_lines r C) ≡ (codes "ping " ++ decimal 1) ∷ []
 unfolding setup_lines
 setup_pings r C = grind (arith, flat_map-append, append-nil)
@@ -70,12 +74,13 @@ Counts S (Setup c) used k = k ≡ (if same_colour S White then 1 else if same_co
 Counts S (Over reason) used k = Unit {0}
 Counts S p used k = k ≡ used + 1
 
--- that many were sent to S, numbered from 1
+-- `X`, the pings that S was sent or is due, are numbered from 1, and as many as `Counts` says
 pub record ToldIn (S : Colour) (p : Phase) (used : ℕ) (X : List (List ℕ)) : Type 0 where
   pub many : ℕ
   pub are : X ≡ pings 1 many
   pub count : Counts S p used many
 
+-- `ToldIn` of a match
 abbrev pub Told : Colour → Match → List (List ℕ) → Type 0
 Told S m X = ToldIn S m.phase (length (m.seat S).used) X
 
@@ -104,12 +109,13 @@ over_told S p u v reason X Y Z none told =
     let (j, first) = first_of 1 told.many X Y told.are in
     record { many = j; are = ap (λ z. X ++ z) none ∙ append-nil X ∙ first; count = tt }
 
+-- the match is over, and nothing was due
 ends_told : (S : Colour) (p : Phase) (u v : ℕ) (reason : Reason) (X Z : List (List ℕ)) → Z ≡ []
     → ToldIn S p u X → ToldIn S (Over reason) v (X ++ Z)
 ends_told S p u v reason X Z none told =
     record { many = told.many; are = ap (λ z. X ++ z) none ∙ append-nil X ∙ told.are; count = tt }
 
--- setups
+-- White's setup begins, after both handshakes
 set_up_first : (S C : Colour) (u v : ℕ) (X Z : List (List ℕ)) (r : Rules)
     → Z ≡ flat_map ping_text (list_if (same_colour White S) (setup_lines r White)) → ToldIn S (Handshake C) u X
     → ToldIn S (Setup White) v (X ++ Z)
@@ -118,6 +124,7 @@ set_up_first White C u v X Z r is told =
 set_up_first Black C u v X Z r is told =
     no_more Black (Handshake C) (Setup White) u v X Z is told (λ k c. c)
 
+-- Black's setup begins, after White's
 set_up_second : (S C : Colour) (u v : ℕ) (X : List (List ℕ)) (r : Rules) → C ≡ White → ToldIn S (Setup C) u X
     → ToldIn S (Setup Black) v (X ++ flat_map ping_text (list_if (same_colour Black S) (setup_lines r Black)))
 set_up_second White C u v X r s told =
@@ -126,11 +133,13 @@ set_up_second Black White u v X r s told =
     one_more Black (Setup White) (Setup Black) u v 0 X _ (told.are ∙ ap (pings 1) told.count) (setup_pings r Black) refl
 set_up_second Black Black u v X r s told = absurd (cc)
 
+-- after the setups each side was sent one ping
 first_turn : (S C : Colour) (used k : ℕ) → C ≡ Black → Counts S (Setup C) used k → used ≡ 0 → k ≡ used + 1
 first_turn White C used k s c none = omega (arith, c, none)
 first_turn Black White used k s c none = absurd (cc)
 first_turn Black Black used k s c none = omega (arith, c, none)
 
+-- a side's own move, after which it is sent the next ping
 own_move : (C : Colour) (opened : ℕ) (us : List ℕ) (used : ℕ) (X : List (List ℕ))
     → ToldIn C (BeforeMove C opened) (length us) X
     → ToldIn C (AfterMove C) (length (us ++ used ∷ []))
@@ -142,7 +151,7 @@ own_move C opened us used X told =
     one_more C (BeforeMove C opened) (AfterMove C) (length us) (length (us ++ used ∷ [])) told.many X _ told.are
     (ap (λ n. (codes "ping " ++ decimal n) ∷ []) next) (omega (arith, longer, count))
 
--- a move
+-- a move of C, for the side S
 played : (C S : Colour) (opened : ℕ) (move : Move) (used : ℕ) (m : Match) (X : List (List ℕ))
     → ToldIn S (BeforeMove C opened) (length (m.seat S).used) X
     → let n = moved C move used m in
@@ -158,6 +167,7 @@ played Black White opened move used m X told =
     no_more White (BeforeMove Black opened) (AfterMove Black) _ _ X [] refl told (λ k c. c)
 
 module _ (r : Rules) (S : Colour) where
+  -- any line keeps the invariant
   line : (C : Colour) (kind : LineKind) (moment : ℕ) (m : Match) (X : List (List ℕ)) → awaits_line m.phase C ≡ true
       → Kept r m → Told S m X
       → Told S (line_row r m.phase kind moment m).after
@@ -216,6 +226,7 @@ module _ (r : Rules) (S : Colour) where
     };
   }
 
+-- the invariant holds at the beginning
 pub begun : (S : Colour) → Told S beginning.after (flat_map ping_text (beginning.to S))
 begun White = record { many = 0; are = refl; count = refl }
 begun Black = record { many = 0; are = refl; count = refl }

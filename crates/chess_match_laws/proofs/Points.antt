@@ -1,4 +1,6 @@
--- What holds at each moment of a match: from the acts before it, by the kinds of act.
+-- Induction over the acts of a match up to a moment (`by_points`, from MatchCases.by_acts of chess_match). It may use
+-- at each act that whose turn it is and how many times were used agree with the moves played (`Kept`). And what holds
+-- at each moment holds of a whole match (`in_each`).
 use Rattle.std.proofs.Common.{◌≡◌, ℕ, ◌+◌, ◌-◌, ◌<◌, Bool, true, false, List, [], ◌∷◌, ◌++◌, length, length-append, refl, ap, sym, ◌∙◌, subst, append-nil, Option, arith, if◌then◌else◌}
 use Rattle.chess_base.specs.{declared.man.Colour.Colour, declared.man.Colour.TheVariants.White, declared.man.Move.Move, Men.other, Men.same_colour}
 use Rattle.cecp_engine.specs.EngineLines.{LineKind}
@@ -31,7 +33,8 @@ turns-snoc : (C c : Colour) (ms : List Move) (m : Move) → turns_of C c (ms ++ 
 turns-snoc C c [] m = omega arith
 turns-snoc C c (x ∷ ms) m = let h = turns-snoc C (other c) ms m in omega (arith, h)
 
--- no move is played before the first turn; a turn is of the side on move
+-- before the first turn no move is played; a turn is of the side that is on move after the moves played, of which the
+-- side `first` makes the first
 abbrev pub TurnIn : Colour → Phase → List Move → Type 0
 TurnIn first (Handshake c) played = played ≡ []
 TurnIn first (Setup c) played = played ≡ []
@@ -40,11 +43,12 @@ TurnIn first (BeforeMove c opened) played = mover first played ≡ c
 TurnIn first (AfterMove c) played = (mover first played ≡ other c) × (0 < length played)
 TurnIn first (Over reason) played = Unit {0}
 
--- and each side has a time for each of its moves
+-- this holds of the match, and each side has a used time for each of its moves
 abbrev pub Kept : Rules → Match → Type 0
 Kept r m = TurnIn r.start.side m.phase m.played
     × ((C : Colour) → length (m.seat C).used ≡ turns_of C r.start.side m.played)
 
+-- what `Kept` says of the phase `p`, which is the match's
 pub turn_in : (r : Rules) (m : Match) (p : Phase) → m.phase ≡ p → Kept r m → TurnIn r.start.side p m.played
 turn_in r m p e k = subst (λ (q : Phase). TurnIn r.start.side q m.played) e k.0
 
@@ -59,6 +63,7 @@ pub moved_used : (S C : Colour) (move : Move) (used : ℕ) (m : Match) → ((mov
     ≡ (if same_colour S C then (m.seat C).used ++ used ∷ [] else (m.seat C).used)
 moved_used S C move used m = grind arith
 
+-- a move of S, whose turn it is, adds one used time and one move of S
 moved_turns : (S C first : Colour) (move : Move) (used : ℕ) (m : Match) → mover first m.played ≡ S
     → length (m.seat C).used ≡ turns_of C first m.played
     → length ((moved S move used m).seat C).used ≡ turns_of C first (m.played ++ move ∷ [])
@@ -73,6 +78,7 @@ moved_turns S C first move used m e h =
 some_move : (ms : List Move) (move : Move) → 0 < length (ms ++ move ∷ [])
 some_move ms move = let l : length (ms ++ move ∷ []) ≡ length ms + 1 = length-append ms (move ∷ []) in omega (arith, l)
 
+-- any line keeps `Kept`
 kept_line : (r : Rules) (S : Colour) (kind : LineKind) (moment : ℕ) (m : Match) → awaits_line m.phase S ≡ true
     → Kept r m → Kept r (line_row r m.phase kind moment m).after
 kept_line r S kind moment m aw k = line_cases r S kind moment m (λ e. Kept r e.after) aw (λ since. record {
@@ -106,6 +112,7 @@ kept_line r S kind moment m aw k = line_cases r S kind moment m (λ e. Kept r e.
     said : (C : Colour) → length ((said_by S kind m).seat C).used ≡ turns_of C r.start.side m.played
     said C = ap length (said_used S C kind m) ∙ k.1 C
 
+-- a silence keeps it
 kept_silent : (r : Rules) (S : Colour) (moment : ℕ) (m : Match) → Kept r m → Kept r (effect r m (Silent S moment)).after
 kept_silent r S moment m k = silence_cases r S moment m (λ e. Kept r e.after) (record {
   stops = λ reason w. (tt, k.1);
@@ -118,21 +125,26 @@ kept_silent r S moment m k = silence_cases r S moment m (λ e. Kept r e.after) (
 abbrev pub Stays : Match → List Act → Match → Type 0
 Stays m H n = is_over m.phase ≡ true → (n ≡ m) × (only_sends H ≡ true)
 
--- as `Acts`, of a match that is kept; one that is over stays
+-- as `Acts` of MatchCases: `P m due H n` holds with an act in front, if it holds after the act. Besides, the match `m`
+-- is `Kept`, and after an act that ends it only blocks are sent, and it stays as it is
 pub record Points (r : Rules) (P : Match → List Block → List Act → Match → Type 0) : Type 0 where
   pub sends : (m n : Match) (b : Block) (due : List Block) (H : List Act) → P m due H n → P m (b ∷ due) (Sends b ∷ H) n
+  -- a block fails, which ends the match
   pub fails : (m n : Match) (b : Block) (due : List Block) (H : List Act) → is_over m.phase ≡ false → Kept r m
       → only_sends H ≡ true → n ≡ (ends r (Faulted b.to Write) m).after
       → P (ends r (Faulted b.to Write) m).after (blocks_from White (ends r (Faulted b.to Write) m).to) H n
       → P m (b ∷ due) (SendFails b ∷ H) n
+  -- a block fails after the end
   pub fails_late : (m n : Match) (b : Block) (due : List Block) (H : List Act) → is_over m.phase ≡ true
       → only_sends H ≡ true → n ≡ m → P m due H n → P m (b ∷ due) (SendFails b ∷ H) n
+  -- a line of S is read
   pub reads : (m n : Match) (S : Colour) (t : Option (List ℕ)) (k : ℕ) (H : List Act) → awaits_line m.phase S ≡ true
       → Kept r m → Stays (effect r m (Line S t k)).after H n
       → P (effect r m (Line S t k)).after (blocks_after S (effect r m (Line S t k))) H n
       → P m [] (Happens (Line S t k) ∷ H) n
   pub opens : (m n : Match) (S : Colour) (k : ℕ) (H : List Act) → m.phase ≡ Opening S → Kept r m
       → P (effect r m (Opened S k)).after [] H n → P m [] (Happens (Opened S k) ∷ H) n
+  -- a look for a line of S finds none yet
   pub silent : (m n : Match) (S : Colour) (k : ℕ) (H : List Act) → awaits_line m.phase S ≡ true
       → is_limited r.patience m.phase ≡ true → Kept r m → Stays (effect r m (Silent S k)).after H n
       → P (effect r m (Silent S k)).after (blocks_from White (effect r m (Silent S k)).to) H n
@@ -146,7 +158,8 @@ pub record Points (r : Rules) (P : Match → List Block → List Act → Match �
       → P (ends r (Faulted S Read) m).after (blocks_from White (ends r (Faulted S Read) m).to) H n
       → P m [] (Happens (FailsToRead S) ∷ H) n
 
--- what holds at the moment holds at the beginning
+-- if `P` holds at the moment after the acts `H` (`K` are the later ones), and each act keeps it in front (`Points`),
+-- then it holds of all of `H`, from the beginning of the match
 pub by_points : (r : Rules) (P : Match → List Block → List Act → Match → Type 0) → Points r P → (H K : List Act)
     (final : Match) → ((m : Match) (due : List Block) → Kept r m → IsMatchFrom r m due K final → P m due [] m)
     → IsMatch r (H ++ K) final
@@ -184,6 +197,7 @@ by_points r P k H K final rest g =
 
 -- ---- a whole match
 
+-- the match after all its acts is the match at its end
 pub end_after_acts : InEachMatch EndsAfterItsActs
 end_after_acts r H final g = by_acts r (λ m due K n. n ≡ final) (record {
   sends = λ m n b due K p. p;

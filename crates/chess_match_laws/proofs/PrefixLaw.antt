@@ -1,4 +1,5 @@
--- Each move that an engine is sent has `usermove` before it, if the engine asked for it.
+-- Each move that an engine is sent has `usermove` before it, if the engine asked for it, and otherwise none has. The
+-- invariant is `SentTo`, which each event keeps (`tells`).
 use Rattle.std.proofs.Common.{◌≡◌, ◌∙◌, ℕ, ◌-◌, Bool, true, false, List, [], ◌∷◌, ◌++◌, length, refl, sym, ap, subst, append-nil, arith, ◌/◌, codes, if◌then◌else◌, nat_lt}
 use Rattle.std.specs.List.{AllByRecursion, flat_map}
 use Rattle.std.proofs.lemmas.Grind.{flat_map-append}
@@ -32,6 +33,7 @@ each_none t (x ∷ xs) e = absurd (cc)
 
 -- ---- lines
 
+-- no move is among the lines of a setup, nor among answers (`answer_none`) or in an offer (`draw_none`)
 setup_none : (r : Rules) (C : Colour) → flat_map prefix_of (setup_lines r C) ≡ []
 unfolding setup_lines
 setup_none r C = grind (arith, flat_map-append, append-nil)
@@ -51,6 +53,7 @@ if_none false ls h = refl
 abbrev asked : Colour → Match → Bool
 asked S m = takes (codes "usermove") (m.seat S).items
 
+-- a move in an opening is sent as the engine asked
 opening_each : (r : Rules) (m : Match) (S : Colour) → Each (asked S m) (flat_map prefix_of (opening r m S))
 opening_each r m S =
     at (nat_lt 0 (length m.played)) (takes (codes "time") (m.seat S).items) (nat_lt 0 (length (m.seat S).used))
@@ -68,6 +71,7 @@ opening_each r m S =
     at false false true = tt
     at false false false = tt
 
+-- in the opening of a turn of `c`, as it is sent to S
 opens_each : (r : Rules) (m : Match) (c S : Colour)
     → Each (asked S m) (flat_map prefix_of (list_if (same_colour c S) (opening r m c)))
 opens_each r m White White = opening_each r m White
@@ -75,6 +79,7 @@ opens_each r m Black Black = opening_each r m Black
 opens_each r m White Black = tt
 opens_each r m Black White = tt
 
+-- a move among the end lines is sent as the engine asked
 end_each : (r : Rules) (m : Match) (reason : Reason) (S : Colour)
     → Each (asked S m) (flat_map prefix_of ((ends r reason m).to S))
 end_each r m reason S =
@@ -107,9 +112,11 @@ abbrev PrefixedIn : Phase → Bool → List Bool → Type 0
 PrefixedIn (Handshake c) t X = X ≡ []
 PrefixedIn p t X = Each t X
 
+-- `PrefixedIn` of a match, for the side S
 abbrev SentTo : Colour → Match → List Bool → Type 0
 SentTo S m X = PrefixedIn m.phase (asked S m) X
 
+-- in each phase all moves sent so far are as asked
 any_each : (p : Phase) (t : Bool) (X : List Bool) → PrefixedIn p t X → Each t X
 any_each (Handshake c) t X so_far = each_none t X so_far
 any_each (Setup c) t X so_far = so_far
@@ -121,17 +128,20 @@ any_each (Over reason) t X so_far = so_far
 both_none : (X Z : List Bool) → X ≡ [] → Z ≡ [] → X ++ Z ≡ []
 both_none X Z e f = ap (λ (x : List Bool). x ++ Z) e ∙ f
 
+-- with no move more, and the same asked, the invariant stays
 keeps : (p : Phase) (t s : Bool) (X Z : List Bool) → Z ≡ [] → t ≡ s → PrefixedIn p t X → PrefixedIn p s (X ++ Z)
 keeps p t s X Z none same so_far =
     subst (λ (u : Bool). PrefixedIn p u (X ++ Z)) same
     (subst (λ (Y : List Bool). PrefixedIn p t Y) (sym (ap (λ (z : List Bool). X ++ z) none ∙ append-nil X)) so_far)
 
+-- the same items ask for the same
 asked_by : (items more : List Item) → items ≡ more → takes (codes "usermove") items ≡ takes (codes "usermove") more
 asked_by items more e = ap (λ (is : List Item). takes (codes "usermove") is) e
 
 -- ---- any line
 
 module _ (r : Rules) (S : Colour) where
+  -- any line keeps the invariant
   line : (C : Colour) (kind : LineKind) (moment : ℕ) (m : Match) (X : List Bool) → awaits_line m.phase C ≡ true
       → Kept r m → SentTo S m X
       → SentTo S (line_row r m.phase kind moment m).after
@@ -195,6 +205,7 @@ module _ (r : Rules) (S : Colour) where
     opened = λ m C k X e so_far. subst (λ (q : Phase). PrefixedIn q (asked S m) X) e so_far;
   }
 
+-- it holds at the beginning
 begun : (S : Colour) → SentTo S beginning.after (flat_map prefix_of (beginning.to S))
 begun White = refl
 begun Black = refl

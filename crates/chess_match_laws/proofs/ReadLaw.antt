@@ -1,4 +1,5 @@
--- The moves of a match are read off the two engines' lines.
+-- The moves of a match are read off the two engines' lines. Going back from the end (`ReadsOff`): the moves to come are
+-- what the `move` lines to come denote in turn.
 use Rattle.std.proofs.Common.{◌≡◌, ℕ, ◌+◌, ◌-◌, ◌≤◌, true, false, List, [], ◌∷◌, ◌++◌, length, refl, ap, sym, subst, ◌∙◌, append-nil, append_assoc, Option, arith}
 use Rattle.std.specs.List.{list_any}
 use Rattle.chess_base.specs.{declared.man.Colour.Colour, declared.man.Colour.TheVariants.White, declared.man.Colour.TheVariants.Black, declared.man.Move.Move, Men.other, Men.same_colour, Options.list_if}
@@ -17,7 +18,8 @@ use Rattle.chess_match_laws.proofs.Silences.{by_silence}
 use Rattle.chess_game.specs.Line.{position_after}
 use Rattle.chess_text.specs.Moves.{reading}
 
--- the `move` lines to come of an engine, in this phase
+-- the texts of the `move` lines that count among the lines `ls` to come of the engine of S, in this phase: those after
+-- its handshake and setup
 abbrev ahead : Phase → Colour → List (Option (List ℕ)) → List (List ℕ)
 ahead (Handshake White) S ls = moves_said (lines_after_pong (lines_after_handshake ls))
 ahead (Handshake Black) White ls = moves_said (lines_after_pong ls)
@@ -33,6 +35,7 @@ ahead (Over x) S ls = []
 ahead_nil : (p : Phase) (S : Colour) → ahead p S [] ≡ []
 ahead_nil p S = grind arith
 
+-- the lines to come of each engine
 abbrev pub Streamed : Type 0
 Streamed = Colour → List (Option (List ℕ))
 
@@ -59,6 +62,7 @@ reads_on r m m' final lines lines' p same next c e =
           (rw (same c, same (other c)) n.2),
     )
 
+-- of a line of d, what d has to come begins with it; the other side's lines to come stay (`others_line`)
 own_line : (d : Colour) (t : Option (List ℕ)) (lines : Streamed) → with_line d t lines d ≡ t ∷ lines d
 own_line White t lines = refl
 own_line Black t lines = refl
@@ -90,6 +94,7 @@ reads_move r m m' final d opened t text move lines p p' turn played kind reading
 
 -- ---- the end
 
+-- one line is at most one `move` line
 few_ahead : (p : Phase) (d : Colour) (t : Option (List ℕ)) → length (ahead p d (t ∷ [])) ≤ 1
 few_ahead p d t = grind arith
 
@@ -110,12 +115,14 @@ reads_none : (r : Rules) (m final : Match) (lines : Streamed) → final.played �
 reads_none r m final lines p none c e =
     ([], p ∙ sym (append-nil m.played), rw (none c, none (other c)) (nothing_left m.phase c))
 
+-- a last line, after which nothing is read, and by which no move is played
 reads_last : (r : Rules) (m final : Match) (d : Colour) (t : Option (List ℕ)) (lines : Streamed) → final.played
     ≡ m.played
     → ((S : Colour) → lines S ≡ []) → ReadsOff r m final (with_line d t lines)
 reads_last r m final d t lines p none c e =
     ([], p ∙ sym (append-nil m.played), rw (none c, none (other c)) (few_left m.phase d c t))
 
+-- a last line by which a move is played
 reads_decided : (r : Rules) (m final : Match) (d : Colour) (opened : ℕ) (t : Option (List ℕ)) (text : List ℕ)
     (move : Move) (lines : Streamed) → m.phase ≡ BeforeMove d opened → mover r.start.side m.played ≡ d
     → final.played ≡ m.played ++ move ∷ [] → line_kind t ≡ Moves text → reading (position_after r.start m.played) text ≡ reads.Move move
@@ -126,50 +133,59 @@ reads_decided r m final d opened t text move lines p turn played kind reading no
 
 -- ---- the lines
 
--- a line of d takes from m to m': what is read from there is read from here
+-- a line of d takes the match from m to m': if the moves are read off the lines from m' on, so are they from m on, with
+-- this line in front
 abbrev Steps : Rules → Colour → Option (List ℕ) → Match → Match → Type 0
 Steps r d t m m' = (final : Match) (lines : Streamed)
     → (is_over m'.phase ≡ true → (final ≡ m') × ((S : Colour) → lines S ≡ [])) → ReadsOff r m' final lines
     → ReadsOff r m final (with_line d t lines)
 
+-- which `move` lines are ahead before and after a line of d, by what it does: here its handshake goes on
 handshake_same : (d : Colour) (t : Option (List ℕ)) (lines : Streamed) (S : Colour)
     → list_any ends_handshake (items_in_line (line_kind t)) ≡ false
     → ahead (Handshake d) S (with_line d t lines S) ≡ ahead (Handshake d) S (lines S)
 handshake_same d t lines S h1 = grind arith
 
+-- its setup goes on
 setup_same : (d : Colour) (t : Option (List ℕ)) (lines : Streamed) (S : Colour) → is_pong 1 (line_kind t) ≡ false
     → ahead (Setup d) S (with_line d t lines S) ≡ ahead (Setup d) S (lines S)
 setup_same d t lines S h1 = grind arith
 
+-- White's handshake is done
 handshake_next : (d : Colour) (t : Option (List ℕ)) (lines : Streamed) (S : Colour) → d ≡ White
     → list_any ends_handshake (items_in_line (line_kind t)) ≡ true
     → ahead (Handshake d) S (with_line d t lines S) ≡ ahead (Handshake Black) S (lines S)
 handshake_next d t lines S h1 h2 = grind arith
 
+-- Black's handshake is done
 handshake_last : (d : Colour) (t : Option (List ℕ)) (lines : Streamed) (S : Colour) → d ≡ Black
     → list_any ends_handshake (items_in_line (line_kind t)) ≡ true
     → ahead (Handshake d) S (with_line d t lines S) ≡ ahead (Setup White) S (lines S)
 handshake_last d t lines S h1 h2 = grind arith
 
+-- White's setup is done
 setup_next : (d : Colour) (t : Option (List ℕ)) (lines : Streamed) (S : Colour) → d ≡ White
     → is_pong 1 (line_kind t) ≡ true
     → ahead (Setup d) S (with_line d t lines S) ≡ ahead (Setup Black) S (lines S)
 setup_next d t lines S h1 h2 = grind arith
 
+-- Black's setup is done, and the first turn is opened
 setup_last : (d c : Colour) (t : Option (List ℕ)) (lines : Streamed) (S : Colour) → d ≡ Black
     → is_pong 1 (line_kind t) ≡ true
     → ahead (Setup d) S (with_line d t lines S) ≡ ahead (Opening c) S (lines S)
 setup_last d c t lines S h1 h2 = grind arith
 
--- a line that says no move
+-- a line of a turn that is no move
 turn_same : (p : Phase) (d : Colour) (t : Option (List ℕ)) (lines : Streamed) (S : Colour) → in_turn p ≡ true
     → move_said (line_kind t) ≡ [] → ahead p S (with_line d t lines S) ≡ ahead p S (lines S)
 turn_same p d t lines S h1 h2 = grind arith
 
+-- after its move, it passes the turn to the other side
 pass_same : (d c : Colour) (t : Option (List ℕ)) (lines : Streamed) (S : Colour) → move_said (line_kind t) ≡ []
     → ahead (AfterMove d) S (with_line d t lines S) ≡ ahead (Opening c) S (lines S)
 pass_same d c t lines S h1 = grind arith
 
+-- any line of d
 line_steps : (r : Rules) (d : Colour) (t : Option (List ℕ)) (n : ℕ) (m : Match) → awaits_line m.phase d ≡ true
     → Kept r m → Steps r d t m (line_row r m.phase (line_kind t) n m).after
 line_steps r d t n m aw k = line_cases r d (line_kind t) n m (λ e. Steps r d t m e.after) aw (λ since. record {
@@ -219,12 +235,14 @@ line_steps r d t n m aw k = line_cases r d (line_kind t) n m (λ e. Steps r d t 
 
 -- ---- the acts
 
+-- acts that are only blocks read no line
 pub none_read_in : (S : Colour) (H : List Act) → only_sends H ≡ true → lines_read S H ≡ []
 none_read_in S [] h = refl
 none_read_in S (Sends b ∷ H) h = none_read_in S H h
 none_read_in S (SendFails b ∷ H) h = none_read_in S H h
 none_read_in S (Happens e ∷ H) h = absurd cc
 
+-- the lines that these acts read of each engine
 abbrev pub lines_in : List Act → Streamed
 lines_in H S = lines_read S H
 

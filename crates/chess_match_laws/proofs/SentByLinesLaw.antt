@@ -1,4 +1,5 @@
--- The two engines' lines alone say which moves each engine is sent.
+-- The two engines' lines alone say which moves each engine is sent: they fix the items known of each engine
+-- (`items_are_said`) and the moves played (ReadLaw), and MoveLaw says which of these are sent, and how.
 use Rattle.std.proofs.Common.{◌≡◌, ℕ, ◌+◌, ◌-◌, ◌≤◌, Bool, true, false, List, [], ◌∷◌, ◌++◌, length, refl, ap, sym, ◌∙◌, append-nil, append_assoc, Option, arith, if◌then◌else◌}
 use Rattle.std.specs.List.{list_any}
 use Rattle.chess_base.specs.{declared.man.Colour.Colour, declared.man.Colour.TheVariants.White, declared.man.Colour.TheVariants.Black, Men.other, Men.same_colour}
@@ -14,7 +15,7 @@ use Rattle.chess_match_laws.proofs.{MoveLaw.all_moves_are_given, MoveLaw.moves_a
 use Rattle.chess_match_laws.proofs.Points.{by_points, in_each, moved_items, offered_items}
 use Rattle.chess_match_laws.proofs.ReadLaw.{Streamed, lines_in, moves_are_read, none_read_in, with_line}
 
--- the items that lines to come say
+-- the items that the lines to come of S will say, in this phase
 abbrev said_ahead : Phase → Colour → List (Option (List ℕ)) → List Item
 said_ahead (Handshake White) S ls = items_said ls
 said_ahead (Handshake Black) Black ls = items_said ls
@@ -29,6 +30,7 @@ Says d t m m' = (lines : Streamed) (S : Colour) → (is_over m'.phase ≡ true �
     → (m.seat S).items ++ said_ahead m.phase S (with_line d t lines S)
     ≡ (m'.seat S).items ++ said_ahead m'.phase S (lines S)
 
+-- none, once the handshakes are done
 none_ahead : (p : Phase) (S : Colour) (ls : List (Option (List ℕ))) → handshakes_done p ≡ true → said_ahead p S ls ≡ []
 none_ahead p S ls h1 = grind arith
 
@@ -41,7 +43,7 @@ done_says d t m m' g g' i lines S over =
     ∙ ap (λ (is : List Item). is ++ []) (sym (i S))
     ∙ ap (λ (is : List Item). (m'.seat S).items ++ is) (sym (none_ahead m'.phase S (lines S) g'))
 
--- a line of a handshake: it goes on, is done, or ends the match
+-- a line of d in a handshake: its items are added to those known, and `rest` is what is to come after it
 handshake_says : (d : Colour) (t : Option (List ℕ)) (m : Match) (S : Colour) (ls : List (Option (List ℕ)))
     (p : Phase) (rest : List Item) → m.phase ≡ Handshake d
     → said_ahead (Handshake d) S (if same_colour d S then t ∷ ls else ls)
@@ -63,29 +65,34 @@ handshake_says d t m S ls p rest e h =
         ≡ (m.seat S).items ++ (if same_colour d S then items_in_line (line_kind t) else [])
     items = grind (arith, append-nil)
 
+-- which items are ahead before a line of d and after it: here its handshake goes on
 ahead_on : (d : Colour) (t : Option (List ℕ)) (S : Colour) (ls : List (Option (List ℕ)))
     → list_any ends_handshake (items_in_line (line_kind t)) ≡ false
     → said_ahead (Handshake d) S (if same_colour d S then t ∷ ls else ls)
     ≡ (if same_colour d S then items_in_line (line_kind t) else []) ++ said_ahead (Handshake d) S ls
 ahead_on d t S ls h1 = grind arith
 
+-- White's handshake is done
 ahead_next : (d : Colour) (t : Option (List ℕ)) (S : Colour) (ls : List (Option (List ℕ))) → d ≡ White
     → list_any ends_handshake (items_in_line (line_kind t)) ≡ true
     → said_ahead (Handshake d) S (if same_colour d S then t ∷ ls else ls)
     ≡ (if same_colour d S then items_in_line (line_kind t) else []) ++ said_ahead (Handshake Black) S ls
 ahead_next d t S ls h1 h2 = grind arith
 
+-- Black's handshake is done
 ahead_last : (d : Colour) (t : Option (List ℕ)) (S : Colour) (ls : List (Option (List ℕ))) → d ≡ Black
     → list_any ends_handshake (items_in_line (line_kind t)) ≡ true
     → said_ahead (Handshake d) S (if same_colour d S then t ∷ ls else ls)
     ≡ (if same_colour d S then items_in_line (line_kind t) else []) ++ []
 ahead_last d t S ls h1 h2 = grind arith
 
+-- the match is over, and no line is to come
 ahead_over : (d : Colour) (t : Option (List ℕ)) (S : Colour) (ls : List (Option (List ℕ))) → ls ≡ []
     → said_ahead (Handshake d) S (if same_colour d S then t ∷ ls else ls)
     ≡ (if same_colour d S then items_in_line (line_kind t) else []) ++ []
 ahead_over d t S ls h1 = grind (arith, append-nil)
 
+-- any line of d
 lines_say : (r : Rules) (d : Colour) (t : Option (List ℕ)) (n : ℕ) (m : Match) → awaits_line m.phase d ≡ true
     → Says d t m (line_row r m.phase (line_kind t) n m).after
 lines_say r d t n m aw = line_cases r d (line_kind t) n m (λ e. Says d t m e.after) aw (λ since. record {
@@ -154,6 +161,7 @@ items_are_said r H K final g S = sym (by_points r
 
 -- the moves are those that the lines fix
 module _ (r : Rules) (H : List Act) (m : Match) (read : MovesAreRead r H m) (said : ItemsAreSaid r H m) where
+  -- what MoveLaw says of the moves sent, with the items as the lines say them
   sent_by_lines : (whole : Bool)
       → ((O : Colour) → (rest : List (List ℕ)) × (length rest ≤ 1)
       × (whole ≡ true → ended_by_write_to O m.phase ≡ false → rest ≡ [])

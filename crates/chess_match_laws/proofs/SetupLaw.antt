@@ -1,4 +1,5 @@
--- What an engine is sent in its setup.
+-- While the `pong 1` of a side is awaited, the lines that it was sent last are those of its setup (`Told`, which each
+-- event keeps); and the bytes of these lines for two examples, worked out.
 use Rattle.std.proofs.Common.{◌≡◌, ◌∙◌, ℕ, eqb, arith, Bool, true, false, not, ◌&&◌, None, Some, List, [], ◌∷◌, ◌++◌, refl, sym, ap, subst, append-nil, append_assoc, Option, bytes_eq, flat_map, codes, if◌then◌else◌}
 use Rattle.std.proofs.lemmas.Bool.Decides.{nat_tests}
 use Rattle.std.specs.{Option.option_map_or, Fmt.digits}
@@ -19,6 +20,7 @@ use Rattle.chess_match_laws.proofs.{Givings.lines_due, Points.Kept, Tellings.Tel
 
 -- ---- all lines
 
+-- each line as a list of one
 abbrev each : SentLine → List SentLine
 each l = l ∷ []
 
@@ -30,9 +32,12 @@ each_is (l ∷ ls) = ap (λ xs. l ∷ xs) (each_is ls)
 abbrev Last : Rules → Colour → List SentLine → Type 0
 Last r S X = (front : List SentLine) × (X ≡ front ++ setup_lines r S)
 
+-- in its setup, S was sent the lines of its setup last (`X` are all lines that it was sent or is due); in other phases
+-- nothing is claimed
 record ToldIn (r : Rules) (S : Colour) (p : Phase) (X : List SentLine) : Type 0 where
   last : (c : Colour) → p ≡ Setup c → same_colour c S ≡ true → Last r S X
 
+-- `ToldIn` of a match
 abbrev Told : Rules → Colour → Match → List SentLine → Type 0
 Told r S m X = ToldIn r S m.phase X
 
@@ -40,12 +45,13 @@ abbrev is_setup : Phase → Bool
 is_setup (Setup c) = true
 is_setup _ = false
 
--- in another phase nothing is said
+-- in a phase that is no setup nothing is to be shown
 elsewhere : (r : Rules) (S : Colour) (p : Phase) (X : List SentLine) → is_setup p ≡ false → ToldIn r S p X
 elsewhere r S p X off = record {
   last = λ c e own. absurd (let both : true ≡ false = sym (ap is_setup e) ∙ off in cc);
 }
 
+-- a turn is no setup
 no_setup : (p : Phase) → in_turn p ≡ true → is_setup p ≡ false
 no_setup (Handshake c) on = refl
 no_setup (Setup c) on = absurd (cc)
@@ -54,7 +60,7 @@ no_setup (BeforeMove c opened) on = refl
 no_setup (AfterMove c) on = refl
 no_setup (Over reason) on = refl
 
--- White is set up
+-- White's setup begins, after the handshake of C
 set_up : (r : Rules) (S C : Colour) (X answers : List SentLine) → C ≡ Black
     → ToldIn r S (Setup White) (X ++ flat_map each (list_if (same_colour C S) answers ++ list_if (same_colour White S)
     (setup_lines r White)))
@@ -68,7 +74,7 @@ set_up r Black C X answers s = record {
     not_his White e own = absurd (cc)
     not_his Black e own = absurd (cc)
 
--- Black is set up
+-- Black's setup begins
 set_up_next : (r : Rules) (S : Colour) (X : List SentLine)
     → ToldIn r S (Setup Black) (X ++ flat_map each (list_if (same_colour Black S) (setup_lines r Black)))
 set_up_next r Black X = record { last = λ c e own. (X, ap (λ z. X ++ z) (each_is (setup_lines r Black))) }
@@ -79,6 +85,7 @@ set_up_next r White X = record { last = λ c e own. absurd (not_his c e own) }
     not_his Black e own = absurd (cc)
 
 module _ (r : Rules) (S : Colour) where
+  -- any line keeps it
   line : (C : Colour) (kind : LineKind) (moment : ℕ) (m : Match) (X : List SentLine) → awaits_line m.phase C ≡ true
       → Kept r m → Told r S m X
       → Told r S (line_row r m.phase kind moment m).after
@@ -149,6 +156,7 @@ lines_by is_960 level start =
 abbrev lines_for : Position → LevelSeen → List SentLine
 lines_for start level = lines_by (is_fischerandom start.variant) level (start_fen start)
 
+-- the bytes of the first example
 normal_is : bytes_of (lines_for initial_setup forty_in_five) ≡ normal_setup
 unfolding bytes_of digits
 normal_is =
@@ -156,6 +164,7 @@ normal_is =
     ∙ ap (λ (o : Option (List ℕ)). bytes_of (lines_by false forty_in_five o)) no_fen
     ∙ rw own_level refl
 
+-- for Chess960 a FEN is sent
 some_fen : (start : Position) → start.variant ≡ Fischerandom → start_fen start ≡ Some (fen start)
 unfolding start_fen
 some_fen start is = at (is_initial start) (is_fischerandom start.variant) (ap is_fischerandom is)
@@ -169,6 +178,7 @@ other_level : level_text two_and_twelve ≡ codes "0 2 12"
 unfolding level_text base_text increment_text decimals_text digits
 other_level = refl
 
+-- the bytes of the second example
 chess960_is : (start : Position) → start.variant ≡ Fischerandom
     → bytes_of (lines_for start two_and_twelve) ≡ chess960_setup start
 unfolding bytes_of digits
@@ -177,6 +187,7 @@ chess960_is start is =
     ∙ ap (λ (o : Option (List ℕ)). bytes_of (lines_by true two_and_twelve o)) (some_fen start is)
     ∙ rw other_level (simp append_assoc)
 
+-- the lines of a setup, by start and level
 by_rules : (r : Rules) (S : Colour) → setup_lines r S ≡ lines_for r.start (r.level S)
 unfolding setup_lines
 by_rules r S = refl
@@ -187,6 +198,7 @@ by_both r S start level e k =
     ap bytes_of (by_rules r S) ∙ ap (λ s. bytes_of (lines_for s (r.level S))) e
     ∙ ap (λ l. bytes_of (lines_for start l)) k
 
+-- what was sent last, as bytes
 last_bytes : (r : Rules) (S : Colour) (X : List SentLine) → Last r S X → SetUpBy r S (bytes_of X)
 last_bytes r S X (front, is) =
     let all : bytes_of X ≡ bytes_of front ++ bytes_of (setup_lines r S) =

@@ -12,7 +12,7 @@ use Rattle.chess_match_laws.specs.OfActs.{AreSilent, SilencesAreAskedFor, Silenc
 use Rattle.chess_match.proofs.{shared.LineCases.MayStopSilent, shared.LineCases.silence_cases, shared.MatchCases.by_acts, shared.MatchCases.by_cases, shared.MatchCases.on_when_read}
 use Rattle.chess_match_laws.proofs.Points.{Stays}
 
--- what follows of a match that ends by a silence, and of one that goes on, follows of the silence
+-- what follows of a match that ends by a silence (`end`), and of one that goes on (`on`), follows of any silence
 pub by_silence : (r : Rules) (m n : Match) (S : Colour) (k : ℕ) (H : List Act) (P : Match → List Block → Type 0)
     {A : Type 0}
     → ((reason : Reason) → MayStopSilent r.patience m.phase reason → only_sends H ≡ true
@@ -28,6 +28,7 @@ by_silence r m n S k H P {A} end on = silence_cases r S k m
 
 -- ---- where the rules ask for them
 
+-- rules without a limit to waiting limit no phase
 never_limited : {A : Type 0} (patience : Patience) (p : Phase) → patience ≡ endless → is_limited patience p ≡ true → A
 never_limited patience p e limited = at p (sym (ap (λ (x : Patience). is_limited x p) e) ∙ limited)
   where
@@ -39,12 +40,13 @@ never_limited patience p e limited = at p (sym (ap (λ (x : Patience). is_limite
     at (AfterMove c) h = absurd cc
     at (Over reason) h = absurd cc
 
+-- one more look that found something, of this side (`own`) or of the other
 found_more : (own : Bool) (found : List Bool)
     → ((n : ℕ) → n < length found → slice_get found n ≡ Some false) → (n : ℕ)
     → n < length (list_if own (false ∷ []) ++ found) → slice_get (list_if own (false ∷ []) ++ found) n ≡ Some false
 found_more own found h1 n h2 = grind arith
 
--- no look found none
+-- acts without a silence have no look that found none
 found_each : (H : List Act) → list_any is_silent H ≡ false → AreSilent (λ S n. false) H
 found_each [] none = λ S n h. absurd (omega (arith, h))
 found_each (Sends b ∷ H) none = found_each H none
@@ -56,6 +58,7 @@ found_each (Happens (Opened c k) ∷ H) none = found_each H none
 found_each (Happens (FailsToWrite c) ∷ H) none = found_each H none
 found_each (Happens (Silent c k) ∷ H) none = absurd cc
 
+-- a match by rules without a limit has no silence
 none_silent : (r : Rules) (H : List Act) (final : Match) → IsMatch r H final → r.patience ≡ endless
     → list_any is_silent H ≡ false
 none_silent r H final g e = by_cases r final (λ m due H. list_any is_silent H ≡ false) (record {
@@ -80,6 +83,7 @@ over_by : (b : Bool) (x y : Effect) → is_over x.after.phase ≡ true → is_ov
 over_by true x y over on = over
 over_by false x y over on = on
 
+-- a silence ends the match if and only if the side is beyond its limit
 pub beyond : (r : Rules) (m : Match) (S : Colour) (moment : ℕ) (p : Phase) → m.phase ≡ p → awaits_line p S ≡ true
     → is_over (silence_row r p S moment m).after.phase ≡ is_beyond r m p S moment
 beyond r m S moment p e aw = at p aw (ap is_over e ∙ on_when_read p S aw)
@@ -118,11 +122,13 @@ silences_end_matches r before after S moment final g = by_acts r
 
 -- ---- whether they change a match that goes on
 
+-- an effect by a test that fails is the second one
 untouched : (b : Bool) (x y : Effect) (m : Match) → b ≡ false → y.after ≡ m → ((X : Colour) → y.to X ≡ [])
     → ((if b then x else y).after ≡ m) × ((X : Colour) → (if b then x else y).to X ≡ [])
 untouched true x y m h same none = absurd cc
 untouched false x y m h same none = (same, none)
 
+-- a silence within the limit changes nothing, if the time for a reply ran already
 within : (r : Rules) (m : Match) (S : Colour) (moment : ℕ) (p : Phase) → is_beyond r m p S moment ≡ false
     → is_some m.since ≡ true → ((silence_row r p S moment m).after ≡ m)
     × ((X : Colour) → (silence_row r p S moment m).to X ≡ [])

@@ -1,4 +1,6 @@
--- What the lines that an engine is sent say of the match, along its acts.
+-- A scheme for laws of what an engine S was sent by one kind of line (`f` takes it out of a line): `Told` is said of a
+-- match and of all that S was sent or is due. Who shows that each event keeps it (`Tells`) has at each moment what
+-- follows of it (`told_at`). So in PingLaw, GoLaw, SetupLaw, PassingLaw, PrefixLaw, AnswerLaw and LinesDue.
 use Rattle.std.proofs.Common.{◌≡◌, ◌∙◌, ℕ, true, false, List, [], ◌∷◌, ◌++◌, sym, ap, subst, append-nil, append_assoc, Option, if◌then◌else◌, flat_map}
 use Rattle.std.proofs.lemmas.Grind.{flat_map-append}
 use Rattle.chess_base.specs.{declared.man.Colour.Colour, declared.man.Colour.TheVariants.White, Men.same_colour, Options.list_if}
@@ -9,7 +11,7 @@ use Rattle.chess_match.specs.{Events.Line, Lines.SentLine, Rules.Rules, declared
 use Rattle.chess_match.proofs.shared.MatchCases.{on_when_read}
 use Rattle.chess_match_laws.proofs.{Givings.both_due, Givings.lines_due, Points.Kept, Points.by_points, Silences.by_silence}
 
--- what each event does to `Told`, which holds of a match and of all that S was sent or is to be sent by then
+-- each event keeps `Told m X`, where `X` is all that S was sent by such lines, or is due, up to the match `m`
 pub record Tells {A : Type 0} (f : SentLine → List A) (r : Rules) (S : Colour) (Told : Match → List A → Type 0) : Type 0
   where
     pub line : (C : Colour) (kind : LineKind) (moment : ℕ) (m : Match) (X : List A) → awaits_line m.phase C ≡ true
@@ -33,17 +35,20 @@ module _ {A : Type 0} (f : SentLine → List A) (r : Rules) (S : Colour) (Told :
       (ap (λ xs. X ++ xs) (flat_map-append f (list_if (same_colour b.to S) b.lines) (lines_due S due))
       ∙ sym (append_assoc X (flat_map f (list_if (same_colour b.to S) b.lines)) (flat_map f (lines_due S due)))) h
 
+  -- the lines `ls` were sent first, and then those given later
   given_more : (C : List A → Type 0) (X : List A) (ls given : List SentLine)
       → C ((X ++ flat_map f ls) ++ flat_map f given) → C (X ++ flat_map f (ls ++ given))
   given_more C X ls given c = subst C (append_assoc X (flat_map f ls) (flat_map f given)
       ∙ ap (λ (xs : List A). X ++ xs) (sym (flat_map-append f ls given))) c
 
+  -- what an effect sends is due
   dues : (first : Colour) (e : Effect) (X : List A) → Told e.after (X ++ flat_map f (e.to S))
       → Told e.after (X ++ flat_map f (lines_due S (blocks_from first e.to)))
   dues first e X h =
       subst (λ (ls : List SentLine). Told e.after (X ++ flat_map f ls)) (sym (both_due first S e.to)) h
 
-  -- what holds at a moment of what was sent and is due then, holds of all that is sent in the acts before
+  -- what follows (`C`) at a moment from `Told`, where some lines may still be due, follows of all that was sent in the
+  -- acts `H` up to then (`K` are the later ones)
   pub told_at : (C : Match → List A → Type 0) (H K : List Act) (final : Match)
       → ((m : Match) (due : List Block) → IsMatchFrom r m due K final → (X : List A)
       → Told m (X ++ flat_map f (lines_due S due)) → C m X)

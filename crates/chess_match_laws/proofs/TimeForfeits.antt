@@ -18,12 +18,13 @@ use Rattle.chess_match_laws.specs.OfActs.{EndsOverstepped, InEachMatch, Overstep
 use Rattle.chess_match.proofs.shared.MatchCases.{both_not, by_acts, by_cases, on_when_read}
 use Rattle.chess_match_laws.proofs.Points.{Stays, by_points, whole}
 
--- whether a match is lost, or drawn, on time for this reason, and in this phase
+-- whether a match that ended for this reason was lost, or drawn, on time
 abbrev is_forfeit : Reason → Bool
 is_forfeit (Forfeits c) = true
 is_forfeit ForfeitsToBareKing = true
 is_forfeit _ = false
 
+-- whether in this phase a match is over on time
 abbrev forfeited : Phase → Bool
 forfeited (Over reason) = is_forfeit reason
 forfeited _ = false
@@ -35,6 +36,7 @@ is_late r m _ moment = false
 
 -- ---- nothing else is such an end
 
+-- a line that comes in time ends no match on time: an ignored one, and by the next lemmas each other kind
 ignored : (r : Rules) (S : Colour) (m : Match) → forfeited m.phase ≡ false
     → forfeited (ignores r S m).after.phase ≡ false
 ignored r S m h1 = grind arith
@@ -89,6 +91,7 @@ shaken r S items m h1 = grind arith
 set_up : (r : Rules) (S : Colour) (m : Match) → forfeited (setup_done r S m).after.phase ≡ false
 set_up r S m = grind arith
 
+-- any line that comes in time
 line_timely : (r : Rules) (kind : LineKind) (moment : ℕ) (m : Match) (p : Phase) → forfeited m.phase ≡ false
     → is_late r m p moment ≡ false → forfeited (line_row r p kind moment m).after.phase ≡ false
 line_timely r kind moment m (Handshake S) h timely = at kind
@@ -104,6 +107,7 @@ line_timely r kind moment m (AfterMove S) h timely = grind (arith, in_turn r S k
 line_timely r kind moment m (Opening S) h timely = h
 line_timely r kind moment m (Over reason) h timely = h
 
+-- a silence while there is time
 silence_timely : (r : Rules) (S : Colour) (moment : ℕ) (m : Match) (p : Phase) → awaits_line p S ≡ true
     → forfeited m.phase ≡ false → is_late r m p moment ≡ false
     → forfeited (silence_row r p S moment m).after.phase ≡ false
@@ -118,6 +122,7 @@ late_line : (r : Rules) (S side : Colour) (opened moment : ℕ) (kind : LineKind
 late_line r S side opened moment kind m e late =
     subst (λ (x : Colour). line_row r (BeforeMove x opened) kind moment m ≡ flag_row r S m) (sym e) (rw late refl)
 
+-- a silence, in the same way
 late_silence : (r : Rules) (S c side : Colour) (opened moment : ℕ) (m : Match) → c ≡ S
     → nat_lt (clock r m S) (moment - opened) ≡ true
     → silence_row r (BeforeMove side opened) c moment m ≡ flag_row r S m
@@ -130,6 +135,7 @@ EndsOnTime r S final =
     final.phase ≡ Over (if has_bare_king (other S) (position_after r.start final.played).men then ForfeitsToBareKing
     else Forfeits S)
 
+-- the fall of the flag of S is such an end
 flag_ends : (r : Rules) (S : Colour) (m final : Match) (e : Effect) → e ≡ flag_row r S m → final ≡ e.after
     → EndsOnTime r S final
 flag_ends r S m final e is same =
@@ -158,6 +164,7 @@ is_look _ = false
 -- ---- who oversteps its time loses
 
 module _ (r : Rules) (S : Colour) (final : Match) where
+  -- a line that shows the flag of S fallen
   by_line : (m : Match) (c : Colour) (t : Option (List ℕ)) (k : ℕ) (due : List Block) (after : List Act)
       → IsMatchFrom r (effect r m (Line c t k)).after due after final → (p : Phase) → m.phase ≡ p
       → shows_fallen r m p S (Happens (Line c t k)) ≡ true → EndsOnTime r S final
@@ -170,6 +177,7 @@ module _ (r : Rules) (S : Colour) (final : Match) where
       (over_stays r (effect r m (Line c t k)).after final due after g (ap (λ (x : Effect). is_over x.after.phase) is))
   by_line m c t k due after g p e h = absurd cc
 
+  -- a silence that does
   by_silence : (m : Match) (c : Colour) (k : ℕ) (due : List Block) (after : List Act) → awaits_line m.phase c ≡ true
       → IsMatchFrom r (effect r m (Silent c k)).after due after final → (p : Phase) → m.phase ≡ p
       → shows_fallen r m p S (Happens (Silent c k)) ≡ true → EndsOnTime r S final
@@ -183,6 +191,7 @@ module _ (r : Rules) (S : Colour) (final : Match) where
       (over_stays r (effect r m (Silent c k)).after final due after g (ap (λ (x : Effect). is_over x.after.phase) is))
   by_silence m c k due after aw g p e h = absurd cc
 
+  -- no other act shows a flag fallen
   none_shown : (m : Match) (p : Phase) (act : Act) → is_look act ≡ false → shows_fallen r m p S act ≡ false
   none_shown m p act h1 = grind arith
 
@@ -195,6 +204,7 @@ module _ (r : Rules) (S : Colour) (final : Match) where
   ends_by m (b ∷ due) (Happens e) after g h = absurd g
   ends_by m due act after g h = both_not (shows_fallen r m m.phase S act) (none_shown m m.phase act refl) h
 
+  -- so a side that oversteps its time loses, or draws, on time
   overstepped : (H : List Act) → IsMatch r H final → OverstepsTime r H S → EndsOnTime r S final
   overstepped H g (before, act, after, e, shown) = by_acts r
       (λ m due K n. shows_fallen r n n.phase S act ≡ true → EndsOnTime r S final) (record {
@@ -211,7 +221,7 @@ module _ (r : Rules) (S : Colour) (final : Match) where
 
 -- ---- who loses on time oversteps it
 
--- the last of these acts but for blocks shows the flag of S fallen, if the match is `m` before them
+-- one of these acts, after which only blocks are sent, shows the flag of S fallen; the match is `m` before them
 abbrev OverstepsFrom : Rules → Match → List Act → Colour → Type 0
 OverstepsFrom r m H S = (before : List Act) × (act : Act) × (after : List Act) × (H ≡ before ++ act ∷ after)
     × (only_sends after ≡ true) × (let n = match_after r m before in shows_fallen r n n.phase S act ≡ true)
@@ -222,14 +232,15 @@ Overstepped r m H reason =
     (S : Colour) × ((c : Colour) → reason ≡ Forfeits c → S ≡ c) × OverstepsFrom r m H S
 
 module _ (r : Rules) (reason : Reason) (is : is_forfeit reason ≡ true) where
-  -- a match that is not over on time, and is then for this reason, shows it
+  -- a match that is not over on time, and is later over for this reason, has an act that shows it
   abbrev Shows : Match → List Act → Match → Type 0
   Shows m H n = forfeited m.phase ≡ false → n.phase ≡ Over reason → Overstepped r m H reason
 
+  -- a match that is not over on time is not over for this reason
   no_forfeit : {A : Type 0} (n : Match) → forfeited n.phase ≡ false → n.phase ≡ Over reason → A
   no_forfeit n on o = both_not (forfeited n.phase) on (ap forfeited o ∙ is)
 
-  -- a fault is none
+  -- a fault is no end on time
   faulted : {A : Type 0} (c : Colour) (f : MatchFault) (m n : Match) → n ≡ (ends r (Faulted c f) m).after
       → n.phase ≡ Over reason → A
   faulted c f m n same o = no_forfeit n (ap (λ (x : Match). forfeited x.phase) same) o
@@ -244,7 +255,7 @@ module _ (r : Rules) (reason : Reason) (is : is_forfeit reason ≡ true) where
       at true e = cc
       at false e = cc
 
-  -- this act shows it
+  -- this act shows the flag fallen
   now : (m n : Match) (S : Colour) (e : Event) (H : List Act) → effect r m e ≡ flag_row r S m
       → Stays (effect r m e).after H n → shows_fallen r m m.phase S (Happens e) ≡ true → n.phase ≡ Over reason
       → Overstepped r m (Happens e ∷ H) reason
@@ -272,6 +283,7 @@ module _ (r : Rules) (reason : Reason) (is : is_forfeit reason ≡ true) where
     ),
   )
 
+  -- a line
   line_shows : (m n : Match) (c : Colour) (t : Option (List ℕ)) (k : ℕ) (H : List Act) → awaits_line m.phase c ≡ true
       → Stays (effect r m (Line c t k)).after H n → Shows (effect r m (Line c t k)).after H n
       → Shows m (Happens (Line c t k) ∷ H) n
@@ -287,6 +299,7 @@ module _ (r : Rules) (reason : Reason) (is : is_forfeit reason ≡ true) where
           (p (line_timely r (line_kind t) k m m.phase on (ap (λ (x : Phase). is_late r m x k) e ∙ timely)) o)
       at q e true late = absurd cc
 
+  -- a silence
   silence_shows : (m n : Match) (c : Colour) (k : ℕ) (H : List Act) → awaits_line m.phase c ≡ true
       → Stays (effect r m (Silent c k)).after H n → Shows (effect r m (Silent c k)).after H n
       → Shows m (Happens (Silent c k) ∷ H) n
@@ -303,6 +316,7 @@ module _ (r : Rules) (reason : Reason) (is : is_forfeit reason ≡ true) where
           (p (silence_timely r c k m m.phase aw on (ap (λ (x : Phase). is_late r m x k) e ∙ timely)) o)
       at q e true late = absurd cc
 
+  -- of a whole match
   shown : (H : List Act) (final : Match) → IsMatch r H final → final.phase ≡ Over reason
       → Overstepped r beginning.after H reason
   shown H final g over =

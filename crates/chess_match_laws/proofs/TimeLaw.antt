@@ -1,4 +1,6 @@
--- The times that an engine is sent are the clocks.
+-- The times that an engine O is sent are the clocks, by the scheme of Givings. `own` says which: its own clock, in
+-- `time` lines, or its opponent's, in `otim` lines. `AllOf` is what O is to be sent, and `RestIs` says what of it may
+-- be unsent.
 use Rattle.std.proofs.Common.{◌≡◌, ℕ, ◌+◌, ◌-◌, ◌/◌, ◌≤◌, Bool, true, false, ◌||◌, List, [], ◌∷◌, ◌++◌, length, length-append, drop, refl, ap, sym, subst, ◌∙◌, append-nil, arith, flat_map, if◌then◌else◌, codes, sum}
 use Rattle.std.proofs.{lemmas.Grind.flat_map-append, lemmas.List.Sums.sum_by-cons}
 use Rattle.chess_base.specs.{declared.man.Colour.Colour, declared.man.Colour.TheVariants.White, declared.man.Colour.TheVariants.Black, declared.man.Move.Move, Men.other, Men.same_colour, Options.list_if}
@@ -13,12 +15,12 @@ use Rattle.chess_match.proofs.shared.LineCases.{offered_used, said_used}
 
 -- ---- the lines
 
--- the numbers of `time` lines, or of `otim` lines
+-- the number in a `time` line (`own`) or in an `otim` line
 abbrev numbers : Bool → SentLine → List ℕ
 numbers true = time_sent
 numbers false = otim_sent
 
--- whose clock they show to S
+-- whose clock they show to S: its own, or the other's
 abbrev whose : Bool → Colour → Colour
 whose true S = S
 whose false S = other S
@@ -31,17 +33,20 @@ no_text false text = refl
 abbrev last_shown : LevelSeen → Bool → List ℕ → List ℕ
 last_shown level takes used = if takes then (allotted level (length used) - sum used) / 10 ∷ [] else []
 
+-- an opening shows the clock as it is, if the engine takes `time`
 opening_times : (own : Bool) (r : Rules) (m : Match) (S : Colour) → flat_map (numbers own) (opening r m S)
     ≡ last_shown (r.level (whose own S)) (takes (codes "time") (m.seat S).items) (m.seat (whose own S)).used
 opening_times true r m S = grind (arith, flat_map-append, append-nil)
 opening_times false r m S = grind (arith, flat_map-append, append-nil)
 
+-- the end shows none
 end_times : (own : Bool) (r : Rules) (m : Match) (reason : Reason) (S : Colour)
     → flat_map (numbers own) ((ends r reason m).to S) ≡ []
 end_times own r m reason S = grind arith
 
 -- ---- the clocks
 
+-- after one move more the clock shows one time more
 centiseconds-snoc : (level : LevelSeen) (k spent : ℕ) (us : List ℕ) (u n t : ℕ) → n ≡ k + length us + 1 → t
     ≡ spent + sum us + u
     → centiseconds level k spent (us ++ u ∷ []) ≡ centiseconds level k spent us ++ (allotted level n - t) / 10 ∷ []
@@ -59,6 +64,7 @@ abbrev from : Bool → List ℕ → List ℕ
 from true xs = xs
 from false xs = drop 1 xs
 
+-- all times that a side is shown after these used times; without the first, if it is not `whole`; none without `time`
 abbrev all_shown : Bool → LevelSeen → Bool → List ℕ → List ℕ
 all_shown whole level takes used = if takes then from whole (centiseconds level 0 0 used) else []
 
@@ -70,30 +76,36 @@ pending true (AfterMove c) S t = t
 pending false (AfterMove c) S t = if same_colour c S then [] else t
 pending own p S t = []
 
+-- the first time of a clock is shown, too: always of one's own, and of the other's if S moves first
 abbrev is_whole : Bool → Rules → Colour → Bool
 is_whole own r S = own || same_colour S r.start.side
 
--- before the game nothing is to be sent
+-- what S is to be shown in this phase: before the game nothing
 abbrev AllIn : Bool → Rules → Colour → Phase → Bool → List ℕ → List ℕ
 AllIn own r S (Handshake c) takes used = []
 AllIn own r S (Setup c) takes used = []
 AllIn own r S p takes used = all_shown (is_whole own r S) (r.level (whose own S)) takes used
 
+-- `rest` is what of it is still to be sent in this phase; after the end any
 abbrev RestIn : Bool → Rules → Colour → Phase → Bool → List ℕ → List ℕ → Type 0
 RestIn own r S (Handshake c) takes used rest = (rest ≡ []) × (used ≡ [])
 RestIn own r S (Setup c) takes used rest = (rest ≡ []) × (used ≡ [])
 RestIn own r S (Over reason) takes used rest = Unit {0}
 RestIn own r S p takes used rest = rest ≡ pending own p S (last_shown (r.level (whose own S)) takes used)
 
+-- whether the engine of S takes `time`
 abbrev takes_time : Match → Colour → Bool
 takes_time m S = takes (codes "time") (m.seat S).items
 
+-- `AllIn` of a match
 abbrev AllOf : Bool → Rules → Colour → Match → List ℕ
 AllOf own r S m = AllIn own r S m.phase (takes_time m S) (m.seat (whose own S)).used
 
+-- `RestIn` of a match
 abbrev RestIs : Bool → Rules → Colour → Match → List ℕ → Type 0
 RestIs own r S m rest = RestIn own r S m.phase (takes_time m S) (m.seat (whose own S)).used rest
 
+-- the same in the phase `p`, which is the match's
 rest_in : (own : Bool) (r : Rules) (S : Colour) (m : Match) (p : Phase) (rest : List ℕ) → m.phase ≡ p
     → RestIs own r S m rest → RestIn own r S p (takes_time m S) (m.seat (whose own S)).used rest
 rest_in own r S m p rest e h =
@@ -126,6 +138,7 @@ from-append true level us t = refl
 from-append false level [] t = refl
 from-append false level (u ∷ us) t = refl
 
+-- after one move more one time more is to be shown
 all_more : (whole : Bool) (level : LevelSeen) (takes : Bool) (used : List ℕ) (u : ℕ)
     → all_shown whole level takes (used ++ u ∷ [])
     ≡ all_shown whole level takes used ++ last_shown level takes (used ++ u ∷ [])
@@ -158,6 +171,7 @@ opened_same false c S k t = refl
 
 -- ---- the events
 
+-- the match ends, and shows no clock any more
 stops : (own : Bool) (r : Rules) (O : Colour) (m : Match) (reason : Reason) (rest : List ℕ) → is_over m.phase ≡ false
     → length rest ≤ 1 → RestIs own r O m rest
     → Goes (AllOf own r O) (RestIs own r O) m rest (flat_map (numbers own) ((ends r reason m).to O))
@@ -199,6 +213,7 @@ opened_times own r O c m = at (same_colour c O) (same_colour-true c O)
         ∙ ap (λ (x : Colour). last_shown (r.level (whose own x)) (takes_time m x) (m.seat (whose own x)).used) (h refl)
     at false h = refl
 
+-- what each event does, as Givings asks for it
 gives : (own : Bool) (r : Rules) (O : Colour) → Gives (numbers own) r O (AllOf own r O) (RestIs own r O)
 gives own r O = record {
   stops = stops own r O;
@@ -294,6 +309,7 @@ gives own r O = record {
 
 -- ---- all that is sent
 
+-- at each moment all times were sent, but for at most the last
 shown_at : (own : Bool) (r : Rules) (O : Colour) (H K : List Act) (final : Match) → IsMatch r (H ++ K) final
     → (let m = match_after r beginning.after H in (rest : List ℕ) × (length rest ≤ 1)
     × (flat_map (numbers own) (lines_given O H) ++ rest

@@ -21,11 +21,13 @@ abbrev taken : Option ℕ → LineKind → ℕ → List ℕ
 taken None kind n = []
 taken (Some k) kind n = if is_move kind then (n - k) ∷ [] else []
 
+-- the moment of the opening after the line: none, if the line was the move
 abbrev awaited_then : Option ℕ → LineKind → Option ℕ
 awaited_then None kind = None
 awaited_then (Some k) kind = if is_move kind then None else Some k
 
--- a line takes from m to m': S's times grow by what it takes, if the match goes on, and else perhaps by less
+-- a line takes the match from m to m': the times used by S grow by what the line takes, but for `rest`, which is
+-- nothing if the match goes on
 abbrev Grows : Colour → LineKind → ℕ → Match → Match → Type 0
 Grows S kind n m m' =
     (rest : List ℕ) × (length rest ≤ 1) × ((m.seat S).used ++ taken (awaited S m.phase) kind n ≡ (m'.seat S).used
@@ -33,9 +35,11 @@ Grows S kind n m m' =
     × (is_over m'.phase ≡ false
     → (rest ≡ []) × (awaited S m'.phase ≡ awaited_then (awaited S m.phase) kind))
 
+-- a line takes at most one time
 taken_short : (o : Option ℕ) (kind : LineKind) (n : ℕ) → length (taken o kind n) ≤ 1
 taken_short o kind n = grind arith
 
+-- a line that says no move is no `move` line
 not_move : (kind : LineKind) → move_said kind ≡ [] → is_move kind ≡ false
 not_move kind h1 = grind arith
 
@@ -94,6 +98,7 @@ moved_grow S c kind n opened m m' p is u b = (
     next true = rw is refl
     next false = refl
 
+-- any line of c
 lines_grow : (r : Rules) (S c : Colour) (kind : LineKind) (n : ℕ) (m : Match) → awaits_line m.phase c ≡ true
     → Grows S kind n m (line_row r m.phase kind n m).after
 lines_grow r S c kind n m aw = line_cases r c kind n m (λ e. Grows S kind n m e.after) aw (λ since. record {
@@ -132,17 +137,20 @@ line_times : (S c : Colour) (p : Phase) (text : Option (List ℕ)) (n : ℕ) (H 
     ++ move_times S (awaited_then (awaited S p) (line_kind text)) H
 line_times S c p text n H h1 = grind arith
 
+-- acts that are only blocks take no time
 no_times : (S : Colour) (o : Option ℕ) (H : List Act) → only_sends H ≡ true → move_times S o H ≡ []
 no_times S o [] h = refl
 no_times S o (Sends b ∷ H) h = no_times S o H h
 no_times S o (SendFails b ∷ H) h = no_times S o H h
 no_times S o (Happens e ∷ H) h = absurd cc
 
--- from here on the times are those of these acts
+-- the times used by S at the end (`n`) are those at `m` and those of the acts `H`, but for `rest`; a move of S is
+-- awaited since `o`
 abbrev Ends : Colour → Match → Option ℕ → List Act → Match → Type 0
 Ends S m o H n = (rest : List ℕ) × (length rest ≤ 1) × ((m.seat S).used ++ move_times S o H ≡ (n.seat S).used ++ rest)
     × (is_over n.phase ≡ false → rest ≡ [])
 
+-- a line in front
 goes_on : (S c : Colour) (text : Option (List ℕ)) (k : ℕ) (H : List Act) (m m' n : Match) → awaits_line m.phase c ≡ true
     → Stays m' H n → Grows S (line_kind text) k m m' → Ends S m' (awaited S m'.phase) H n
     → Ends S m (awaited S m.phase) (Happens (Line c text k) ∷ H) n
@@ -179,6 +187,7 @@ goes_on S c text k H m m' n aw stays g e = at (is_over m'.phase) refl
       λ on. both_not (is_over n.phase) on (ap (λ (x : Match). is_over x.phase) same ∙ over),
     )
 
+-- an act that ends the match, and uses no time
 stopped : (S : Colour) (o : Option ℕ) (H : List Act) (m n : Match) → (n.seat S).used ≡ (m.seat S).used
     → only_sends H ≡ true → Ends S m o H n
 stopped S o H m n u only = (

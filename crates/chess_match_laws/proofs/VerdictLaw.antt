@@ -1,4 +1,5 @@
--- Why a match ended, and its outcome: by the board's verdict.
+-- A match that ended for a verdict has it on the board (Verdicts.judged_at_end of chess_match), and the outcome that is
+-- reported is that of its game.
 use Rattle.std.proofs.Common.{◌≡◌, ℕ, List, refl, ap, sym, ◌∙◌, subst, Option, None, Some}
 use Rattle.std.specs.Option.{option_map, option_map_or, option_or}
 use Rattle.chess_game.specs.{declared.verdicts.Verdict.Verdict, Ends.verdict, Ends.verdict_result, Game.Seen, Game.outcome_now, declared.results.Outcome.Outcome, declared.results.Outcome.TheVariants.Unfinished, declared.tags.HowEnded.HowEnded}
@@ -15,6 +16,7 @@ abbrev outcome_at : Option Verdict → Reason → Outcome
 outcome_at v reason =
     option_map_or (λ d. d.outcome) (option_or (option_map verdict_result v) (declared_at v reason)) Unfinished
 
+-- it is the outcome of the reason that is reported
 outcome_is : (v : Option Verdict) (reason : Reason)
     → outcome_by_reason (reported_reason v reason) ≡ outcome_at v reason
 outcome_is None reason = refl

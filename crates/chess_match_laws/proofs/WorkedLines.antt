@@ -1,4 +1,5 @@
--- Lines of engines and to them, time controls and ends of a match, by computation.
+-- Lines of engines and to them, time controls and ends of a match, in examples. Each is proved by computation (`refl`);
+-- `unfolding` names the definitions that are opened for it.
 use Rattle.std.proofs.Common.{refl}
 use Rattle.std.specs.Fmt.{digits}
 use Rattle.chess_base.specs.{Initial.initial_setup, Initial.initial_setup_of, Men.is_of, Men.is_man, Moves.after}

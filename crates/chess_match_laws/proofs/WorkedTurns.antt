@@ -1,4 +1,5 @@
--- What lines of engines do in a match, by computation.
+-- What lines of engines do in a match, in examples. Each is proved by computation (`refl`); `unfolding` names the
+-- definitions that are opened for it.
 use Rattle.std.proofs.Common.{◌≡◌, false, true, refl}
 use Rattle.std.specs.Fmt.{digits}
 use Rattle.chess_base.specs.Attacks.{is_clear, could_capture, attacks, is_attacked, is_in_check}

@@ -18,7 +18,7 @@ pub fn engines_have_what_is_needed()
 {}
 
 /// States a law and does nothing: each move that an engine is sent has `usermove ` before it if the engine has that
-/// feature on, and otherwise not; so far too, while the match is on.
+/// feature on, and otherwise not. It holds at each moment while a match is on, too.
 pub fn prefixes_are_as_asked()
     ensures { AtEachMoment PrefixesAreAsAsked }
 {}

@@ -1,4 +1,4 @@
-//! Laws of matches.
+//! Laws of matches, said of their acts. A caller learns one by calling its function, which does nothing.
 
 ghost use Rattle.std.specs.Prelude.{true, false};
 ghost use Rattle.chess_match_laws.specs.Answering.{AnsweringEnginesAreBlameless};
@@ -52,9 +52,9 @@ pub fn last_line_is_theirs()
     ensures { LastLineIsTheirs }
 {}
 
-/// States a law and does nothing: the moves of a match are what the two engines' `move` lines denote in turn, each as
-/// the one legal move that the next `move` line of the side to move denotes, where lines before the end of its setup
-/// don't count and one last line may be left over; so far too, while the match is on.
+/// States a law and does nothing: the moves of a match are read off the two engines' lines. Each is the one legal move
+/// that the next `move` line of the side to move denotes; lines before the end of a side's setup don't count, and one
+/// last line may be left over. It holds at each moment while a match is on, too.
 pub fn moves_are_read()
     ensures whole { InEachMatch MovesAreRead }
     ensures so_far { AtEachMoment MovesAreRead }
@@ -104,7 +104,7 @@ pub fn moves_sent_are_known()
 {}
 
 /// States a law and does nothing: the number in each `time` line is the engine's own clock in centiseconds, rounded
-/// down, and the number in each `otim` line is its opponent's; so far too, while the match is on.
+/// down, and the number in each `otim` line is its opponent's. It holds at each moment while a match is on, too.
 pub fn times_are_clocks()
     ensures own { InEachMatch TimesAreClocks }
     ensures others { InEachMatch OtherTimesAreClocks }
@@ -113,14 +113,14 @@ pub fn times_are_clocks()
 {}
 
 /// States a law and does nothing: the time that a move used is the moment of its line less the moment when its turn was
-/// opened, or 0 if that is negative; so far too, while the match is on.
+/// opened, or 0 if that is negative. It holds at each moment while a match is on, too.
 pub fn used_times_are_differences()
     ensures whole { InEachMatch UsedTimesAreDifferences }
     ensures so_far { AtEachMoment UsedTimesAreDifferences }
 {}
 
 /// States a law and does nothing: the moves of a side take no more time than it was given. What it has left and what
-/// they took are together what it was given; so far too, while the match is on.
+/// they took are together what it was given. It holds at each moment while a match is on, too.
 pub fn clocks_do_not_underflow()
     ensures whole { InEachMatch ClocksDoNotUnderflow }
     ensures so_far { AtEachMoment ClocksDoNotUnderflow }
@@ -135,7 +135,7 @@ pub fn time_forfeits_are_shown()
 /// States a law and does nothing: no act is a silence unless flags or replies have a limit. After a silence the match
 /// is over exactly if the side that was silent was beyond its limit: before its move, if it used more time than it had
 /// left; otherwise, if it owed its line for longer than the rules allow. A silence that is not beyond the limit changes
-/// nothing, but that the first one of a match may begin the time for a reply.
+/// nothing, except that the first one of a match may begin the time for a reply.
 pub fn silences_end_matches()
     ensures asked_for { SilencesAreAskedFor }
     ensures beyond { SilencesEndMatches }
@@ -149,7 +149,7 @@ pub fn silences_leave_no_line()
 {}
 
 /// States a law and does nothing: in a game of at most `limit` half-moves at most 22,000 + 10,002 * (limit + 1) lines
-/// of both engines together are read; so far too, while the match is on.
+/// of both engines together are read. It holds at each moment while a match is on, too.
 pub fn lines_are_few()
     ensures whole { InEachMatch LinesAreFew }
     ensures so_far { AtEachMoment LinesAreFew }
@@ -183,8 +183,8 @@ pub fn setups_are_these_lines()
     ensures { AtEachLine IsSetUp }
 {}
 
-/// States a law and does nothing: the n-th `ping` that an engine is sent has the number n; so far too, while the match
-/// is on.
+/// States a law and does nothing: the n-th `ping` that an engine is sent has the number n. It holds at each moment
+/// while a match is on, too.
 pub fn pings_are_numbered()
     ensures whole { InEachMatch PingsAreNumbered }
     ensures so_far { AtEachMoment PingsAreNumbered }
@@ -199,7 +199,8 @@ pub fn go_is_sent_once()
 {}
 
 /// States a law and does nothing: each turn is opened once. The clock was read for a side's openings as often as it has
-/// moved, or once more, if its move is awaited or the match ended before it; so far too, while the match is on.
+/// moved, or once more, if its move is awaited or the match ended before it. It holds at each moment while a match is
+/// on, too.
 pub fn turns_are_opened_once()
     ensures whole { InEachMatch TurnsAreOpenedOnce }
     ensures so_far { AtEachMoment TurnsAreOpenedOnce }
@@ -212,8 +213,9 @@ pub fn agreed_draws_are_offered()
 {}
 
 /// States a law and does nothing: whenever a line of a side is read while an offer of a draw by the other side is open,
-/// that side was sent `draw`, unless its engine has the feature off. It is sent `draw` at most as often as the other
-/// side offers a draw, and at most once more than it makes moves; so an offer that is repeated is not passed on again.
+/// the side that sent the line was sent `draw`, unless its engine has the feature off. A side is sent `draw` at most as
+/// often as the other side offers a draw, and at most once more than it makes moves; so an offer that is repeated is
+/// not passed on again.
 pub fn offers_are_passed_on()
     ensures passed { AtEachLine OffersArePassedOn }
     ensures offered { AtEachMoment DrawsAreOffered }

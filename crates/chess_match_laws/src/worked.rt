@@ -30,7 +30,8 @@ pub fn levels_are_worked_out()
 
 /// States a law and does nothing: the lines by which handshakes and turns are opened in a match of 40 moves in 5
 /// minutes, byte by byte: in an engine's first turn the move comes before the clocks, in later turns after them; in
-/// SAN, and without clocks, if the engine asked for that. And those at the end: the last move, if the engine was not sent it yet, the result and `quit`, to White first.
+/// SAN, and without clocks, if the engine asked for that. And those at the end: the last move, if the engine was not
+/// sent it yet, the result and `quit`, to White first.
 ///
 /// It refuses another version of the protocol, `time` and `otim` that are exchanged, clocks that are rounded up, an end
 /// without `quit`, and a result that is sent before the last move.

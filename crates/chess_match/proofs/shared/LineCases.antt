@@ -1,4 +1,6 @@
--- What a line can do to a match, whatever it says: what holds of each of these effects holds of the line's.
+-- A line's effect by cases: what holds of each effect in the record `LineCases` holds of the effect of any line that is
+-- awaited (`line_cases`). In the same way `silence_cases` for silences. By these it is shown what an event keeps true
+-- of a match.
 use Rattle.std.specs.{List.list_any, Option.option_map_or, Option.option_or}
 use Rattle.std.proofs.Common.{◌≡◌, ℕ, ◌+◌, ◌-◌, ◌≤◌, ◌<◌, Bool, true, false, not, ◌&&◌, List, [], ◌∷◌, ◌++◌, length, refl, sym, ap, ◌∙◌, subst, Option, None, Some, arith, leb-false, ltb-false, if◌then◌else◌, nat_lt, nat_le, ◌==◌, codes, is_some, option_map}
 use Rattle.chess_base.specs.{declared.man.Colour.Colour, declared.man.Colour.TheVariants.White, declared.man.Colour.TheVariants.Black, declared.man.Move.Move, Men.other, Men.same_colour, Options.list_if}
@@ -31,8 +33,8 @@ in_turn (BeforeMove S opened) = true
 in_turn (AfterMove S) = true
 in_turn _ = false
 
--- a line of S may end a match in this phase for this reason: it is no failed write, what no line of the other did, and
--- no verdict; out of a turn it is a fault
+-- a line of S may end a match in this phase for this reason: the reason is no failed write, no verdict, and no loss by
+-- a line of the other side; out of a turn it is a fault
 abbrev pub MayStop : Patience → Phase → Colour → Reason → Type 0
 MayStop patience p S reason = ((O : Colour) → is_write_fault_of reason O ≡ false)
     × ((c : Colour) → whose_line patience reason ≡ Some c → S ≡ c) × (is_decided reason ≡ false)
@@ -55,11 +57,11 @@ never on off = let no : true ≡ false = sym on ∙ off in absurd cc
 abbrev pub said_by : Colour → LineKind → Match → Match
 said_by S kind m = with_seat S (λ s. record s { items = s.items ++ items_in_line kind }) m
 
--- a line more is counted
+-- one line more is counted
 abbrev pub counting : Match → Effect
 counting m = sends_nothing (record m { count = m.count + 1 })
 
--- S's offer is opened
+-- the offer of S is opened, and the other side is sent `draw`, if its engine takes that
 abbrev pub offering : Colour → Match → Effect
 offering S m = sends_to (other S) (list_if (takes (codes "draw") (m.seat (other S)).items) (Says (codes "draw") ∷ []))
     (with_seat S (λ s. record s { offers = true }) m)
@@ -72,19 +74,20 @@ draw_by_itself r ms = if_automatic r.draws (draw_claim (claims r.start ms))
 abbrev pub over_for : Option Verdict → Option DrawClaim → Option Reason
 over_for v d = option_or (option_map (λ v. Decided v) v) (option_map (λ claim. Claimed claim) d)
 
--- S's move is played, and decides nothing
+-- the move of S is played and ends nothing; S is sent its `ping`
 abbrev pub playing : Colour → Move → ℕ → Match → Effect
 playing S move used m = let n = moved S move used m in sends_to S (ping (ping_number n S) ∷ []) n
 
--- what a line says uses no time of either side
+-- the items of a line leave the times of both sides
 pub said_used : (S C : Colour) (kind : LineKind) (m : Match) → ((said_by S kind m).seat C).used ≡ (m.seat C).used
 said_used S C kind m = grind arith
 
--- neither does an offer
+-- so does an offer
 pub offered_used : (S C : Colour) (m : Match) → ((offering S m).after.seat C).used ≡ (m.seat C).used
 offered_used S C m = grind arith
 
--- whatever a line of S says, in each phase that awaits it
+-- `Q` holds of each effect that a line of S can have, by the phase that awaits it; each field says of which line and in
+-- which state of the match `m` it comes
 pub record LineCases (r : Rules) (S : Colour) (kind : LineKind) (moment : ℕ) (m : Match) (Q : Effect → Type 0) : Type 0
   where
     -- in its handshake
@@ -166,6 +169,7 @@ own_flag patience S c e = at patience.flag e
 
 module _ (r : Rules) (S : Colour) (kind : LineKind) (moment : ℕ) (m : Match) (Q : Effect → Type 0)
     (l : LineCases r S kind moment m Q) where
+  -- an ignored line is counted, or is one too many
   ignored : handshakes_done m.phase ≡ true → (m.count + 1 < 10000 → Q (counting m)) → Q (ignores r S m)
   ignored done more = by_test Q (nat_le 10000 (m.count + 1))
       (λ h. l.stops done (Faulted S Flood) ((λ O. refl), (λ c e. cc), refl, (λ off. refl)))
@@ -173,11 +177,13 @@ module _ (r : Rules) (S : Colour) (kind : LineKind) (moment : ℕ) (m : Match) (
 
   -- a line of a turn that is no move
   module _ (on : in_turn m.phase ≡ true) (none : move_said kind ≡ []) where
+    -- `offer draw`
     offered : Q (offer_row r S m)
     offered = by_test Q (m.seat (other S)).offers (λ h. l.stops (turn_done m.phase on) Agreed
         ((λ O. refl), (λ c e. cc), refl, never on))
         (λ h. by_test Q (m.seat S).offers (λ h. ignored (turn_done m.phase on) (l.counts on none)) (l.offers on none))
 
+    -- a line of the kind `k`
     turn : (k : LineKind) → Q (turn_row r S k m)
     turn Resigns = l.stops (turn_done m.phase on) (over_by.Resigns S) ((λ O. refl), (λ c e. cc), refl, never on)
     turn OffersDraw = offered
@@ -204,6 +210,7 @@ module _ (r : Rules) (S : Colour) (kind : LineKind) (moment : ℕ) (m : Match) (
 
   -- before its move
   module _ (opened : ℕ) (p : m.phase ≡ BeforeMove S opened) (timely : moment - opened ≤ clock r m S) where
+    -- a text that is read as `read`: no legal move, or one that ends the match or not
     a_move : (text : List ℕ) (read : Reading) → kind ≡ Moves text → reading (position_after r.start m.played) text ≡ read
         → length m.played < r.limit → Q (move_row r S (moment - opened) read m)
     a_move text reads.Ambiguous is e room = l.stops (ap handshakes_done p) (MovesIllegally S)
@@ -223,6 +230,7 @@ module _ (r : Rules) (S : Colour) (kind : LineKind) (moment : ℕ) (m : Match) (
         at None (Some claim) h k = l.draws text move opened claim is p e room timely h k
         at (Some v) d h k = l.decides text move opened v is p e room timely h
 
+    -- a line of the kind `k`, with the flag still up
     before : (k : LineKind) → kind ≡ k → Q (before_move r S (moment - opened) k m)
     before (Moves text) e = by_test Q (nat_le r.limit (length m.played))
         (λ h. l.stops (ap handshakes_done p) GameTooLong ((λ O. refl), (λ c e. cc), refl, never (ap in_turn p)))
@@ -236,6 +244,7 @@ module _ (r : Rules) (S : Colour) (kind : LineKind) (moment : ℕ) (m : Match) (
     before (Answers n) e = turn (ap in_turn p) (said_none (Answers n) e refl) (Answers n)
     before SaysElse e = turn (ap in_turn p) (said_none SaysElse e refl) SaysElse
 
+  -- the flag of S has fallen
   flagged : in_turn m.phase ≡ true → Q (flag_row r S m)
   flagged on = at (has_bare_king (other S) (position_after r.start m.played).men)
     where
@@ -298,7 +307,8 @@ pub handshake_by_items : (r : Rules) (S : Colour) (kind : LineKind) (moment : �
 handshake_by_items r S (Features text) moment m = refl
 handshake_by_items r S _ moment m = refl
 
--- from when on a reply is awaited is left open: what holds of the effects is to hold whichever moment that is
+-- the effect of a line of S, which is awaited. The cases must hold whatever moment a reply is awaited from, since a
+-- line may move that (`since`)
 pub line_cases : (r : Rules) (S : Colour) (kind : LineKind) (moment : ℕ) (m : Match) (Q : Effect → Type 0)
     → awaits_line m.phase S ≡ true
     → ((since : Option ℕ) → LineCases r S kind moment (record m { since = since }) Q)
@@ -335,23 +345,23 @@ line_cases r S kind moment m Q aw l = at m.phase refl aw
 
 -- ---- silences
 
--- that no line had come may end a match in this phase for this reason: it is no failed write, what no line did, and no
--- verdict; out of a turn it is a fault
+-- a silence may end a match in this phase for this reason: the reason is no failed write, no verdict and, where the
+-- wait is limited, no loss by a line; out of a turn it is a fault
 abbrev pub MayStopSilent : Patience → Phase → Reason → Type 0
 MayStopSilent patience p reason = ((O : Colour) → is_write_fault_of reason O ≡ false)
     × (is_limited patience p ≡ true → whose_line patience reason ≡ None) × (is_decided reason ≡ false)
     × (in_turn p ≡ false → is_fault reason ≡ true)
 
--- what it can do to a match that no line had come
+-- `Q` holds of each effect that a silence can have: it ends the match, or at most sets from when on a reply is awaited
 pub record SilenceCases (r : Rules) (m : Match) (Q : Effect → Type 0) : Type 0 where
   pub stops : (reason : Reason) → MayStopSilent r.patience m.phase reason → Q (ends r reason m)
   pub goes_on : (since : Option ℕ) → Q (sends_nothing (record m { since = since }))
 
--- where flags fall without a line, a loss on time is of no line
+-- if flags fall without a line, a loss on time is no loss by a line
 flag_shown : (patience : Patience) (S : Colour) → patience.flag ≡ true → whose_line patience (Forfeits S) ≡ None
 flag_shown patience S e = ap (λ (b : Bool). if b then None else Some S) e
 
--- what a silence does, by its cases
+-- the effect of a silence in any phase
 pub silence_cases : (r : Rules) (S : Colour) (moment : ℕ) (m : Match) (Q : Effect → Type 0) → SilenceCases r m Q
     → Q (silence_row r m.phase S moment m)
 silence_cases r S moment m Q l = at m.phase refl

@@ -1,4 +1,6 @@
--- What holds of the acts of a match, by the kinds of act.
+-- Induction over the acts of a match: what holds at its end, and before each kind of act if it holds after it (`Acts`),
+-- holds of the whole match (`by_cases`). By this: nothing is read after an end or a failed read, and nothing is sent to
+-- a side after a failed write to it.
 use Rattle.std.proofs.Common.{◌≡◌, ℕ, Bool, true, false, List, [], ◌∷◌, ◌++◌, refl, ap, sym, ◌∙◌, subst, append-nil, Option, arith, if◌then◌else◌}
 use Rattle.std.proofs.lemmas.Bool.{and_parts}
 use Rattle.chess_base.specs.{declared.man.Colour.Colour, declared.man.Colour.TheVariants.White, Men.same_colour}
@@ -8,20 +10,25 @@ use Rattle.chess_match.specs.Effects.{Match, Phase, Opening, effect, beginning}
 use Rattle.chess_match.specs.Events.{Line, Opened, Silent, OutputEnds, FailsToRead, FailsToWrite}
 use Rattle.chess_match.specs.laws.Laws.{has_ended, has_failed_read, lines_read, match_after}
 
--- what holds before each act of a match, of what is due, of the acts up to a moment, and of the match then, if it holds
--- after the act
+-- `P m due H n` is said of a match `m`, the blocks `due` in it, the acts `H` that come next, and the match `n` after
+-- these. For each kind of act: if `P` holds of the match after the act and of the acts after it, it holds with the act
+-- as the first of `H`
 pub record Acts (r : Rules) (P : Match → List Block → List Act → Match → Type 0) : Type 0 where
   pub sends : (m n : Match) (b : Block) (due : List Block) (H : List Act) → P m due H n → P m (b ∷ due) (Sends b ∷ H) n
+  -- a block fails, which ends the match
   pub fails : (m n : Match) (b : Block) (due : List Block) (H : List Act) → is_over m.phase ≡ false
       → P (effect r m (FailsToWrite b.to)).after (blocks_from White (effect r m (FailsToWrite b.to)).to) H n
       → P m (b ∷ due) (SendFails b ∷ H) n
+  -- a block fails after the end
   pub fails_late : (m n : Match) (b : Block) (due : List Block) (H : List Act) → is_over m.phase ≡ true → P m due H n
       → P m (b ∷ due) (SendFails b ∷ H) n
+  -- a line of S is read
   pub reads : (m n : Match) (S : Colour) (t : Option (List ℕ)) (k : ℕ) (H : List Act) → awaits_line m.phase S ≡ true
       → P (effect r m (Line S t k)).after (blocks_after S (effect r m (Line S t k))) H n
       → P m [] (Happens (Line S t k) ∷ H) n
   pub opens : (m n : Match) (S : Colour) (k : ℕ) (H : List Act) → m.phase ≡ Opening S
       → P (effect r m (Opened S k)).after [] H n → P m [] (Happens (Opened S k) ∷ H) n
+  -- a look for a line of S finds none yet
   pub silent : (m n : Match) (S : Colour) (k : ℕ) (H : List Act) → awaits_line m.phase S ≡ true
       → is_limited r.patience m.phase ≡ true
       → P (effect r m (Silent S k)).after (blocks_from White (effect r m (Silent S k)).to) H n
@@ -35,7 +42,7 @@ pub record Acts (r : Rules) (P : Match → List Block → List Act → Match →
 
 module _ (r : Rules) (P : Match → List Block → List Act → Match → Type 0) (k : Acts r P) (K : List Act) (final : Match)
     (rest : (m : Match) (due : List Block) → IsMatchFrom r m due K final → P m due [] m) where
-  -- what holds for each act holds for those before the others
+  -- `P` holds of acts `H` of a match, if it holds where they end (`rest`); the acts `K` come after them
   pub by_acts : (m : Match) (due : List Block) (H : List Act) → IsMatchFrom r m due (H ++ K) final
       → P m due H (match_after r m H)
   by_acts m due [] g = rest m due g
@@ -79,7 +86,8 @@ module _ (r : Rules) (P : Match → List Block → List Act → Match → Type 0
 
 -- ---- a whole match
 
--- what holds at a match's end and for each act holds for all acts
+-- the same of all acts to the end: what holds at a match's end and before each act, if after it, holds of the rest of
+-- any match
 pub by_cases : (r : Rules) (final : Match) (P : Match → List Block → List Act → Type 0)
     → Acts r (λ m due H end. P m due H) → (is_over final.phase ≡ true → P final [] []) → (m : Match) (due : List Block)
     (H : List Act) → IsMatchFrom r m due H final → P m due H
@@ -135,7 +143,7 @@ pub both_not : {P : Type 0} (b : Bool) → b ≡ false → b ≡ true → P
 both_not true e h = absurd cc
 both_not false e h = absurd cc
 
--- if the match is over nothing is read by these acts; and nothing is read after an end or a failed read
+-- in a match that is over nothing is read by these acts; and in any nothing is read after an end or a failed read
 abbrev Reading : Match → List Block → List Act → Type 0
 Reading m due H = (is_over m.phase ≡ true → unread H ≡ true) × (reads_end H ≡ true)
 
@@ -275,11 +283,11 @@ sending_ends r m final due H S g = (by_cases r final (Sending S) (record {
   );
 }) (λ o. (λ h n. refl, λ f. refl)) m due H g).1
 
--- of a whole match
+-- in a whole match nothing is read after an end or a failed read
 pub all_reads_end : (r : Rules) (H : List Act) (final : Match) → IsMatch r H final → reads_end H ≡ true
 all_reads_end r H final g = reading_ends r beginning.after final (blocks_from White beginning.to) H g
 
--- nor in a whole match
+-- in a whole match nothing is sent to a side after a failed write to it
 pub all_sends_end : (r : Rules) (H : List Act) (final : Match) (S : Colour) → IsMatch r H final
     → sends_end S H ≡ true
 all_sends_end r H final S g =

@@ -1,4 +1,5 @@
--- Why a match ended: by the board's verdict.
+-- A match whose last position has a verdict ended for this verdict, or before the first move by a fault
+-- (`verdicts_end_matches`). The invariant is `Judged`, which each event keeps.
 use Rattle.std.proofs.Common.{◌≡◌, ◌⊎◌, ℕ, Bool, true, false, List, [], refl, sym, ◌∙◌, subst, inl, inr, None, Some, arith}
 use Rattle.chess_base.specs.{declared.man.Colour.Colour, declared.man.Colour.TheVariants.White, declared.man.Move.Move}
 use Rattle.chess_game.specs.{declared.verdicts.Verdict.Verdict, Ends.verdict}
@@ -95,7 +96,7 @@ silent_judged r S moment m aw j = silence_cases r S moment m (λ e. Judged r e.a
   goes_on = λ since. j;
 })
 
--- what each act keeps
+-- `Judged` holds at the beginning of a match, and each act keeps it, so it holds at the end, where the match is over
 pub judged_at_end : (r : Rules) (H : List Act) (final : Match) → IsMatch r H final
     → (is_over final.phase ≡ true) × Judged r final
 judged_at_end r H final g = by_cases r final (λ m due K. Judged r m → (is_over final.phase ≡ true) × Judged r final)

@@ -55,7 +55,7 @@ WritesAt S (SendFails block) w w' =
     MatchBool (same_colour block.to S) (CutShort w w' (bytes_of block.lines)) (w' ≡ w)
 WritesAt S _ w w' = w' ≡ w
 
--- these acts took it from `w` to `w'`
+-- these acts took the input of the engine of the side `S` from `w` to `w'`
 abbrev pub WritesOf : Colour → List Act → OutputState → OutputState → Type 0
 WritesOf S [] w w' = w' ≡ w
 WritesOf S (a ∷ H) w w' = (v : OutputState) × WritesAt S a w v × WritesOf S H v w'

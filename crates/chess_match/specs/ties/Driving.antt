@@ -22,7 +22,8 @@ use Rattle.chess_match.specs.ties.Sane.{IsSane}
 
 -- ---- steps
 
--- the look by which this event is read, which waits until that moment; none, if it is not of an output
+-- the look for a line by which this event is read, which waits until that moment; none for an event that is not of an
+-- engine's output
 abbrev pub looks_of : Option ℕ → Event → List Step
 looks_of until (Line S text moment) = LooksFor S until ∷ []
 looks_of until (Silent S moment) = LooksFor S until ∷ []
@@ -89,8 +90,9 @@ by_turn Black own others = by_colour others own
 abbrev pub Ends : Match → Reason → Type 0
 Ends m reason = is_over m.phase ≡ true → m.phase ≡ Over reason
 
--- the steps `K` lead from the match `m`, when the blocks `due` are still to be sent, to `m'` and `due'`: whichever acts
--- follow there, with acts of these steps before them they follow in `m`. `failed` says to which sides a write failed
+-- the steps `K` lead from the match `m`, in which the blocks `due` are still to be sent, to `m'` and `due'`: if any
+-- acts `H` are the rest of a match from there, then these acts with those of `K` before them (`H'`) are the rest of one
+-- from `m` and `due`. `failed` says to which sides a write failed in `K`
 abbrev pub Leads : Rules → Match → List Block → List Step → Match → List Block → (Colour → Bool)
     → Type 0
 Leads r m due K m' due' failed = (H : List Act) (final : Match) (reason : Reason)
@@ -105,8 +107,11 @@ pub record IsDelivered (r : Rules) (old new : Passing) (core : MatchState) (play
     (due : List Block) (failed : Colour → Bool) (m' : Match) (K : List Step) : Type 0 where
   pub stands : Represents r core played m'
   pub passes : Passes old new K
+  -- the acts of `K` are acts of the match, from `m` to `m'`
   pub leads : Leads r m due K m' [] failed
+  -- a match that was over stays as it was
   pub stays : is_over m.phase ≡ true → m' ≡ m
+  -- in a match that goes on no write failed
   pub fine : is_over m'.phase ≡ false → (S : Colour) → failed S ≡ false
   pub sane : IsSane r m → IsSane r m'
 

@@ -12,7 +12,8 @@ use Rattle.chess_match.specs.Events.{Line, Silent, OutputEnds, FailsToRead}
 use Rattle.chess_match.specs.Run.{text_read}
 use Rattle.chess_match.specs.declared.run.TheConstants.{ENGINE_LINE_LEN}
 
--- these bytes came, of them these lines were given, and the rest is held; no end was reported, and no read failed
+-- from the state `old` of an engine's output to `new` the bytes `given` came; of their lines `texts` were returned, and
+-- the rest is `held`; no end was reported, and no read failed
 pub record OutputSoFar (old new : InputState) (held : Held) (given : List ℕ) (texts : List (Option (List ℕ))) : Type 0
   where
     pub bytes : Consumes old.known_bytes new.known_bytes given
@@ -22,7 +23,8 @@ pub record OutputSoFar (old new : InputState) (held : Held) (given : List ℕ) (
     pub ends : new.end_count ≡ old.end_count
     pub failures : new.failure_count ≡ old.failure_count
 
--- the end was reported, and all lines were given
+-- from `old` to `new` the bytes `given` came, and all their lines, `texts`, were returned; then the output ended, or a
+-- read failed
 pub record OutputEnded (old new : InputState) (given : List ℕ) (texts : List (Option (List ℕ))) : Type 0 where
   pub bytes : Consumes old.known_bytes new.known_bytes given
   pub lines : (outputs : List LineSeen) × (map text_read outputs ≡ texts)

@@ -1,4 +1,4 @@
--- What is kept of the engine says whether it takes times, so the clocks' lines are both times or none
+-- The features kept of the engine say whether it has `time` on, so the two lines of the clocks are put, or none
 -- (Sends.clocks_kept).
 use Rattle.std.proofs.Common.{sym, true, false, append-nil}
 use Rattle.chess_match.specs.Lines.{bytes_of}

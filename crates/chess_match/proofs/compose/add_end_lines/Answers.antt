@@ -1,4 +1,5 @@
--- The bytes of the end are those of the last move, where the side wasn't sent it, and of the result and `quit`.
+-- The bytes of the end are those of the last move, if the side was not yet sent it (`add_unsent`), and of `result ..`
+-- and `quit` (`add_end`).
 use Rattle.std.proofs.Common.{append_assoc}
 use Rattle.chess_match.proofs.shared.Lines.{bytes_of-append}
 use Rattle.chess_match.proofs.compose.add_end_lines.Goals as goal

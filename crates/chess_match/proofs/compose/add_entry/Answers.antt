@@ -1,5 +1,5 @@
--- A phase has lines for no side but that of which it waits, and an end for each side but one whose failed write was the
--- end. A side for which it has none gets none (Sends.same_end).
+-- Each phase but the end has lines only for the side that it waits for. The end has lines for each side, but none for
+-- one to which a failed write ended the match. Where there are no lines nothing is put (Sends.same_end).
 use Rattle.std.proofs.Common.{◌≡◌, ◌++◌, List, sym, ◌∙◌, ap, true, ℕ}
 use Rattle.chess_base.specs.Men.{same_colour}
 use Rattle.chess_match.proofs.Sends.{handshake_bytes}

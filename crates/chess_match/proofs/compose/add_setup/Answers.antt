@@ -7,6 +7,7 @@ use Rattle.chess_match.specs.{Effects.Match, Rules.Rules, ties.Represents.clocks
 use Rattle.chess_match.proofs.Sends.{setup_bytes}
 use Rattle.chess_match.proofs.compose.add_setup.Goals as goal
 
+-- the side's clock has the time control that the rules give the side
 level_kept : (r : Rules) (m : Match) (S : Colour) → (side_clock (clocks_of r.level m) S).level ≡ r.level S
 level_kept r m White = refl
 level_kept r m Black = refl

@@ -1,5 +1,5 @@
--- Where the last move is still to be sent to the side, its texts are kept (Sends.unsent_own); where to nobody or to the
--- other side, no line is due and nothing is put.
+-- If this side is still to be sent the last move, its line is put (Sends.unsent_own). If the other side is, or nobody,
+-- no line is due, and nothing is put.
 use Rattle.std.proofs.Common.{◌++◌, List, sym, ap, ◌∙◌}
 use Rattle.chess_match.specs.Lines.{SentLine, bytes_of}
 use Rattle.chess_match.proofs.Sends.{unsent_own}

@@ -1,4 +1,5 @@
--- At the end both blocks are sent; before it the first call fails, or the second, or neither.
+-- In a match that is over both blocks are sent, White's first (`send_last`). Otherwise the first write fails, or the
+-- second, or neither; for each case there is a lemma of Deliveries.
 use Rattle.std.proofs.Common.{◌≡◌, [], ap, refl, sym, ◌∙◌, true, false}
 use Rattle.chess_base.specs.{declared.man.Colour.Colour, declared.man.Colour.TheVariants.White, declared.man.Colour.TheVariants.Black, Men.other}
 use Rattle.chess_match.specs.{Acts.block_of, Acts.is_over, Lines.bytes_of, Effects.answers_to, ties.Driving.giving}

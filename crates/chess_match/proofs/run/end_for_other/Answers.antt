@@ -1,4 +1,5 @@
--- The core goes over to the end, and the block that this gives is sent.
+-- The failure is noted, the core ends the match by it, and the other side is sent its end lines: the steps of these
+-- calls pass one after the other.
 use Rattle.std.proofs.Common.{◌<◌, length, ap, subst, ◌∙◌}
 use Rattle.chess_base.specs.declared.man.Colour.{Colour}
 use Rattle.chess_match.specs.{Acts.is_over, Effects.Effect, Effects.effect, Events.FailsToWrite, ties.Driving.giving, ties.Driving.steps_of, ties.Represents.nothing_said}

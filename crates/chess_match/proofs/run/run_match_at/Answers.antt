@@ -1,4 +1,6 @@
--- The loop keeps a match that has come so far, the steps that led to it, and what agrees with it.
+-- The loop's invariant (`OnTheWay`) holds once the first lines were sent; each round keeps it and makes the measure
+-- fall, by an event (OnTheWay.went_on) or by the moment of an opening (OnTheWay.opened_on); at the end it gives the
+-- contract (OnTheWay.played_at).
 use Rattle.std.proofs.Common.{List, [], ◌∷◌, refl, ap, sym, ◌∙◌, subst, ℕ}
 use Rattle.chess_base.specs.{declared.man.Colour.Colour, declared.man.Move.Move, declared.setup.Setup.Setup}
 use Rattle.chess_game.specs.Game as game

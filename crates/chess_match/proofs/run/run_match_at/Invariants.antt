@@ -1,5 +1,6 @@
--- The loop's invariant: the steps at the table are those of a match that has come so far (OnTheWay); nothing is
--- declared in its game, and no block waits to be sent.
+-- The loop's invariant: the steps at the table are those of a match that has come so far (OnTheWay); the game has the
+-- setup's start and its own limit, nothing is declared in it, and both blocks are empty. The measure is
+-- OnTheWay.steps_left.
 use Rattle.std.proofs.Common.{◌≡◌, [], None}
 use Rattle.chess_base.specs.ByColour.{of_colour}
 use Rattle.chess_match.proofs.OnTheWay.{OnTheWay, phase_now, rules_in, steps_left}

@@ -1,4 +1,5 @@
--- The clock is read, the line is noted, and the core takes over what the line says.
+-- The clock is read and the line noted, which are two steps of the table; then the core goes on by the line
+-- (`MatchState::line`), and only this side is sent answers (Sends.none_to_other).
 use Rattle.std.proofs.Common.{◌∷◌, [], List, ℕ, Option, ap, sym, subst, ◌∙◌}
 use Rattle.cecp_engine.specs.Seen.{seen}
 use Rattle.chess_match.specs.{Events.Line, Notes.Happened, Run.text_read, Table.Passes, Table.ReadsClock, Table.Notes, ties.Represents.items_in, Acts.awaits_line, Effects.Phase}

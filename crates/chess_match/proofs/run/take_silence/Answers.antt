@@ -1,4 +1,5 @@
--- The clock is read, the silence is noted, and the core takes note of it.
+-- The clock is read and the silence noted, which are two steps of the table; then the core goes on by the silence
+-- (`MatchState::silent`).
 use Rattle.std.proofs.Common.{◌∷◌, []}
 use Rattle.chess_match.specs.{Events.Silent, Notes.Happened, Table.ReadsClock, Table.Notes}
 use Rattle.chess_match.proofs.Passings.{passed_more}

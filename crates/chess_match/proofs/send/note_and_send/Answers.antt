@@ -1,5 +1,5 @@
--- What is sent are the answers that wait, and after them the rest of the block: together the lines that are due
--- (Sends).
+-- The text that is sent has the answers that wait in the block, and after them the rest that `given` asks for: together
+-- the bytes of the effect's lines for this side (Sends.given_bytes).
 use Rattle.std.proofs.Common.{◌++◌, List, ℕ, ap, sym, ◌∙◌}
 use Rattle.chess_match.specs.{Lines.bytes_of, ties.Represents.after_answers}
 use Rattle.chess_match.proofs.{Due.some_lines, Sends.given_bytes}

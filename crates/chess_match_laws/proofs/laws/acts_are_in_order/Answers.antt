@@ -1,4 +1,5 @@
--- Where a line is read or none has come, the clock is read next and the event noted, and nothing is due (ActsInOrder).
+-- After a line is read or found not to have come, the clock is read next and the event noted; and when an event is read
+-- no block is due (ActsInOrder).
 use Rattle.chess_match_laws.proofs.ActsInOrder.{none_due, read_in_order, silent_in_order}
 use Rattle.chess_match_laws.proofs.laws.acts_are_in_order.Goals as goal
 

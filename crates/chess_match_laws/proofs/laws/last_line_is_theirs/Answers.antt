@@ -1,4 +1,4 @@
--- A match that ended by what a side's line did ended at once, so that this line is the last one read (LastLine).
+-- A side lost by its line, and the match ended at once, so that this line is the last one read (LastLine).
 use Rattle.chess_match_laws.proofs.LastLine.{last_line_is_theirs}
 use Rattle.chess_match_laws.proofs.laws.last_line_is_theirs.Goals as goal
 

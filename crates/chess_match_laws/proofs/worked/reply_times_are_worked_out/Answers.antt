@@ -1,3 +1,4 @@
+-- From which line on the time for a reply runs, and what a silence does, by computation (WorkedTurns).
 use Rattle.chess_match_laws.proofs.WorkedTurns.{replies_are_timed, silences_are_judged}
 use Rattle.chess_match_laws.proofs.worked.reply_times_are_worked_out.Goals as goal
 

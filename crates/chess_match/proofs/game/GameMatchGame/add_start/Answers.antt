@@ -3,6 +3,7 @@ use Rattle.std.proofs.Common.{◌≡◌, ℕ, List, [], ◌∷◌, ◌++◌, ap,
 use Rattle.chess_match.specs.{Rules.Rules, Rules.start_fen, Lines.bytes_of}
 use Rattle.chess_match.proofs.game.GameMatchGame.add_start.Goals as goal
 
+-- the parts `setboard `, the FEN and `\n`, put one after the other, are one line after what was put before
 in_parts : (items front text : List ℕ) → ((items ++ front) ++ text) ++ 10 ∷ [] ≡ items ++ ((front ++ text) ++ 10 ∷ [])
 in_parts items front text =
     ap (λ (l : List ℕ). l ++ 10 ∷ []) (append_assoc items front text) ∙ append_assoc items (front ++ text) (10 ∷ [])

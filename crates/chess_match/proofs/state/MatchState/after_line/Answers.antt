@@ -1,5 +1,6 @@
--- The core and its game stand for the match, and so does what each row of the definition leaves; the side's clock knows
--- its moves, and so the number of the ping that it is to answer (CoreSteps.clocks_moves).
+-- By the kind of the line: another move ends the match, the right `pong` opens the other's turn, and any other line
+-- goes to `turn_line`. The right number is one more than the moves that the side's clock has counted
+-- (CoreSteps.clocks_moves).
 use Rattle.std.proofs.Common.{◌≡◌, true, false, ◌∙◌, ap, arith, length, eq-eqb, ne_eqb, ◌==◌}
 use Rattle.chess_match.specs.{Acts.is_over, Effects.ping_number}
 use Rattle.chess_match.proofs.{CoreSteps.clocks_moves, OtherLines.after_other}

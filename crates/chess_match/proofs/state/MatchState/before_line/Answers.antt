@@ -1,5 +1,5 @@
--- The clock and the opening's moment are those of the match (CoreSteps.clocks_left), so the flag falls here where it
--- falls there. In time, `move_line` and `turn_line` go on as the table says for the line.
+-- The clock and the opening's moment are those of the match, so the flag falls in the core where it falls in the match
+-- (CoreSteps.flag_kept). If it hasn't fallen, `move_line` and `turn_line` go on by the line.
 use Rattle.std.proofs.Common.{◌-◌, ap}
 use Rattle.chess_match.specs.{Acts.is_over, Effects.awaited_since}
 use Rattle.chess_match.proofs.{CoreSteps.flag_kept, OtherLines.before_other}

@@ -1,4 +1,4 @@
--- The position is that of the match, so both find the other side's king bare.
+-- The game's position is that of the match, so code and definition agree on whether the other side has only its king.
 use Rattle.std.proofs.Common.{◌≡◌, true, false, sym}
 use Rattle.chess_base.specs.Men.{other}
 use Rattle.chess_game.specs.Line.{position_after}

@@ -1,4 +1,5 @@
--- What is kept of an engine is what its items say, so the same is missing: White is judged first, then Black.
+-- The features kept of an engine are those of its items, so code and definition find the same lacking: first in White's
+-- engine, then in Black's.
 use Rattle.std.proofs.Common.{◌≡◌, sym, ◌∙◌, ap, Some, None}
 use Rattle.chess_base.specs.declared.man.Colour.TheVariants.{White, Black}
 use Rattle.chess_match.specs.{Acts.is_over, Effects.is_owed_move, Effects.missing}

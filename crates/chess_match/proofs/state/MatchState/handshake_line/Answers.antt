@@ -1,5 +1,5 @@
--- With the line's items parsed, the core stands for the match that parsed them. What comes next is sent after the
--- answers (CoreSteps.answered_goes).
+-- With the line's items taken over, the core stands for the match with these items added. What the line then gives is
+-- sent after the answers to them (CoreSteps.answered_goes).
 use Rattle.std.proofs.Common.{◌≡◌, ◌+◌, true, false, sym, ap, arith, le-leb, nat_le}
 use Rattle.std.specs.List.{list_any}
 use Rattle.std.proofs.lemmas.Bool.{lt-leb}

@@ -1,4 +1,5 @@
--- The clock and the opening's moment are those of the match, so the flag falls here where it falls there.
+-- The clock and the opening's moment are those of the match, so the flag falls in the core where it falls in the match
+-- (CoreSteps.flag_kept).
 use Rattle.std.proofs.Common.{ap}
 use Rattle.chess_match.specs.Acts.{is_over}
 use Rattle.chess_match.proofs.CoreSteps.{flag_kept, quiet_goes, silence_goes}

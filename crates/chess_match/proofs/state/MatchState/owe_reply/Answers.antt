@@ -1,5 +1,5 @@
--- The limit and the moment from which the time runs are those of the match, so it is over here where it is over there
--- (CoreSteps.reply_kept).
+-- The limit and the moment from which the time runs are those of the match, so the time is over in the core where it is
+-- over in the match (CoreSteps.reply_kept).
 use Rattle.std.proofs.Common.{true, false}
 use Rattle.chess_match.proofs.CoreSteps.{quiet_since, reply_kept}
 use Rattle.chess_match.proofs.state.MatchState.owe_reply.Goals as goal

@@ -1,4 +1,4 @@
--- The phase of the core is that of the match, and says what the side owes.
+-- The phase of the core is that of the match, and says what the side owes: a move before its move, otherwise a reply.
 use Rattle.std.proofs.Common.{ap, sym, ◌∙◌}
 use Rattle.chess_base.specs.declared.man.Colour.{Colour}
 use Rattle.chess_base.proofs.shared.Men.{same_colour-true}

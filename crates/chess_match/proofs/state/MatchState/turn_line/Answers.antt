@@ -1,5 +1,5 @@
--- The game's claim, the offers and the count of moves are those of the match that core and game stand for, so each
--- kind of line has here the row that it has there.
+-- The game's claim, the offers and the counts of moves are those of the match, so each kind of line does in the core
+-- what `turn_row` says of it.
 use Rattle.std.proofs.Common.{◌≡◌, true, false, sym, ◌∙◌, Some, None, arith, length, lt-ltb, le-ltb, nat_lt}
 use Rattle.chess_base.specs.Men.{other, same_colour}
 use Rattle.chess_match.proofs.{CoreSteps.clocks_moves, OtherLines.ignored_other}
