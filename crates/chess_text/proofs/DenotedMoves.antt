@@ -53,7 +53,7 @@ not_legal form p m past =
     (λ h. let legal = legal_move p m (and_parts (is_denoted form p m) (is_legal p m) h).1 in let below = legal.to_in in
     omega (arith, below, past))
 
--- -- of all moves from square a, those that are denoted and legal are those to the form's end square
+-- of all moves from square a, those that are denoted and legal are those to the form's end square
 from_one : (form : Form) (p : Setup) (a : ℕ) → filter (fit form p) (flat_map (λ b. map (move_of a b) promotions) squares)
     ≡ denoted_with form p a (end_square form p) promotions
 from_one form p a =

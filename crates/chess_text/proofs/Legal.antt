@@ -72,7 +72,7 @@ unfolding is_castling_to
 castling_says p m w e = and_parts (is_man p.side King (man_at p.men m.from))
     (names_castling p.variant p.side m w (right_of p.rights p.side w)) (says_from_castling p m w e)
 
--- -- two squares that name castling to side w: the second is the one of `castling_end`
+-- two squares that name castling to side w: the second is the one of `castling_end`
 pub names_end : (v : Variant) (c : Colour) (m : Move) (w : CastlingSide) (o : Option ℕ)
     → names_castling v c m w o ≡ true → m.to ≡ castling_end v c w o
 names_end v c m w None e = absurd cc

@@ -31,7 +31,7 @@ promotes_as q d at h = grind (arith, nat_tests, at, h)
 
 -- ---- one kind
 
--- -- m is a move of a piece of kind k, without a promotion
+-- m is a move of a piece of kind k, without a promotion
 abbrev OfKind : Setup → Kind → Move → Type 0
 OfKind p k m = (is_man p.side k (man_at p.men m.from) ≡ true) × (m.promotion ≡ None)
 

@@ -27,7 +27,7 @@ man_is p m h k e = rw h.at_from (by_colour p.side e)
     by_colour White e = e
     by_colour Black e = e
 
--- -- parts that denote a legal move fit its description
+-- parts that denote a legal move fit its description
 pub fits_told : (p : Setup) (q : Parts) (m : Move) (h : IsMove p m) → is_denoted (Piece q) p m ≡ true
     → parts_fit q (described_as p m h.man) ≡ true
 unfolding is_denoted

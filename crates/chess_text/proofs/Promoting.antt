@@ -10,7 +10,7 @@ use mathlib.Core.Bool.{and_comm}
 use Rattle.std.proofs.lemmas.List.Elements.{filter_agree}
 use Rattle.chess_text.proofs.AllMoves.{filter-both}
 
--- -- the denoted legal moves from a to b are the legal ones, filtered by what the form denotes
+-- the denoted legal moves from a to b are the legal ones, filtered by what the form denotes
 of_legal : (form : Form) (p : Setup) (a b : ℕ) (ks : List (Option Kind))
     → denoted_with form p a b ks ≡ filter (λ m. is_denoted form p m) (moves_with p a b ks)
 of_legal form p a b ks =

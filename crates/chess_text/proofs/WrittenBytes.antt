@@ -6,7 +6,7 @@ use Rattle.chess_base.specs.{declared.man.CastlingSide.CastlingSide, declared.ma
 use Rattle.byte_devices.specs.Bytes.{is_letter}
 use Rattle.chess_text.specs.{declared.parts.Parts.Parts, declared.parts.Promotion.Promotion, laws.Laws.is_san_byte, laws.Laws.begins_with_letter, laws.Laws.AreParts, Parts.kind_text, Parts.file_text, Parts.rank_text, shared.Fitting.promotion_letter, shared.Fitting.promotion_text, shared.Fitting.parts_text, San.castling_text, San.check_mark}
 
--- -- a text before its mark (+ or #): two to six bytes, the first a letter
+-- a text before its mark (+ or #): two to six bytes, the first a letter
 pub record IsWord (text : List ℕ) : Type 0 where
   pub short : 2 ≤ length text
   pub long : length text ≤ 6
