@@ -97,7 +97,7 @@ form_of_fit q d e = by_tests (is_by_squares q d) (is_by_letter q d) (is_straight
 abbrev IsPromotionText : Option Kind → Text → Type 0
 IsPromotionText o t = (p : Option Promotion) × (t ≡ optional promotion_text p) × (promotes_so p o ≡ true)
 
--- the same for a promotion without `=`
+-- t is the text of a promotion without `=` that agrees with the move's (o), or empty if there is none
 abbrev IsPlainPromotion : Option Kind → Text → Type 0
 IsPlainPromotion o t = (p : Option Promotion) × (t ≡ optional promotion_text p) × (promotes_so p o ≡ true)
     × (has_equals p ≡ false)
@@ -113,14 +113,15 @@ plain = [] ∷ []
 abbrev signed : List Text
 signed = [] ∷ (61 ∷ []) ∷ []
 
--- each promotion text that the definition lists for coordinates is of this kind
+-- each promotion text that the definition lists for coordinates is that of a promotion without `=` that agrees with the
+-- move's
 each_plain : (o : Option Kind) → AllByRecursion (IsPlainPromotion o) (promotion_texts plain o)
 each_plain None = ((None, refl, refl, refl), tt)
 each_plain (Some k) =
     let same = same_kind-self k in
     ((promotion_as k false false, refl, same, refl), ((promotion_as k false true, refl, same, refl), tt))
 
--- each promotion text that the definition lists for a pawn's text is of this kind
+-- each promotion text that the definition lists for a pawn's text is that of a promotion that agrees with the move's
 each_signed : (o : Option Kind) → AllByRecursion (IsPromotionText o) (promotion_texts signed o)
 each_signed None = ((None, refl, refl), tt)
 each_signed (Some k) =
@@ -147,7 +148,8 @@ each_squares d =
       by_squares_fits d h.0 h.2 h.3,
     ))
 
--- t names the file, the rank, both or nothing of the square `from`, as parts f and r that admit it
+-- t is what may be written of the square `from` after a piece's letter: its file, its rank, both or nothing (the parts
+-- f and r)
 abbrev IsStartText : ℕ → Text → Type 0
 IsStartText from t = (f : Option ℕ) × (r : Option ℕ) × (t ≡ optional file_text f ++ optional rank_text r)
     × (admits f (file from) ≡ true) × (admits r (rank from) ≡ true)
@@ -188,11 +190,11 @@ none_is (Some x) e = absurd cc
 abbrev letter_text : Described → Text → Text → Text
 letter_text d start takes = kind_text d.man ++ (start ++ (takes ++ square_text d.to))
 
--- the same for all that may be written for `x`
+-- the texts of d by its piece's letter with this text for the start square: without `x`, and for a capture also with it
 abbrev letter_texts : Described → Text → List Text
 letter_texts d start = flat_map (λ takes. letter_text d start takes ∷ []) (capture_texts d.captures)
 
--- such a text is that of parts that fit d
+-- the text of d by its piece's letter is that of parts that fit d
 is_letter_text : (d : Described) (start takes : Text) → same_kind d.man Pawn ≡ false → d.castles ≡ None
     → IsStartText d.from start → IsCaptureText d.captures takes → IsText d (letter_text d start takes)
 is_letter_text d start takes other walks (f, r, is, file_is, rank_is) (t, written, takes_is) = (
@@ -241,11 +243,11 @@ IsFileText from t = (r : Option ℕ) × (t ≡ file_text (file from) ++ optional
 abbrev file_texts : ℕ → List Text
 file_texts from = file_text (file from) ∷ square_text from ∷ []
 
--- `start` with all that may be written for `x`
+-- `start` alone, and for a capture also with `x` after it
 abbrev capturing : Described → Text → List Text
 capturing d start = flat_map (λ takes. (start ++ takes) ∷ []) (capture_texts d.captures)
 
--- the start's file or square, then `x` or nothing, is such a text
+-- the start's file or square, and for a capture perhaps `x`, is what may be before the end square of a pawn's move
 file_start : (d : Described) → same_kind Pawn d.man ≡ true → (start takes : Text) → IsFileText d.from start
     → IsCaptureText d.captures takes → IsPawnStart d (start ++ takes)
 file_start d pawn start takes (r, is, rank_is) (t, written, takes_is) = (
@@ -273,11 +275,11 @@ each_pawn_start d pawn =
 abbrev pawn_text : Described → Text → Text → Text
 pawn_text d start promotion = start ++ (square_text d.to ++ promotion)
 
--- the same with all promotion texts
+-- the texts of a pawn's move d with this text before its end square, with each promotion text
 abbrev pawn_texts : Described → Text → List Text
 pawn_texts d start = flat_map (λ promotion. pawn_text d start promotion ∷ []) (promotion_texts signed d.promotion)
 
--- such a text is that of parts that fit d
+-- the text of a pawn's move d is that of parts that fit d
 is_pawn_text : (d : Described) (start promotion : Text) → IsPawnStart d start → IsPromotionText d.promotion promotion
     → IsText d (pawn_text d start promotion)
 is_pawn_text d start promotion (f, r, t, is, fit) (p, written, so) =
@@ -342,7 +344,7 @@ kind_named : (o : Option Kind) (k : Kind) → names_kind o k ≡ true → o ≡ 
 kind_named None k e = absurd cc
 kind_named (Some j) k e = ap (λ (y : Kind). Some y) (same_kind-true j k e)
 
--- the text of parts that fit d by its squares is in the first list; the facts a to so are read off the test
+-- the text of parts that fit d by its two squares is one of `squares_texts`
 squares_in : (d : Described) (letter : Option Kind) (f r : Option ℕ) (takes : Bool) (to : ℕ) (p : Option Promotion)
     → is_by_squares (of letter f r takes to p) d ≡ true
     → IsIn Text (squares_texts d) (parts_text (of letter f r takes to p))
@@ -366,7 +368,7 @@ no_pawn Bishop h = refl
 no_pawn Knight h = refl
 no_pawn Pawn h = absurd h
 
--- the text of parts that fit d by its piece's letter is in the second list
+-- the text of parts that fit d by its piece's letter is one of `lettered_texts`
 letter_in : (d : Described) (letter : Option Kind) (f r : Option ℕ) (takes : Bool) (to : ℕ) (p : Option Promotion)
     → IfSome letter HasLetter → is_by_letter (of letter f r takes to p) d ≡ true
     → IsIn Text (lettered_texts d) (parts_text (of letter f r takes to p))
@@ -389,7 +391,7 @@ letter_in d letter f r takes to p has e =
     rw (is, none, h, other, walks)
     (rw (append_assoc (optional file_text f) (optional rank_text r) (x ++ square_text d.to)) at there)
 
--- a pawn's text is in the third list if what is before its end square is in `starts_of`
+-- a pawn's text is one of `pawns_texts` if what is before its end square is in `starts_of`
 in_pawn : (d : Described) (start : Text) (p : Option Promotion) → same_kind Pawn d.man ≡ true
     → promotes_so p d.promotion ≡ true → IsIn Text (starts_of d) start
     → IsIn Text (pawns_texts d) (pawn_text d start (optional promotion_text p))
@@ -398,7 +400,7 @@ in_pawn d start p pawn so there =
     rw pawn (in-flat_map (pawn_texts d) (starts_of d) start (pawn_text d start end) there
     (in-one (pawn_text d start) (promotion_texts signed d.promotion) end (in_signed d.promotion p so)))
 
--- the text of parts that fit d by its end square alone is in the third list
+-- the text of parts that fit d, a pawn's move, by its end square alone is one of `pawns_texts`
 straight_in : (d : Described) (letter : Option Kind) (f r : Option ℕ) (takes : Bool) (to : ℕ) (p : Option Promotion)
     → is_straight (of letter f r takes to p) d ≡ true
     → IsIn Text (pawns_texts d) (parts_text (of letter f r takes to p))
@@ -420,7 +422,7 @@ in_file : (from : ℕ) (r : Option ℕ) → admits r (rank from) ≡ true
     → IsIn Text (file_texts from) (file_text (file from) ++ optional rank_text r)
 in_file from r a t e = grind (arith, nat_tests, a, e)
 
--- the text of parts that fit d by a pawn's start file is in the third list
+-- the text of parts that fit d, a pawn's move, by its start file is one of `pawns_texts`
 file_in : (d : Described) (letter : Option Kind) (f r : Option ℕ) (takes : Bool) (to : ℕ) (p : Option Promotion)
     → is_by_file (of letter f r takes to p) d ≡ true
     → IsIn Text (pawns_texts d) (parts_text (of letter f r takes to p))

@@ -19,7 +19,8 @@ same_side-true QueenSide QueenSide h = refl
 same_side-true KingSide QueenSide h = cc
 same_side-true QueenSide KingSide h = cc
 
--- the same by what is on the start square (o): parts name the end square, and castling to a side has one
+-- a move that the form denotes ends on the form's end square, by the man on its start square (o): parts name their end
+-- square, and castling to a side ends on one
 form_ends : (form : Form) (p : Setup) (m : Move) (o : Option Man) → passes (form_fits form) (described_by p m o) ≡ true
     → m.to ≡ end_square form p
 form_ends form p m None h = cc
@@ -40,7 +41,7 @@ denoted_ends form p m h = form_ends form p m (man_at p.men m.from) h
 abbrev fit : Form → Setup → Move → Bool
 fit form p m = is_denoted form p m && is_legal p m
 
--- a move to another square isn't denoted
+-- a move to another square than the form's end square isn't denoted
 not_fit : (form : Form) (p : Setup) (m : Move) → m.to ≢ end_square form p → fit form p m ≡ false
 not_fit form p m away =
     false_from_ne_true (fit form p m)

@@ -60,7 +60,7 @@ pub denoted_as : (p : Setup) (m : Move) (h : IsMove p m) (q : Parts) → is_deno
 unfolding is_denoted
 denoted_as p m h q = rw (described_is p m h) refl
 
--- the two tests agree for parts with a letter
+-- for parts with a letter, the full test `parts_fit` of a move of that kind of piece agrees with the short one
 of_letter : (q : Parts) (p : Setup) (k : Kind) (m : Move) → q.letter ≡ Some k → q.end.promotion ≡ None
     → m.to ≡ q.end.to → m.promotion ≡ None → is_man p.side k (man_at p.men m.from) ≡ true
     → parts_fit q (described_as p m k) ≡ is_denoted_by_letter q p k m
@@ -70,7 +70,8 @@ of_letter q p k m letter plain to none man =
     rw (letter, plain, none, to, same_kind-self k, eq-eqb q.end.to q.end.to refl)
     (grind (arith, walks))
 
--- the two tests agree for parts without a letter, which name no whole start square: a pawn's
+-- for parts without a letter that don't name a whole start square, the full test of a pawn's move agrees with the short
+-- one
 of_pawn : (q : Parts) (p : Setup) (m : Move) → q.letter ≡ None → q.end.promotion ≡ None
     → named_square q.file q.rank ≡ None → m.from < 64
     → m.to ≡ q.end.to → m.promotion ≡ None → parts_fit q (described_as p m Pawn) ≡ is_denoted_by_pawn q p m
@@ -89,7 +90,7 @@ kind_lettered Bishop square k e = (cc, tt)
 kind_lettered Knight square k e = (cc, tt)
 kind_lettered Pawn square k e = absurd cc
 
--- the two tests agree, by the cases of `one_kind`: the letter's kind, or without a letter a pawn
+-- the full test agrees with the short one, by the cases of `one_kind`: the letter's kind, or without a letter a pawn
 by_kind : (q : Parts) (p : Setup) (k : Kind) (m : Move) (letter : Option Kind) (square : Option ℕ)
     (promotion : Option Promotion) → q.letter ≡ letter → named_square q.file q.rank ≡ square
     → q.end.promotion ≡ promotion → cond (is_some promotion) None (kind_by letter square) ≡ Some k

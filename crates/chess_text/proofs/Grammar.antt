@@ -11,7 +11,7 @@ use Rattle.chess_text.specs.{declared.parts.Parts.Parts, declared.parts.End.End,
 use Rattle.chess_text.specs.shared.Fitting.{promotion_letter, promotion_text, end_text, parts_text}
 use Rattle.chess_text.specs.shared.Reader.{lettered_kinds, promoted, kind_from, or_else, promotion_by, promotion_at, end_at, takes_at, rank_at, with_parts, file_at, at_letter, parts_at}
 
--- what one value or else the other gives is given by one of them
+-- if the first of two optional values, or else the second, gives x, one of them is x
 either : {A : Type 0} (o p : Option A) (x : A) → or_else o p ≡ Some x → (o ≡ Some x) ⊎ (p ≡ Some x)
 either (Some y) p x e = inl e
 either None p x e = inr e
@@ -45,7 +45,7 @@ can_promote c k e = promoting k (ap (kind_from promoted) (found promoted c k e) 
 small_letter : (c : ℕ) (k : Kind) → white_letter k ≡ c - 32 → white_letter k + 32 ≡ c
 small_letter c k e = grind (arith, e)
 
--- a letter read as a promotion is the letter of it, of a piece that a pawn may become
+-- a byte that is read as the letter of a promotion is that promotion's letter, and a pawn may become the piece
 pub promotion_is : (equals : Bool) (c : ℕ) (p : Promotion) → promotion_by equals c ≡ Some p
     → (p.equals ≡ equals) × (c ≡ promotion_letter p) × CanPromote p.kind
 promotion_is equals c p e =
@@ -65,7 +65,7 @@ promotion_is equals c p e =
         subst (λ (r : Promotion). (r.equals ≡ equals) × (c ≡ promotion_letter r) × CanPromote r.kind) m.2
         (refl, sym (small_letter c m.0 (found promoted (c - 32) m.0 m.1)), can_promote (c - 32) m.0 m.1)
 
--- a promotion's letter is read as this promotion
+-- the letter of a promotion, capital or small, is read as this promotion
 promotion_read : (equals small : Bool) (k : Kind) → CanPromote k
     → promotion_by equals (promotion_letter (record { kind = k; equals = equals; small = small }))
     ≡ Some (record { kind = k; equals = equals; small = small })
@@ -99,7 +99,8 @@ promotion-denoted (Some p) h = grind (arith, promotion_read p.equals p.small p.k
 
 -- ---- the end
 
--- two bytes and a promotion that are read as an end are its text; it is a square of the board
+-- a text that is read as an end is that end's text, and the end is possible: a square of the board, a promotion that a
+-- pawn may make
 pub denoted-end : (text : List ℕ) (x : End) → end_at text ≡ Some x
     → (text ≡ end_text x) × (x.to < 64) × IsPromotion x.promotion
 denoted-end [] x e = absurd cc
@@ -251,12 +252,12 @@ denoted-file letter (c ∷ rest) q e = by_case
           end_is = s.2;
         })
 
--- a file letter before the rest is the start's file, not the end square's: what follows it can't be read as a rank and
--- a promotion. First, the text of an end is no promotion
+-- the text of an end (e4, e8=Q) can't be read as a promotion
 not_promoted : (x : End) → promotion_at (end_text x) ≡ None
 not_promoted x = grind (arith, nat_tests)
 
--- so a text that begins with a start file can't be read without one
+-- with a start file in front, as in exd5, the text of rank, `x` and end can't be read without a file: that letter would
+-- be the end square's file, and no rank's digit follows it
 no_rank : (f : ℕ) (o : Option ℕ) (b : Bool) (x : End) → f < 8 → IsRank o → rank_at ((97 + f) ∷ tail_text o b x) ≡ None
 no_rank f None true x h k = grind (arith, nat_tests)
 no_rank f None false x h k = grind (arith, nat_tests)
@@ -297,7 +298,8 @@ lettered_read k h = grind (arith, h)
 no_lettered : (c : ℕ) → (c < 66) ⊎ (90 < c) → kind_from lettered_kinds c ≡ None
 no_lettered c h = grind (arith, nat_tests, h)
 
--- the parts of a text after its letter are those of the whole text
+-- what follows a piece's letter (or none) is the text of possible parts without it: then letter and text together are
+-- the text of these parts
 parts_of : (letter : Option Kind) (text : List ℕ) (q : Parts) → IfSome letter HasLetter → IsBody letter text q
     → AreParts q × (optional kind_text letter ++ text ≡ parts_text q)
 parts_of letter text q h b = (
@@ -325,7 +327,8 @@ denoted-parts (c ∷ rest) q e = by_letter (kind_from lettered_kinds c) refl e
         (denoted-file (Some k) rest q e) in
         (p.0, ap (λ x. x ∷ rest) (sym at) ∙ p.1)
 
--- a text that begins with no piece's letter is read from its file on
+-- a text that begins with a file, a rank, `x` or a square begins with no piece's letter, so it is read from its start
+-- file on
 parts-body : (file o : Option ℕ) (b : Bool) (x : End) → IfSome file (λ f. f < 8) → IsRank o
     → parts_at (optional (λ f. (97 + f) ∷ []) file ++ tail_text o b x)
     ≡ file_at None (optional (λ f. (97 + f) ∷ []) file ++ tail_text o b x)

@@ -35,7 +35,7 @@ promotes_as q d at h = grind (arith, nat_tests, at, h)
 abbrev OfKind : Setup → Kind → Move → Type 0
 OfKind p k m = (is_man p.side k (man_at p.men m.from) ≡ true) × (m.promotion ≡ None)
 
--- a legal move that parts with the letter of k denote is such a move
+-- a legal move that parts with the letter of kind k denote is of a piece of kind k, without a promotion
 lettered : (p : Setup) (q : Parts) (k : Kind) (m : Move) → q.letter ≡ Some k → HasLetter k
     → is_denoted (Piece q) p m ≡ true → is_legal p m ≡ true → OfKind p k m
 lettered p q k m at has denoted legal =
@@ -44,7 +44,7 @@ lettered p q k m at has denoted legal =
     let moves_so : MovesAs p m k = subst (MovesAs p m) (sym (same_kind-true k h.man same)) h.moves_as in
     (man_is p m h k same, unpromoted p m k has moves_so)
 
--- a legal move that parts without a letter, start square or promotion denote is such a move of a pawn
+-- a legal move that parts without a letter, whole start square or promotion denote is a pawn's, without a promotion
 of_pawn : (p : Setup) (q : Parts) (m : Move) → q.letter ≡ None → named_square q.file q.rank ≡ None
     → q.end.promotion ≡ None → is_denoted (Piece q) p m ≡ true → is_legal p m ≡ true → OfKind p Pawn m
 of_pawn p q m at square plain denoted legal =
@@ -54,7 +54,7 @@ of_pawn p q m at square plain denoted legal =
       none_told m.promotion (rw plain at (promotes_as q (described_as p m h.man) at told)),
     )
 
--- the same by the cases of `one_kind`
+-- a legal move that parts denote is of the one kind of piece that they can mean, by the cases of `one_kind`
 by_kind : (p : Setup) (q : Parts) (letter : Option Kind) (square : Option ℕ) (promotion : Option Promotion) (k : Kind)
     → q.letter ≡ letter → named_square q.file q.rank ≡ square → q.end.promotion ≡ promotion
     → cond (is_some promotion) None (kind_by letter square) ≡ Some k
@@ -67,7 +67,7 @@ by_kind p q (Some x) square None k l s n e m denoted legal =
     let is = kind_lettered x square k e in
     subst (λ k. OfKind p k m) is.0 (lettered p q x m l is.1 denoted legal)
 
--- where the parts can mean only kind k, each legal move that they denote is such a move
+-- where parts can mean only pieces of kind k, each legal move that they denote is of such a piece, without a promotion
 pub of_kind : (p : Setup) (q : Parts) (k : Kind) → one_kind q ≡ Some k
     → (m : Move) → is_denoted (Piece q) p m ≡ true → is_legal p m ≡ true → OfKind p k m
 of_kind p q k e = by_kind p q q.letter (named_square q.file q.rank) q.end.promotion k refl refl refl e
@@ -78,7 +78,8 @@ of_kind p q k e = by_kind p q q.letter (named_square q.file q.rank) q.end.promot
 same_move : (m : Move) (b : ℕ) → m.to ≡ b → m.promotion ≡ None → m ≡ move_of m.from b None
 same_move m b t n = rw (sym t, sym n) refl
 
--- so the set w of squares with such a legal move to the end square has the start of each denoted legal move
+-- the set w, of all squares with a legal move of such a piece to the end square, has the start of each legal move that
+-- the parts denote
 starts : (p : Setup) (q : Parts) (k : Kind) (w : ℕ) → one_kind q ≡ Some k → HasLegalStarts p k q.end.to w
     → IsStart p (Piece q) w
 starts p q k w e legal_starts = λ m denoted legal.
@@ -103,7 +104,7 @@ one_kept t a b false n x y z u = rw (n, x, y, z, u) refl
 abbrev fit : Parts → Setup → Move → Bool
 fit q p m = is_denoted (Piece q) p m && is_legal p m
 
--- a move with a promotion isn't both legal and denoted
+-- where parts can mean only one kind of piece, a move with a promotion isn't both legal and denoted
 no_other : (p : Setup) (q : Parts) (k : Kind) (a : ℕ) (x : Kind) → one_kind q ≡ Some k
     → fit q p (move_of a q.end.to (Some x)) ≡ false
 no_other p q k a x e = false_from_ne_true (fit q p (move_of a q.end.to (Some x))) (λ h.
@@ -116,8 +117,8 @@ legal_one : (s l : Bool) → l ≡ true → (s && l) ≡ s
 legal_one true l e = e
 legal_one false l e = refl
 
--- from a square of w, the denoted legal moves to the end square are what the short test finds: that without a
--- promotion, or none
+-- from a square of the set w at most one legal move is denoted, that to the end square without a promotion, if the
+-- short test `is_denoted_of` says so
 one_start : (p : Setup) (q : Parts) (k : Kind) (w a : ℕ) → one_kind q ≡ Some k → HasLegalStarts p k q.end.to w
     → a < 64 → contains w a ≡ true → denoted_with (Piece q) p a q.end.to promotions ≡ denoted_start q p k a
 one_start p q k w a e legal_starts low there =
@@ -147,7 +148,7 @@ flat_map-members f g w h = rw (of_range w) (flat_map-kept f g (λ k. contains w 
 
 -- ---- the reading
 
--- what `one_of` gives for the moves from the squares of w is what it gives for all denoted legal moves
+-- a reading r that is made of the short test's moves from the squares of w is the reading from all denoted legal moves
 pub by_starts : (p : Setup) (q : Parts) (k : Kind) (w : ℕ) (r : Reading) → one_kind q ≡ Some k
     → HasLegalStarts p k q.end.to w → r ≡ one_of (flat_map (denoted_start q p k) (members w))
     → r ≡ one_of (filter (λ m. is_denoted (Piece q) p m) (moves p))

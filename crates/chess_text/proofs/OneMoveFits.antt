@@ -36,7 +36,7 @@ no_side text q e (Some w) = no_name text q e w
 read_parts : (text : List ℕ) (q : Parts) → unmarked text ≡ parts_text q → AreParts q → parts_at (unmarked text) ≡ Some q
 read_parts text q e h = ap parts_at e ∙ parts-denoted q h
 
--- such a text denotes a move exactly if the parts fit it
+-- a text that is the text of possible parts q, but for its marks, denotes a described move exactly if q fit it
 pub denoted_parts : (text : List ℕ) (q : Parts) (d : Described) → unmarked text ≡ parts_text q → AreParts q
     → fits_text text d ≡ parts_fit q d
 unfolding fits_text is_castling_text
@@ -45,7 +45,7 @@ denoted_parts text q d e h =
     ap (λ t. t || has_parts (λ r. parts_fit r d) text) (no_side (unmarked text) q at d.castles)
     ∙ has-read (λ r. parts_fit r d) text ∙ ap (passes (λ r. parts_fit r d)) at
 
--- such a text passes `has_form` if the parts can be those of a move's text
+-- a text that is the text of possible parts q, but for its marks, passes `has_form` if q can be those of a move's text
 form_parts : (text : List ℕ) (q : Parts) → unmarked text ≡ parts_text q → AreParts q → is_form q ≡ true
     → has_form text ≡ true
 unfolding has_form is_castling_text

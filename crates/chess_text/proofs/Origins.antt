@@ -64,7 +64,7 @@ data NoLetter (q : Parts) (d : Described) : Type 0 where
       → NoLetter q d
   Straight : q.file ≡ None → same_kind Pawn d.man ≡ true → NoLetter q d
 
--- parts without a letter that fit a move do so in one of these ways
+-- parts without a letter that fit a move do so in one of the three ways of `NoLetter`
 no_letter : (q : Parts) (d : Described) → q.letter ≡ None → parts_fit q d ≡ true → NoLetter q d
 unfolding is_by_squares is_by_letter is_straight is_by_file
 no_letter q d at h = by_form (form_of_fit q d h)
@@ -78,7 +78,8 @@ no_letter q d at h = by_form (form_of_fit q d h)
 
 -- ---- the sets
 
--- with a letter the starts are among the squares of its kind that can reach the end square (`HasOrigins`)
+-- for parts with a letter, the squares of such pieces that can reach the end square (`HasOrigins`) have the start of
+-- each denoted move
 pub by_letter : (p : Setup) (q : Parts) (k : Kind) (w : ℕ) → q.letter ≡ Some k → HasOrigins p k q.end.to w
     → IsStart p (Piece q) w
 by_letter p q k w at origins = λ m denoted legal.
@@ -117,7 +118,7 @@ begins_there p q s m at square denoted legal =
         (named_is q.file q.rank a low (rw e at f) (rank_named q.file q.rank s (rank a) square (rw e at r))) square
     from_square a low d e (Straight n k) = file_there q.file q.rank s square n (a ≡ s)
 
--- so a set of just that square has the start of each denoted move
+-- for parts without a letter that name a whole start square s, the set of s alone has the start of each denoted move
 pub by_squares : (p : Setup) (q : Parts) (s w : ℕ) → q.letter ≡ None → named_square q.file q.rank ≡ Some s
     → ((k : ℕ) → contains w k ≡ (k == s)) → IsStart p (Piece q) w
 by_squares p q s w at square single = λ m denoted legal.
@@ -133,7 +134,8 @@ pawn_named q d low at square told = by_form (no_letter q d at told)
     by_form (ByFile f r k) = k
     by_form (Straight n k) = k
 
--- such a move begins where a pawn can reach the end square
+-- for parts without a letter and without a whole start square, the squares of pawns that can reach the end square
+-- (`HasOrigins`) have the start of each denoted move
 pub by_pawn : (p : Setup) (q : Parts) (w : ℕ) → q.letter ≡ None → named_square q.file q.rank ≡ None
     → HasOrigins p Pawn q.end.to w → IsStart p (Piece q) w
 by_pawn p q w at square origins = λ m denoted legal.
@@ -153,7 +155,7 @@ king_denoted : (v : CastlingSide) (p : Setup) (m : Move) → is_denoted (Castlin
 unfolding is_denoted described
 king_denoted v p m h = king_by v p m (man_at p.men m.from) h
 
--- the start of a castling move is where the king stands that can reach its end square
+-- for castling, the squares of kings that can reach the end square have the start of each denoted move
 pub by_castling : (p : Setup) (v : CastlingSide) (to w : ℕ) → to ≡ end_square (Castling v) p → HasOrigins p King to w
     → IsStart p (Castling v) w
 by_castling p v to w there origins = λ m denoted legal. origins m legal (king_denoted v p m denoted)
@@ -180,7 +182,7 @@ denoted_from form p w start = flat_map_members _ w (λ k low out. none_there k o
 
 -- ---- what a text is that denotes some moves
 
--- going through two lists joined is going through the second with what the first gave
+-- reading the moves of two lists joined is reading the second from what the first gave
 with_both : (found : Reading) (xs ys : List Move) → with_moves found (xs ++ ys) ≡ with_moves (with_moves found xs) ys
 with_both found [] ys = refl
 with_both found (x ∷ xs) ys = with_both (with_move found x) xs ys
@@ -190,7 +192,7 @@ stays_ambiguous : (ms : List Move) → with_moves reads.Ambiguous ms ≡ reads.A
 stays_ambiguous [] = refl
 stays_ambiguous (m ∷ ms) = stays_ambiguous ms
 
--- from `NoSuch` on, going through a list of moves gives what `one_of` says of it
+-- reading a list of moves from `NoSuch` on gives what `one_of` says of the list
 pub one_found : (ms : List Move) → with_moves reads.NoSuch ms ≡ one_of ms
 one_found [] = refl
 one_found (m ∷ []) = refl

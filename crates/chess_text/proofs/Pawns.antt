@@ -25,7 +25,7 @@ stands_off men Black s at e zero_rank =
     let e' = rw (at, zero_rank) at e in
     cc
 
--- so in a sound position its square is 8 or more
+-- in a sound position a pawn's square has a number of 8 or more: it isn't on rank 1
 pub pawn_stands : (p : Setup) → IsSound p → (c : Colour) (s : ℕ) → s < 64 → man_at p.men s ≡ Some (pawn_of c) → 8 ≤ s
 unfolding no_pawn_on_end_ranks
 pawn_stands p sound c s h at =
@@ -50,7 +50,7 @@ advance_of p m e = by_test (m.to == forward p.side m.from) refl
         Double (grind (arith, nat_tests, e, other)) (grind (arith, nat_tests, e, other))
         (is_none-None (man_at p.men (forward p.side m.from)) (grind (arith, e, other)))
 
--- one step ahead stays on the file, two as well; the steps below are arithmetic with `forward`
+-- one step ahead (`forward`) stays on the file; the five lemmas from here on are arithmetic with squares' numbers
 one_on_file : (c : Colour) (a b : ℕ) → 8 ≤ a → b ≡ forward c a → file a ≡ file b
 one_on_file c a b h e = grind arith
 
@@ -128,7 +128,7 @@ advances_without p m at e none =
       | inr takes ↦ absurd (both_ways (captures p m) none (pawn_captures_so p m at takes))
     ]
 
--- so is one that stays on its file
+-- a pawn's move that stays on its file is an advance
 pub advances_straight : (p : Setup) (m : Move) → man_at p.men m.from ≡ Some (pawn_of p.side) → pawn_moves p m ≡ true
     → file m.from ≡ file m.to → Advance p m
 advances_straight p m at e on =

@@ -48,7 +48,7 @@ abbrev tail_text : Described → List ℕ
 tail_text d = list_if d.captures (byte "x" ∷ [])
     ++ (square_text d.to ++ optional (λ k. byte "=" ∷ kind_text k) d.promotion)
 
--- the same by parts
+-- what the text of the SAN's parts has from `x` on
 abbrev tail_parts : Described → List ℕ
 tail_parts d = list_if d.captures (byte "x" ∷ []) ++
     (square_text d.to ++ optional promotion_text (as_promotion d.promotion))

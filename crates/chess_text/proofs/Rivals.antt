@@ -52,16 +52,18 @@ stays p d m other e =
 
 -- ---- the rivals from one square
 
--- the next three: no legal rival goes to another square, to a number that is no square, or promotes
+-- no legal rival of d goes to another square than d does
 elsewhere : (p : Setup) (d : Described) (m : Move) → m.to ≢ d.to → legal_rival p d m ≡ false
 elsewhere p d m away = false_from_ne_true (legal_rival p d m)
     (λ e. away (ends p d m (and_parts (is_legal p m) (is_rival p d m) e).1))
 
+-- a legal rival doesn't go to a number that is no square
 outside : (p : Setup) (d : Described) (m : Move) → 64 ≤ m.to → legal_rival p d m ≡ false
 outside p d m past = false_from_ne_true (legal_rival p d m)
     (λ e. let legal = legal_move p m (and_parts (is_legal p m) (is_rival p d m) e).0 in let below = legal.to_in in
     omega (arith, below, past))
 
+-- a rival of a move that is no pawn's isn't a promotion
 promoted : (p : Setup) (d : Described) (a : ℕ) (k : Kind) → same_kind d.man Pawn ≡ false
     → legal_rival p d (move_of a d.to (Some k)) ≡ false
 promoted p d a k other = false_from_ne_true (legal_rival p d (move_of a d.to (Some k)))
@@ -71,7 +73,7 @@ promoted p d a k other = false_from_ne_true (legal_rival p d (move_of a d.to (So
 abbrev starts : Setup → Described → ℕ → Bool
 starts p d a = is_man p.side d.man (man_at p.men a) && is_legal p (move_of a d.to None) && not (a == d.from)
 
--- a move to d's end square is a legal rival exactly if it begins on such a square
+-- a move to d's end square without a promotion is a legal rival exactly if it begins on a square of `starts`
 is_start : (p : Setup) (d : Described) (a : ℕ) → legal_rival p d (move_of a d.to None) ≡ starts p d a
 unfolding is_man
 is_start p d a =
@@ -106,7 +108,8 @@ from_square p d a other =
 
 -- ---- all of them
 
--- the starts of moves that are listed square by square: each square that t says, once
+-- the moves of f are listed for one square after another, and for each square k there is one from k if t says so,
+-- otherwise none: then their starts are the squares that t says
 gathered : (f : ℕ → List Move) (t : ℕ → Bool) (n a : ℕ)
     → ((k : ℕ) → k < a + n → map (λ (m : Move). m.from) (f k) ≡ cond (t k) (k ∷ []) [])
     → map (λ (m : Move). m.from) (flat_map f (range_with_len a n)) ≡ filter t (range_with_len a n)

@@ -79,7 +79,7 @@ written_rank : (c : Bool) (s : ℕ) → s < 64 → IfSome (if_written c (rank s)
 written_rank true s h = omega arith
 written_rank false s h = tt
 
--- they are possible parts
+-- the parts of a pawn's SAN are possible: its squares on the board, a promotion that a pawn may make
 pawn_are_parts : (c : Bool) (from to : ℕ) (o : Option Kind) → to < 64 → IfSome o CanPromote
     → AreParts (pawn_named c from to (written true false o))
 pawn_are_parts c from to o h k = record {
@@ -90,13 +90,13 @@ pawn_are_parts c from to o h k = record {
   promotion_is = promotion_part true false o k;
 }
 
--- they can be those of a move's text
+-- the parts of a pawn's SAN can be those of a move's text
 pawn_form : (c : Bool) (from to : ℕ) (o : Option Promotion) → is_form (pawn_named c from to o) ≡ true
 unfolding is_form
 pawn_form true from to o = refl
 pawn_form false from to o = refl
 
--- they fit the pawn's own move: without a capture it stays on its file
+-- the parts of a pawn's SAN fit its own move: without a capture it stays on its file
 pawn_fits : (p : Setup) (m : Move) (c : Bool) → captures p m ≡ c → (c ≡ false → file m.from ≡ file m.to)
     → parts_fit (pawn_named c m.from m.to (written true false m.promotion)) (described_as p m Pawn) ≡ true
 unfolding parts_fit is_by_squares is_by_letter is_straight is_by_file
@@ -111,7 +111,7 @@ pawn_fits p m false e on =
     let f = promotes-self true false m.promotion in
     rw (a, b, f) refl
 
--- what a move n of a piece of kind l has if the parts of m's SAN, without a capture, fit it
+-- what a move n of a piece of kind l has if the parts of m's SAN, those of a pawn's advance, fit it
 record GoesStraight (p : Setup) (m n : Move) (l : Kind) : Type 0 where
   man : l ≡ Pawn
   on : file n.from ≡ file n.to
@@ -128,7 +128,7 @@ straight_fits p m n l e = record {
   promotion = promotes-same true false m.promotion n.promotion (grind (arith, nat_tests, e));
 }
 
--- the same for the parts of a capture's SAN
+-- what a move n of a piece of kind l has if the parts of m's SAN, those of a pawn's capture, fit it
 record Takes (p : Setup) (m n : Move) (l : Kind) : Type 0 where
   man : l ≡ Pawn
   on : file m.from ≡ file n.from
@@ -199,7 +199,7 @@ lettered_named k start c from to =
       end = record { to = to; promotion = None };
     }
 
--- the parts of the definition are these if there is no promotion
+-- the parts by the definition of a lettered piece's SAN, without a promotion, are `lettered_named`
 lettered_is : (p : Setup) (m : Move) (k : Kind) (others : List ℕ) → m.promotion ≡ None
     → lettered_parts others (described_as p m k) ≡ lettered_named k (disambiguate m.from others) (captures p m) m.from m.to
 lettered_is p m k others none =
@@ -214,7 +214,7 @@ lettered_is p m k others none =
     } in
     q) none
 
--- they are possible parts
+-- the parts of a lettered piece's SAN are possible: squares on the board
 lettered_are_parts : (k : Kind) (start : Disambiguation) (c : Bool) (from to : ℕ) → HasLetter k → from < 64 → to < 64
     → AreParts (lettered_named k start c from to)
 lettered_are_parts k start c from to lettered f t =
@@ -231,7 +231,7 @@ lettered_form : (k : Kind) (start : Disambiguation) (c : Bool) (from to : ℕ)
 unfolding is_form
 lettered_form k start c from to = refl
 
--- they fit the piece's own move
+-- the parts of a lettered piece's SAN fit its own move, with whatever is written of its start
 lettered_fits : (p : Setup) (m : Move) (k : Kind) (start : Disambiguation) → castling p m ≡ None
     → parts_fit (lettered_named k start (captures p m) m.from m.to) (described_as p m k) ≡ true
 unfolding parts_fit is_by_squares is_by_letter is_straight is_by_file
@@ -243,7 +243,7 @@ lettered_fits p m k start none =
     let e = eq-eqb m.to m.to refl in
     rw (none, a, b, c, d, e) refl
 
--- what a move n of a piece of kind l has if the parts of m's SAN fit it
+-- what a move n of a piece of kind l has if the parts of m's SAN, those of a piece of kind k, fit it
 record Goes (p : Setup) (m n : Move) (k l : Kind) (start : Disambiguation) : Type 0 where
   man : l ≡ k
   walks : castling p n ≡ None
@@ -272,7 +272,7 @@ rival_stands p m n k t legal rival e =
     ∙ any-move p (λ x. is_rival p (described_as p m k) x && t x.from) n legal
     (and_from (is_rival p (described_as p m k) n) (t n.from) rival e)
 
--- a legal move of such a piece to m's end square from another square is a rival
+-- a legal move of a piece of the same kind to m's end square from another square is a rival of m
 rival_is : (p : Setup) (m n : Move) (k : Kind) (g : IsMove p n) → g.man ≡ k → n.to ≡ m.to → (n.from == m.from) ≡ false
     → is_rival p (described_as p m k) n ≡ true
 unfolding is_rival
@@ -330,7 +330,7 @@ record HasParts (p : Setup) (m : Move) (k : Kind) (q : Parts) : Type 0 where
   fits_it : parts_fit q (described_as p m k) ≡ true
   alone : (n : Move) → is_legal p n ≡ true → (g : IsMove p n) → parts_fit q (described_as p n g.man) ≡ true → n ≡ m
 
--- a pawn's parts have all this
+-- the parts of a pawn's SAN have what the law needs (`HasParts`)
 pawn_parts_of : (p : Setup) (m : Move) → IsSound p → (h : IsMove p m) → h.man ≡ Pawn
     → HasParts p m Pawn (pawn_named (captures p m) m.from m.to (written true false m.promotion))
 pawn_parts_of p m sound h is = record {
@@ -341,7 +341,7 @@ pawn_parts_of p m sound h is = record {
   alone = λ n legal g fit. pawn_alone p m n (captures p m) sound h is g refl fit;
 }
 
--- another piece's parts have all this
+-- the parts of another piece's SAN have what the law needs (`HasParts`)
 lettered_parts_of : (p : Setup) (m : Move) (k : Kind) → HasLetter k → castling p m ≡ None → m.promotion ≡ None
     → m.from < 64 → m.to < 64
     → HasParts p m k (lettered_named k (disambiguate m.from (rivals p m k)) (captures p m) m.from m.to)
@@ -353,6 +353,7 @@ lettered_parts_of p m k lettered walks none f t = record {
   alone = λ n legal g fit. lettered_alone p m n k lettered none legal g fit;
 }
 
+-- the parts by the definition of a lettered piece's SAN have it, since only a pawn promotes
 lettered_by : (p : Setup) (m : Move) (h : IsMove p m) → castling p m ≡ None → (k : Kind) → HasLetter k → h.man ≡ k
     → HasParts p m k (lettered_parts (rivals p m k) (described_as p m k))
 lettered_by p m h walks k lettered is =
@@ -360,7 +361,7 @@ lettered_by p m h walks k lettered is =
     let none = unpromoted p m k lettered so in
     subst (HasParts p m k) (sym (lettered_is p m k (rivals p m k) none)) (lettered_parts_of p m k lettered walks none h.from_in h.to_in)
 
--- the same for the parts of the definition, by the kind of piece
+-- the parts by the definition of a piece's SAN have what the law needs, by its kind
 piece_by : (p : Setup) (m : Move) → IsSound p → (h : IsMove p m) → castling p m ≡ None → (k : Kind) → h.man ≡ k
     → HasParts p m k (piece_parts (rivals p m k) (described_as p m k))
 unfolding piece_parts
@@ -387,7 +388,7 @@ pub record Law (p : Setup) (m : Move) (text : List ℕ) : Type 0 where
   pub has_shape : shape text ≡ true
   pub alone : DenotesAlone p text m
 
--- a text of castling to side w, with marks or without, has it for the move that castles to w
+-- the law for a move that castles to side w and any text that without marks is the text of castling to w
 pub castling_law : (p : Setup) (m : Move) (text : List ℕ) (w : CastlingSide) → IsSound p → IsMove p m
     → castling p m ≡ Some w → unmarked text ≡ castling_text w → Law p m text
 castling_law p m text w sound h e bare =
@@ -406,7 +407,7 @@ castling_law p m text w sound h e bare =
       );
     }
 
--- the text of such parts, with marks or without, has it
+-- the law for any text that without marks is the text of parts with what the law needs
 piece_law : (p : Setup) (m : Move) (text : List ℕ) (q : Parts) (h : IsMove p m) → HasParts p m h.man q
     → unmarked text ≡ parts_text q → Law p m text
 piece_law p m text q h parts bare = record {
@@ -420,7 +421,7 @@ piece_law p m text q h parts bare = record {
   );
 }
 
--- the SAN has it and is a word, by whether the move is castling (o)
+-- the law for m's SAN, and that it is a word, by the side to which m castles (o)
 law_by : (p : Setup) (m : Move) (text : List ℕ) → IsSound p → (h : IsMove p m) → (o : Option CastlingSide)
     → castling p m ≡ o
     → text ≡ option_map_or castling_text o (piece_text (rivals p m h.man) (described_as p m h.man)) ++ check_mark (after p m)

@@ -16,7 +16,7 @@ use Rattle.chess_text.proofs.Denotations.{of, by_letter_fits, straight_fits, fil
 
 -- ---- all descriptions
 
--- what all elements have
+-- no condition: for lists of which nothing need be known
 abbrev Any : (A : Type 0) → A → Type 0
 Any A x = Unit {0}
 
@@ -42,7 +42,8 @@ side_in o t e = grind (arith, e)
 abbrev Becomes : Option Kind → Type 0
 Becomes o = IfSome o CanPromote
 
--- the four below make up `all_described`: descriptions with these values, the others running through all choices
+-- a description with these values; `with_takes`, `with_move` and `with_man` make lists of them with all choices of the
+-- other values, as `all_described` is made
 abbrev with_castles : Kind → Move → Bool → Option CastlingSide → Described
 with_castles man m takes castles =
     record { man = man; from = m.from; to = m.to; promotion = m.promotion; captures = takes; castles = castles }
@@ -68,7 +69,7 @@ each_square = each-below (λ s. s < 64) 64 (λ s. s) (λ k l. l)
 
 -- ---- all moves
 
--- the same of a move
+-- the move is between squares of the board, with a possible promotion or none
 record MovesOnBoard (m : Move) : Type 0 where
   from_in : m.from < 64
   to_in : m.to < 64
@@ -250,7 +251,7 @@ unfolding has_form
 castling_has text KingSide h = rw h refl
 castling_has text QueenSide h = grind (arith, h)
 
--- so does the text of possible parts that can be those of a move's text
+-- the text of possible parts that can be those of a move's text passes `has_form`
 parts_have : (text : List ℕ) (q : Parts) → AreParts q → unmarked text ≡ parts_text q → is_form q ≡ true
     → has_form text ≡ true
 unfolding has_form has_parts
@@ -271,7 +272,7 @@ form_so text d e =
           parts_have text of.0 is.0 is.1 (fit_form of.0 d of.2)
     ]
 
--- so a text with a move's shape passes it
+-- a text with a move's shape passes `has_form`
 has_so : (text : List ℕ) → shape text ≡ true → has_form text ≡ true
 unfolding shape
 has_so text e =

@@ -22,7 +22,7 @@ solid-append xs text h = record {
   plain = h.plain;
 }
 
--- a text that ends with such a byte has no marks to drop
+-- a text that ends with a byte that is no mark has no marks to drop
 bare : (text : List ℕ) → IsSolid text → unmarked text ≡ text
 bare text h = ap unmarked h.split ∙ unmarked-solid h.front h.last h.plain ∙ sym h.split
 
@@ -57,7 +57,8 @@ pub bare_castling : (w : CastlingSide) → unmarked (castling_text w) ≡ castli
 bare_castling KingSide = unmarked-solid (79 ∷ 45 ∷ []) 79 refl
 bare_castling QueenSide = unmarked-solid (79 ∷ 45 ∷ 79 ∷ 45 ∷ []) 79 refl
 
--- text without marks and one mark (#, +) or none: dropping marks gives the text back
+-- dropping the marks of a text with one mark after it (# is 35, + is 43), or none, gives the text back if it had none
+-- itself
 marked_by : (text : List ℕ) (a b : Bool) → unmarked text ≡ text
     → unmarked (text ++ list_if a (if b then 35 ∷ [] else 43 ∷ [])) ≡ text
 marked_by text false b e = ap unmarked (append-nil text) ∙ e

@@ -91,7 +91,7 @@ begins-append : (xs ys : List ℕ) → begins_with_letter xs ≡ true → begins
 begins-append [] ys e = absurd cc
 begins-append (x ∷ xs) ys e = e
 
--- a word with one mark after it or none
+-- a word with at most one byte of SAN after it is a word with its mark
 with_mark : (text mark : List ℕ) → length mark ≤ 1 → AreBytes mark → IsWord text → AreBytes text → Word (text ++ mark)
 with_mark text mark few all h k =
     let len = length-append text mark in
