@@ -1,5 +1,5 @@
--- Cutting a text into fields: spaces before the first field don't count, and each field goes up to the next space or
--- the text's end.
+-- Cutting a text into its fields (`fields_of`), one at a time: spaces before a field are skipped, and the field goes up
+-- to the next space or the text's end (no_fields, next_fields).
 use Rattle.std.proofs.Common.{◌≡◌, ℕ, suc, ◌+◌, ◌<◌, ◌≤◌, Bool, true, false, cond, eqb, ltb, List, [], ◌∷◌, length, drop, refl, sym, ap, ◌∙◌, arith, inl, inr, not, ◌⊎◌, position, unwrap_or}
 use Rattle.std.specs.List.{position_or_len, before_first, slice_split}
 use Rattle.std.proofs.{lemmas.Bool.Decides.nat_tests, lemmas.Bool.cases_lt, lemmas.List.nil_from_length}
@@ -9,6 +9,7 @@ pub place_le : {A : Type 0} (p : A → Bool) (xs : List A) → position_or_len p
 place_le p [] = omega arith
 place_le p (x ∷ xs) = grind (arith, place_le p xs)
 
+-- where `position` finds no element that passes, the list's length stands for its index
 pub place_or_len : {A : Type 0} (p : A → Bool) (xs : List A)
     → unwrap_or (position p xs) (length xs) ≡ position_or_len p xs
 place_or_len p xs = elim (cases_lt (position_or_len p xs) (length xs)) [
@@ -33,13 +34,14 @@ fields_of-skip (c ∷ cs) = by_test (eqb c 32) c cs refl (fields_of-skip cs)
         ap (λ b. fields_of (drop (cond (not (not b)) (1 + position_or_len (λ b. not (eqb b 32)) cs) 0) (c ∷ cs)))
         (sym e)
 
--- where a list is cut: nowhere
+-- no element of the list passes the test: cutting the list at such elements leaves it whole
 pub record IsWhole {A : Type 0} (p : A → Bool) (xs : List A) : Type 0 where
   pub rest : drop (position_or_len p xs) xs ≡ []
   pub front : before_first p xs ≡ xs
   pub split : slice_split p xs ≡ xs ∷ []
 
--- or at its first element that passes
+-- the list is cut at its first element that passes (`at`): what is before it, and what is after it (`tail`) cut
+-- again
 pub record IsCut {A : Type 0} (p : A → Bool) (xs : List A) : Type 0 where
   pub at : A
   pub tail : List A
@@ -47,6 +49,7 @@ pub record IsCut {A : Type 0} (p : A → Bool) (xs : List A) : Type 0 where
   pub rest : drop (position_or_len p xs) xs ≡ at ∷ tail
   pub split : slice_split p xs ≡ before_first p xs ∷ slice_split p tail
 
+-- each list is one or the other
 pub cut : {A : Type 0} (p : A → Bool) (xs : List A) → IsWhole p xs ⊎ IsCut p xs
 cut p [] = inl (record { rest = refl; front = refl; split = refl })
 cut {A} p (x ∷ xs) = by_test (p x) refl (cut p xs)
@@ -71,11 +74,12 @@ cut {A} p (x ∷ xs) = by_test (p x) refl (cut p xs)
           split = rw (e, next, c.split) refl;
         })
 
+-- if nothing is left after the first spaces, the text has no fields
 pub no_fields : (text from : List ℕ) → from ≡ drop (position_or_len (λ b. not (eqb b 32)) text) text → length from ≡ 0
     → fields_of text ≡ []
 no_fields text from is none = fields_of-skip text ∙ ap fields_of (sym is ∙ nil_from_length from none)
 
--- the field at the front of a text that begins with one
+-- a text that begins with a field: that field, and then those of the rest from its first space on
 first_field : (text : List ℕ) → 0 < length (before_first (λ b. eqb b 32) text)
     → fields_of text ≡ before_first (λ b. eqb b 32) text ∷ fields_of (drop (position_or_len (λ b. eqb b 32) text) text)
 first_field text h = by_cut (cut (λ b. eqb b 32) text)
@@ -91,6 +95,8 @@ first_field text h = by_cut (cut (λ b. eqb b 32) text)
         rw (w.split, w.rest, long) (ap (λ ys. ys ∷ []) (sym w.front))
     by_cut (inr c) = rw (c.split, c.rest, keeps, c.passes) refl
 
+-- a text in which something is left after its first spaces (`from`): its first field is what is before the next space
+-- (`front`), and its other fields are those of the rest (`back`)
 pub next_fields : (text from front back : List ℕ) → from ≡ drop (position_or_len (λ b. not (eqb b 32)) text) text
     → 0 < length from → front ≡ before_first (λ b. eqb b 32) from
     → back ≡ drop (position_or_len (λ b. eqb b 32) from) from → fields_of text ≡ front ∷ fields_of back

@@ -1,4 +1,5 @@
--- A text is read exactly where it denotes a position, and what its first fault says.
+-- A text is read as a position (`fen_reading_as`) exactly where it denotes this position and the position is sound
+-- (denoted-reading, reading-denoted), and with a fault exactly where this fault is true of it (faulty, fault-read).
 use Rattle.std.proofs.Common.{◌≡◌, ◌≢◌, ℕ, ◌⊎◌, inl, inr, Bool, true, false, List, [], ◌∷◌, ◌++◌, length, take, drop, Option, Some, None, Result, Ok, Err, refl, sym, ap, subst, ◌∙◌, arith, codes, max, IfOk}
 use Rattle.chess_base.specs.{declared.man.Colour.Colour, declared.man.Rights.Rights, declared.man.Variant.Variant, declared.setup.Setup.Setup, Men.Men, Sound.IsSound, declared.fen_fault.FenFault.FenFault}
 use Rattle.chess_base.specs.Faults.{conditions, conditions_if, first_failing, setup_fault}
@@ -15,31 +16,37 @@ use Rattle.chess_fen.proofs.Steps.{steps, denoted_by, unless_fault, if_fit, deno
 
 -- ---- counters
 
--- the texts h and f of the counters, which the fields `more` give or leave out
+-- the texts h and f are those of both counters, which the fields `more` give, or leave out (then they are 0 and 1):
+-- reading them as numbers gives what `DenotesCounters` says
 record AreCounters (more : List (List ℕ)) (h f : List ℕ) : Type 0 where
   read : (n k : ℕ) → short_number 6 h ≡ Some n → short_number 6 f ≡ Some k → DenotesCounters more n (max k 1)
   denoted : (n m : ℕ) → DenotesCounters more n m
       → (k : ℕ) × (short_number 6 h ≡ Some n) × (short_number 6 f ≡ Some k) × (m ≡ max k 1)
 
+-- without the two fields the counters' texts are 0 and 1
 left_out : AreCounters [] (codes "0") (codes "1")
 left_out = record { read = read; denoted = λ n m s. (1, ap Some (sym s.0), refl, s.1) }
   where
     read : (n k : ℕ) → Some 0 ≡ Some n → Some 1 ≡ Some k → DenotesCounters [] n (max k 1)
     read n k p q = let a : n ≡ 0 = cc in let b : k ≡ 1 = cc in (a, ap (λ j. max j 1) b)
 
+-- with the two fields they are the counters' texts
 given : (h f : List ℕ) → AreCounters (h ∷ f ∷ []) h f
 given h f = record { read = λ n k p q. (p, (k, q, refl)); denoted = λ n m s. (s.1.0, s.0, s.1.1, s.1.2) }
 
 -- ---- the fields in turn
 
--- either the fields denote what is read, or the first that denotes nothing is the fault
+-- what is to be shown of a result: a position that was read is denoted by the fields, and a fault is that of the first
+-- field that denotes nothing
 abbrev Outcome : Variant → List ℕ → List ℕ → List ℕ → List ℕ → List (List ℕ) → Result Setup FenFault → Type 0
 Outcome v a b c d more (Ok p) = DenotesFields v a b c d more p
 Outcome v a b c d more (Err f) = IsFieldFault v a b c d more f
 
+-- a value that is there is not `None`
 some_impossible : {A : Type 0} (o : Option A) (x : A) → o ≡ None → o ≡ Some x → ⊥
 some_impossible o x e h = let f = sym e ∙ h in absurd cc
 
+-- the fields denote what is read of them, or the first that denotes nothing is the fault; by the cases of `steps`
 outcome : (v : Variant) (a b c d h f : List ℕ) (more : List (List ℕ)) → AreCounters more h f
     → Outcome v a b c d more (denoted_by v a b c d h f)
 outcome v a b c d h f more counters =
@@ -86,11 +93,12 @@ outcome v a b c d h f more counters =
 
 -- ---- the text
 
--- what the fields of a text say of it
+-- the same of a text: a position is denoted by it, a fault is a wrong number of fields or that of a field
 abbrev pub TextOutcome : Variant → List ℕ → Result Setup FenFault → Type 0
 TextOutcome v text (Ok p) = DenotesText v text (third (fields_of text)) p
 TextOutcome v text (Err f) = HasWrongFieldCount text f ⊎ IsMalformed v text f
 
+-- from four or six fields to the text that has them
 of_fields : (v : Variant) (text : List ℕ) (a b c d : List ℕ) (more : List (List ℕ))
     → fields_of text ≡ a ∷ b ∷ c ∷ d ∷ more → (length more ≡ 0) ⊎ (length more ≡ 2) → (r : Result Setup FenFault)
     → Outcome v a b c d more r → TextOutcome v text r
@@ -98,10 +106,12 @@ of_fields v text a b c d more are count (Ok p) s =
     subst (λ castling. DenotesText v text castling p) (sym (ap third are)) (a, b, d, more, are, s)
 of_fields v text a b c d more are count (Err f) s = inr (a, b, c, d, more, are, count, s)
 
+-- a text with another number of fields has the fault of that
 fieldless : (v : Variant) (text : List ℕ) (n : ℕ) → length (fields_of text) ≡ n → n ≢ 4 → n ≢ 6
     → TextOutcome v text (Err faults.Fields)
 fieldless v text n e four six = inl (refl, (λ h. four (sym e ∙ h)), (λ h. six (sym e ∙ h)))
 
+-- by the number of fields
 text_outcome_by : (v : Variant) (text : List ℕ) (fields : List (List ℕ)) → fields_of text ≡ fields
     → TextOutcome v text (denoted_in v fields)
 text_outcome_by v text [] e = fieldless v text 0 (ap length e) (λ h. omega (arith, h)) (λ h. omega (arith, h))
@@ -121,11 +131,13 @@ text_outcome_by v text (a ∷ b ∷ c ∷ d ∷ f ∷ g ∷ h ∷ more) e =
     fieldless v text (length (a ∷ b ∷ c ∷ d ∷ f ∷ g ∷ h ∷ more)) (ap length e) (λ n. omega (arith, n))
     (λ n. omega (arith, n))
 
+-- what the fields of a text are read as is denoted by the text, or its fault is true
 pub text_outcome : (v : Variant) (text : List ℕ) → TextOutcome v text (denoted_in v (fields_of text))
 text_outcome v text = text_outcome_by v text (fields_of text) refl
 
 -- ---- and back
 
+-- the position p with another variant, rights and fullmove number
 abbrev with_facts : Setup → Variant → Rights → ℕ → Setup
 with_facts p v rights fullmove = record {
   variant = v;
@@ -137,6 +149,7 @@ with_facts p v rights fullmove = record {
   fullmove = fullmove;
 }
 
+-- a position that the fields denote is read of them: each field denotes its part of it
 fields-denoted : (v : Variant) (a b c d h f : List ℕ) (more : List (List ℕ)) (p : Setup) → AreCounters more h f
     → DenotesFields v a b c d more p → denoted_by v a b c d h f ≡ Ok p
 fields-denoted v a b c d h f more p counters s =
@@ -154,6 +167,7 @@ fields-denoted v a b c d h f more p counters s =
     ∙ ap (λ (n : ℕ). Ok (with_facts p v p.rights n)) (sym k.3)
     ∙ ap (λ (u : Variant). Ok (with_facts p u p.rights p.fullmove)) (sym s.variant))
 
+-- a position that four or six fields denote is read of them
 in_fields : (v : Variant) (a b c d : List ℕ) (more : List (List ℕ)) (p : Setup) → DenotesFields v a b c d more p
     → denoted_in v (a ∷ b ∷ c ∷ d ∷ more) ≡ Ok p
 in_fields v a b c d [] p s = fields-denoted v a b c d (codes "0") (codes "1") [] p left_out s
@@ -161,24 +175,26 @@ in_fields v a b c d (f ∷ []) p s = absurd s.counters
 in_fields v a b c d (f ∷ g ∷ []) p s = fields-denoted v a b c d f g (f ∷ g ∷ []) p (given f g) s
 in_fields v a b c d (f ∷ g ∷ h ∷ more) p s = absurd s.counters
 
+-- a position that a text denotes, sound or not, is read of its fields
 pub text-denoted : (v : Variant) (text castling : List ℕ) (p : Setup) → DenotesText v text castling p
     → denoted_in v (fields_of text) ≡ Ok p
 text-denoted v text castling p s = ap (denoted_in v) s.4 ∙ in_fields v s.0 s.1 castling s.2 s.3 p s.5
 
+-- the castling field of a text that denotes a position is its third
 third-is : (v : Variant) (text castling : List ℕ) (p : Setup) → DenotesText v text castling p
     → third (fields_of text) ≡ castling
 third-is v text castling p s = ap third s.4
 
 -- ---- the position
 
--- where the rights are named rightly, the conditions are those of soundness
+-- where the letters name the rights rightly, the conditions of the reader are those of soundness
 named-fault : (letters : List ℕ) (p : Setup) → names_rights_well p.variant p.men letters ≡ true
     → first_failing (conditions_of letters p) ≡ setup_fault p
 unfolding setup_fault
 named-fault letters p e =
     ap (λ b. first_failing (conditions_if b p)) e
 
--- where no condition fails, a condition among them holds
+-- if no condition of a list fails, each one holds: here the one after xs
 holds : (xs : List (FenFault × Bool)) (f : FenFault) (b : Bool) (ys : List (FenFault × Bool))
     → first_failing (xs ++ ((f, b) ∷ ys)) ≡ None → b ≡ true
 holds [] f true ys e = refl
@@ -196,11 +212,12 @@ reading-denoted v text p s h =
     reading-steps v (fields_of text) ∙ ap (λ r. r >>= if_fit letters) (text-denoted v text s.0 p s.1)
     ∙ ap (unless_fault p) (named-fault letters p well ∙ no_fault_from_IsSound p h)
 
--- the text denotes what is read, and the fault is true
+-- what is to be shown of the reading: a position is denoted by the text, and a fault is true of it
 abbrev ReadingOutcome : Variant → List ℕ → Result Setup FenFault → Type 0
 ReadingOutcome v text (Ok p) = DenotesFenAs v text p
 ReadingOutcome v text (Err f) = IsFaultAs v text f
 
+-- it is so; after the fields are read, the first condition that fails is the fault
 reading_outcome : (v : Variant) (text : List ℕ) → ReadingOutcome v text (fen_reading_as v text)
 reading_outcome v text =
     subst (ReadingOutcome v text) (sym (reading-steps v (fields_of text)))
@@ -237,11 +254,13 @@ reading_in_variant v text = by_result (fen_reading_as v text) (reading_outcome v
 pub denoted-reading : (v : Variant) (text : List ℕ) (p : Setup) → fen_reading_as v text ≡ Ok p → DenotesFenAs v text p
 denoted-reading v text p e = subst (ReadingOutcome v text) e (reading_outcome v text)
 
+-- the fault that is found is true of the text
 pub faulty : (v : Variant) (text : List ℕ) (f : FenFault) → fen_reading_as v text ≡ Err f → IsFaultAs v text f
 faulty v text f e = subst (ReadingOutcome v text) e (reading_outcome v text)
 
 -- ---- a fault that is true is the one that is found
 
+-- a value that can't be there is `None`
 none_if : {A : Type 0} (o : Option A) → ((x : A) → o ≡ Some x → ⊥) → o ≡ None
 none_if None h = refl
 none_if (Some x) h = absurd (h x refl)
@@ -258,6 +277,7 @@ unnumbered v c men colour target h f more counters none = by_numbers (short_numb
     by_numbers (Some n) e None i = refl
     by_numbers (Some n) e (Some k) i = absurd (none n (max k 1) (counters.read n k e i))
 
+-- if a field's fault is true, reading the fields finds it: those before it denote something, it denotes nothing
 misread : (v : Variant) (a b c d h f : List ℕ) (more : List (List ℕ)) (fault : FenFault) → AreCounters more h f
     → IsFieldFault v a b c d more fault → denoted_by v a b c d h f ≡ Err fault
 misread v a b c d h f more faults.Placement n s =
@@ -280,6 +300,7 @@ misread v a b c d h f more faults.Pawns n s = absurd s
 misread v a b c d h f more faults.Men n s = absurd s
 misread v a b c d h f more faults.Check n s = absurd s
 
+-- the same for a list of four or six fields
 misread_in : (v : Variant) (a b c d : List ℕ) (more : List (List ℕ)) (f : FenFault)
     → (length more ≡ 0) ⊎ (length more ≡ 2) → IsFieldFault v a b c d more f
     → denoted_in v (a ∷ b ∷ c ∷ d ∷ more) ≡ Err f
@@ -290,6 +311,7 @@ misread_in v a b c d (e ∷ g ∷ []) f count h = misread v a b c d e g (e ∷ g
 misread_in v a b c d (e ∷ g ∷ k ∷ more) f (inl n) h = absurd (omega (arith, n))
 misread_in v a b c d (e ∷ g ∷ k ∷ more) f (inr n) h = absurd (omega (arith, n))
 
+-- another number of fields than four or six is the fault that is found
 uncounted : (v : Variant) (fields : List (List ℕ)) → length fields ≢ 4 → length fields ≢ 6
     → denoted_in v fields ≡ Err faults.Fields
 uncounted v [] four six = refl
@@ -301,6 +323,7 @@ uncounted v (a ∷ b ∷ c ∷ d ∷ f ∷ []) four six = refl
 uncounted v (a ∷ b ∷ c ∷ d ∷ f ∷ g ∷ []) four six = absurd (six refl)
 uncounted v (a ∷ b ∷ c ∷ d ∷ f ∷ g ∷ h ∷ more) four six = refl
 
+-- a fault that is true of a text is the one that is found: of the number of fields, of a field, or of a condition
 pub fault-read : (v : Variant) (text : List ℕ) (f : FenFault) → IsFaultAs v text f → fen_reading_as v text ≡ Err f
 fault-read v text f (inl h) =
     reading-steps v (fields_of text)

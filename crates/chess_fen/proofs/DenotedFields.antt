@@ -1,4 +1,5 @@
--- A field is read exactly where it is well written.
+-- A FEN's field is read as a value exactly where it denotes it, by the pairs of lemmas denoted-X and X-denoted: for the
+-- pieces, the side and the en passant target.
 use Rattle.std.proofs.Common.{◌≡◌, ℕ, ◌+◌, ◌-◌, ◌*◌, ◌/◌, ◌%◌, ◌≤◌, ◌⊎◌, true, eqb, leb, ◌&&◌, ◌||◌, List, [], ◌∷◌, length, map, Option, Some, None, refl, sym, ap, subst, ◌∙◌, arith, IfSome, option_map}
 use Rattle.std.specs.List.{slice_split}
 use Rattle.std.proofs.lemmas.Bool.Decides.{nat_tests}
@@ -10,6 +11,7 @@ use Rattle.chess_fen.proofs.DenotedRanks.{there-zip, zip-there, zip-length, deno
 
 -- ---- placement
 
+-- eight ranks with a slash between them, each of which is read, denote the board that is made of them
 pub denoted-placement : (text : List ℕ) (men : List (Option Man)) → placement_of text ≡ Some men
     → DenotesPlacement text men
 denoted-placement text men e =
@@ -72,6 +74,7 @@ denoted-target (f ∷ r ∷ []) target e =
     (ap (λ x. x ∷ r ∷ []) file_is ∙ ap (λ x. (97 + t % 8) ∷ x ∷ []) rank_is, on)
 denoted-target (f ∷ r ∷ c ∷ cs) target e = absurd cc
 
+-- a file's letter and 3 or 6 are read as the square that they name
 target_read : (f r t : ℕ) → 97 ≤ f → f ≤ 104 → (r ≡ 51) ⊎ (r ≡ 54) → t ≡ 8 * (r - 49) + (f - 97)
     → target_of (f ∷ r ∷ []) ≡ Some (Some t)
 target_read f r t low high rank is = grind (arith, nat_tests, low, high, rank, is)

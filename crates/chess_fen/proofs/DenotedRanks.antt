@@ -1,4 +1,5 @@
--- A rank is read exactly where it is well written.
+-- A rank's text is read as eight squares exactly where it denotes them (denoted-rank, rank-of_denoted), byte by byte
+-- (denoted_squares, squares-denoted).
 use Rattle.std.proofs.Common.{◌≡◌, ℕ, suc, ◌-◌, ◌≤◌, inl, inr, Bool, true, false, cond, eqb, leb, ◌&&◌, List, [], ◌∷◌, length, map, Option, Some, None, refl, sym, ap, subst, ◌∙◌, arith, option_map, replicate, option_and_then, find}
 use Rattle.std.specs.List.{AllZip, flat_map}
 use Rattle.std.proofs.lemmas.Bool.Decides.{nat_tests}
@@ -35,6 +36,7 @@ found (m ∷ men) c man e = grind (arith, nat_tests, e, found men c man)
 
 -- ---- a byte
 
+-- a byte that is read as squares stands for them: a piece's letter, or a digit from 1 to 8 (49 to 56)
 pub denoted_squares : (c : ℕ) (squares : List (Option Man)) → squares_of c ≡ Some squares → StandsFor c squares
 denoted_squares c squares e = by_test (leb 49 c && leb c 56) refl e
   where
@@ -52,6 +54,7 @@ denoted_squares c squares e = by_test (leb 49 c && leb c 56) refl e
         inr (c - 48, omega arith, omega arith, omega arith, cc)
     by_test false t e = by_man (man_with_letter c) refl e
 
+-- a byte that stands for squares is read as these
 pub squares-denoted : (c : ℕ) (squares : List (Option Man)) → StandsFor c squares → squares_of c ≡ Some squares
 squares-denoted c squares (inl m) = ap squares_of m.1 ∙ squares-letter m.0 ∙ ap Some (sym m.2)
 squares-denoted c squares (inr d) = squares-digit c (omega (arith, d.1, d.3)) (omega (arith, d.2, d.3))
@@ -62,6 +65,7 @@ squares-denoted c squares (inr d) = squares-digit c (omega (arith, d.1, d.3)) (o
 
 -- ---- values that are all there
 
+-- if all elements of xs give a value (ys), each value has P with its element, as f gives only such values
 pub there-zip : {A B : Type 0} (f : A → Option B) (P : A → B → Type 0) → ((x : A) (y : B) → f x ≡ Some y → P x y)
     → (xs : List A) (ys : List B) → all_there (map f xs) ≡ Some ys → AllZip P xs ys
 there-zip f P each [] [] e = tt
@@ -76,6 +80,7 @@ there-zip {A} {B} f P each (x ∷ xs) ys e =
     by_first (Some y) is (Some zs) later e =
         let whole : y ∷ zs ≡ ys = cc in subst (AllZip P (x ∷ xs)) whole (each x y is, later zs refl)
 
+-- if each element of xs has P with that of ys, and f then gives that, all elements give a value
 pub zip-there : {A B : Type 0} (f : A → Option B) (P : A → B → Type 0) → ((x : A) (y : B) → P x y → f x ≡ Some y)
     → (xs : List A) (ys : List B) → AllZip P xs ys → all_there (map f xs) ≡ Some ys
 zip-there f P each [] [] h = refl
@@ -94,12 +99,15 @@ zip-length P (x ∷ xs) (y ∷ ys) h = ap suc (zip-length P xs ys h.1)
 
 -- ---- a rank
 
+-- the squares of all bytes, one after another
 abbrev pub joined : List (List (Option Man)) → List (Option Man)
 joined parts = flat_map (λ part. part) parts
 
+-- the squares, if there are eight
 abbrev pub eight : Option (List (Option Man)) → Option (List (Option Man))
 eight o = option_and_then (λ (row : List (Option Man)). cond (eqb (length row) 8) (Some row) None) o
 
+-- a rank's text that is read as a row denotes it
 pub denoted-rank : (text : List ℕ) (row : List (Option Man)) → rank_of text ≡ Some row → DenotesRank text row
 denoted-rank text row e = by_parts (all_there (map squares_of text)) refl e
   where

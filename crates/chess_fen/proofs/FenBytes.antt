@@ -1,4 +1,5 @@
--- The bytes of a FEN that is written: no field has a space, and no rank a slash; all of them are ASCII.
+-- The bytes of a FEN that is written: no field has a space (32), and no rank a slash (47), since the fields' bytes are
+-- from 45 on and the ranks' from 48 on (`Plain`). All are ASCII.
 use Rattle.std.proofs.Common.{sym, ◌≡◌, ℕ, zero, suc, ◌+◌, ◌*◌, ◌/◌, ◌%◌, ◌<◌, ◌≤◌, ◌⊎◌, true, List, [], ◌∷◌, ◌++◌, length, take, drop, map, Option, Some, None, subst, arith, rules, ◌∙◌, decimal, IfSome, IsAscii, IsUtf8, append-nil, length-take}
 use Rattle.std.specs.{List.AllByRecursion, Str.Parse.digits_value}
 use Rattle.std.proofs.{lemmas.Bool.Decides.nat_tests, lemmas.Fmt.digits_decimal, lemmas.Str.IsUtf8-from_ascii, lemmas.Str.Parse.IsNumeralModel, lemmas.Str.Parse.IsDigitsTest, lemmas.Str.Parse.numerals_by_value}
@@ -12,7 +13,7 @@ use Rattle.chess_fen.specs.RightNames.{right_letter}
 use Rattle.chess_fen.specs.Writing.{fen_rank, placement_text, side_text, rights_text, target_text, fen}
 use Rattle.chess_fen.proofs.Joined.{IsPlain, Plain, all_append, each_weaker, Plain-join}
 
--- bytes below the backslash, and above it
+-- a byte from k on is plain if it is between the quote (34) and the backslash (92), or between this and 128
 low : (k b : ℕ) → k ≤ b → 34 < b → b < 92 → IsPlain k b
 low k b least over under = (least, omega arith, (λ e. omega (arith, e)), (λ e. omega (arith, e)))
 
@@ -21,12 +22,15 @@ high k b least over under = (least, under, (λ e. omega (arith, e)), (λ e. omeg
 
 -- ---- numbers
 
+-- each byte is a digit
 abbrev DigitBytes : List ℕ → Type 0
 DigitBytes ds = AllByRecursion (λ c. (48 ≤ c) × (c ≤ 57)) ds
 
+-- `DigitBytes` is built from the first digit and the rest, as the library's lemma on numerals wants
 says_bytes : IsDigitsTest DigitBytes
 says_bytes = record { empty = tt; parts = λ c cs p. (search rules, p.1); more = λ c cs d p. (search rules, p) }
 
+-- so it holds for each numeral
 own_bytes : IsNumeralModel DigitBytes (digits_value 10)
 own_bytes = numerals_by_value _ says_bytes
 
@@ -37,11 +41,13 @@ digits_plain (c ∷ cs) p =
     let most : c ≤ 57 = p.0.1 in
     (low 45 c (omega arith) (omega arith) (omega arith), digits_plain cs p.1)
 
+-- a counter's text is plain
 decimal_plain : (n : ℕ) → n < 1000000 → Plain 45 (decimal n)
 decimal_plain n h = digits_plain (decimal n) (digits_decimal own_bytes n (omega arith))
 
 -- ---- placement
 
+-- a white piece's letter is from B (66) to R (82)
 pub white_range : (kind : Kind) → (66 ≤ white_letter kind) × (white_letter kind ≤ 82)
 white_range k = (grind arith, grind arith)
 
@@ -53,16 +59,19 @@ letter_plain Black kind =
     let range = white_range kind in
     high 48 (white_letter kind + 32) (omega (arith, range)) (omega (arith, range)) (omega (arith, range))
 
+-- the digit for a run of empty squares before a plain text
 run_plain : (n : ℕ) (rest : List ℕ) → n ≤ 8 → Plain 48 rest → Plain 48 (run_text n ++ rest)
 run_plain zero rest h p = p
 run_plain (suc n) rest h p = (low 48 (48 + suc n) (omega arith) (omega arith) (omega arith), p)
 
+-- the text of a rank's squares, of which n empty ones are already counted
 row_plain : (squares : List (Option Man)) (n : ℕ) → n + length squares ≤ 8 → Plain 48 (row_text n squares)
 row_plain [] n h = subst (Plain 48) (append-nil (run_text n)) (run_plain n [] (omega arith) tt)
 row_plain (None ∷ squares) n h = row_plain squares (suc n) (omega arith)
 row_plain (Some man ∷ squares) n h = run_plain n (letter man ∷ row_text 0 squares) (omega arith)
     (letter_plain man.colour man.kind, row_plain squares 0 (omega arith))
 
+-- the texts of the n lowest ranks are plain from 48 on, so they have no slash
 pub rows_plain : (n : ℕ) (men : List (Option Man)) → AllByRecursion (Plain 48) (map fen_rank (ranks_down n men))
 rows_plain zero men = tt
 rows_plain (suc n) men =
@@ -71,6 +80,7 @@ rows_plain (suc n) men =
       rows_plain n men,
     )
 
+-- with slashes between them they are plain from 45 on
 placement_plain : (men : List (Option Man)) → Plain 45 (placement_text men)
 unfolding placement_text
 placement_plain men = Plain-join 47 45 (map fen_rank (ranks_down 8 men)) (low 45 47 (omega arith) (omega arith)
@@ -94,9 +104,11 @@ right_plain : (v : Variant) (c : Colour) (w : CastlingSide) (right : Option ℕ)
 right_plain v c w (Some s) = (right_letter_plain v c w s, tt)
 right_plain v c w None = tt
 
+-- the text `-`
 dash : Plain 45 (45 ∷ [])
 dash = (low 45 45 (omega arith) (omega arith) (omega arith), tt)
 
+-- a plain text, or `-` if it is empty
 dash_plain : (text : List ℕ) → Plain 45 text → Plain 45 (or_dash text)
 dash_plain [] p = dash
 dash_plain (c ∷ cs) p = p
@@ -120,6 +132,7 @@ target_rank : (men : Men) (c : Colour) (target : Option ℕ) → target_is_sound
 target_rank men c None e = tt
 target_rank men c (Some t) e = grind (arith, nat_tests, e)
 
+-- the target of a sound position is on rank 3 or 6 (2 or 5 counted from 0)
 pub target_fits : (p : Setup) → IsSound p → IfSome p.target (λ square. (square / 8 ≡ 2) ⊎ (square / 8 ≡ 5))
 target_fits p h = target_rank p.men p.side p.target (sym (target_is_sound_is p) ∙ h.target)
 
@@ -138,12 +151,14 @@ abbrev pub fields : Setup → List (List ℕ)
 fields p = placement_text p.men ∷ side_text p.side ∷ rights_text p.variant p.rights ∷ target_text p.target
     ∷ decimal p.halfmove ∷ decimal p.fullmove ∷ []
 
+-- the counters of a sound position have at most six digits
 pub counters_fit : (p : Setup) → IsSound p → (p.halfmove < 1000000) × (p.fullmove < 1000000)
 counters_fit p h =
     let half = h.halfmove in
     let full = h.fullmove_high in
     (grind (arith, nat_tests, half), grind (arith, nat_tests, full))
 
+-- no field of a sound position's FEN has a space
 pub fields_plain : (p : Setup) → IsSound p → AllByRecursion (Plain 45) (fields p)
 fields_plain p h =
     let fit = counters_fit p h in (
@@ -160,6 +175,7 @@ fields_plain p h =
       ),
     )
 
+-- the whole FEN is plain from the space on
 pub fen_plain : (p : Setup) → IsSound p → Plain 32 (fen p)
 fen_plain p h = Plain-join 32 32 (fields p) (omega arith, omega arith, (λ e. omega (arith, e)), (λ e. omega (arith, e)))
     (each_weaker 32 45 (fields p) (omega arith) (fields_plain p h))

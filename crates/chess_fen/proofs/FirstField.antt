@@ -1,4 +1,5 @@
--- A FEN's first field, which is read as the text is cut.
+-- The reader reads the pieces of a FEN while it looks for the first field's end. So the field that it reads, at the
+-- front of the text without its first spaces, is the first of the text's fields.
 use Rattle.std.proofs.Common.{◌≡◌, ℕ, ◌<◌, not, eqb, List, [], ◌∷◌, length, drop, Option, Some, None, Err, refl, sym, ap, ◌∙◌, arith, inl, inr}
 use Rattle.std.specs.List.{position_or_len, before_first}
 use Rattle.std.proofs.{lemmas.Bool.cases_lt, lemmas.List.nil_from_length}
@@ -16,10 +17,11 @@ first_of : (text front : List ℕ) → front ≡ skipped text → 0 < length fro
     → fields_of text ≡ before_first (λ b. eqb b 32) front ∷ fields_of (from_space front)
 first_of text front is some = next_fields text front _ _ is some refl refl
 
+-- lists that are equal have the same first element
 heads : {A : Type 0} (x y : A) (xs ys : List A) → x ∷ xs ≡ y ∷ ys → y ≡ x
 heads x y xs ys e = cc
 
--- where the field at the front denotes no pieces, the first field doesn't
+-- if the field at the front denotes no pieces, the first field of the text denotes none
 pub first_is_menless : (text front : List ℕ) → front ≡ skipped text
     → placement_of (before_first (λ b. eqb b 32) front) ≡ None
     → (field : List ℕ) → (fields : List (List ℕ)) → fields_of text ≡ field ∷ fields → placement_of field ≡ None
@@ -30,7 +32,7 @@ first_is_menless text front is none field fields all =
           let nothing : [] ≡ field ∷ fields = sym (no_fields text front is empty) ∙ all in absurd cc)
     ]
 
--- the fields of a text whose pieces were read
+-- a text whose pieces were read: its fields are that one and those of the rest
 pub fields-read : (text front : List ℕ) (men : List (Option Man)) (rest : List ℕ) → front ≡ skipped text
     → PlacementIsRead front men rest
     → fields_of text ≡ before_first (λ b. eqb b 32) front ∷ fields_of rest
@@ -43,11 +45,12 @@ fields-read text front men rest is read =
           ∙ read.denotes in absurd cc)
     ]
 
--- the pieces of the first field, and then the others
+-- six fields with the first read as these pieces are read as the other five with these pieces
 pub setup-with : (v : Variant) (placement a b c d e : List ℕ) (men : List (Option Man))
     → placement_of placement ≡ Some men → setup_by v placement a b c d e ≡ setup_with v men a b c d e
 setup-with v placement a b c d e men is = rw is refl
 
+-- six fields of which the first denotes no pieces are read as the fault of the placement
 pub setup-menless : (v : Variant) (placement a b c d e : List ℕ) → placement_of placement ≡ None
     → setup_by v placement a b c d e ≡ Err faults.Placement
 setup-menless v placement a b c d e is = rw is refl

@@ -1,4 +1,5 @@
--- Texts that are joined by a byte which none of them has are the parts when the text is cut at that byte again.
+-- Texts that were joined by a byte come back when the result is cut at that byte, if none of them has it
+-- (slice_split-join); so do fields joined by spaces (fields_of-join).
 use Rattle.std.proofs.Common.{◌≡◌, ◌≢◌, ℕ, suc, ◌<◌, ◌≤◌, true, false, eqb, ltb, List, [], ◌∷◌, ◌++◌, length, refl, ap, ◌∙◌, arith}
 use Rattle.std.specs.List.{slice_split, join_with_byte, AllByRecursion, filter}
 use Rattle.std.proofs.lemmas.Bool.Decides.{nat_tests}
@@ -8,7 +9,7 @@ use Rattle.chess_fen.specs.Texts.{fields_of}
 abbrev pub IsPlain : ℕ → ℕ → Type 0
 IsPlain k b = (k ≤ b) × (b < 128) × (b ≢ 34) × (b ≢ 92)
 
--- each byte is so
+-- each byte of the text is so
 abbrev pub Plain : ℕ → List ℕ → Type 0
 Plain k text = AllByRecursion (IsPlain k) text
 
@@ -16,6 +17,7 @@ pub all_append : (P : ℕ → Type 0) (xs ys : List ℕ) → AllByRecursion P xs
 all_append P [] ys p q = q
 all_append P (x ∷ xs) ys p q = (p.0, all_append P xs ys p.1 q)
 
+-- what is plain from k on is plain from a smaller j on
 pub Plain-weaker : (j k : ℕ) (xs : List ℕ) → j ≤ k → Plain k xs → Plain j xs
 Plain-weaker j k [] h p = tt
 Plain-weaker j k (x ∷ xs) h p =
@@ -27,6 +29,7 @@ pub each_weaker : (j k : ℕ) (texts : List (List ℕ)) → j ≤ k → AllByRec
 each_weaker j k [] h p = tt
 each_weaker j k (x ∷ xs) h p = (Plain-weaker j k x h p.0, each_weaker j k xs h p.1)
 
+-- plain texts joined by a plain byte are plain
 pub Plain-join : (c k : ℕ) (texts : List (List ℕ)) → IsPlain k c → AllByRecursion (Plain k) texts
     → Plain k (join_with_byte c texts)
 Plain-join c k [] h p = tt
@@ -34,6 +37,7 @@ Plain-join c k (x ∷ []) h p = p.0
 Plain-join c k (x ∷ y ∷ texts) h p = all_append (IsPlain k) x (c ∷ join_with_byte c (y ∷ texts)) p.0
     (h, Plain-join c k (y ∷ texts) h p.1)
 
+-- a text whose bytes are all above c isn't cut at c
 split_whole : (c : ℕ) (text : List ℕ) → Plain (suc c) text → slice_split (λ b. eqb b c) text ≡ text ∷ []
 split_whole c [] p = refl
 split_whole c (x ∷ xs) p =
@@ -41,6 +45,7 @@ split_whole c (x ∷ xs) p =
     let other : eqb x c ≡ false = grind (arith, nat_tests) in
     rw (other, split_whole c xs p.1) refl
 
+-- such a text with c after it is cut there first
 split_first : (c : ℕ) (text rest : List ℕ) → Plain (suc c) text → slice_split (λ b. eqb b c) (text ++ c ∷ rest)
     ≡ text ∷ slice_split (λ b. eqb b c) rest
 split_first c [] rest p = let same : eqb c c ≡ true = grind (arith, nat_tests) in rw same refl
@@ -55,6 +60,7 @@ slice_split-join c x [] p = split_whole c x p.0
 slice_split-join c x (y ∷ texts) p = split_first c x (join_with_byte c (y ∷ texts)) p.0
     ∙ ap (λ parts. x ∷ parts) (slice_split-join c y texts p.1)
 
+-- texts that aren't empty are all kept
 keep_all : (texts : List (List ℕ)) → AllByRecursion (λ text. 0 < length text) texts
     → filter (λ text. ltb 0 (length text)) texts ≡ texts
 keep_all [] p = refl

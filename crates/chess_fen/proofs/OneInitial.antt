@@ -23,6 +23,7 @@ initial_rights : rights_text initial_setup.variant initial_setup.rights ≡ 75 �
 unfolding initial_setup initial_setup_of
 initial_rights = refl
 
+-- a position with the initial position's FEN is one of normal chess
 normal : (p : Setup) → IsSound p → IsSound initial_setup → fen p ≡ fen initial_setup → p.variant ≡ Normal
 normal p sound initial same = by_variant p.variant refl
   where
@@ -40,6 +41,7 @@ normal p sound initial same = by_variant p.variant refl
 read_back : (p : Setup) → IsSound p → fen_reading_as p.variant (fen p) ≡ Ok p
 read_back p sound = reading-denoted p.variant (fen p) p (fen-denoted p sound) sound
 
+-- it is the initial position, since reading its FEN gives it back, and gives the initial position too
 only : (p : Setup) → IsSound p → IsSound initial_setup → is_initial p ≡ true → p ≡ initial_setup
 only p sound initial e =
     let same : fen p ≡ fen initial_setup = (bytes_eq-Decides (fen p) (fen initial_setup)).0 e in

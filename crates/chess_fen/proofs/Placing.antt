@@ -9,6 +9,7 @@ use Rattle.chess_fen.specs.Texts.{squares_of, all_there, rank_of, from_top, plac
 use Rattle.chess_fen.specs.ties.Runs.{at_lower, last_rank, placing, from_space, NoRankIsRead, RankIsPlaced, SlashIsRead, NoSlashIsRead, Ends, PlacementIsRead}
 use Rattle.chess_fen.proofs.{DenotedRanks.joined, DenotedRanks.eight, RankBytes.no_man, RankBytes.all_none, RankBytes.placing_over}
 
+-- no board: the text denotes none
 abbrev no_board : Option (List (Option Man))
 no_board = None
 
@@ -18,7 +19,7 @@ no_board = None
 some_squares : (c : ℕ) (s : List (Option Man)) → squares_of c ≡ Some s → 0 < length s
 some_squares c s is = grind (arith, nat_tests, is, length-replicate (c - 48) no_man)
 
--- where eight squares are followed by more
+-- after eight squares of a rank, a byte that stands for more squares makes the text denote no board
 full : (left : ℕ) (row above : List (Option Man)) (c : ℕ) (cs : List ℕ) → length row ≡ 8
     → option_and_then (λ s. placing left (row ++ s) above cs) (squares_of c) ≡ None
 full left row above c cs eight = by_squares (squares_of c) refl
@@ -30,12 +31,14 @@ full left row above c cs eight = by_squares (squares_of c) refl
         let more = some_squares c s is in
         placing_over left (row ++ s) above cs (omega (arith, length-append row s, eight, more))
 
+-- a text that doesn't begin with a slash (47) has no next rank to read
 pub no_stroke : (text : List ℕ) → get_or text 0 0 ≢ 47 → NoSlashIsRead text
 no_stroke [] other = λ lower row above eight. refl
 no_stroke (c ∷ cs) other = λ lower row above eight.
     (let stroke : eqb c 47 ≡ false = grind (arith, nat_tests, other) in
     rw stroke (all_none (eqb c 32) false None None _ refl refl (full (suc lower) row above c cs eight)))
 
+-- a text that isn't empty ends the placement exactly if it begins with a space
 pub ends_at : (text : List ℕ) → 1 ≤ length text → Ends (eqb (get_or text 0 0) 32) text
 ends_at [] h = absurd (omega (arith, h))
 ends_at (c ∷ cs) h = by_test (eqb c 32) refl
@@ -55,11 +58,12 @@ ends_at (c ∷ cs) h = by_test (eqb c 32) refl
 abbrev parted : List ℕ → List (List ℕ)
 parted text = slice_split (λ c. eqb c 47) (before_first (λ b. eqb b 32) text)
 
--- the eight squares of a rank, of which `row` are read and `part` is the text that is left
+-- the eight squares of a rank: `row`, which are read, and those of `part`, the rest of its text; none if there aren't
+-- eight
 abbrev begun : List (Option Man) → List ℕ → Option (List (Option Man))
 begun row part = eight (option_map (λ squares. row ++ joined squares) (all_there (map squares_of part)))
 
--- the squares of whole ranks, and then those above them
+-- the board by the texts of its lower ranks (`parts`) and the squares `above` them; none if a part is no rank
 abbrev below : List (Option Man) → List (List ℕ) → Option (List (Option Man))
 below above parts = option_map (λ rows. from_top rows ++ above) (all_there (map rank_of parts))
 
@@ -69,6 +73,7 @@ by_parts left row above [] = None
 by_parts left row above (part ∷ parts) =
     cond (eqb (length parts) left) (option_and_then (λ r. below (r ++ above) parts) (begun row part)) None
 
+-- the first of these parts may be read first, and its squares put below those above
 one_more : (above : List (Option Man)) (part : List ℕ) (parts : List (List ℕ))
     → below above (part ∷ parts) ≡ option_and_then (λ r. below (r ++ above) parts) (rank_of part)
 one_more above part parts = by_row (rank_of part) (all_there (map rank_of parts))
@@ -80,10 +85,12 @@ one_more above part parts = by_row (rank_of part) (all_there (map rank_of parts)
     by_row (Some row) None = refl
     by_row (Some row) (Some rows) = ap Some (append_assoc (from_top rows) row above)
 
+-- no board, whatever the test
 none_either : (b : Bool) → cond b no_board no_board ≡ None
 none_either true = refl
 none_either false = refl
 
+-- where the text ends, `placing` gives what the parts say: no rank may be left
 last_part : (left : ℕ) (row above : List (Option Man)) → last_rank left row above ≡ by_parts left row above ([] ∷ [])
 last_part zero row above = grind (arith, append-nil row)
 last_part (suc lower) row above = let e : eqb 0 (suc lower) ≡ false = grind (arith, nat_tests) in rw e refl
@@ -91,6 +98,7 @@ last_part (suc lower) row above = let e : eqb 0 (suc lower) ≡ false = grind (a
 eqb-suc : (a b : ℕ) → eqb (suc a) (suc b) ≡ eqb a b
 eqb-suc a b = grind (arith, nat_tests)
 
+-- at a slash `placing` goes on with the next rank, as the parts say: an empty part is begun, and one rank fewer is left
 next_part : (left : ℕ) (row above : List (Option Man)) (parts : List (List ℕ)) (f : ℕ → Option (List (Option Man)))
     → 0 < length parts → ((lower : ℕ) → f lower ≡ by_parts lower [] (row ++ above) parts)
     → at_lower left (λ lower. cond (eqb (length row) 8) (f lower) None) ≡ by_parts left row above ([] ∷ parts)
@@ -110,6 +118,7 @@ next_part (suc lower) row above (part ∷ parts) f some on =
         (on lower ∙ ap (λ o. cond (eqb (length parts) lower) o None) (sym (one_more (row ++ above) part parts)))
     by_test false = sym (none_either (eqb (suc (length parts)) (suc lower)))
 
+-- at a byte of a rank `placing` goes on in the same part: the byte's squares are put after those read
 same_part : (left : ℕ) (row above : List (Option Man)) (c : ℕ) (cs : List ℕ) (parts : List (List ℕ))
     → 0 < length parts → ((row : List (Option Man)) → placing left row above cs ≡ by_parts left row above parts)
     → option_and_then (λ s. placing left (row ++ s) above cs) (squares_of c)
@@ -133,9 +142,11 @@ same_part left row above c cs (part ∷ parts) some on = by_squares (squares_of 
         ∙ ap (λ o. cond (eqb (length parts) left) (option_and_then (λ r. below (r ++ above) parts) (eight o)) None)
         (by_rest s (all_there (map squares_of part)))
 
+-- a text has at least one part
 some_parts : (text : List ℕ) → 0 < length (parted text)
 some_parts text = omega (arith, length-slice_split (λ c. eqb c 47) (before_first (λ b. eqb b 32) text))
 
+-- reading byte by byte gives what the parts of the text give, by its first byte: space, slash or another
 placing-parts : (left : ℕ) (row above : List (Option Man)) (text : List ℕ)
     → placing left row above text ≡ by_parts left row above (parted text)
 placing-parts left row above [] = last_part left row above
@@ -162,6 +173,7 @@ placing-parts left row above (c ∷ cs) = by_space (λ left row above. placing-p
     by_space on true t = rw t (last_part left row above)
     by_space on false t = by_stroke on (eqb c 47) t refl
 
+-- so reading from the start gives the board that the definition reads of the first field
 pub placing-read : (text : List ℕ) → placing 7 [] [] text ≡ placement_of (before_first (λ b. eqb b 32) text)
 placing-read text = placing-parts 7 [] [] text ∙ by_list (parted text) (some_parts text)
   where
@@ -177,8 +189,8 @@ placing-read text = placing-parts 7 [] [] text ∙ by_list (parted text) (some_p
         rw (eqb-suc (length parts) 7) (ap (λ o. cond (eqb (length parts) 7) o None)
         (sym (one_more [] part parts) ∙ on_nothing (all_there (map rank_of (part ∷ parts)))))
 
--- What is left of the text gives the same board, on top of which the ranks so far are; so many ranks are left, and
--- their squares are still empty
+-- the invariant of `read_placement`: `left` ranks are left to read, and their squares on the board `men` are still
+-- empty; reading them from the text `rest`, below the ranks that are on the board, gives the board of the whole text
 pub record Placing (text : List ℕ) (men : List (Option Man)) (rest : List ℕ) (left : ℕ) : Type 0 where
   pub on : placing (left - 1) [] (drop (8 * left) men) rest ≡ placing 7 [] [] text
   pub back : from_space rest ≡ from_space text
@@ -193,20 +205,20 @@ rank_empty rank men empty =
     ap (λ n. take n (drop (8 * rank) men)) eight ∙ sym (drop-take (8 * rank) 8 men) ∙ ap (drop (8 * rank)) empty
     ∙ drop-replicate (8 * rank) (8 * rank + 8) None ∙ ap (λ n. replicate n None) eight
 
--- where no rank follows
+-- if no rank is at the front of the rest, the first field denotes no board
 pub no_rank : (text men rest : _) (left : ℕ) → Placing text men rest left → NoRankIsRead rest
     → placement_of (before_first (λ b. eqb b 32) text) ≡ None
 no_rank text men rest left so_far none =
     sym (placing-read text) ∙ sym so_far.on ∙ none (left - 1) (drop (8 * left) men)
 
--- what is read by a rank, before what comes after it
+-- if a rank is at the front of the rest, the board of the first field is what reading from the rank's end gives
 by_rank : (text men new rest ended : _) (left : ℕ) → 0 < left → Placing text men rest left
     → (p : RankIsPlaced rest (left - 1) men new ended)
     → placing (left - 1) p.row (drop (8 * left) men) ended ≡ placement_of (before_first (λ b. eqb b 32) text)
 by_rank text men new rest ended left some so_far p =
     sym (p.read.on (left - 1) (drop (8 * left) men)) ∙ so_far.on ∙ placing-read text
 
--- where no slash follows, and another rank should
+-- if no slash follows though ranks are left, the first field denotes no board
 pub no_more : (text men new rest ended : _) (left : ℕ) → 1 < left → Placing text men rest left
     → RankIsPlaced rest (left - 1) men new ended → NoSlashIsRead ended
     → placement_of (before_first (λ b. eqb b 32) text) ≡ None
@@ -216,12 +228,14 @@ no_more text men new rest ended left some so_far p none =
     ∙ ap (λ k. placing k p.row (drop (8 * left) men) ended) lower
     ∙ none (left - 2) p.row (drop (8 * left) men) p.read.eight
 
+-- the squares of a new rank, and above them those that were on the board
 above_is : (left : ℕ) (row old new : List (Option Man)) → 0 < left
     → drop (8 * (left - 1)) new ≡ row ++ drop (8 * (left - 1) + 8) old
     → drop (8 * (left - 1)) new ≡ row ++ drop (8 * left) old
 above_is left row old new some above =
     let on : 8 * (left - 1) + 8 ≡ 8 * left = omega arith in above ∙ ap (λ k. row ++ drop k old) on
 
+-- a step of the loop: after a rank and a slash the invariant holds with one rank fewer left
 pub placed_on : (text men new rest ended next : _) (left : ℕ) → 1 < left → Placing text men rest left
     → RankIsPlaced rest (left - 1) men new ended → SlashIsRead ended next → Placing text new next (left - 1)
 placed_on text men new rest ended next left some so_far p stroke =
@@ -239,6 +253,7 @@ placed_on text men new rest ended next left some so_far p stroke =
       some = omega arith;
     }
 
+-- after the last rank, where the placement ends, the board is that of the first field
 pub placed_whole : (text men new rest ended : _) (left : ℕ) → left ≡ 1 → Placing text men rest left
     → RankIsPlaced rest 0 men new ended → Ends true ended → PlacementIsRead text new ended
 placed_whole text men new rest ended left last so_far p end =
@@ -248,6 +263,7 @@ placed_whole text men new rest ended left last so_far p end =
       back = sym end.1 ∙ sym p.read.back ∙ so_far.back;
     }
 
+-- if the placement doesn't end after the last rank, the first field denotes no board
 pub too_many : (text men new rest ended : _) (left : ℕ) → left ≡ 1 → Placing text men rest left
     → RankIsPlaced rest 0 men new ended → Ends false ended
     → placement_of (before_first (λ b. eqb b 32) text) ≡ None

@@ -1,4 +1,5 @@
--- Reading a rank byte by byte.
+-- Reading a rank byte by byte (`read_rank`): the loop's invariant `RowSoFar`, its step (more), and how it ends: with
+-- eight squares (whole), with too many (overfull), or at the text's end (cut_short).
 use Rattle.std.proofs.Common.{◌≡◌, ℕ, zero, suc, ◌+◌, ◌-◌, ◌<◌, ◌≤◌, Bool, true, false, cond, eqb, leb, List, [], ◌∷◌, ◌++◌, length, get_or, set, take, drop, Option, Some, None, refl, sym, ap, ◌∙◌, arith, length-append, replicate, option_and_then}
 use Rattle.std.proofs.{Math.Seq.take-length, Math.Seq.take-add, lemmas.Bool.Decides.nat_tests}
 use Rattle.std.specs.List.{position_or_len}
@@ -12,6 +13,7 @@ no_man = None
 
 -- ---- a byte
 
+-- a digit from 1 to 8 stands for so many empty squares
 pub squares-digit : (c : ℕ) → 49 ≤ c → c ≤ 56 → squares_of c ≡ Some (replicate (c - 48) None)
 squares-digit c low high = grind (arith, nat_tests)
 
@@ -20,6 +22,7 @@ not_last : (left : ℕ) (row above : List (Option Man)) → eqb (length row) 8 �
 not_last zero row above e = rw e refl
 not_last (suc left) row above e = refl
 
+-- the next two say that nothing is read: at a slash after such a rank, and at any byte that adds nothing
 not_lower : (left : ℕ) (b : Bool) (f : ℕ → Option (List (Option Man))) → b ≡ false
     → at_lower left (λ lower. cond b (f lower) None) ≡ None
 not_lower zero b f e = refl
@@ -59,6 +62,7 @@ placing_over left row above (c ∷ cs) h =
 another : (c k : ℕ) (s : List (Option Man)) → squares_of k ≡ None → squares_of c ≡ Some s → eqb c k ≡ false
 another c k s none is = grind (arith, nat_tests, none, is)
 
+-- a byte that stands for squares adds them to the rank's
 pub goes_on : (left : ℕ) (row above : List (Option Man)) (c : ℕ) (cs : List ℕ) (s : List (Option Man))
     → squares_of c ≡ Some s → placing left row above (c ∷ cs) ≡ placing left (row ++ s) above cs
 goes_on left row above c cs s is =
@@ -66,6 +70,7 @@ goes_on left row above c cs s is =
     let stroke : eqb c 47 ≡ false = another c 47 s refl is in
     rw (space, stroke, is) refl
 
+-- a byte that is no space may be skipped in looking for the first space
 pub from_space-on : (c : ℕ) (cs : List ℕ) → eqb c 32 ≡ false → from_space (c ∷ cs) ≡ from_space cs
 from_space-on c cs e =
     let next : 1 + position_or_len (λ b. eqb b 32) cs ≡ suc (position_or_len (λ b. eqb b 32) cs) = omega arith in
@@ -73,7 +78,8 @@ from_space-on c cs e =
 
 -- ---- a rank
 
--- What is left of the text gives the same board, after the squares so far. The others are still empty
+-- the invariant of `read_rank`: the squares before `file` were read from the first i bytes; with them the rest of
+-- the text gives the board of the whole text. The squares from `file` on are still empty
 pub record RowSoFar (text : List ℕ) (row : List (Option Man)) (file i : ℕ) : Type 0 where
   pub on : (left : ℕ) → (above : List (Option Man))
       → placing left (take file row) above (drop i text) ≡ placing left [] above text
@@ -82,11 +88,11 @@ pub record RowSoFar (text : List ℕ) (row : List (Option Man)) (file i : ℕ) :
   pub eight : length row ≡ 8
   pub within : file < 8
 
--- the squares of a run that are not more than eight
+-- the squares of a run of eight at most: its first, and empty ones
 filled : (r : Run) → 0 < r.squares → r.squares ≤ 8 → squares_in r ≡ Some (r.first ∷ replicate (r.squares - 1) None)
 filled r some few = let t : leb r.squares 8 ≡ true = grind (arith, nat_tests) in rw t refl
 
--- a piece, or an empty square, and empty squares after it
+-- putting a run's first square at `file` reads its n squares, since those after it are empty already
 put : (row : List (Option Man)) (file n : ℕ) (first : Option Man) → length row ≡ 8
     → drop file row ≡ replicate (8 - file) None → 0 < n → file + n ≤ 8
     → take (file + n) (set row file first) ≡ take file row ++ first ∷ replicate (n - 1) None
@@ -105,6 +111,7 @@ put row file n first eight empty some fits =
     one_on : (n : ℕ) → 0 < n → n ≡ suc (n - 1)
     one_on n h = omega arith
 
+-- the squares after the run are empty as before
 still_empty : (row : List (Option Man)) (file n : ℕ) (first : Option Man) → length row ≡ 8
     → drop file row ≡ replicate (8 - file) None → 0 < n → file + n ≤ 8
     → drop (file + n) (set row file first) ≡ replicate (8 - (file + n)) None
@@ -112,7 +119,7 @@ still_empty row file n first eight empty some fits =
     drop-set-lt (file + n) row file first (omega arith) ∙ sym (drop-drop n file row) ∙ ap (drop n) empty
     ∙ drop-replicate n (8 - file) None ∙ ap (λ k. replicate k None) (omega arith)
 
--- how the next byte goes on, if its squares are not too many
+-- the next byte's run, if it fits into the rank, takes the reading one byte further with its squares
 step : (text : List ℕ) (row : List (Option Man)) (file i : ℕ) (r : Run) → RowSoFar text row file i → i < length text
     → squares_of (get_or text i 0) ≡ squares_in r → 0 < r.squares → file + r.squares ≤ 8
     → ((left : ℕ) → (above : List (Option Man))
@@ -131,6 +138,7 @@ step text row file i r so_far h at some fits =
           ∙ so_far.back,
     )
 
+-- the loop's step: the rank isn't full yet
 pub more : (text : List ℕ) (row : List (Option Man)) (file i : ℕ) (r : Run) → RowSoFar text row file i → i < length text
     → squares_of (get_or text i 0) ≡ squares_in r → 0 < r.squares → file + r.squares < 8
     → RowSoFar text (set row file r.first) (file + r.squares) (i + 1)
@@ -144,6 +152,7 @@ more text row file i r so_far h at some fits =
       within = omega arith;
     }
 
+-- the loop's end: the rank has just eight squares
 pub whole : (text : List ℕ) (row : List (Option Man)) (file i : ℕ) (r : Run) → RowSoFar text row file i
     → i < length text → squares_of (get_or text i 0) ≡ squares_in r → 0 < r.squares → file + r.squares ≡ 8
     → RankIsRead text (set row file r.first) (drop (i + 1) text)
@@ -158,7 +167,8 @@ whole text row file i r so_far h at some is =
       eight = eight;
     }
 
--- where the next byte brings more than eight squares, or stands for none
+-- if the next byte brings the rank to more than eight squares (so it does if it stands for none, as a run of 9), no
+-- rank is read
 pub overfull : (text : List ℕ) (row : List (Option Man)) (file i : ℕ) (r : Run) → RowSoFar text row file i
     → i < length text → squares_of (get_or text i 0) ≡ squares_in r → 0 < r.squares → 8 < file + r.squares
     → NoRankIsRead text
@@ -187,7 +197,7 @@ overfull text row file i r so_far h at some over = λ left above.
         (omega (arith, length-append (take file row) s, len, length-replicate (r.squares - 1) no_man)))
     by_test false t left above = rw (at ∙ too_many t) refl
 
--- where the text ends before the rank
+-- if the text ends before the rank has eight squares, no rank is read
 pub cut_short : (text : List ℕ) (row : List (Option Man)) (file i : ℕ) → RowSoFar text row file i → length text ≤ i
     → NoRankIsRead text
 cut_short text row file i so_far h = λ left above.

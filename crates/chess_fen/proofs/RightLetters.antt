@@ -17,10 +17,12 @@ after : (v : Variant) (c : Colour) (w : CastlingSide) (right : Option ℕ) (xs y
 after v c w None xs ys = ap (λ zs. zs ++ ys) (sym (append-nil xs))
 after v c w (Some s) xs ys = sym (append_assoc xs (right_letter v c w s ∷ []) ys)
 
+-- a text, or `-` if it is empty
 pub dashed : (text : List ℕ) → or_dash text ≡ (if length text == 0 then codes "-" else text)
 dashed [] = refl
 dashed (c ∷ cs) = let some : (length (c ∷ cs) == 0) ≡ false = grind (arith, nat_tests) in rw some refl
 
+-- the castling field is the four letters as far as they are there, or `-`
 pub rights_are : (v : Variant) (r : Rights) → rights_text v r ≡ or_dash (letters v r)
 rights_are v r =
     sym (dashed (filter_map (λ p. option_map (right_letter v p.0 p.1) (right_of r p.0 p.1)) all_rights))

@@ -1,5 +1,6 @@
--- A FEN is read as it denotes. Rights that are named wrongly are refused by both: by the definition with a condition of
--- their own, by the reader as rights whose rook is on a square that is no rook's.
+-- A FEN is read as the definition reads it (judged-read, refused-read). They differ in rights that are named wrongly,
+-- but both refuse them: the definition by a condition of their own, the reader since it takes them as rights whose rook
+-- is on a4 (`nowhere`), where no right is sound.
 use Rattle.std.proofs.Common.{◌≡◌, ℕ, ◌⊎◌, inl, inr, Bool, true, false, cond, List, [], ◌∷◌, ◌++◌, map, take, drop, Option, Some, None, Result, Ok, Err, refl, sym, ap, ◌∙◌, arith, filter, fold, ◌&&◌, is_some, max, codes, IsOk, IfOk, IfErr, ◌↔◌}
 use Rattle.std.specs.Option.{option_flatten, option_map_or, ok_or, unwrap_or}
 use Rattle.chess_base.specs.{declared.man.Colour.Colour, declared.man.Colour.TheVariants.White, declared.man.Colour.TheVariants.Black, declared.man.CastlingSide.CastlingSide, declared.man.CastlingSide.TheVariants.KingSide, declared.man.CastlingSide.TheVariants.QueenSide, declared.man.Variant.Variant, declared.man.Variant.TheVariants.Normal, declared.man.Variant.TheVariants.Fischerandom, declared.man.Rights.Rights, declared.setup.Setup.Setup, declared.fen_fault.FenFault.FenFault, Men.Men, Castling.are_placed_for_castling, Castling.right_is_sound, Castling.rights_by, Sound.IsSound}
@@ -14,15 +15,17 @@ use Rattle.chess_fen.specs.Reading.{◌>>=◌, side_of, fen_reading_as}
 use Rattle.chess_fen.specs.ties.Reader.{nowhere, outer_rook, named_square, one_or_nowhere, right_by_letters, setup_by, setup_in}
 use Rattle.chess_fen.proofs.Steps.{steps_to, steps, denoted_by, unless_fault, if_fit, denoted_in, third, reading-steps}
 
--- a right that is named wrongly as a right whose rook is nowhere
+-- the reader's right for a right as an option (`None`: named wrongly): then its rook is `nowhere`
 abbrev sentinel : Option (Option ℕ) → Option ℕ
 sentinel None = Some nowhere
 sentinel (Some right) = right
 
+-- the square, or `nowhere` if there is none
 abbrev or_nowhere : Option ℕ → Option ℕ
 or_nowhere o = Some (unwrap_or o nowhere)
 
 module _ (men : Men) (c : Colour) (w : CastlingSide) where
+  -- a letter that names this right gives the rook's square or `nowhere`; another letter gives none
   named_is : (letter : ℕ) → named_square men c w letter
       ≡ cond (names_right men c w letter) (or_nowhere (rook_by men c w letter)) None
   unfolding outer_rook
@@ -32,6 +35,7 @@ module _ (men : Men) (c : Colour) (w : CastlingSide) where
   skip_none None = refl
   skip_none (Some s) = refl
 
+  -- only the letters that name the right count
   only_named : (acc : Option ℕ) (letters : List ℕ)
       → fold one_or_nowhere acc (map (named_square men c w) letters)
       ≡ fold one_or_nowhere acc (map or_nowhere (map (rook_by men c w) (filter (names_right men c w) letters)))
@@ -40,10 +44,12 @@ module _ (men : Men) (c : Colour) (w : CastlingSide) where
       let first = one_or_nowhere acc (or_nowhere (rook_by men c w letter)) in
       grind (arith, named_is letter, skip_none acc, only_named first letters, only_named acc letters)
 
+-- `nowhere` stays whatever other letters name
 stays : (os : List (Option ℕ)) → fold one_or_nowhere (Some nowhere) (map or_nowhere os) ≡ Some nowhere
 stays [] = refl
 stays (o ∷ os) = stays os
 
+-- the reader's right after these rooks, each named by a letter: the one rook, none, or `nowhere` if it is named wrongly
 by_rooks : (os : List (Option ℕ)) → fold one_or_nowhere None (map or_nowhere os) ≡ sentinel (option_by os)
 by_rooks [] = refl
 by_rooks (Some s ∷ []) = refl
@@ -51,6 +57,7 @@ by_rooks (None ∷ []) = refl
 by_rooks (Some s ∷ p ∷ os) = stays os
 by_rooks (None ∷ p ∷ os) = stays os
 
+-- so the reader's right is that of the definition, or `nowhere` where this is named wrongly
 right_is : (men : Men) (letters : List ℕ) (c : Colour) (w : CastlingSide)
     → right_by_letters Fischerandom men letters c w ≡ sentinel (option_in Fischerandom men letters c w)
 right_is men letters c w =
@@ -59,6 +66,7 @@ right_is men letters c w =
 
 -- ---- nowhere is no rook's square
 
+-- a right with its rook on `nowhere` isn't sound
 no_rook : (men : Men) (c : Colour) (w : CastlingSide) → are_placed_for_castling Fischerandom men c w nowhere ≡ false
 no_rook men c w = grind arith
 
@@ -70,7 +78,7 @@ rights_of_four a b c d = record {
   black = record { king_side = c; queen_side = d };
 }
 
--- where a condition fails nothing but those before it counts
+-- if a condition fails, those after it don't matter, nor does the position then
 blocked : (p q : Setup) (xs : List (FenFault × Bool)) (f : FenFault) (ys zs : List (FenFault × Bool))
     → unless_fault p (first_failing (xs ++ ((f, false) ∷ ys)))
     ≡ unless_fault q (first_failing (xs ++ ((f, false) ∷ zs)))
@@ -90,20 +98,25 @@ module _ (men : Men) (colour : Colour) (target : Option ℕ) (halfmove fullmove 
     fullmove = fullmove;
   }
 
+  -- the right that is named, none if it is named wrongly
   abbrev flat : Option (Option ℕ) → Option ℕ
   flat o = option_flatten o
 
+  -- all four rights are named rightly
   abbrev four_some : Option (Option ℕ) → Option (Option ℕ) → Option (Option ℕ) → Option (Option ℕ) → Bool
   four_some a b c d = is_some a && (is_some b && (is_some c && (is_some d && true)))
 
+  -- what the definition says of these rights: `well` is its condition that they are named rightly
   abbrev said : Variant → Rights → Bool → Result Setup FenFault
   said v rights well = unless_fault (setup_with v rights)
       (first_failing (take 4 (conditions (setup_with v rights))
       ++ ((faults.Castling, well) ∷ drop 4 (conditions (setup_with v rights)))))
 
+  -- what the reader says of these rights: the position if it is sound, otherwise its fault
   abbrev read : Variant → Rights → Result Setup FenFault
   read v rights = unless_fault (setup_with v rights) (setup_fault (setup_with v rights))
 
+  -- if the reader's rights are not sound, it says what the definition says of rights named wrongly
   blocked_by : (v : Variant) (r t : Rights) → rights_are_sound (setup_with v t) ≡ false
       → said v r false ≡ read v t
   unfolding setup_fault
@@ -113,17 +126,18 @@ module _ (men : Men) (colour : Colour) (target : Option ℕ) (halfmove fullmove 
       ∙ ap (λ b. unless_fault (setup_with v t) (first_failing (take 4 (conditions (setup_with v t))
       ++ ((faults.Castling, b) ∷ drop 5 (conditions (setup_with v t)))))) (sym e)
 
-  -- whether a right is sound
+  -- whether a right has king and rook placed for it, as one that isn't there has
   abbrev placed : Colour → CastlingSide → Option ℕ → Bool
   placed c w right = option_map_or (are_placed_for_castling Fischerandom men c w) right true
 
-  -- one of the four rights is nowhere
+  -- if one of the four rights isn't placed, they aren't sound
   one_nowhere : (a b c d : Option ℕ)
       → (placed White KingSide a ≡ false) ⊎ (placed White QueenSide b ≡ false) ⊎ (placed Black KingSide c ≡ false)
       ⊎ (placed Black QueenSide d ≡ false) → rights_are_sound (setup_with Fischerandom (rights_of_four a b c d)) ≡ false
   unfolding rights_are_sound right_is_sound
   one_nowhere a b c d e = grind (arith, e)
 
+  -- both say the same, whichever of the four is the first that is named wrongly
   named_alike : (a b c d : Option (Option ℕ))
       → said Fischerandom (rights_of_four (flat a) (flat b) (flat c) (flat d)) (four_some a b c d)
       ≡ read Fischerandom (rights_of_four (sentinel a) (sentinel b) (sentinel c) (sentinel d))
@@ -144,6 +158,7 @@ module _ (men : Men) (colour : Colour) (target : Option ℕ) (halfmove fullmove 
       (one_nowhere a b c (Some nowhere) (inr (inr (inr (no_rook men Black QueenSide)))))
   named_alike (Some a) (Some b) (Some c) (Some d) = refl
 
+  -- the same for the letters of a castling field, by variant
   by_options : (v : Variant) (letters : List ℕ)
       → said v (rights_by_options v men letters) (options_are_well v men letters)
       ≡ read v (rights_by (right_by_letters v men letters))
@@ -160,6 +175,7 @@ module _ (men : Men) (colour : Colour) (target : Option ℕ) (halfmove fullmove 
         right_is men letters Black QueenSide,
       ) refl
 
+  -- the same with the rights as the definition has them
   alike : (v : Variant) (letters : List ℕ)
       → said v (rights_in v men letters) (names_rights_well v men letters)
       ≡ read v (rights_by (right_by_letters v men letters))
@@ -174,6 +190,7 @@ module _ (men : Men) (colour : Colour) (target : Option ℕ) (halfmove fullmove 
 abbrev if_sound : Setup → Result Setup FenFault
 if_sound p = unless_fault p (setup_fault p)
 
+-- reading six fields by the definition, and by the reader, gives the same
 fields_are : (v : Variant) (a b c d h f : List ℕ)
     → (denoted_by v a b c d h f >>= if_fit c) ≡ (setup_by v a b c d h f >>= if_sound)
 fields_are v a b c d h f =
@@ -199,6 +216,7 @@ fields_are v a b c d h f =
         ap (unless_fault p) (first_failing-conditions_if (names_rights_well v men c) p)
         ∙ alike men colour target halfmove (max fullmove 1) v c
 
+-- so does reading a text
 fens_are : (v : Variant) (text : List ℕ) → fen_reading_as v text ≡ (setup_in v (fields_of text) >>= if_sound)
 fens_are v text = reading-steps v (fields_of text) ∙ by_fields (fields_of text)
   where
@@ -216,19 +234,21 @@ fens_are v text = reading-steps v (fields_of text) ∙ by_fields (fields_of text
 
 -- ---- what code reads
 
--- what a setup is judged to be
+-- a result that is an error exactly for unsound positions, with their fault, is that of `if_sound`
 judged : (setup : Setup) (r : Result Setup FenFault) → (IsOk r ↔ IsSound setup) → IfOk r (λ p. p ≡ setup)
     → IfErr r (λ f. Some f ≡ setup_fault setup) → r ≡ if_sound setup
 judged setup (Ok p) sound value fault = ap Ok value
     ∙ sym (ap (unless_fault setup) (no_fault_from_IsSound setup (sound.0 refl)))
 judged setup (Err f) sound value fault = ap (unless_fault setup) fault
 
+-- what the reader makes of the position that it read is what the definition reads
 pub judged-read : (v : Variant) (text : List ℕ) (setup : Setup) (r : Result Setup FenFault)
     → Ok setup ≡ setup_in v (fields_of text) → (IsOk r ↔ IsSound setup) → IfOk r (λ p. p ≡ setup)
     → IfErr r (λ f. Some f ≡ setup_fault setup) → r ≡ fen_reading_as v text
 judged-read v text setup r is sound value fault =
     judged setup r sound value fault ∙ ap (λ o. o >>= if_sound) is ∙ sym (fens_are v text)
 
+-- so is a fault that it found in the fields
 pub refused-read : (v : Variant) (text : List ℕ) (f : FenFault) → Err f ≡ setup_in v (fields_of text)
     → Err f ≡ fen_reading_as v text
 refused-read v text f is = ap (λ o. o >>= if_sound) is ∙ sym (fens_are v text)

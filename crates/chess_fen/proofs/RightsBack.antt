@@ -1,4 +1,6 @@
--- In Chess960, the letters that are written for available rights name them.
+-- In Chess960 the letters that are written for available rights, those of their rooks' files, name these rights when
+-- they are read: each its own right and no other (right_back). They have the form of a castling field, none of them
+-- twice (text_is_castling).
 use Rattle.std.proofs.Common.{◌≡◌, ℕ, ◌+◌, ◌-◌, ◌<◌, ◌≤◌, ◌⊎◌, inl, inr, Bool, true, false, cond, eqb, leb, ltb, List, [], ◌∷◌, ◌++◌, length, map, Option, Some, None, refl, sym, ap, ◌∙◌, append-nil, arith, IsTrue, length-append}
 use Rattle.std.specs.List.{AllByRecursion, filter, list_all}
 use Rattle.std.proofs.{lemmas.Bool.and_parts, lemmas.Bool.eqb-true, lemmas.Bool.ltb-true, lemmas.Bool.Decides.nat_tests, lemmas.List.Elements.filter-append, lemmas.List.Sums.sum_by-append, lemmas.List.Sums.sum_by-cons}
@@ -10,7 +12,8 @@ use Rattle.chess_fen.proofs.{RightLetters.rights_are, RooksNamed.option_by, Rook
 use Rattle.chess_fen.specs.Texts.{first_letter, names_file, may_name_right, is_castling_field}
 use Rattle.chess_fen.specs.RightNames.{side_letter, is_towards, names_right, rook_by}
 
--- what an available right says of king and rook
+-- what makes a right with its rook on s available: king and rook are on the first rank, and the rook is on that side of
+-- the king
 pub record Beside (men : Men) (c : Colour) (w : CastlingSide) (s : ℕ) : Type 0 where
   pub king : ℕ
   pub at : king_square men c ≡ Some king
@@ -35,26 +38,31 @@ pub beside : (men : Men) (c : Colour) (w : CastlingSide) (s : ℕ) → right_is_
 beside men c w s e = beside_by men c w s (king_square men c) refl
     (and_parts (is_on_side_of_king c w (king_square men c) s) (is_man c Rook (man_at men s)) e).0
 
+-- the other castling side
 abbrev other_side : CastlingSide → CastlingSide
 other_side KingSide = QueenSide
 other_side QueenSide = KingSide
 
 -- ---- a letter that is written, among those of sides and files
 
+-- a file's letter (A to H, a to h) is none of K, Q, k and q
 pub no_side_letter : (c d : Colour) (w : CastlingSide) (f : ℕ) → f < 8
     → eqb (first_letter c + f) (side_letter d w) ≡ false
 no_side_letter c d w f h = grind (arith, nat_tests)
 
+-- it is that of a file for its own colour, and not for the other
 pub own_file : (c : Colour) (f : ℕ) → f < 8 → names_file c (first_letter c + f) ≡ true
 own_file c f h = grind (arith, nat_tests)
 
 other_file : (c : Colour) (f : ℕ) → f < 8 → names_file (other c) (first_letter c + f) ≡ false
 other_file c f h = grind (arith, nat_tests)
 
+-- the file's letter gives the square back
 pub file_back : (c : Colour) (s : ℕ) → rank s ≡ first_rank c
     → home_square c ((first_letter c + file s) - first_letter c) ≡ s
 file_back c s e = omega arith
 
+-- a square on one side of the king is not on the other
 towards_own : (w : CastlingSide) (k s : ℕ) → is_to_side w k s ≡ true → is_towards w (Some k) s ≡ true
 towards_own w k s e = grind (arith, nat_tests, e)
 
@@ -66,12 +74,14 @@ file_in s = omega arith
 
 -- ---- which right it names
 
+-- the letter that is written for a right names it
 pub names_own : (men : Men) (c : Colour) (w : CastlingSide) (s : ℕ) → Beside men c w s
     → names_right men c w (first_letter c + file s) ≡ true
 names_own men c w s b =
     let t : is_towards w (king_square men c) s ≡ true = rw b.at (towards_own w b.king s b.side) in
     rw (no_side_letter c c w (file s) (file_in s), own_file c (file s) (file_in s), file_back c s b.rook_rank, t) refl
 
+-- it doesn't name the colour's other right
 names_other_side : (men : Men) (c : Colour) (w : CastlingSide) (s : ℕ) → Beside men c w s
     → names_right men c (other_side w) (first_letter c + file s) ≡ false
 names_other_side men c w s b =
@@ -83,11 +93,13 @@ names_other_side men c w s b =
       t,
     ) refl
 
+-- nor a right of the other colour
 names_other_colour : (men : Men) (c : Colour) (w : CastlingSide) (s : ℕ)
     → names_right men (other c) w (first_letter c + file s) ≡ false
 names_other_colour men c w s = rw (no_side_letter c (other c) w (file s) (file_in s), other_file c (file s) (file_in s))
     refl
 
+-- it gives the rook's square
 pub rook_own : (men : Men) (c : Colour) (w : CastlingSide) (s : ℕ) → rank s ≡ first_rank c
     → rook_by men c w (first_letter c + file s) ≡ Some s
 rook_own men c w s home = rw (no_side_letter c c w (file s) (file_in s), file_back c s home) refl
@@ -98,12 +110,14 @@ rook_own men c w s home = rw (no_side_letter c c w (file s) (file_in s), file_ba
 abbrev pub Stand : Variant → Men → Rights → Type 0
 Stand v men r = (c : Colour) (w : CastlingSide) → right_is_sound_at v men c w (right_of r c w) ≡ true
 
+-- of the text of a right (a letter, or none), each letter names the right
 own_text : (men : Men) (c : Colour) (w : CastlingSide) (o : Option ℕ) → right_is_sound_at Fischerandom men c w o ≡ true
     → filter (names_right men c w) (right_text Fischerandom c w o) ≡ right_text Fischerandom c w o
 own_text men c w None e = refl
 own_text men c w (Some s) e =
     ap (λ b. cond b ((first_letter c + file s) ∷ []) []) (names_own men c w s (beside men c w s e))
 
+-- none names the other side's right
 side_text : (men : Men) (c : Colour) (w : CastlingSide) (o : Option ℕ)
     → right_is_sound_at Fischerandom men c w o ≡ true
     → filter (names_right men c (other_side w)) (right_text Fischerandom c w o) ≡ []
@@ -111,16 +125,19 @@ side_text men c w None e = refl
 side_text men c w (Some s) e =
     ap (λ b. cond b ((first_letter c + file s) ∷ []) []) (names_other_side men c w s (beside men c w s e))
 
+-- none names a right of the other colour
 colour_text : (men : Men) (c : Colour) (w u : CastlingSide) (o : Option ℕ)
     → filter (names_right men (other c) u) (right_text Fischerandom c w o) ≡ []
 colour_text men c w u None = refl
 colour_text men c w u (Some s) = ap (λ b. cond b ((first_letter c + file s) ∷ []) []) (names_other_colour men c u s)
 
+-- a dash names no right
 after-dash : (men : Men) (c : Colour) (w : CastlingSide) (xs : List ℕ)
     → filter (names_right men c w) (or_dash xs) ≡ filter (names_right men c w) xs
 after-dash men c w [] = grind arith
 after-dash men c w (x ∷ xs) = refl
 
+-- the text of White's right on the king's side, below the three others
 abbrev A : Rights → List ℕ
 A r = right_text Fischerandom White KingSide r.white.king_side
 
@@ -133,6 +150,7 @@ C r = right_text Fischerandom Black KingSide r.black.king_side
 abbrev D : Rights → List ℕ
 D r = right_text Fischerandom Black QueenSide r.black.queen_side
 
+-- the letters of a castling field that name a right are those of the four texts, one after another
 in_turn : (men : Men) (r : Rights) (c : Colour) (w : CastlingSide)
     → filter (names_right men c w) (rights_text Fischerandom r)
     ≡ ((filter (names_right men c w) (A r) ++ filter (names_right men c w) (B r)) ++ filter (names_right men c w) (C r))
@@ -143,6 +161,7 @@ in_turn men r c w =
     ∙ ap (λ xs. xs ++ filter names (D r))
     (filter-append names (A r ++ B r) (C r) ∙ ap (λ xs. xs ++ filter names (C r)) (filter-append names (A r) (B r)))
 
+-- of the whole field only its own letter names an available right
 own_letters : (men : Men) (r : Rights) (c : Colour) (w : CastlingSide) → Stand Fischerandom men r
     → filter (names_right men c w) (rights_text Fischerandom r) ≡ right_text Fischerandom c w (right_of r c w)
 own_letters men r White KingSide s =
@@ -181,12 +200,14 @@ own_letters men r Black QueenSide s =
       own_text men Black QueenSide r.black.queen_side (s Black QueenSide),
     ) refl
 
+-- and this letter gives its rook
 one_right : (men : Men) (c : Colour) (w : CastlingSide) (o : Option ℕ) → right_is_sound_at Fischerandom men c w o ≡ true
     → option_by (map (rook_by men c w) (right_text Fischerandom c w o)) ≡ Some o
 one_right men c w None e = refl
 one_right men c w (Some s) e =
     ap (λ rook. option_by (rook ∷ [])) (rook_own men c w s (beside men c w s e).rook_rank)
 
+-- so the field gives each right back
 pub right_back : (men : Men) (r : Rights) (c : Colour) (w : CastlingSide) → Stand Fischerandom men r
     → option_in Fischerandom men (rights_text Fischerandom r) c w ≡ Some (right_of r c w)
 right_back men r c w s =
@@ -195,6 +216,7 @@ right_back men r c w s =
 
 -- ---- they are letters of rights, none twice
 
+-- a file's letter may name a right
 may_name : (c : Colour) (f : ℕ) → f < 8 → may_name_right Fischerandom (first_letter c + f) ≡ true
 unfolding may_name_right
 may_name White f h = grind (arith, own_file White f h)
@@ -205,11 +227,12 @@ each_one : (c : Colour) (w : CastlingSide) (o : Option ℕ)
 each_one c w None = tt
 each_one c w (Some s) = (may_name c (file s) (file_in s), tt)
 
+-- a right is written in one letter or none
 one_at_most : (c : Colour) (w : CastlingSide) (o : Option ℕ) → length (right_text Fischerandom c w o) ≤ 1
 one_at_most c w None = omega arith
 one_at_most c w (Some s) = omega arith
 
--- a letter that occurs says on which side of the king its rook is
+-- n is a letter of colour c's files, on side w of the king's file
 record Placed (men : Men) (c : Colour) (w : CastlingSide) (n : ℕ) : Type 0 where
   king : ℕ
   at : king_square men c ≡ Some king
@@ -217,6 +240,7 @@ record Placed (men : Men) (c : Colour) (w : CastlingSide) (n : ℕ) : Type 0 whe
   high : n < first_letter c + 8
   side : is_to_side w (first_letter c + file king) n ≡ true
 
+-- the letter of an available right is so
 placed : (men : Men) (c : Colour) (w : CastlingSide) (s : ℕ) → Beside men c w s
     → Placed men c w (first_letter c + file s)
 placed men c w s b = record {
@@ -227,9 +251,11 @@ placed men c w s b = record {
   side = (let side = b.side in grind (arith, nat_tests, b.king_rank, b.rook_rank, side));
 }
 
+-- how often c occurs in a text with x in front
 times-cons : (c x : ℕ) (xs : List ℕ) → times c (x ∷ xs) ≡ cond (eqb x c) 1 0 + times c xs
 times-cons c x xs = sum_by-cons (λ b. cond (eqb b c) 1 0) x xs
 
+-- the letter n occurs t times in the text of a right: not at all, or once, and then is placed as the right is
 Occurs : Men → Colour → CastlingSide → ℕ → ℕ → Type 0
 Occurs men c w n t = (t ≡ 0) ⊎ ((t ≡ 1) × Placed men c w n)
 
@@ -247,6 +273,7 @@ occurrence men c w (Some s) n e = rw (times-cons n (first_letter c + file s) [])
     (occurs_by men c w (first_letter c + file s) n (placed men c w s (beside men c w s e))
     (eqb (first_letter c + file s) n) refl)
 
+-- no letter is on both sides of the king
 not_both : (men : Men) (c : Colour) (n : ℕ) → Placed men c KingSide n → Placed men c QueenSide n → ⊥
 not_both men c n p q =
     let same : Some p.king ≡ Some q.king = sym p.at ∙ q.at in
@@ -255,7 +282,7 @@ not_both men c n p q =
     let b = ltb-true n (first_letter c + file q.king) q.side in
     omega (arith, king, a, b)
 
--- the two letters of a colour
+-- n occurs t times in the two letters of colour c: not at all, or once as one of c's letters
 Once : Colour → ℕ → ℕ → Type 0
 Once c n t = (t ≡ 0) ⊎ ((t ≡ 1) × (first_letter c ≤ n) × (n < first_letter c + 8))
 
@@ -267,6 +294,7 @@ of_colour men c n t u (inl e) (inr f) = inr (omega (arith, f.0), f.1.low, f.1.hi
 of_colour men c n t u (inr e) (inl f) = inr (omega (arith, e.0), e.1.low, e.1.high)
 of_colour men c n t u (inr e) (inr f) = absurd (not_both men c n e.1 f.1)
 
+-- White's letters are capitals, Black's small: none is in both
 of_both : (n t u : ℕ) → Once White n t → Once Black n u → t + u ≤ 1
 unfolding Once
 of_both n t u (inl e) (inl f) = omega arith
@@ -277,6 +305,7 @@ of_both n t u (inr e) (inr f) = absurd (omega (arith, e.2, f.1))
 times-append : (n : ℕ) (xs ys : List ℕ) → times n (xs ++ ys) ≡ times n xs + times n ys
 times-append n xs ys = sum_by-append (λ b. cond (eqb b n) 1 0) xs ys
 
+-- no letter occurs twice in the four texts
 none_twice : (men : Men) (r : Rights) (n : ℕ) → Stand Fischerandom men r → times n (((A r ++ B r) ++ C r) ++ D r) ≤ 1
 none_twice men r n s =
     let white = of_colour men White n (times n (A r)) (times n (B r))
@@ -296,6 +325,7 @@ none_twice men r n s =
 
 -- ---- the letters, each of which is there once
 
+-- if no letter of the whole text occurs twice, each letter of a part of it is one that occurs once
 each_once : (whole text : List ℕ) → ((c : ℕ) → times c text ≤ times c whole) → ((c : ℕ) → times c whole ≤ 1)
     → AllByRecursion (λ l. IsTrue (may_name_right Fischerandom l)) text
     → list_all (names_once Fischerandom whole) text ≡ true
@@ -309,6 +339,7 @@ each_once whole (x ∷ xs) within one p =
     let rest = each_once whole xs (λ c. omega (arith, within c, times-cons c x xs)) one p.1 in
     rw (may, t, rest) refl
 
+-- one to four such letters, none twice, have the form of a castling field; so has a dash
 castling_or_dash : (text : List ℕ) → length text ≤ 4 → AllByRecursion (λ l. IsTrue (may_name_right Fischerandom l)) text
     → ((n : ℕ) → times n text ≤ 1) → is_castling_field Fischerandom (or_dash text) ≡ true
 castling_or_dash [] few each distinct = refl

@@ -1,4 +1,6 @@
--- The outermost rook is the first that is found from the edge on.
+-- The loop of `outer_rook` looks from the edge on for the first rook: where it finds one it is the first of the files
+-- left (rook_here), otherwise the first is among the others (no_rook_here). With all eight files left it is the
+-- outermost rook (outer_among).
 use Rattle.std.proofs.Common.{◌≡◌, ℕ, zero, suc, ◌+◌, Bool, true, false, cond, List, [], ◌∷◌, Option, Some, refl, ap, ◌∙◌, arith, find, unwrap_or}
 use Rattle.chess_base.specs.{declared.man.Colour.Colour, declared.man.CastlingSide.CastlingSide, declared.man.CastlingSide.TheVariants.KingSide, declared.man.CastlingSide.TheVariants.QueenSide, declared.man.Kind.TheVariants.Rook, Men.Men, Men.man_at, Men.is_man, Castling.home_square}
 use Rattle.chess_fen.specs.{ties.Reader.nowhere, ties.Reader.outer_rook, ties.Loops.edge_file, ties.Loops.rook_among}
@@ -25,11 +27,12 @@ found_next : (s : ℕ) (o : Option ℕ) (b : Bool) → unwrap_or (cond b (Some s
 found_next s o true = refl
 found_next s o false = refl
 
--- the squares of the files that are left
+-- the squares of the k files that are left in a search from the edge on side w
 squares_left : Colour → CastlingSide → ℕ → List ℕ
 squares_left c w zero = []
 squares_left c w (suc k) = home_square c (edge_file w k) ∷ squares_left c w k
 
+-- the first rook among them is `rook_among`, `nowhere` if there is none
 found_among : (men : Men) (c : Colour) (w : CastlingSide) (k : ℕ)
     → unwrap_or (first_rook men c (squares_left c w k)) nowhere ≡ rook_among men c w k
 unfolding squares_left

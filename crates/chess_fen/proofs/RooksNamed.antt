@@ -8,18 +8,23 @@ use Rattle.chess_fen.specs.Texts.{occurs}
 
 -- ---- the form
 
+-- the right by the rooks that the letters naming it give: absent without a letter, that rook for one; wrong for two
+-- letters, or a letter without a rook
 abbrev pub option_by : List (Option ℕ) → Option (Option ℕ)
 option_by [] = Some None
 option_by (Some s ∷ []) = Some (Some s)
 option_by _ = None
 
+-- the right on side w by the letters of a castling field: in normal chess there if its letter is
 abbrev pub option_in : Variant → Men → List ℕ → Colour → CastlingSide → Option (Option ℕ)
 option_in Normal men letters c w = Some (then_some (occurs (side_letter c w) letters) (home_square c (rook_file w)))
 option_in Fischerandom men letters c w = option_by (map (rook_by men c w) (filter (names_right men c w) letters))
 
+-- none of the four rights is named wrongly
 abbrev pub options_are_well : Variant → Men → List ℕ → Bool
 options_are_well v men letters = list_all (λ r. is_some (option_in v men letters r.0 r.1)) all_rights
 
+-- the four rights; one named wrongly is left out
 abbrev pub rights_by_options : Variant → Men → List ℕ → Rights
 rights_by_options v men letters = rights_by (λ c w. option_flatten (option_in v men letters c w))
 
@@ -29,6 +34,7 @@ in_chess960 men c w letters = refl
 
 -- ---- one right
 
+-- the result of `right_in` in this form
 abbrev as_option : NamedRight → Option (Option ℕ)
 as_option Absent = Some None
 as_option (At s) = Some (Some s)

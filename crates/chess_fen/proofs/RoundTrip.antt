@@ -1,4 +1,5 @@
--- What is written for a position is read as that position.
+-- The FEN that is written for a sound position is read as this position (written-fen), with its rights named rightly
+-- (written-well). So it is field by field: counters, rights, target, pieces.
 use Rattle.std.proofs.Common.{◌≡◌, ℕ, zero, suc, ◌+◌, ◌*◌, ◌<◌, ◌≤◌, inl, inr, true, eqb, leb, ltb, List, [], ◌∷◌, ◌++◌, length, take, drop, map, Option, Some, None, refl, sym, ap, subst, ◌∙◌, arith, rules, take-add, replicate, decimal, is_some, Ok, max, append-nil, length-take, length-drop, take_all, length-append}
 use Rattle.std.specs.{Bool.then_some, Option.option_flatten, List.AllZip, List.list_all, List.slice_split, Str.Parse.digits_value}
 use Rattle.std.proofs.{lemmas.Bool.Decides.nat_tests, lemmas.Fmt.digits_decimal, lemmas.Fmt.decimal_is_IsNumeral, lemmas.Fmt.decimal_nonempty, lemmas.Str.Parse.IsNumeralModel, lemmas.Str.Parse.numerals_by_value}
@@ -20,9 +21,11 @@ use Rattle.chess_fen.proofs.FenBytes.{target_fits, rows_plain, fields, counters_
 
 -- ---- numbers
 
+-- each numeral is of digits, and `digits_value` is its value
 pub own : IsNumeralModel (λ ds. list_all is_digit ds ≡ true) (digits_value 10)
 own = numerals_by_value _ (search rules)
 
+-- a counter's text is read as the counter
 pub number-decimal : (n : ℕ) → n < 1000000 → short_number 6 (decimal n) ≡ Some n
 number-decimal n h =
     let some : 0 < length (decimal n) = decimal_nonempty n (omega arith) in
@@ -76,6 +79,7 @@ on_corner men c w None e = refl
 on_corner men c w (Some s) e =
     let at : s ≡ home_square c (rook_file w) = grind (arith, nat_tests, e) in ap Some (sym at)
 
+-- so in normal chess each right is read back
 right_read : (men : Men) (r : Rights) → Stand Normal men r → (c : Colour) (w : CastlingSide)
     → right_named (rights_text Normal r) (side_letter c w) (home_square c (rook_file w)) ≡ right_of r c w
 right_read men r s c w = ap (λ b. then_some b (home_square c (rook_file w)))
@@ -87,6 +91,7 @@ record ReadBack (v : Variant) (men : Men) (r : Rights) : Type 0 where
   castling : is_castling_field v (rights_text v r) ≡ true
   rights : (c : Colour) (w : CastlingSide) → option_in v men (rights_text v r) c w ≡ Some (right_of r c w)
 
+-- it is so in both variants
 are_read : (v : Variant) (men : Men) (r : Rights) → Stand v men r → ReadBack v men r
 are_read Normal men r s =
     record {
@@ -114,6 +119,7 @@ run_denotes (suc n) text squares h s = (
   ap (λ xs. replicate (suc n) None ++ xs) s.2,
 )
 
+-- the text that is written for squares, after n empty ones, denotes these
 row_denotes : (squares : List (Option Man)) (n : ℕ) → n + length squares ≤ 8
     → DenotesSquares (row_text n squares) (replicate n None ++ squares)
 row_denotes [] n h =
@@ -129,6 +135,7 @@ row_denotes (Some man ∷ squares) n h =
       ap (λ xs. Some man ∷ xs) s.2,
     )
 
+-- the text of a rank denotes its squares
 pub rank_denotes : (row : List (Option Man)) → length row ≡ 8 → DenotesSquares (fen_rank row) row
 rank_denotes row h = subst (λ text. DenotesSquares text row) (row_is row 0) (row_denotes row 0 (omega arith))
 
@@ -142,6 +149,7 @@ ranks_denote (suc n) men h =
     let eight : length row ≡ 8 = omega (arith, length-take 8 (drop (8 * n) men), length-drop (8 * n) men) in
     ((rank_denotes row eight, eight), ranks_denote n men (omega arith))
 
+-- the ranks put together again, lowest first, are the board
 stacked : (n : ℕ) (men : List (Option Man)) → from_top (ranks_down n men) ≡ take (8 * n) men
 stacked zero men = refl
 stacked (suc n) men =
@@ -149,6 +157,7 @@ stacked (suc n) men =
     ap (λ squares. squares ++ take 8 (drop (8 * n) men)) (stacked n men)
     ∙ sym (ap (λ k. take k men) at ∙ take-add (8 * n) 8 men)
 
+-- the pieces that are written are read back
 placement-text : (men : List (Option Man)) → length men ≡ 64 → placement_of (placement_text men) ≡ Some men
 unfolding placement_text
 placement-text men all =
@@ -203,7 +212,7 @@ fen_fields p h =
       ),
     )
 
--- the rights that are read of what is written
+-- the rights that are read of the castling field are those of the position
 rights_back : (p : Setup) → ReadBack p.variant p.men p.rights → (c : Colour) (w : CastlingSide)
     → rook_of (right_in p.variant p.men (rights_text p.variant p.rights) c w) ≡ right_of p.rights c w
 rights_back p back c w = rook_is p.variant p.men (rights_text p.variant p.rights) c w

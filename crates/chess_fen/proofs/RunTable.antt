@@ -1,4 +1,6 @@
--- The table of bytes is held against the definition at each of the 256 bytes, by computing.
+-- The table `RUNS` of what each byte of a rank stands for agrees with the definition `squares_of` at each of the 256
+-- bytes. That each entry fits is computed (all_fit); that an entry which fits stands for the squares is proved
+-- (stands_by).
 use Rattle.std.proofs.Common.{◌≡◌, ℕ, zero, suc, ◌-◌, ◌<◌, ◌≤◌, Bool, true, false, cond, eqb, leb, ◌&&◌, List, [], ◌∷◌, get_or, Option, Some, None, refl, sym, ap, ◌∙◌, arith, option_map, is_none, replicate}
 use Rattle.std.proofs.lemmas.Bool.{and_parts, agree_below, agree_below_at, eqb-true}
 use Rattle.std.proofs.lemmas.Bool.Decides.{nat_tests}
@@ -9,6 +11,7 @@ use Rattle.chess_fen.proofs.{RankBytes.no_man, RankBytes.squares-digit, DenotedR
 abbrev no_squares : Option (List (Option Man))
 no_squares = None
 
+-- what the look-up gives past the table's end
 abbrev nothing : Run
 nothing = record { first = None; squares = 0 }
 
@@ -18,6 +21,7 @@ fits_by None squares b =
     cond (leb 49 b && leb b 56) (eqb squares (b - 48)) (leb 9 squares && is_none (man_with_letter b))
 fits_by (Some m) squares b = eqb (letter m) b && eqb squares 1
 
+-- the entry r fits the byte b
 abbrev fits : ℕ → Run → Bool
 fits b r = fits_by r.first r.squares b
 
@@ -27,9 +31,11 @@ all_fit = refl
 fit_at : (b : ℕ) → b < 256 → fits b (get_or RUNS b nothing) ≡ true
 fit_at b lt = agree_below_at (λ b. fits b (get_or RUNS b nothing)) (λ b. true) 256 b all_fit lt
 
+-- n is one less than its successor
 less : (n : ℕ) → n ≡ suc n - 1
 less n = omega arith
 
+-- n empty squares are one and n - 1 more
 first_of : (n : ℕ) → 0 < n → replicate n no_man ≡ None ∷ replicate (n - 1) None
 first_of zero h = absurd (omega (arith, h))
 first_of (suc n) h = ap (λ k. no_man ∷ replicate k no_man) (less n)

@@ -1,5 +1,6 @@
--- The position that the six fields of a FEN denote, by what each of them denotes, and the reading of a list of fields
--- as that of the position, sound or not, and of its conditions: a proof goes through the cases.
+-- The reading of a FEN's fields in two parts: the position that they denote, sound or not (`denoted_in`), and then its
+-- conditions (`if_fit`). reading-steps shows that this is the definition's reading. Proofs then go through the cases of
+-- `steps`, one for each field.
 use Rattle.std.proofs.Common.{◌≡◌, ℕ, Bool, false, cond, ◌==◌, if◌then◌else◌, length, List, [], ◌∷◌, ◌++◌, get_or, arith, Option, Result, Ok, Err, refl, max, codes}
 use Rattle.std.proofs.lemmas.Bool.Decides.{nat_tests}
 use Rattle.std.specs.Option.{ok_or, option_map_or}
@@ -33,6 +34,7 @@ steps_to end v rights men side target halfmove fullmove = do
 abbrev rights_if : Variant → List ℕ → Bool → Men → Result Rights FenFault
 rights_if v castling fits men = cond fits (Ok (rights_in v men castling)) (Err faults.Castling)
 
+-- the same, up to the position itself: its rights are those of the field `castling`
 abbrev pub steps : Variant → List ℕ → Option Men → Option Colour → Bool → Option (Option ℕ) → Option ℕ → Option ℕ
     → Result Setup FenFault
 steps v castling men side fits target halfmove fullmove =
@@ -77,6 +79,7 @@ of_fields v a b c d e f =
 abbrev with_counters : List (List ℕ) → List (List ℕ)
 with_counters fields = if length fields == 4 then fields ++ (codes "0" ∷ codes "1" ∷ []) else fields
 
+-- the reading of a list of fields, by their number
 pub reading-steps : (v : Variant) (fields : List (List ℕ))
     → reading_in v (with_counters fields) ≡ (denoted_in v fields >>= if_fit (third fields))
 reading-steps v [] = refl

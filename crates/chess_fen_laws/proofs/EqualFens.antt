@@ -1,9 +1,11 @@
--- Equal texts of one variant are the FENs of one position, since each is read back as its position.
+-- Two positions of one variant with equal FENs are equal, since reading the FEN gives each of them back
+-- (same_position).
 use Rattle.std.proofs.Common.{◌≡◌, true, refl, sym, ap, ◌∙◌}
 use Rattle.chess_base.specs.{declared.man.Variant.Variant, declared.man.Variant.TheVariants.Normal, declared.man.Variant.TheVariants.Fischerandom, declared.setup.Setup.Setup, Sound.IsSound, contracts.man.VariantPartialEq.TheImpl.eq-value}
 use Rattle.chess_fen.specs.{Reading.fen_reading_as, Writing.fen}
 use Rattle.chess_fen.proofs.shared.Denoted.{reading-denoted, fen-denoted}
 
+-- equal variants, as the test of `Fen` compares them
 pub variants_equal : (v w : Variant) → eq-value.it v w ≡ true → v ≡ w
 variants_equal Normal Normal e = refl
 variants_equal Fischerandom Fischerandom e = refl

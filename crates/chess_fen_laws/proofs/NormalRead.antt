@@ -1,4 +1,5 @@
--- A FEN is read as normal chess as it is defined for normal chess alone.
+-- Each text is read as a FEN of normal chess in the same way by the definitions for both variants and by those for
+-- normal chess alone (reading_kept): step by step, field after field, then the conditions of soundness.
 use Rattle.std.proofs.Common.{◌≡◌, ℕ, Bool, true, false, List, [], ◌∷◌, ◌++◌, take, drop, Option, Some, None, Result, Ok, refl, ap, subst, if◌then◌else◌, ◌∙◌, ok_or, codes, max, IfOk}
 use Rattle.chess_base.specs.{declared.fen_fault.FenFault.FenFault, declared.man.Colour.Colour, declared.man.Colour.TheVariants.White, declared.man.Colour.TheVariants.Black, declared.man.CastlingSide.TheVariants.KingSide, declared.man.CastlingSide.TheVariants.QueenSide, declared.man.Rights.Rights, declared.man.Variant.TheVariants.Normal, declared.setup.Setup.Setup, Men.Men}
 use Rattle.chess_base.specs.declared.fen_fault.FenFault.TheVariants as faults
@@ -11,6 +12,7 @@ use Rattle.chess_fen.proofs.shared.Steps.{rights_as_options, wells_as_options, s
 use Rattle.chess_fen.proofs.shared.Variants.{reading_in_variant}
 use Rattle.chess_fen_laws.specs.Normal.{normal_rights_named, normal_setup_by, normal_setup_in, normal_rights_are_sound, normal_fault, normal_sound, normal_fen_reading}
 
+-- rights of normal chess are sound by one definition if they are by the other
 stand_kept : (p : Setup) → p.variant ≡ Normal → rights_are_sound p ≡ normal_rights_are_sound p
 unfolding rights_are_sound
 stand_kept p e =
@@ -22,6 +24,7 @@ stand_kept p e =
       kept.stands Black QueenSide,
     ) refl
 
+-- so the first fault of a position is the same
 fault_kept : (p : Setup) → p.variant ≡ Normal → setup_fault p ≡ normal_fault p
 unfolding setup_fault normal_fault
 fault_kept p e =
@@ -51,6 +54,7 @@ normal_setup men colour target halfmove fullmove rights = record {
   fullmove = max fullmove 1;
 }
 
+-- the fields and then the conditions, by what each field denotes
 steps_kept : (c : List ℕ) (men : Option Men) (side : Option Colour) (fits : Bool) (target : Option (Option ℕ))
     (halfmove fullmove : Option ℕ)
     → (steps Normal c men side fits target halfmove fullmove >>= if_fit c)
@@ -71,6 +75,7 @@ steps_kept c (Some men) (Some colour) true (Some target) (Some halfmove) (Some f
     ∙ ap (λ (b : Bool). unless_fault p (first_failing (conditions_if b p))) (wells_as_options Normal men c)
     ∙ ap (unless_fault p) (fault_kept p refl)
 
+-- the same for six fields
 fields_kept : (a b c d h f : List ℕ)
     → (denoted_by Normal a b c d h f >>= if_fit c) ≡ (normal_setup_by a b c d h f >>= normal_sound)
 unfolding may_name_right
@@ -92,6 +97,7 @@ reading_kept text = reading-steps Normal (fields_of text) ∙ by_fields (fields_
     by_fields (a ∷ b ∷ c ∷ d ∷ e ∷ f ∷ []) = fields_kept a b c d e f
     by_fields (a ∷ b ∷ c ∷ d ∷ e ∷ f ∷ g ∷ more) = refl
 
+-- what is read by the definitions for normal chess alone is of normal chess
 pub reading_is_normal : (text : List ℕ) → IfOk (normal_fen_reading text) (λ p. p.variant ≡ Normal)
 reading_is_normal text = subst (λ r. IfOk r (λ p. p.variant ≡ Normal)) (reading_kept text)
     (reading_in_variant Normal text)

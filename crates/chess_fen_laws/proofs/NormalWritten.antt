@@ -1,4 +1,5 @@
--- On positions of normal chess a FEN is written as for normal chess alone.
+-- A position of normal chess is written as the same FEN by the definitions for both variants and by those for normal
+-- chess alone (fen_kept); they differ only in the castling field.
 use Rattle.std.proofs.Common.{◌≡◌, ℕ, [], ◌∷◌, ◌++◌, Option, Some, None, decimal, refl, ap, ◌∙◌}
 use Rattle.std.specs.List.{join_with_byte}
 use Rattle.byte_devices.specs.Bytes.{byte, space}
@@ -8,10 +9,12 @@ use Rattle.chess_fen.specs.Writing.{fen, placement_text, side_text, rights_text,
 use Rattle.chess_fen.proofs.shared.RightLetters.{dashed, rights_are}
 use Rattle.chess_fen_laws.specs.Normal.{letter_if, normal_rights_text, normal_fen}
 
+-- a right is written as its letter, whatever its rook's square
 one_written : (c : Colour) (w : CastlingSide) (o : Option ℕ) → right_text Normal c w o ≡ letter_if o (side_letter c w)
 one_written c w None = refl
 one_written c w (Some s) = refl
 
+-- the letters of the rights, or a dash, are the same
 written_by : (r : Rights) → rights_text Normal r ≡ normal_rights_text r
 written_by r =
     rights_are Normal r ∙ rw (

@@ -1,4 +1,6 @@
--- A rank has one text in which no two digits are side by side: the one that is written.
+-- The text that is written for a rank has no two digits side by side (rank_text_is), and is the only such text that
+-- denotes the rank (only_rank_text). In `row_text n row` n is the number of empty squares that come before the squares
+-- `row`.
 use Rattle.std.proofs.Common.{◌≡◌, ℕ, zero, suc, ◌+◌, ◌<◌, ◌≤◌, true, false, not, List, [], ◌∷◌, ◌++◌, length, Option, Some, None, refl, sym, ap, subst, ◌∙◌, inl, inr, arith, ◌&&◌, replicate}
 use Rattle.std.specs.List.{AllZip}
 use Rattle.std.proofs.{lemmas.Bool.and_parts, lemmas.Bool.Decides.nat_tests}
@@ -8,15 +10,18 @@ use Rattle.chess_fen.specs.{Denotation.StandsFor, Writing.fen_rank, shared.Rows.
 use Rattle.chess_fen.proofs.shared.Ranks.{joined, rank_denotes, row_is, white_range}
 use Rattle.chess_fen_laws.specs.RankTexts.{digits_apart, IsRankText}
 
+-- a piece's letter is no digit
 no_digit : (man : Man) → is_digit (letter man) ≡ false
 no_digit man = let range = white_range man.kind in grind (arith, nat_tests, range.0)
 
+-- n empty squares at the front add n to those before
 empty_run : (n m : ℕ) (row : List (Option Man)) → row_text m (replicate n None ++ row) ≡ row_text (n + m) row
 empty_run zero m row = ap (λ k. row_text k row) (omega arith)
 empty_run (suc n) m row =
     let more : n + suc m ≡ suc n + m = omega arith in
     empty_run n (suc m) row ∙ ap (λ k. row_text k row) more
 
+-- a run of n empty squares is written as one digit, if n isn't 0
 run_is : (n : ℕ) → 0 < n → run_text n ≡ (48 + n) ∷ []
 run_is zero h = absurd (omega (arith, h))
 run_is (suc n) h = refl
@@ -24,12 +29,15 @@ run_is (suc n) h = refl
 digit_is : (n : ℕ) → n ≤ 8 → is_digit (48 + n) ≡ true
 digit_is n h = grind (arith, nat_tests)
 
+-- a text without two digits side by side has none after its first byte
 apart_tail : (c : ℕ) (cs : List ℕ) → digits_apart (c ∷ cs) ≡ true → digits_apart cs ≡ true
 apart_tail c [] h = refl
 apart_tail c (d ∷ cs) h = (and_parts (not (is_digit c && is_digit d)) (digits_apart (d ∷ cs)) h).1
 
 -- ---- only one text
 
+-- by induction over the bytes: a letter stands for its piece; a digit for a run, which is a whole one, since no digit
+-- follows (`by_next`)
 only_text : (text : List ℕ) (parts : List (List (Option Man))) → AllZip StandsFor text parts → digits_apart text ≡ true
     → text ≡ row_text 0 (joined parts)
 only_text [] [] h apart = refl
@@ -71,14 +79,17 @@ only_text (c ∷ cs) (first ∷ parts) h apart =
 
 -- ---- and it is one
 
+-- a letter in front puts no two digits side by side
 letter_apart : (man : Man) (text : List ℕ) → digits_apart text ≡ true → digits_apart (letter man ∷ text) ≡ true
 letter_apart man [] h = refl
 letter_apart man (d ∷ rest) h = rw (no_digit man, h) refl
 
+-- nor does any byte in front of a letter
 before_letter : (c : ℕ) (man : Man) (text : List ℕ) → digits_apart (letter man ∷ text) ≡ true
     → digits_apart (c ∷ letter man ∷ text) ≡ true
 before_letter c man text h = rw (no_digit man, h) (grind arith)
 
+-- so the text that is written has none side by side
 apart_row : (n : ℕ) (row : List (Option Man)) → digits_apart (row_text n row) ≡ true
 apart_row zero [] = refl
 apart_row (suc n) [] = refl

@@ -1,4 +1,5 @@
--- Pieces as sets of squares, and back.
+-- The seven sets of `PackedMen` give back the pieces that they were made of (men_back), and two positions differ on a
+-- square exactly where one of the sets does (differ_at): so comparing sets compares pieces (same_where_none).
 use Rattle.std.proofs.Common.{◌≡◌, ℕ, zero, suc, ◌<◌, inl, inr, Bool, true, false, not, ◌&&◌, ◌||◌, if◌then◌else◌, refl, sym, ◌∙◌, ap, subst, arith, Option, Some, None, length, true≢false, ext_get_or}
 use Rattle.std.proofs.lemmas.Bool.{or_from, or_parts, cases_Bool}
 use Rattle.chess_base.specs.{declared.man.Colour.Colour, declared.man.Colour.TheVariants.White, declared.man.Colour.TheVariants.Black, declared.man.Kind.Kind, declared.man.Man.Man, Squares.some_square, shared.Below.some_below, shared.Below.each_below, shared.Below.from_below}
@@ -12,13 +13,14 @@ use Rattle.chess_game.proofs.{EqualHashes.places_equal, SameSelf.man_self}
 
 -- ---- White's pieces
 
+-- a piece that passes the colour's test (b) is of one of the six kinds
 by_kind : (b : Bool) (x : Kind)
     → ((b && same_kind King x) || (b && same_kind Queen x) || (b && same_kind Rook x) || (b && same_kind Bishop x)
     || (b && same_kind Knight x) || (b && same_kind Pawn x))
     ≡ b
 by_kind b x = grind arith
 
--- they are those of its six kinds
+-- a piece is White's exactly if it is White's of one of the six kinds
 pub white_kinds : (o : Option Man)
     → (is_man White King o || is_man White Queen o || is_man White Rook o || is_man White Bishop o
     || is_man White Knight o || is_man White Pawn o)
@@ -29,7 +31,7 @@ white_kinds (Some x) = by_kind (same_colour White x.colour) x.kind
 
 -- ---- back
 
--- the piece that seven tests report
+-- the piece that seven tests report: whether it is White's, and of which kind it is
 abbrev reported : (white king queen rook bishop knight pawn : Bool) → Option Man
 reported white king queen rook bishop knight pawn =
     man_of (if white then White else Black)
@@ -41,12 +43,14 @@ reported white king queen rook bishop knight pawn =
     else if pawn then Some Pawn
     else None)
 
+-- the tests of a piece report it
 reported_of : (c : Colour) (kind : Kind)
     → reported (same_colour White c) (same_kind King kind) (same_kind Queen kind) (same_kind Rook kind)
     (same_kind Bishop kind) (same_kind Knight kind) (same_kind Pawn kind)
     ≡ Some (record { colour = c; kind = kind })
 reported_of c k = grind arith
 
+-- the tests of a square's content report it, also if it is empty
 reported_is : (o : Option Man)
     → reported (is_of White o) (is_kind King o) (is_kind Queen o) (is_kind Rook o) (is_kind Bishop o) (is_kind Knight o)
     (is_kind Pawn o)
@@ -55,13 +59,14 @@ unfolding is_of
 reported_is None = refl
 reported_is (Some x) = reported_of x.colour x.kind
 
+-- the piece that sets say is on s is the one that they were made of there
 man_back : (p : PackedMen) (s : ℕ) (o : Option Man) → IsPackedAt p s o → man_in p s ≡ o
 unfolding man_in
 man_back p s o h =
     (λ i. reported (h.white i) (h.kings i) (h.queens i) (h.rooks i) (h.bishops i) (h.knights i) (h.pawns i))
     ∙ reported_is o
 
--- the pieces whose sets they are
+-- so all pieces that the sets say are those that they were made of
 pub men_back : (p : PackedMen) (men : Men) → length men ≡ 64 → ArePacked p men → men_in p ≡ men
 unfolding men_in
 men_back p men all h =
@@ -70,11 +75,13 @@ men_back p men all h =
     (λ k l. let low : k < 64 = omega (arith, l, len) in
     get_or-from_below 64 (man_in p) k None low ∙ man_back p k (man_at men k) (h k low))
 
+-- sets of pieces are the sets of the pieces that they say
 pub packed_back : (p : PackedMen) (men : Men) → length men ≡ 64 → ArePacked p men → ArePacked p (men_in p)
 packed_back p men all h = subst (ArePacked p) (sym (men_back p men all h)) h
 
 -- ---- where pieces differ
 
+-- just one of a and b is true
 abbrev pub differ : Bool → Bool → Bool
 differ a b = (a && not b) || (b && not a)
 
@@ -94,6 +101,7 @@ some_differ p q s =
     || differ (contains p.knights s) (contains q.knights s)
     || differ (contains p.pawns s) (contains q.pawns s)
 
+-- where both have the same content, none of the sets differs
 none_differs : (p q : PackedMen) (s : ℕ) (o : Option Man) → IsPackedAt p s o → IsPackedAt q s o
     → some_differ p q s ≡ false
 none_differs p q s o h t =
@@ -108,6 +116,7 @@ none_differs p q s o h t =
     (equal _ _ _ h.knights t.knights))
     (equal _ _ _ h.pawns t.pawns)
 
+-- where none of the sets differs, both say the same piece
 same_man_in : (p q : PackedMen) (s : ℕ) → some_differ p q s ≡ false → man_in p s ≡ man_in q s
 unfolding man_in
 same_man_in p q s e =
@@ -146,6 +155,7 @@ differ_at p q s o r h t = by_test (same_man o r) refl
 not_either : (a b : Bool) → not (a || not b) ≡ (not a && b)
 not_either a b = grind arith
 
+-- what holds for no number below n: its opposite holds for each
 not_some : (n : ℕ) (f g : ℕ → Bool) → ((k : ℕ) → k < n → f k ≡ not (g k)) → not (some_below n f) ≡ each_below n g
 not_some zero f g h = refl
 not_some (suc n) f g h =

@@ -1,9 +1,11 @@
--- How often a position occurred, counted over the played moves of a game.
+-- How often a position occurred in a game, counted over the positions that its played moves reached, is the
+-- definition's `repetition_count`.
 use Rattle.std.proofs.Common.{◌≡◌, ◌∙◌, ℕ, ◌+◌, Bool, List, [], ◌∷◌, count_by, cond, sym, ap, subst}
 use Rattle.std.proofs.lemmas.List.Sums.{sum_by-cons}
 use Rattle.chess_base.specs.{declared.setup.Setup.Setup, Moves.after}
 use Rattle.chess_game.specs.{Line.positions_of, Line.position_after, Same.is_same_position, Same.repetition_count, ties.PlayedMoves.moves_of, ties.PlayedMoves.Follows, declared.game.PlayedMove.PlayedMove}
 
+-- 1 if b holds, otherwise 0
 abbrev pub one_if : Bool → ℕ
 one_if b = cond b 1 0
 
@@ -11,6 +13,7 @@ one_if b = cond b 1 0
 abbrev pub seen : Setup → List PlayedMove → Setup → ℕ
 seen p xs q = one_if (is_same_position p q) + count_by (λ x. is_same_position x.reached.position q) xs
 
+-- this is the number among the positions of the line
 pub seen-line : (p : Setup) (xs : List PlayedMove) (q : Setup) → Follows p xs
     → count_by (λ r. is_same_position r q) (positions_of p (moves_of xs)) ≡ seen p xs q
 seen-line p [] q f = sum_by-cons (λ r. one_if (is_same_position r q)) p []
@@ -24,6 +27,7 @@ seen-line p (x ∷ xs) q f =
     ∙ ap (λ n. one_if (is_same_position p q) + n)
     (later ∙ sym (sum_by-cons (λ y. one_if (is_same_position y.reached.position q)) x xs))
 
+-- for the last position q it is the definition's count
 pub counted : (p : Setup) (xs : List PlayedMove) (q : Setup) → Follows p xs → q ≡ position_after p (moves_of xs)
     → seen p xs q ≡ repetition_count p (moves_of xs)
 unfolding repetition_count

@@ -1,4 +1,6 @@
--- A pawn's legal moves to the en passant target are the legal captures en passant.
+-- A pawn's legal moves to the en passant target are just the legal captures en passant: no pawn advances there, and a
+-- capture there is en passant (captures_there). So whether one is legal is seen from the squares of pawns that may
+-- legally go there (some_start).
 use Rattle.std.proofs.Common.{◌≡◌, ◌<◌, ℕ, inl, inr, Bool, true, not, ◌==◌, ◌&&◌, Option, Some, None, refl, sym, ap, ◌∙◌, arith}
 use Rattle.std.proofs.lemmas.Bool.Decides.{nat_tests}
 use Rattle.std.proofs.lemmas.Bool.{eqb-true, and_from, and_parts, both_ways}
@@ -18,23 +20,27 @@ at_itself t = grind arith
 is_target : (p : Setup) (s t : ℕ) → p.target ≡ Some t → s ≡ t → is_at p.target s ≡ true
 is_target p s t at there = rw (at, there) (at_itself t)
 
--- the target's rank
+-- the target is on the rank that the enemy pawn has just crossed
 target_rank : (p : Setup) (t : ℕ) → IsSound p → p.target ≡ Some t → rank t ≡ crossed_rank (other p.side)
 target_rank p t sound at = (at_target p t sound.target (is_target p t t at refl)).0
 
+-- that is no last rank, so anything follows if it is said to be
 not_last : (c : Colour) (t : ℕ) → rank t ≡ crossed_rank (other c) → (rank t == first_rank (other c)) ≡ true
     → (A : Type 0) → A
 not_last White t e h A = let last = eqb-true (rank t) 7 h in absurd (omega (arith, e, last))
 not_last Black t e h A = let last = eqb-true (rank t) 0 h in absurd (omega (arith, e, last))
 
+-- a capture en passant is a pawn's move
 pawn_captures : (p : Setup) (m : Move) → is_en_passant p m ≡ true → is_man p.side Pawn (man_at p.men m.from) ≡ true
 unfolding is_en_passant
 pawn_captures p m h = grind (arith, h)
 
+-- it ends on the target
 on_target : (p : Setup) (m : Move) (t : ℕ) → p.target ≡ Some t → is_en_passant p m ≡ true → m.to ≡ t
 unfolding is_en_passant
 on_target p m t at h = let there = rw at at h in grind (arith, nat_tests, there)
 
+-- a legal move to the target doesn't promote
 none_promoted : (p : Setup) (m : Move) (t : ℕ) → IsSound p → p.target ≡ Some t → is_legal p m ≡ true → m.to ≡ t
     → m.promotion ≡ None
 unfolding would_promote
@@ -53,15 +59,18 @@ target_below Black t e = omega (arith, e)
 
 -- no pawn advances to the target: one step back is the pawn that crossed it, and a double advance ends elsewhere
 
+-- from the target one rank back is where a pawn would come from by one step
 back : (c : Colour) (a b : ℕ) → rank b ≡ crossed_rank (other c) → b ≡ forward c a → one_rank_back c b ≡ a
 back White a b e f = omega (arith, e, f)
 back Black a b e f = omega (arith, e, f)
 
+-- two steps from the home rank don't end on the target's rank
 too_far : (c : Colour) (a b : ℕ) → rank b ≡ crossed_rank (other c) → rank a ≡ pawn_rank c
     → b ≡ forward c (forward c a) → ⊥
 too_far White a b e r f = omega (arith, e, r, f)
 too_far Black a b e r f = omega (arith, e, r, f)
 
+-- an advance to the target is impossible
 none_advances : (p : Setup) (m : Move) → IsSound p → is_at p.target m.to ≡ true
     → is_man p.side Pawn (man_at p.men m.from) ≡ true → pawn_advances p m ≡ true → ⊥
 none_advances p m sound at pawn e =
@@ -73,6 +82,7 @@ none_advances p m sound at pawn e =
       | inr two ↦ too_far p.side m.from m.to facts.0 two.0 two.1
     ]
 
+-- a pawn's legal move to the target is a capture en passant
 captures_there : (p : Setup) (m : Move) → IsSound p → is_at p.target m.to ≡ true
     → is_man p.side Pawn (man_at p.men m.from) ≡ true → is_legal p m ≡ true → is_en_passant p m ≡ true
 unfolding is_legal is_en_passant
@@ -85,11 +95,13 @@ captures_there p m sound at pawn legal = by_kind (moves_from_pattern p m (and_pa
     by_kind (PawnMoves man fits (Captures e taken)) = and_from _ _ (and_from _ _ pawn e) at
     by_kind (PawnMoves man fits (TakesEnPassant e passed)) = and_from _ _ (and_from _ _ pawn e) at
 
+-- some square of the board, as a test over the list of squares
 squares_any : (f : ℕ → Bool) → list_any f squares ≡ some_square f
 unfolding some_square
 squares_any f = refl
 
--- so some pawn may legally go there exactly if some legal move captures en passant
+-- so some pawn may legally go to the target t (the set w of such squares isn't empty) exactly if some legal move
+-- captures en passant
 pub some_start : (p : Setup) (t w : ℕ) → IsSound p → p.target ≡ Some t → HasLegalStarts p Pawn t w
     → not (not (some_square (λ k. contains w k))) ≡ list_any (λ m. is_en_passant p m) (moves p)
 some_start p t w sound at starts =

@@ -1,4 +1,5 @@
--- Positions that are the same have the same pieces, side and rights, so their hashes by one definition are equal.
+-- Positions that are the same (`is_same_position`) have equal pieces, side and rights, so their hashes by one
+-- definition are equal (equal_hashes), and positions with different hashes are not the same (hashes_differ).
 use Rattle.std.proofs.Common.{◌≡◌, ℕ, ◌<◌, true, false, not, ◌&&◌, ◌==◌, length, Option, None, Some, refl, sym, ◌∙◌, ap, arith, true≢false, ext_get_or}
 use Rattle.std.proofs.lemmas.Bool.{and_parts, eqb-true, eq-eqb, false_from_ne_true}
 use Rattle.chess_base.specs.{declared.man.ColourRights.ColourRights, declared.man.Man.Man, declared.man.Rights.Rights, declared.setup.Setup.Setup, Sound.IsSound}
@@ -12,6 +13,7 @@ use Rattle.chess_game.specs.{ties.PlayedMoves.Hashing, ties.PlayedMoves.HasHash,
 man_of_equal : (x y : Man) → x.colour ≡ y.colour → x.kind ≡ y.kind → x ≡ y
 man_of_equal x y colours kinds = (λ i. record { colour = colours i; kind = kinds i })
 
+-- contents that pass the test are equal; so are boards, squares and rights below
 pub places_equal : (o r : Option Man) → same_man o r ≡ true → o ≡ r
 places_equal None None e = refl
 places_equal None (Some y) e = cc
@@ -61,7 +63,7 @@ equal_hashes f p q this that e =
     let c = rights_equal p.rights q.rights (grind (arith, e)) in
     (λ i. f (a i) (b i) (c i))
 
--- what is the same as one of two positions that are the same is the same as the other
+-- what is the same as q is the same as r, if q and r are the same
 pub same_alike : (p q r : Setup) → IsSound q → IsSound r → is_same_position q r ≡ true → is_same_position p q
     ≡ is_same_position p r
 unfolding is_same_position

@@ -1,4 +1,6 @@
--- No position before a capture or a pawn move is the same as one after it.
+-- No position before a capture or a pawn move is the same as one after it. The reserve of the pieces (`reserve`: each
+-- counts 1, a pawn also its ranks to go) never grows, and these moves lower it; both are laws of chess_base, given here
+-- as arguments. Same positions have equal reserves.
 use Rattle.std.proofs.Common.{◌≡◌, ◌∙◌, inl, inr, ℕ, zero, suc, ◌+◌, ◌<◌, ◌≤◌, true, false, List, [], ◌∷◌, ◌++◌, length, get_or, Option, None, Some, refl, sym, ap, subst, arith, ◌==◌, sum, if◌then◌else◌}
 use Rattle.std.proofs.{Math.Seq.get_or-append_seam, lemmas.List.length-append, lemmas.List.get_or_append_left, lemmas.Bool.cases_Bool, lemmas.Bool.and_parts, lemmas.Bool.eqb-true}
 use Rattle.chess_base.specs.{declared.man.Move.Move, declared.man.Kind.TheVariants.Pawn, declared.man.Man.Man, declared.setup.Saved.Saved, declared.setup.Setup.Setup, Moves.after, shared.Below.from_below, laws.Reserve.reserve, laws.Reserve.weight, laws.Reserve.ranks_to_go, laws.Laws.ReserveNeverGrows, laws.Laws.ReserveFallsForGood, Letters.white_letter}
@@ -10,6 +12,7 @@ use Rattle.chess_game.proofs.{Kept.kept_as, Kept.follows_more, Kept.last-more, N
 
 -- ---- the same pieces have the same reserve
 
+-- the same piece on a square has the same weight there
 same_weight : (s : ℕ) (o r : Option Man) → same_man o r ≡ true → weight s o ≡ weight s r
 same_weight s None None e = refl
 same_weight s None (Some y) e = cc
@@ -21,6 +24,7 @@ same_weight s (Some x) (Some y) e =
     ap (λ c. if same_kind Pawn x.kind then 1 + ranks_to_go c s else 1) colour
     ∙ ap (λ b. if b then 1 + ranks_to_go y.colour s else 1) kind
 
+-- functions that agree below n give the same list
 below_alike : (n : ℕ) (f g : ℕ → ℕ) → ((k : ℕ) → k < n → f k ≡ g k) → from_below n f ≡ from_below n g
 below_alike zero f g h = refl
 below_alike (suc n) f g h =
@@ -49,7 +53,7 @@ other_by_reserve p q h =
 
 -- ---- along the played moves
 
--- the reserve at the end is no more than at the start
+-- along the played moves the reserve at the end is no more than at the start
 pub never_grows : ReserveNeverGrows → (p : Setup) (xs : List PlayedMove) → Follows p xs
     → reserve (position_after p (moves_of xs)).men ≤ reserve p.men
 never_grows law p [] f = omega arith
@@ -60,8 +64,8 @@ never_grows law p (x ∷ xs) f =
     (never_grows law x.reached.position xs f.2) in
     omega arith
 
--- where the played move k was reached by a capture or a pawn move, each position before it has more in reserve than the
--- last
+-- if played move k was a capture or a pawn move (the halfmove clock is 0 after it), each position before it (j up to k)
+-- has more in reserve than the last
 fallen : ReserveNeverGrows → ReserveFallsForGood → (start : Hashed) (xs : List PlayedMove) (k j : ℕ) (d : PlayedMove)
     → Follows start.position xs → k < length xs → (get_or xs k d).reached.position.halfmove ≡ 0 → j ≤ k
     → reserve (position_after start.position (moves_of xs)).men < reserve (known_at start xs j).position.men
@@ -90,10 +94,11 @@ fallen grows falls start (y ∷ ys) (suc k) (suc j) d f h zeroed before =
 
 -- ---- a position that a move after those of a game reached
 
--- the played move of that move
+-- the move m, which was made after the played moves of a game, as one more of them
 place_of : Move → Saved → Hashed → PlayedMove
 place_of m s now = record { made = m; captured = s.captured; reached = now; entry = record { earlier = 0; count = 0 } }
 
+-- one of the played moves, or m itself, set the clock to 0: no position before it is the same as that after m
 none_before : ReserveNeverGrows → ReserveFallsForGood → (start : Hashed) (xs : List PlayedMove) (now : Hashed)
     (m : Move) (s : Saved) → IsKnown now → Follows start.position xs
     → WasMade (position_after start.position (moves_of xs)) m s now.position
@@ -115,7 +120,7 @@ none_before grows falls start xs now m s known follows made k d h zeroed j befor
     ap (λ v. is_same_position v.position now.position) (sym (known_before start xs x j (omega (arith, h, before))))
     ∙ other_by_reserve (known_at start (xs ++ x ∷ []) j).position now.position end
 
--- where that was a capture or a pawn move, it is the same as none of theirs
+-- if m itself did, the position after it is the same as none of the game's
 pub none_is_same : ReserveNeverGrows → ReserveFallsForGood → (start : Hashed) (xs : List PlayedMove) (now : Hashed)
     (m : Move) (s : Saved) → IsKnown now → Follows start.position xs
     → WasMade (position_after start.position (moves_of xs)) m s now.position
@@ -126,7 +131,7 @@ none_is_same grows falls start xs now m s known follows made zeroed j h =
     none_before grows falls start xs now m s known follows made (length xs) x (omega arith)
     (ap (λ (v : PlayedMove). v.reached.position.halfmove) (get_or-append_seam xs x [] x) ∙ zeroed) j (omega (arith, h))
 
--- where the played move k was reached by one, it is the same as none before that
+-- if played move k did, the position after m is the same as none before that move
 pub none_is_same_before : ReserveNeverGrows → ReserveFallsForGood → (start : Hashed) (xs : List PlayedMove)
     (now : Hashed)
     (m : Move) (s : Saved) → IsKnown now → Follows start.position xs

@@ -1,4 +1,7 @@
--- The index of a game's positions: what a position more adds, and what one fewer leaves.
+-- The index of a game's positions: a table with the latest position of each bucket (its head), and with each played
+-- move a link to the one before in its bucket. Here: adding a position (pushed_index), taking the last away
+-- (popped_index), emptying the table from the last position back to the start (heads_back, cleared). `known_at .. k` is
+-- the position with number k, 0 for the start.
 use Rattle.std.proofs.Common.{◌≡◌, ◌≢◌, ◌∙◌, ℕ, suc, ◌-◌, ◌<◌, ◌≤◌, ◌==◌, Bool, true, false, List, [], ◌∷◌, ◌++◌, length, get_or, set, refl, sym, ap, subst, arith, true≢false, eqb-true, eq-eqb}
 use Rattle.std.proofs.Math.Seq.{get_or-append_seam}
 use Rattle.std.proofs.lemmas.List.{get_or-set_same, get_or-set_other, length-set, length-append, get_or_append_left}
@@ -8,6 +11,7 @@ use Rattle.chess_game.specs.ties.Buckets.{bucket, known_at, is_in, is_same_at, l
 use Rattle.chess_game.proofs.Latest.{latest_alike, latest_fails, latest_here, count_alike}
 use Rattle.chess_game.proofs.Numbered.{known_place, known_before, known_last}
 
+-- each position's bucket is in the table
 in_table : (table : List ℕ) (k : Hashed) → length table ≡ BUCKETS → bucket k < length table
 in_table table k len = omega (arith, len)
 
@@ -16,7 +20,8 @@ differs b c e = λ q. true≢false (sym (eq-eqb b c (sym q)) ∙ e)
 
 -- ---- the heads
 
--- with the last position's link as the head of its bucket, the heads are those of the positions before it
+-- the head of the last position's bucket (its number is m) is put back to the position's link e: then the heads are
+-- those of the first m positions
 pub heads_fewer : (table : List ℕ) (start : Hashed) (xs : List PlayedMove) (m e : ℕ) → length table ≡ BUCKETS
     → HaveHeads table start xs (suc m) → e ≡ latest_below (is_in start xs (bucket (known_at start xs m))) m
     → HaveHeads (set table (bucket (known_at start xs m)) e) start xs m
@@ -33,7 +38,8 @@ heads_fewer table start xs m e len heads is b h = by_test (is_in start xs b m) r
         (differs (bucket (known_at start xs m)) b other)
         ∙ heads b h ∙ latest_fails (is_in start xs b) m other
 
--- with a position itself as the head of its bucket, they are those of the positions up to it
+-- position m is made the head of its bucket (as m + 1, since 0 says that a bucket is empty): then the heads are those
+-- of the positions up to it
 pub heads_more : (table : List ℕ) (start : Hashed) (xs : List PlayedMove) (m : ℕ) → length table ≡ BUCKETS
     → HaveHeads table start xs m
     → HaveHeads (set table (bucket (known_at start xs m)) (suc m)) start xs (suc m)
@@ -53,18 +59,21 @@ heads_more table start xs m len heads b h = by_test (is_in start xs b m) refl
 
 -- ---- one played move more or fewer
 
+-- one more played move (y) changes nothing in what is said of the first n positions: the latest in a bucket,
 latest_before : (start : Hashed) (xs : List PlayedMove) (y : PlayedMove) (b n : ℕ) → n ≤ suc (length xs)
     → latest_below (is_in start (xs ++ y ∷ []) b) n ≡ latest_below (is_in start xs b) n
 latest_before start xs y b n h =
     latest_alike (is_in start (xs ++ y ∷ []) b) (is_in start xs b) n
     (λ k l. ap (λ v. bucket v == b) (known_before start xs y k (omega (arith, l, h))))
 
+-- nor how many of them are the same as q
 count_before : (start : Hashed) (xs : List PlayedMove) (y : PlayedMove) (q : Setup) (n : ℕ) → n ≤ suc (length xs)
     → count_below (is_same_at start (xs ++ y ∷ []) q) n ≡ count_below (is_same_at start xs q) n
 count_before start xs y q n h =
     count_alike (is_same_at start (xs ++ y ∷ []) q) (is_same_at start xs q) n
     (λ k l. ap (λ v. is_same_position v.position q) (known_before start xs y k (omega (arith, l, h))))
 
+-- so an earlier move's entry stays right when y is added
 entry_later : (start : Hashed) (xs : List PlayedMove) (y : PlayedMove) (k : ℕ) (x : PlayedMove) → k ≤ length xs
     → HasEntry start xs k x → HasEntry start (xs ++ y ∷ []) k x
 entry_later start xs y k x h entry = record {
@@ -72,6 +81,7 @@ entry_later start xs y k x h entry = record {
   count = entry.count ∙ ap suc (sym (count_before start xs y x.reached.position (suc k) (omega arith)));
 }
 
+-- and when y is taken away
 entry_before : (start : Hashed) (xs : List PlayedMove) (y : PlayedMove) (k : ℕ) (x : PlayedMove) → k ≤ length xs
     → HasEntry start (xs ++ y ∷ []) k x → HasEntry start xs k x
 entry_before start xs y k x h entry = record {
@@ -82,6 +92,7 @@ entry_before start xs y k x h entry = record {
 long : (xs : List PlayedMove) (y : PlayedMove) → length (xs ++ y ∷ []) ≡ suc (length xs)
 long xs y = let e = length-append xs (y ∷ []) in omega (arith, e)
 
+-- if y has its entry, all moves have theirs with y added
 entries_more : (start : Hashed) (xs : List PlayedMove) (y : PlayedMove) → HaveEntries start xs
     → HasEntry start xs (length xs) y → HaveEntries start (xs ++ y ∷ [])
 entries_more start xs y entries entry k d h = by_test (k == length xs) refl
@@ -97,6 +108,7 @@ entries_more start xs y entries entry k d h = by_test (k == length xs) refl
         subst (HasEntry start (xs ++ y ∷ []) k) (sym (get_or_append_left xs (y ∷ []) d k low))
         (entry_later start xs y k (get_or xs k d) (omega (arith, low)) (entries k d low))
 
+-- and without y the others keep theirs
 entries_fewer : (start : Hashed) (xs : List PlayedMove) (y : PlayedMove) → HaveEntries start (xs ++ y ∷ [])
     → HaveEntries start xs
 entries_fewer start xs y entries k d h =
@@ -104,6 +116,7 @@ entries_fewer start xs y entries k d h =
     entry_before start xs y k (get_or xs k d) (omega (arith, h))
     (subst (HasEntry start (xs ++ y ∷ []) k) (get_or_append_left xs (y ∷ []) d k h) (entries k d (omega (arith, h, l))))
 
+-- the last move's entry, by the positions before it
 entry_last : (start : Hashed) (xs : List PlayedMove) (y : PlayedMove) → HaveEntries start (xs ++ y ∷ [])
     → HasEntry start xs (length xs) y
 entry_last start xs y entries =
@@ -114,6 +127,7 @@ entry_last start xs y entries =
 
 -- ---- the index
 
+-- an empty table with the start as the head of its bucket is the index of a game without moves
 pub begun : (table : List ℕ) (start : Hashed) (b : ℕ) → IsEmpty table → b ≡ bucket start
     → IsIndexed (set table b 1) start []
 unfolding latest_below known_at
@@ -123,6 +137,7 @@ begun table start b clean is = subst (λ v. IsIndexed (set table v 1) start []) 
   entries = λ k d h. absurd (omega arith);
 })
 
+-- after y, with its link and count set, its position as the head of its bucket makes the index that of one move more
 pub pushed_index : (table : List ℕ) (start : Hashed) (xs : List PlayedMove) (y : PlayedMove) (b n : ℕ)
     → IsIndexed table start xs
     → b ≡ bucket y.reached → n ≡ suc (suc (length xs)) → y.entry.earlier ≡ get_or table (bucket y.reached) 0
@@ -147,6 +162,7 @@ pushed_index table start xs y b n index is next earlier counted =
           (record { earlier = earlier ∙ index.heads (bucket y.reached) low; count = counted });
     }
 
+-- with the last move's link as the head of its bucket, the index is that of one move fewer
 pub popped_index : (table : List ℕ) (start : Hashed) (xs : List PlayedMove) (y : PlayedMove) (b : ℕ)
     → IsIndexed table start (xs ++ y ∷ []) → b ≡ bucket y.reached
     → IsIndexed (set table b y.entry.earlier) start xs
@@ -172,7 +188,7 @@ popped_index table start xs y b index is =
 
 -- ---- all forgotten
 
--- one played move fewer, going back
+-- a step of emptying the table: move x reached the last of the positions that are left; its link becomes the head
 pub heads_back : (table : List ℕ) (start : Hashed) (xs : List PlayedMove) (left : ℕ) (x : PlayedMove) (b : ℕ)
     → length table ≡ BUCKETS → HaveEntries start xs → HaveHeads table start xs (suc left) → 0 < left → left ≤ length xs
     → x ≡ get_or xs (left - 1) x → b ≡ bucket x.reached
@@ -191,7 +207,7 @@ heads_back table start xs left x b len entries heads some h played_move is =
     subst (λ v. HaveHeads (set table v x.entry.earlier) start xs (suc (left - 1))) (there ∙ sym is)
     (heads_fewer table start xs (suc (left - 1)) x.entry.earlier len whole link)
 
--- and at last the start
+-- at last only the start is left: with 0 as the head of its bucket the table is empty
 pub cleared : (table : List ℕ) (start : Hashed) (xs : List PlayedMove) (left b : ℕ) → length table ≡ BUCKETS
     → HaveHeads table start xs (suc left) → left ≤ 0 → b ≡ bucket start → IsEmpty (set table b 0)
 unfolding latest_below known_at

@@ -1,4 +1,5 @@
--- No verdict came before the last move of a game.
+-- No verdict came before the last move of a game (`IsUnended`): so it stays with one more move, if there was no verdict
+-- yet (unended_more), and with one move fewer (unended_fewer).
 use Rattle.std.proofs.Common.{◌≡◌, ◌∙◌, ◌⊎◌, inl, inr, ℕ, ◌+◌, ◌-◌, ◌<◌, List, [], ◌∷◌, ◌++◌, length, take, slice_get, Option, None, Some, is_some, Ok, Bool, false, ◌||◌, refl, sym, ap, subst, arith}
 use Rattle.std.proofs.{Math.Seq.take-length, lemmas.List.map-append, lemmas.List.length-append, lemmas.List.take-append-le}
 use Rattle.chess_base.specs.{declared.setup.Setup.Setup, declared.man.Move.Move}
@@ -7,6 +8,7 @@ use Rattle.chess_game.specs.{Ends.verdict, Game.State, Game.last_move, Game.is_o
 last_or_below : (n k : ℕ) → k < n + 1 → (k ≡ n) ⊎ (k < n)
 last_or_below n k h = grind arith
 
+-- no verdict before the end of ms, nor at it: then none before the end of ms and m
 more : (p : Setup) (ms : List Move) (m : Move) → ((k : ℕ) → k < length ms → verdict p (take k ms) ≡ None)
     → verdict p ms ≡ None
     → (k : ℕ) → k < length (ms ++ m ∷ []) → verdict p (take k (ms ++ m ∷ [])) ≡ None
@@ -28,6 +30,7 @@ unended_more p xs x unended none = record {
       (more p (moves_of xs) x.made unended.before none);
 }
 
+-- no verdict before the end of ms and m: then none at ms or before
 fewer : (p : Setup) (ms : List Move) (m : Move)
     → ((k : ℕ) → k < length (ms ++ m ∷ []) → verdict p (take k (ms ++ m ∷ [])) ≡ None) → (k : ℕ) → k < length ms + 1
     → verdict p (take k ms) ≡ None
@@ -44,6 +47,7 @@ unended_fewer p xs ys x unended is =
     (subst (λ ms. (k : ℕ) → k < length ms → verdict p (take k ms) ≡ None) all unended.before) in
     record { before = λ k h. later k (omega arith) }
 
+-- the element after a list's elements is at the index of its length
 at_the_end : (ms : List Move) (m : Move) → slice_get (ms ++ m ∷ []) (length ms) ≡ Some m
 at_the_end [] m = refl
 at_the_end (n ∷ ms) m = at_the_end ms m

@@ -1,4 +1,6 @@
--- The played moves of a game: what a move adds, and what taking one back leaves.
+-- The played moves that a game keeps follow from its start (`Follows`): each was legal, and is kept with what it
+-- captured and the position that it reached. Here: what one more move adds (added), what taking one back leaves (taken,
+-- fewer), the same of hashes, and where a push puts its element (pushed_last).
 use Rattle.std.proofs.Common.{◌≡◌, ◌∙◌, ℕ, zero, suc, ◌+◌, ◌-◌, ◌<◌, List, [], ◌∷◌, ◌++◌, length, take, drop, get_or, Option, Result, Ok, Err, is_ok, is_err, Bool, false, if◌then◌else◌, refl, sym, ap, subst, arith, set}
 use Rattle.std.proofs.{Math.Seq.take-length, Math.Seq.take-append_seam, Math.Seq.set-append_seam, lemmas.Bool.Decides.nat_tests}
 use Rattle.std.proofs.lemmas.List.{length-map, map-append, length-append, drop_at, get_or_at}
@@ -9,11 +11,12 @@ use Rattle.chess_game.specs.{Line.position_after, Line.IsLine, declared.game.Pla
 use Rattle.chess_game.specs.ties.PlayedMoves.{moves_of, saved_with, WasPlayed, IsKnown, Hashing, HasHash, HaveHashes, Follows}
 use Rattle.chess_game.specs.Game.{Seen, with_state, played, is_full}
 
--- a played move reached the position after the moves up to it
+-- played move k, which is x, reached the position after the moves up to it
 pub record IsAt (p : Setup) (xs : List PlayedMove) (k : ℕ) (x : PlayedMove) : Type 0 where
   pub known : IsKnown x.reached
   pub reached : x.reached.position ≡ position_after p (take (k + 1) (moves_of xs))
 
+-- each played move is so
 pub at_place : (p : Setup) (xs : List PlayedMove) (k : ℕ) (d : PlayedMove) → Follows p xs → k < length xs
     → IsAt p xs k (get_or xs k d)
 at_place p [] k d f h = absurd (omega arith)
@@ -32,6 +35,7 @@ pub record IsAtEnd (p : Setup) (xs : List PlayedMove) (x : PlayedMove) : Type 0 
   pub known : IsKnown x.reached
   pub reached : x.reached.position ≡ position_after p (moves_of xs)
 
+-- the last one is so
 pub at_end : (p : Setup) (xs : List PlayedMove) (d : PlayedMove) → Follows p xs → 0 < length xs
     → IsAtEnd p xs (get_or xs (length xs - 1) d)
 at_end p xs d f h =
@@ -49,7 +53,7 @@ pub kept_line : (p : Setup) (xs : List PlayedMove) → Follows p xs → IsLine p
 kept_line p [] f = tt
 kept_line p (x ∷ xs) f = (f.0.legal, subst (λ v. IsLine v (moves_of xs)) f.0.left (kept_line x.reached.position xs f.2))
 
--- one more move
+-- one more move, which was made in the last position, follows too
 pub follows_more : (p : Setup) (xs : List PlayedMove) (x : PlayedMove) → Follows p xs
     → WasPlayed (position_after p (moves_of xs)) x x.reached.position → IsKnown x.reached → Follows p (xs ++ x ∷ [])
 follows_more p [] x f made known = (made, known, tt)
@@ -62,13 +66,14 @@ follows_more p (y ∷ ys) x f made known =
           (subst (λ v. WasPlayed v x x.reached.position) at made) known,
     )
 
+-- its position is then the last
 pub last-more : (p : Setup) (xs : List PlayedMove) (x : PlayedMove)
     → WasPlayed (position_after p (moves_of xs)) x x.reached.position
     → x.reached.position ≡ position_after p (moves_of (xs ++ x ∷ []))
 last-more p [] x made = made.left
 last-more p (y ∷ ys) x made = last-more (after p y.made) ys x made
 
--- a move that was made and added
+-- after a move was made and added as x: the moves follow, and the board is at their end
 pub record Added (p : Setup) (xs : List PlayedMove) (x : PlayedMove) (board : Setup) : Type 0 where
   pub follows : Follows p (xs ++ x ∷ [])
   pub at_end : board ≡ position_after p (moves_of (xs ++ x ∷ []))
@@ -84,6 +89,7 @@ kept_as p q x s same made = record {
   left = made.left;
 }
 
+-- a move that the board made at the end of the line, kept as x, is added rightly
 pub added : (p : Setup) (xs : List PlayedMove) (x : PlayedMove) (s : Saved) (before after : Setup) → Follows p xs
     → before ≡ position_after p (moves_of xs) → x.captured ≡ s.captured → WasMade before x.made s after
     → x.reached.position ≡ after → IsKnown x.reached → Added p xs x after
@@ -93,7 +99,7 @@ added p xs x s before after f at captured made reached known =
     (subst (WasPlayed before x) (sym reached) (kept_as before after x s captured made)) in
     record { follows = follows_more p xs x f here known; at_end = sym reached ∙ last-more p xs x here }
 
--- the position of a move that was made at the end of the line
+-- a move that the board made, said of the end of the line of moves
 pub made_at_end : (p : Setup) (xs ys : List PlayedMove) (m : Move) (s : Saved) (before after q : Setup) → ys ≡ xs
     → before ≡ position_after p (moves_of xs) → WasMade before m s after → q ≡ after
     → WasMade (position_after p (moves_of ys)) m s q
@@ -101,17 +107,18 @@ made_at_end p xs ys m s before after q list at made reached =
     subst (λ (zs : List PlayedMove). WasMade (position_after p (moves_of zs)) m s q) (sym list)
     (subst (λ v. WasMade v m s q) at (subst (WasMade before m s) (sym reached) made))
 
--- the first moves
+-- the first n moves follow too
 pub follows_take : (p : Setup) (xs : List PlayedMove) (n : ℕ) → Follows p xs → Follows p (take n xs)
 follows_take p xs zero f = tt
 follows_take p [] (suc n) f = tt
 follows_take p (x ∷ xs) (suc n) f = (f.0, f.1, follows_take x.reached.position xs n f.2)
 
--- one fewer
+-- the moves without the last follow too
 follows_fewer : (p : Setup) (xs : List PlayedMove) (x : PlayedMove) → Follows p (xs ++ x ∷ []) → Follows p xs
 follows_fewer p [] x f = tt
 follows_fewer p (y ∷ ys) x f = (f.0, f.1, follows_fewer y.reached.position ys x f.2)
 
+-- the last move was played at the end of the others
 made-last : (p : Setup) (xs : List PlayedMove) (x : PlayedMove) → Follows p (xs ++ x ∷ [])
     → WasPlayed (position_after p (moves_of xs)) x (position_after p (moves_of (xs ++ x ∷ [])))
 made-last p [] x f = subst (WasPlayed p x) f.0.left f.0
@@ -119,7 +126,8 @@ made-last p (y ∷ ys) x f =
     subst (λ v. WasPlayed (position_after v (moves_of ys)) x (position_after v (moves_of (ys ++ x ∷ []))))
     f.0.left (made-last y.reached.position ys x f.2)
 
--- the last played move holds the position that was left, and `s` is what the position before it saved
+-- what taking back the last move needs: it was made in the position before it, which saved `s`, and gave the position q
+-- where the board is
 pub taken : (p : Setup) (xs ys : List PlayedMove) (x : PlayedMove) (s : Saved) (before q : Setup) → Follows p xs
     → xs ≡ ys ++ x ∷ [] → q ≡ position_after p (moves_of xs) → before ≡ position_after p (moves_of ys)
     → s ≡ saved_with before x.captured → WasMade (position_after p (moves_of ys)) x.made s q
@@ -143,6 +151,7 @@ all_more : (f : Hashing) (xs : List PlayedMove) (x : PlayedMove) → AllHave f x
 all_more f [] x all here = (here, tt)
 all_more f (y ∷ ys) x all here = (all.0, all_more f ys x all.1 here)
 
+-- with one more move that has its hash all have theirs, and with one fewer
 pub hashes_more : (f : Hashing) (start : Hashed) (xs : List PlayedMove) (x : PlayedMove) → HaveHashes f start xs
     → HasHash f x.reached
     → HaveHashes f start (xs ++ x ∷ [])

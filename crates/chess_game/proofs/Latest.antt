@@ -1,7 +1,9 @@
--- The latest number below n that passes a test, and how many pass: at n + 1 they change only if n passes.
+-- Two functions of a test t on numbers: the latest number below n that passes, plus one, or 0 if none does
+-- (`latest_below`), and how many pass (`count_below`). From n to n + 1 both change only if n passes.
 use Rattle.std.proofs.Common.{◌≡◌, ◌∙◌, ℕ, zero, suc, ◌+◌, ◌<◌, ◌≤◌, Bool, true, false, cond, if◌then◌else◌, refl, sym, ap, subst, arith, true≢false}
 use Rattle.chess_game.specs.ties.Buckets.{latest_below, count_below}
 
+-- the result is n at most
 pub latest_low : (t : ℕ → Bool) (n : ℕ) → latest_below t n ≤ n
 unfolding latest_below
 latest_low t zero = omega arith
@@ -11,7 +13,7 @@ latest_low t (suc n) = by_test (t n) (latest_low t n)
     by_test true h = omega arith
     by_test false h = omega arith
 
--- the latest one passes
+-- if the result is k + 1, k passes
 pub latest_passes : (t : ℕ → Bool) (n k : ℕ) → latest_below t n ≡ suc k → t k ≡ true
 unfolding latest_below
 latest_passes t zero k e = absurd (omega (arith, e))
@@ -22,6 +24,7 @@ latest_passes t (suc n) k e = by_test (t n) refl (latest_passes t n k) e
     by_test true h rest is = let here : n ≡ k = omega (arith, is) in subst (λ j. t j ≡ true) here h
     by_test false h rest is = rest is
 
+-- tests that agree below n have the same latest number
 pub latest_alike : (s t : ℕ → Bool) (n : ℕ) → ((k : ℕ) → k < n → s k ≡ t k) → latest_below s n ≡ latest_below t n
 unfolding latest_below
 latest_alike s t zero h = refl
@@ -72,6 +75,7 @@ unfolding count_below
 count_none t zero h = refl
 count_none t (suc n) h = count_fails t n (h n (omega arith)) ∙ count_none t n (λ k l. h k (omega arith))
 
+-- counting from 1 on, with 0 apart
 pub count_first : (t : ℕ → Bool) (n : ℕ) → count_below t (suc n) ≡ cond (t 0) 1 0 + count_below (λ k. t (suc k)) n
 unfolding count_below
 count_first t zero = omega arith

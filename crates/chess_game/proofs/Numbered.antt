@@ -1,4 +1,5 @@
--- The positions of a game by their numbers, and what is known of each.
+-- The positions of a game by their numbers (`known_at`: 0 is the start, k + 1 what played move k reached): each has its
+-- hash, and is sound.
 use Rattle.std.proofs.Common.{◌≡◌, ℕ, zero, suc, ◌<◌, List, [], ◌∷◌, ◌++◌, length, get_or, refl, sym, subst, arith}
 use Rattle.chess_base.specs.Sound.{IsSound}
 use Rattle.chess_game.specs.{Line.position_after, ties.Buckets.known_at, declared.game.PlayedMove.PlayedMove, declared.repetition.Hashed.Hashed}
@@ -28,6 +29,7 @@ unfolding known_at
 known_last start [] y = refl
 known_last start (x ∷ xs) y = known_last x.reached xs y
 
+-- the position with number k has its hash
 hash_is : (f : Hashing) (start : Hashed) (xs : List PlayedMove) (k : ℕ) → HasHash f start → AllHave f xs
     → HasHash f (known_at start xs k)
 unfolding known_at

@@ -1,10 +1,12 @@
--- Where a move may be played, the game is not over, there is room, and the move is legal.
+-- If a move may be played (`play_refusal` gives no reason against it), the game is not over, has room for it, and the
+-- move is legal.
 use Rattle.std.proofs.Common.{◌≡◌, Bool, true, false, None, Some, refl, if◌then◌else◌}
 use Rattle.std.specs.Option.{option_or}
 use Rattle.chess_base.specs.{declared.man.Move.Move, Moves.is_legal}
 use Rattle.chess_game.specs.Game.{Seen, current, is_over, is_full, play_refusal}
 use Rattle.chess_game.specs.declared.game.PlayRefusal.TheVariants.{Over, TooLong, Illegal}
 
+-- the three tests: the game is over (o), it is full (f), the move is legal (l)
 pub record MayPlay (o f l : Bool) : Type 0 where
   pub on : o ≡ false
   pub room : f ≡ false

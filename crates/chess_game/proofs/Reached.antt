@@ -3,6 +3,7 @@ use Rattle.std.proofs.Common.{◌≡◌, ◌∙◌, List, [], ◌∷◌, refl, s
 use Rattle.chess_base.specs.declared.setup.Setup.{Setup}
 use Rattle.chess_game.specs.{Line.positions_of, ties.PlayedMoves.moves_of, ties.PlayedMoves.Follows, ties.PositionsLeft.positions_reached, declared.game.PlayedMove.PlayedMove}
 
+-- by induction: each played move reached the position after it
 pub reached_are : (p : Setup) (xs : List PlayedMove) → Follows p xs
     → positions_of p (moves_of xs) ≡ p ∷ positions_reached xs
 reached_are p [] f = refl

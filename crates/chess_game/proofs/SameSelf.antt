@@ -1,4 +1,4 @@
--- A position is the same as itself.
+-- Each position is the same as itself, and so are its parts.
 use Rattle.std.proofs.Common.{◌≡◌, ℕ, true, Option, None, Some, refl}
 use Rattle.std.proofs.lemmas.Bool.{and_from, eq-eqb}
 use Rattle.chess_base.specs.{declared.man.Man.Man, declared.man.Rights.Rights, declared.man.ColourRights.ColourRights, declared.setup.Setup.Setup, Men.Men, Men.man_at}

@@ -1,4 +1,5 @@
--- Whether a piece of a kind is there, by the sets of its squares.
+-- Whether a piece of a kind is on the board is seen from the set of the squares of that kind: it isn't empty
+-- (some_of_kind).
 use Rattle.std.proofs.Common.{◌≡◌, ℕ, zero, suc, ◌+◌, ◌<◌, ◌≤◌, Bool, not, ◌&&◌, ◌||◌, Option, Some, None, List, [], ◌∷◌, length, get_or, take, refl, sym, ◌∙◌, ap, arith}
 use Rattle.std.proofs.{Math.Seq.take-length, lemmas.List.Folds.list_any_more}
 use Rattle.std.specs.List.{list_any}
@@ -10,6 +11,7 @@ use Rattle.chess_game.specs.{Ends.is_kind, ties.Material.is_pawn_rook_or_queen}
 
 -- ---- over lists
 
+-- four tests joined in another order
 either_parts : (a b c d : Bool) → ((a || b) || (c || d)) ≡ ((a || c) || (b || d))
 either_parts a b c d = grind arith
 
@@ -22,7 +24,7 @@ any_either f g (x ∷ xs) = ap (λ b. (f x || g x) || b) (any_either f g xs)
 next : (n : ℕ) → suc n ≡ n + 1
 next n = omega arith
 
--- a list's test by its numbers
+-- some of the first n elements passes a test exactly if some number below n gives one that does
 any_below : {A : Type 0} (f : A → Bool) (xs : List A) (d : A) (n : ℕ) → n ≤ length xs
     → list_any f (take n xs) ≡ some_below n (λ k. f (get_or xs k d))
 any_below f xs d zero h = refl
@@ -56,7 +58,7 @@ some_of_kind p kind w sound is =
     ∙ sym (any_square (is_kind kind) p.men None sound.board
     ∙ some_square_same (λ k. is_kind kind (man_at p.men k)) (λ k. contains w k) (λ k l. sym (is k l)))
 
--- the three kinds together
+-- some pawn, rook or queen is there exactly if one of the three kinds is
 pub by_kinds : (men : Men) → list_any is_pawn_rook_or_queen men
     ≡ (list_any (is_kind Pawn) men || list_any (is_kind Rook) men || list_any (is_kind Queen) men)
 by_kinds men =

@@ -1,4 +1,5 @@
--- The pieces of packed sets, put on their squares kind by kind, are on each square as the sets say.
+-- Pieces put kind by kind on the squares of packed sets make the board that the sets say (kinds_put, men_all). In each
+-- kind's loop more_put is the step (`PutsOn` is its invariant) and put_all the end.
 use mathlib.Core.Bool.{and-false}
 use Rattle.std.proofs.Common.{◌≡◌, ◌≢◌, ℕ, ◌<◌, ◌==◌, ◌⊎◌, inl, inr, Bool, true, false, ◌&&◌, if◌then◌else◌, refl, sym, ◌∙◌, ap, subst, arith, Option, Some, None, List, [], ◌∷◌, length, set, get_or-set_same, get_or-set_other, length-set, replicate}
 use Rattle.std.proofs.lemmas.Bool.{cases_Bool, cases_eq, eqb-true, ne_eqb}
@@ -60,11 +61,13 @@ others_left w v s k low taken apart =
     has_is w k low ∙ ap (λ ms. list_any (λ x. x == k) ms) taken ∙ rw (ne_eqb s k (λ e. apart (sym e))) refl
     ∙ sym (has_is v k low)
 
+-- a set without members has no square
 none_there : (w k : ℕ) → k < 64 → members w ≡ [] → contains w k ≡ false
 none_there w k low none = has_is w k low ∙ ap (λ ms. list_any (λ x. x == k) ms) none
 
 -- ---- one kind
 
+-- whether a test holds doesn't matter if both results are the same
 same_both : (b : Bool) (x : Option Man) → (if b then x else x) ≡ x
 same_both true x = refl
 same_both false x = refl
@@ -81,7 +84,7 @@ pub record PutsOn (p : PackedMen) (kind : Kind) (men : Men) (left : ℕ) (old : 
   pub board : length men ≡ 64
   pub same : (k : ℕ) → k < 64 → put_at p left kind k (man_at men k) ≡ put_at p all kind k (man_at old k)
 
--- one square more
+-- a step: the piece is put on square s, which is taken out of `left`, so that `rest` is left
 more_put : (p : PackedMen) (kind : Kind) (men : Men) (left rest i s : ℕ) (old : Men) (all : ℕ) → i ≡ s → s < 64
     → members left ≡ s ∷ members rest → PutsOn p kind men left old all
     → PutsOn p kind (set men i (Some (record { colour = colour_in p s; kind = kind }))) rest old all
@@ -114,6 +117,7 @@ more_put p kind men left rest i s old all here inside taken h =
       | inr apart ↦ off_it k low apart ∙ h.same k low
     ]
 
+-- the same with the colour as the code reads it
 pub put_more : (p : PackedMen) (kind : Kind) (c : Colour) (men : Men) (left rest i s : ℕ) (old : Men) (all : ℕ)
     → c ≡ colour_in p s → i ≡ s → s < 64 → members left ≡ s ∷ members rest → PutsOn p kind men left old all
     → PutsOn p kind (set men i (Some (record { colour = c; kind = kind }))) rest old all
@@ -146,6 +150,7 @@ by_kinds : (c : Colour) (king queen rook bishop knight pawn : Bool)
     else None)
 by_kinds c king queen rook bishop knight pawn = grind arith
 
+-- so putting the kinds from pawns to kings, each over the last, gives what the sets say
 pub kinds_put : (p : PackedMen) (k : ℕ)
     → put_at p p.kings King k (put_at p p.queens Queen k (put_at p p.rooks Rook k (put_at p p.bishops Bishop k
     (put_at p p.knights Knight k (put_at p p.pawns Pawn k None)))))

@@ -1,5 +1,7 @@
--- A walk along the links of a bucket finds the latest position that is the same as the one looked for, or ends where
--- there is none.
+-- How often the position `now` occurred before is found by a walk along the links of its bucket, from the latest
+-- position back: it ends at the first that is the same, which keeps how many there were up to it (walk_found), or where
+-- there is none (walk_ends, walk_stops). A position's place in the walk, `at`, is its number plus one; 0 is the end of
+-- the links. Last, the repetitions of the current position (rep_alone, rep_kept).
 use Rattle.std.proofs.Common.{◌≡◌, ◌∙◌, ℕ, suc, ◌+◌, ◌-◌, ◌%◌, ◌<◌, ◌≤◌, true, false, cond, List, [], ◌∷◌, length, get_or, count_by, refl, sym, ap, subst, arith, eq-eqb, eqb-true}
 use Rattle.std.proofs.{lemmas.List.nil_from_length, lemmas.List.Sums.sum_by-cons}
 use Rattle.chess_base.specs.{declared.setup.Setup.Setup, Sound.IsSound}
@@ -21,7 +23,7 @@ pub is_sought : (start : Hashed) (xs : List PlayedMove) (now : Hashed) → Follo
     → IsSound now.position → IsSought start xs now
 is_sought start xs now f h s n = record { follows = f; hashes = h; sound = s; sound_now = n }
 
--- what is the same is in the same bucket
+-- a position that is the same as `now` has the same hash, so it is in the same bucket
 met_there : (start : Hashed) (xs : List PlayedMove) (now : Hashed) (k : ℕ) → IsSought start xs now → k < suc (length xs)
     → is_same_at start xs now.position k ≡ true → is_in start xs (bucket now) k ≡ true
 met_there start xs now k s h met =
@@ -33,14 +35,14 @@ met_there start xs now k s h met =
     ∙ sym s.hashes.2 in
     eq-eqb (bucket (known_at start xs k)) (bucket now) (ap (λ w. w % BUCKETS) hashes)
 
--- a walk is at a position of the bucket, and none after it is the same
+-- the walk's invariant: `at` is at a position of the bucket or 0, and no position after it is the same as `now`
 pub record IsAlong (start : Hashed) (xs : List PlayedMove) (now : Hashed) (at : ℕ) : Type 0 where
   pub low : at ≤ suc (length xs)
   pub there : (k : ℕ) → at ≡ suc k → is_in start xs (bucket now) k ≡ true
   pub rest : count_below (is_same_at start xs now.position) (suc (length xs))
       ≡ count_below (is_same_at start xs now.position) at
 
--- at the latest position of the bucket below n, where none from n on is the same
+-- the invariant holds at the latest position of the bucket below n, if none from n on is the same
 along : (start : Hashed) (xs : List PlayedMove) (now : Hashed) (at n : ℕ) → IsSought start xs now → n ≤ suc (length xs)
     → at ≡ latest_below (is_in start xs (bucket now)) n
     → count_below (is_same_at start xs now.position) (suc (length xs))
@@ -56,11 +58,12 @@ along start xs now at n s h is rest =
           ∙ ap (count_below (is_same_at start xs now.position)) (sym is);
     }
 
+-- it holds at the head of the bucket
 pub walk_begins : (start : Hashed) (xs : List PlayedMove) (now : Hashed) (head : ℕ) → IsSought start xs now
     → head ≡ latest_below (is_in start xs (bucket now)) (suc (length xs)) → IsAlong start xs now head
 walk_begins start xs now head s is = along start xs now head (suc (length xs)) s (omega arith) is refl
 
--- where the walk is, by the played move
+-- where `at` is 2 or more, the walk is at the position that played move at - 2 reached, which is x
 pub record IsPlace (start : Hashed) (xs : List PlayedMove) (at : ℕ) (x : PlayedMove) : Type 0 where
   pub next : at ≡ suc (suc (at - 2))
   pub known : known_at start xs (suc (at - 2)) ≡ x.reached
@@ -78,6 +81,7 @@ is_place start xs now at x entries a some is =
       low = omega (arith, some, few);
     }
 
+-- if the position there isn't the same, the invariant holds at its link
 pub walk_goes_on : (start : Hashed) (xs : List PlayedMove) (now : Hashed) (at : ℕ) (x : PlayedMove)
     → IsSought start xs now → HaveEntries start xs → IsAlong start xs now at → 1 < at → x ≡ get_or xs (at - 2) x
     → is_same_position x.reached.position now.position ≡ false
@@ -95,6 +99,7 @@ walk_goes_on start xs now at x s entries a some is other =
     (a.rest ∙ ap (count_below (is_same_at start xs now.position)) p.next
     ∙ count_fails (is_same_at start xs now.position) (suc (at - 2)) off)
 
+-- the link is smaller, so the walk ends: `at` is its measure
 pub walk_smaller : (start : Hashed) (xs : List PlayedMove) (now : Hashed) (at : ℕ) (x : PlayedMove)
     → HaveEntries start xs → IsAlong start xs now at → 1 < at → x ≡ get_or xs (at - 2) x → x.entry.earlier < at
 walk_smaller start xs now at x entries a some is =
@@ -103,6 +108,7 @@ walk_smaller start xs now at x entries a some is =
     let low = latest_low (is_in start xs (bucket x.reached)) (suc (at - 2)) in
     omega (arith, link, low, some)
 
+-- if it is the same, it keeps the number of those up to it, and there are none after it
 pub walk_found : (start : Hashed) (xs : List PlayedMove) (now : Hashed) (at : ℕ) (x : PlayedMove)
     → IsSought start xs now → HaveEntries start xs → IsAlong start xs now at → 1 < at → x ≡ get_or xs (at - 2) x
     → is_same_position x.reached.position now.position ≡ true
@@ -125,7 +131,7 @@ walk_found start xs now at x s entries a some is met =
     let kept = p.entry.count in
     omega (arith, kept, alike, all)
 
--- no more than there are
+-- the number that a move keeps is at most that of the positions, so adding one doesn't overflow
 pub walk_few : (start : Hashed) (xs : List PlayedMove) (now : Hashed) (at : ℕ) (x : PlayedMove)
     → HaveEntries start xs → IsAlong start xs now at → 1 < at → x ≡ get_or xs (at - 2) x → x.entry.count ≤ length xs + 1
 walk_few start xs now at x entries a some is =
@@ -135,11 +141,13 @@ walk_few start xs now at x entries a some is =
     let low = p.low in
     omega (arith, kept, few, low)
 
+-- if the links end, none is the same: `now` is new
 pub walk_ends : (start : Hashed) (xs : List PlayedMove) (now : Hashed) (at : ℕ) → IsAlong start xs now at → at ≡ 0
     → 1 ≡ suc (count_below (is_same_at start xs now.position) (suc (length xs)))
 unfolding count_below
 walk_ends start xs now at a none = ap suc (sym (a.rest ∙ ap (count_below (is_same_at start xs now.position)) none))
 
+-- if the walk comes to the start, that is the only one that may be the same
 pub walk_ends_at_start : (start : Hashed) (xs : List PlayedMove) (now : Hashed) (at : ℕ)
     → IsAlong start xs now at → at ≡ 1 → 1 + cond (is_same_position start.position now.position) 1 0
     ≡ suc (count_below (is_same_at start xs now.position) (suc (length xs)))
@@ -150,7 +158,7 @@ walk_ends_at_start start xs now at a one =
     ∙ ap (count_below (is_same_at start xs now.position)) one in
     omega (arith, all)
 
--- a walk ends early where none of the older positions is the same
+-- the walk may stop where none of the older positions can be the same (`oldest`, by ForGood): `now` is new
 pub walk_stops : (start : Hashed) (xs : List PlayedMove) (now : Hashed) (at oldest : ℕ) → IsAlong start xs now at
     → at ≤ oldest → ((k : ℕ) → k < oldest → is_same_at start xs now.position k ≡ false)
     → 1 ≡ suc (count_below (is_same_at start xs now.position) (suc (length xs)))
@@ -159,6 +167,7 @@ walk_stops start xs now at oldest a h none =
 
 -- ---- what is kept is the number of repetitions
 
+-- counted by numbers, as many positions are the same as q as counted by played moves
 seen-count_below : (start : Hashed) (xs : List PlayedMove) (q : Setup)
     → seen start.position xs q ≡ count_below (is_same_at start xs q) (suc (length xs))
 unfolding count_below known_at
@@ -172,6 +181,7 @@ seen-count_below start (x ∷ xs) q =
     count_first (is_same_at start (x ∷ xs) q) (suc (length xs)) in
     omega (arith, later, cons, first)
 
+-- counted by numbers, the last position occurred as often as the definition says
 rep_is : (start : Hashed) (xs : List PlayedMove) → Follows start.position xs
     → count_below (is_same_at start xs (position_after start.position (moves_of xs))) (suc (length xs))
     ≡ repetition_count start.position (moves_of xs)
@@ -179,6 +189,7 @@ rep_is start xs f =
     sym (seen-count_below start xs (position_after start.position (moves_of xs)))
     ∙ counted start.position xs (position_after start.position (moves_of xs)) f refl
 
+-- a game without moves: its position occurred once
 pub rep_alone : (start : Hashed) (xs : List PlayedMove) → Follows start.position xs → length xs ≡ 0
     → 1 ≡ repetition_count start.position (moves_of xs)
 unfolding count_below known_at
@@ -189,6 +200,7 @@ rep_alone start xs f none =
     count_here (is_same_at start [] start.position) 0 (same_self start.position) in
     sym one ∙ rep_is start [] tt)
 
+-- the last played move keeps how often its position occurred
 pub rep_kept : (start : Hashed) (xs : List PlayedMove) (d : PlayedMove) → Follows start.position xs
     → HaveEntries start xs → 0 < length xs
     → (get_or xs (length xs - 1) d).entry.count ≡ repetition_count start.position (moves_of xs)

@@ -1,4 +1,5 @@
--- How many squares a set has: how many bits of its word are 1.
+-- The number of squares in a set is the number of 1s in its word (members_counted): by the bits from a on, for falling
+-- a.
 use Rattle.std.proofs.Common.{◌≡◌, ℕ, zero, suc, ◌+◌, ◌*◌, ◌/◌, ◌%◌, ◌^◌, ◌<◌, inl, inr, Bool, cond, List, ◌∷◌, length, refl, sym, ap, ◌∙◌, arith}
 use Rattle.std.proofs.{lemmas.Bool.cases_Bool, Math.Nat.div-div-eq-div-mul, Math.Nat.pow-suc}
 use Rattle.std.specs.{Int.bit_at, Int.RustNames.count_ones, List.range_with_len, List.filter}
@@ -6,14 +7,16 @@ use lib.Count.{ones_step}
 use Rattle.chess_moves.specs.Sets.{contains, members}
 use Rattle.chess_moves.proofs.{shared.Members.of_range, SetBits.bit_cases}
 
+-- whether a passes, and how many of xs do
 one_more : (q : ℕ → Bool) (a : ℕ) (xs : List ℕ) → length (filter q (a ∷ xs)) ≡ cond (q a) 1 0 + length (filter q xs)
 one_more q a xs = elim (cases_Bool (q a)) [ inl kept ↦ rw kept (omega arith) | inr left ↦ rw left (omega arith) ]
 
+-- whether square k is in the set, as a number, is bit k of the word
 bit_counted : (w k : ℕ) → cond (contains w k) 1 0 ≡ bit_at w k
 unfolding contains
 bit_counted w k = elim (bit_cases w k) [ inl none ↦ rw none refl | inr one ↦ rw one refl ]
 
--- the bits from a on, of which there are n
+-- the 1s of the word from bit a on, where n bits are left, are the squares of the set among a to a + n - 1
 counted_from : (w n a : ℕ) → w / 2 ^ a < 2 ^ n
     → count_ones (w / 2 ^ a) ≡ length (filter (λ k. contains w k) (range_with_len a n))
 unfolding count_ones

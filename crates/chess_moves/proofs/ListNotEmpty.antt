@@ -1,4 +1,5 @@
--- Where a move is legal, there are legal moves.
+-- If a move is legal, the list of legal moves isn't empty (some_legal): its promotion is one of the list's, or none, so
+-- the move is in the list.
 use Rattle.std.proofs.Common.{◌≡◌, ℕ, ◌<◌, inl, inr, Bool, true, false, Option, Some, None, List, [], ◌∷◌, length, map, refl, ◌∙◌, arith, ◌==◌, nat_lt}
 use Rattle.std.proofs.{lemmas.Bool.cases_Bool, lemmas.Bool.both_ways, lemmas.Bool.lt-ltb, lemmas.List.Folds.list_any_at}
 use Rattle.std.specs.List.{filter, flat_map, list_any}
@@ -12,13 +13,16 @@ use Rattle.chess_moves.proofs.shared.AnyMove.{any-flat_map, any-square}
 abbrev Fits : Option Kind → Type 0
 Fits o = (last : Bool) × (promotion_fits last o ≡ true)
 
+-- none fits a move that ends elsewhere than on a last rank
 unpromoted : (o : Option Kind) → o ≡ None → Fits o
 unpromoted o e = (false, rw e refl)
 
+-- what is no kind is none
 only_none : (o : Option Kind) → ((k : Kind) → o ≡ Some k → ⊥) → o ≡ None
 only_none None h = refl
 only_none (Some k) h = absurd (h k refl)
 
+-- the promotion of a move that follows its piece's pattern fits: only a pawn has one
 fits_by_kind : (p : Setup) (m : Move) → MoveKind p m → Fits m.promotion
 fits_by_kind p m (PawnMoves man fits kind) = (rank m.to == first_rank (other p.side), fits)
 fits_by_kind p m (ManMoves n c e) =
@@ -27,6 +31,7 @@ fits_by_kind p m (ManMoves n c e) =
 fits_by_kind p m (Castles w r c right e) =
     unpromoted m.promotion (castles_unpromoted p m (castle_from p.side w m.from r) e)
 
+-- a test that the move passes finds one among the moves with its squares: the numbers are places in `promotions`
 any-promotion : (t : Move → Bool) (a b : ℕ) (o : Option Kind) → Fits o → t (move_of a b o) ≡ true
     → list_any t (map (move_of a b) promotions) ≡ true
 any-promotion t a b None h e = list_any_at t (map (move_of a b) promotions) 0 (move_of a b None) (omega arith) e
@@ -37,6 +42,7 @@ any-promotion t a b (Some Knight) h e = list_any_at t (map (move_of a b) promoti
 any-promotion t a b (Some King) h e = let never = h.1 in cc
 any-promotion t a b (Some Pawn) h e = let never = h.1 in cc
 
+-- a test that the move passes finds one in `all_moves`
 any-triple : (t : Move → Bool) (m : Move) → m.from < 64 → m.to < 64 → Fits m.promotion → t m ≡ true
     → list_any t all_moves ≡ true
 unfolding all_moves
@@ -49,6 +55,7 @@ any-triple t m f b k e =
     any-flat_map t (λ a. flat_map (λ b. map (move_of a b) promotions) squares) squares
     ∙ any-square (λ a. list_any t (flat_map (λ b. map (move_of a b) promotions) squares)) m.from f from
 
+-- a filter by a test that some element passes keeps one at least
 some_kept : {A : Type 0} (q : A → Bool) (xs : List A) → list_any q xs ≡ true → nat_lt 0 (length (filter q xs)) ≡ true
 some_kept q [] h = cc
 some_kept q (x ∷ xs) h =

@@ -1,4 +1,5 @@
--- Sets shifted by a number of squares, and files and ranks as sets.
+-- Words shifted down or up by d bits have the squares with numbers less or more by d (has_lowered, has_raised); and the
+-- words of file a and rank 1, shifted, are the other files and ranks (on_file, on_rank).
 use Rattle.std.proofs.Common.{◌≡◌, ℕ, ◌<◌, ◌≤◌, ◌+◌, ◌-◌, ◌*◌, ◌/◌, ◌%◌, ◌^◌, inl, inr, ◌&&◌, ◌==◌, refl, sym, ap, ◌∙◌, arith, nat_le, pow_pos, shr-shr, div-add-mod'}
 use Rattle.std.proofs.lemmas.Bool.{cases_lt, cases_Bool, le-leb, lt-leb, eqb-true, eq-eqb, ne_eqb, both_ways, agree_below_at}
 use Rattle.std.proofs.lemmas.Nat.Bits.{bit_at-zero, bit_at_cat_low, bit_at_cat_high}
@@ -12,16 +13,18 @@ has_lowered w d k =
     let e : d + k ≡ k + d = omega arith in
     ap (λ x. (x % 2) == 1) (shr-shr w d k ∙ ap (λ n. w / 2 ^ n) e)
 
--- what goes past the 64th bit is not among them
+-- cutting a number to 64 bits leaves its bits below 64
 kept : (v k : ℕ) → k < 64 → bit_at (v % 2 ^ 64) k ≡ bit_at v k
 kept v k l =
     sym (bit_at_cat_low (v / 2 ^ 64) 64 (v % 2 ^ 64) k l) ∙ ap (λ x. bit_at x k) (div-add-mod' v (2 ^ 64))
 
+-- a number shifted up by d has no bit below d
 moved_low : (w d k : ℕ) → k < d → bit_at (w * 2 ^ d) k ≡ 0
 moved_low w d k l =
     let e : w * 2 ^ d ≡ w * 2 ^ d + 0 = omega arith in
     ap (λ x. bit_at x k) e ∙ bit_at_cat_low w d 0 k l ∙ bit_at-zero k
 
+-- and bit k of it is bit k - d of the number
 moved_high : (w d k : ℕ) → d ≤ k → bit_at (w * 2 ^ d) k ≡ bit_at w (k - d)
 moved_high w d k l =
     let e : w * 2 ^ d ≡ w * 2 ^ d + 0 = omega arith in
@@ -37,14 +40,17 @@ has_raised w d k l =
 
 -- ---- files and ranks
 
+-- the word 0x0101010101010101 has the squares of file a; checked for each of the 64
 on_first_file : (k : ℕ) → k < 64 → contains 72340172838076673 k ≡ (k % 8 == 0)
 unfolding contains
 on_first_file k l = agree_below_at (λ j. contains 72340172838076673 j) (λ j. j % 8 == 0) 64 k refl l
 
+-- the word 0xFF has those of rank 1
 on_first_rank : (k : ℕ) → k < 64 → contains 255 k ≡ (k / 8 == 0)
 unfolding contains
 on_first_rank k l = agree_below_at (λ j. contains 255 j) (λ j. j / 8 == 0) 64 k refl l
 
+-- shifted up by n squares it has those of file n
 pub on_file : (n k : ℕ) → n < 8 → k < 64 → (nat_le n k && contains 72340172838076673 (k - n)) ≡ (file k == n)
 on_file n k low high =
     elim (cases_lt k n) [
@@ -58,6 +64,7 @@ on_file n k low high =
           ])
     ]
 
+-- shifted up by 8 n squares it has those of rank n
 pub on_rank : (n k : ℕ) → n < 8 → k < 64 → (nat_le (8 * n) k && contains 255 (k - 8 * n)) ≡ (rank k == n)
 on_rank n k low high =
     elim (cases_lt k (8 * n)) [

@@ -1,4 +1,5 @@
--- A legal move is in the list of all moves, once.
+-- A legal move that passes a test is found in the list of all legal moves (any-move); if it alone passes, filtering the
+-- list by the test leaves just this move (only-move).
 use Rattle.std.proofs.Common.{◌≡◌, ◌≢◌, ℕ, zero, suc, ◌<◌, ◌≤◌, inl, inr, Bool, true, false, ◌&&◌, cond, Option, Some, None, List, [], ◌∷◌, map, refl, sym, ap, ◌∙◌, arith, IfSome, append-nil}
 use Rattle.std.proofs.lemmas.Bool.{cases_Bool, cases_lt, and_parts, and_from, false_from_ne_true}
 use Rattle.std.specs.List.{filter, flat_map, list_any}
@@ -21,12 +22,14 @@ filter-both q t (x ∷ xs) =
 
 -- ---- over squares
 
+-- if f gives the empty list for g 0 .. g (n - 1), these lists joined are empty
 none-from_below : {A : Type 0} (n : ℕ) (g : ℕ → ℕ) (f : ℕ → List A) → ((k : ℕ) → k < n → f (g k) ≡ [])
     → flat_map f (from_below n g) ≡ []
 none-from_below zero g f h = refl
 none-from_below (suc n) g f h =
     rw (h 0 (omega arith)) (none-from_below n (λ i. g (suc i)) f (λ k l. h (suc k) (omega arith)))
 
+-- if f gives anything only for g a, the lists of g 0 .. g (n - 1) joined are that of g a
 only-from_below : {A : Type 0} (n : ℕ) (g : ℕ → ℕ) (f : ℕ → List A) (a : ℕ) → a < n → ((k : ℕ) → k ≢ a → f (g k) ≡ [])
     → flat_map f (from_below n g) ≡ f (g a)
 only-from_below zero g f a h e = absurd (omega arith)
@@ -35,7 +38,8 @@ only-from_below (suc n) g f zero h e = rw (none-from_below n (λ i. g (suc i)) f
 only-from_below (suc n) g f (suc a) h e =
     rw (e 0 (omega arith)) (only-from_below n (λ i. g (suc i)) f a (omega arith) (λ k l. e (suc k) (omega arith)))
 
--- where no square but one gives anything, it gives all; it need be no square if it gives nothing
+-- if f gives the empty list for each number but a, its lists for the 64 squares joined are f a; a may be no square if f
+-- a is empty too
 pub alone-square : {A : Type 0} (f : ℕ → List A) (a : ℕ) → ((k : ℕ) → k ≢ a → f k ≡ []) → (64 ≤ a → f a ≡ [])
     → flat_map f squares ≡ f a
 unfolding squares
@@ -46,6 +50,7 @@ alone-square f a e none =
           ∙ sym (none above)
     ]
 
+-- the same for a square a
 only-square : {A : Type 0} (f : ℕ → List A) (a : ℕ) → a < 64 → ((k : ℕ) → k ≢ a → f k ≡ []) → flat_map f squares ≡ f a
 unfolding squares
 only-square f a h e = only-from_below 64 (λ s. s) f a h e
@@ -56,9 +61,12 @@ none-squares f e = none-from_below 64 (λ s. s) f (λ k l. e k)
 
 -- ---- some move of the list
 
+-- some move from a to b, with one of the promotions or none, passes the test t
 abbrev among : (Move → Bool) → ℕ → ℕ → Bool
 among t a b = list_any t (map (move_of a b) promotions)
 
+-- a move between two squares, with a possible promotion or none, is in `all_moves`: a test that it passes finds a move
+-- there
 any-triple : (t : Move → Bool) (m : Move) → m.from < 64 → m.to < 64 → IfSome m.promotion CanPromote → t m ≡ true
     → list_any t all_moves ≡ true
 unfolding all_moves
@@ -81,12 +89,14 @@ any-move p t m legal e =
 
 -- ---- the only move of the list
 
+-- the moves from a to b, with one of the promotions or none, that pass the test t
 abbrev pub kept : (Move → Bool) → ℕ → ℕ → List Move
 kept t a b = filter t (map (move_of a b) promotions)
 
 pub none-kept : (t : Move → Bool) (a b : ℕ) → ((k : Option Kind) → t (move_of a b k) ≡ false) → kept t a b ≡ []
 none-kept t a b h = rw (h None, h (Some Queen), h (Some Rook), h (Some Bishop), h (Some Knight)) refl
 
+-- if of the moves from a to b only that with promotion o passes, it is the only one kept
 only-promotion : (t : Move → Bool) (a b : ℕ) (o : Option Kind) → IfSome o CanPromote → t (move_of a b o) ≡ true
     → ((k : Option Kind) → k ≢ o → t (move_of a b k) ≡ false) → kept t a b ≡ move_of a b o ∷ []
 only-promotion t a b None h e n =
@@ -102,6 +112,8 @@ only-promotion t a b (Some Bishop) h e n =
 only-promotion t a b (Some Knight) h e n =
     rw (e, n None (λ q. cc), n (Some Queen) (λ q. cc), n (Some Rook) (λ q. cc), n (Some Bishop) (λ q. cc)) refl
 
+-- if only m passes the test, filtering `all_moves` leaves just m: nothing is kept from other squares (`away`), to other
+-- squares (`aside`) or with other promotions
 only-triple : (t : Move → Bool) (m : Move) → m.from < 64 → m.to < 64 → IfSome m.promotion CanPromote → t m ≡ true
     → ((n : Move) → t n ≡ true → n ≡ m) → filter t all_moves ≡ m ∷ []
 unfolding all_moves

@@ -9,6 +9,7 @@ use Rattle.chess_text.specs.Moves.{shape, reading, denotes, one_of}
 use Rattle.chess_text.proofs.{FormFacts.legal_agree, Legal.IsMove, Legal.legal_move, Legal.described_as, Solid.bare_parts, WrittenStarts.same_square}
 use Rattle.chess_text.proofs.OneMoveFits.{read_alone, denoted_parts, shape_parts, denotes_move, move_is, written, promotion_part, promotes-self, promotes-same}
 
+-- the parts of m's coordinate text: the start's file and rank, the end square, the promotion in a small letter
 abbrev squares_named : Move → Parts
 squares_named m = record {
   letter = None;
@@ -18,6 +19,7 @@ squares_named m = record {
   end = record { to = m.to; promotion = written false true m.promotion };
 }
 
+-- a promotion has the same text in coordinates and as such a part
 letter_is : (o : Option Kind) → optional small_letter_text o ≡ optional promotion_text (written false true o)
 letter_is None = refl
 letter_is (Some k) = refl
@@ -26,6 +28,7 @@ text_is : (m : Move) → coordinate m ≡ parts_text (squares_named m)
 text_is m = ap (λ v. (97 + file m.from) ∷ (49 + rank m.from) ∷ (97 + file m.to) ∷ (49 + rank m.to) ∷ v)
     (letter_is m.promotion)
 
+-- the coordinate text has no marks (+ # ! ?) at its end, so without marks it is the text of its parts
 bare : (m : Move) → m.to < 64 → unmarked (coordinate m) ≡ parts_text (squares_named m)
 bare m h = ap unmarked (text_is m) ∙ bare_parts (squares_named m) h
 
@@ -38,6 +41,7 @@ are_parts p m h = record {
   promotion_is = promotion_part false true m.promotion h.promotion_is;
 }
 
+-- a promotion in coordinates is written without `=`
 no_equals : (o : Option Kind) → not (has_equals (written false true o)) ≡ true
 no_equals None = refl
 no_equals (Some k) = refl
@@ -52,11 +56,13 @@ fits_itself p m k =
     let f = promotes-self false true m.promotion in
     rw (a, b, c, e, f) refl
 
+-- n has m's squares and promotion
 record Same (m n : Move) : Type 0 where
   from : n.from ≡ m.from
   to : n.to ≡ m.to
   promotion : n.promotion ≡ m.promotion
 
+-- a move n that the parts of m's coordinate text fit has m's squares and promotion
 fits_alone : (p : Setup) (m n : Move) (k : Kind) → parts_fit (squares_named m) (described_as p n k) ≡ true → Same m n
 unfolding parts_fit is_by_squares is_by_letter is_straight is_by_file
 fits_alone p m n k e = record {
@@ -76,6 +82,7 @@ denotes_only p m n low are legal e =
     ∙ denoted_parts (coordinate m) (squares_named m) (described_as p n g.man) (bare m low) are) ∙ e) in
     move_is n m same.from same.to same.promotion
 
+-- of the legal moves only m is denoted by its coordinate text
 pub coordinate_alone : (p : Setup) (m : Move) → IsTrue (is_legal p m) → DenotesAlone p (coordinate m) m
 coordinate_alone p m legal =
     let h = legal_move p m legal in

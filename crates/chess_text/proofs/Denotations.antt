@@ -1,5 +1,7 @@
--- The texts that the definition lists for a move are those of the parts that fit it. Proofs go through the lists of
--- this file, which are equal to those of the definition (`texts_alike`).
+-- A text denotes a described move (`denotes_described` looks it up in a list of texts) exactly if it names the move's
+-- castling or is the text of parts that fit the move: `is_denoted_so` and `denoted_so`. `denotes_is` says the same of
+-- the parts as the reader finds them. The proofs use lists of this file (`texts_of`), equal to those of the definition
+-- (`texts_alike`).
 use Rattle.std.proofs.Common.{◌≡◌, ℕ, ◌<◌, inl, inr, Bool, true, false, not, ◌||◌, ◌==◌, Option, Some, None, List, [], ◌∷◌, ◌++◌, append_assoc, refl, sym, ap, subst, ◌∙◌, arith, if◌then◌else◌, bytes_eq, IfSome, is_some, is_none}
 use Rattle.std.specs.{List.AllByRecursion, List.list_any, List.flat_map, Option.option_map_or}
 use Rattle.std.proofs.{lemmas.Bool.Decides.nat_tests, lemmas.List.Folds.list_any-append, lemmas.Slice.Eq.bytes_eq-Decides}
@@ -28,16 +30,17 @@ of letter file rank takes to promotion = record {
   end = record { to = to; promotion = promotion };
 }
 
--- no letter of a pawn
+-- the parts have no letter, or that of a piece other than a pawn
 abbrev pub Lettered : Parts → Type 0
 Lettered q = IfSome q.letter HasLetter
 
--- the text is that of parts that fit the move
+-- the text is that of some parts that fit the described move
 abbrev pub IsText : Described → Text → Type 0
 IsText d text = (q : Parts) × Lettered q × (text ≡ parts_text q) × (parts_fit q d ≡ true)
 
 -- ---- parts that fit, form by form
 
+-- the parts of coordinates, as g1f3, fit the move
 by_squares_fits : (d : Described) (p : Option Promotion) → promotes_so p d.promotion ≡ true → has_equals p ≡ false
     → parts_fit (of None (Some (file d.from)) (Some (rank d.from)) false d.to p) d ≡ true
 unfolding parts_fit is_by_squares
@@ -45,6 +48,8 @@ by_squares_fits d p so unsigned =
     rw (eq-eqb (file d.from) (file d.from) refl, eq-eqb (rank d.from) (rank d.from) refl, eq-eqb d.to d.to refl, unsigned, so)
     refl
 
+-- the parts of a text with the piece's letter, as Nf3 or Nbxd2, fit the move if it isn't castling, if the file and rank
+-- that they name are the start's, and if `x` is there only for a capture
 pub by_letter_fits : (d : Described) (f r : Option ℕ) (takes : Bool) → d.castles ≡ None → admits f (file d.from) ≡ true
     → admits r (rank d.from) ≡ true → (not takes || d.captures) ≡ true
     → parts_fit (of (Some d.man) f r takes d.to None) d ≡ true
@@ -52,11 +57,13 @@ unfolding parts_fit is_by_squares is_by_letter
 by_letter_fits d f r takes walks file_is rank_is takes_is =
     rw (same_kind-self d.man, walks, file_is, rank_is, takes_is, eq-eqb d.to d.to refl) refl
 
+-- the parts of an end square alone, as e4, fit a pawn's move that stays on its file
 pub straight_fits : (d : Described) (p : Option Promotion) → same_kind Pawn d.man ≡ true → (file d.from == file d.to) ≡ true
     → promotes_so p d.promotion ≡ true → parts_fit (of None None None false d.to p) d ≡ true
 unfolding parts_fit is_by_squares is_by_letter is_straight
 straight_fits d p pawn on so = rw (pawn, on, eq-eqb d.to d.to refl, so) refl
 
+-- the parts of a text that begins with a pawn's start file, as exd5, fit its move
 pub file_fits : (d : Described) (f r : Option ℕ) (takes : Bool) (p : Option Promotion) → same_kind Pawn d.man ≡ true
     → names f (file d.from) ≡ true → admits r (rank d.from) ≡ true → (not takes || d.captures) ≡ true
     → promotes_so p d.promotion ≡ true → parts_fit (of None f r takes d.to p) d ≡ true
@@ -66,7 +73,7 @@ file_fits d f r takes p pawn file_is rank_is takes_is so =
     rw (file_is, rank_is, pawn, takes_is, eq-eqb d.to d.to refl, so) refl in
     grind (arith, own)
 
--- by which of the four forms parts fit
+-- by which of the four forms the parts q fit the move d
 pub data FitsBy (q : Parts) (d : Described) : Type 0 where
   FitSquares : is_by_squares q d ≡ true → FitsBy q d
   FitLetter : is_by_letter q d ≡ true → FitsBy q d
@@ -86,9 +93,11 @@ form_of_fit q d e = by_tests (is_by_squares q d) (is_by_letter q d) (is_straight
 
 -- ---- each listed text is that of parts that fit
 
+-- t is the text of a promotion that agrees with the move's (o), or empty if there is none
 abbrev IsPromotionText : Option Kind → Text → Type 0
 IsPromotionText o t = (p : Option Promotion) × (t ≡ optional promotion_text p) × (promotes_so p o ≡ true)
 
+-- t is the text of a promotion without `=` that agrees with the move's (o), or empty if there is none
 abbrev IsPlainPromotion : Option Kind → Text → Type 0
 IsPlainPromotion o t = (p : Option Promotion) × (t ≡ optional promotion_text p) × (promotes_so p o ≡ true)
     × (has_equals p ≡ false)
@@ -96,18 +105,23 @@ IsPlainPromotion o t = (p : Option Promotion) × (t ≡ optional promotion_text 
 abbrev promotion_as : Kind → Bool → Bool → Option Promotion
 promotion_as k equals small = Some (record { kind = k; equals = equals; small = small })
 
+-- what coordinates may have before a promotion's letter: nothing
 abbrev plain : List Text
 plain = [] ∷ []
 
+-- what a pawn's text may have before it: nothing, or `=` (61)
 abbrev signed : List Text
 signed = [] ∷ (61 ∷ []) ∷ []
 
+-- each promotion text that the definition lists for coordinates is that of a promotion without `=` that agrees with the
+-- move's
 each_plain : (o : Option Kind) → AllByRecursion (IsPlainPromotion o) (promotion_texts plain o)
 each_plain None = ((None, refl, refl, refl), tt)
 each_plain (Some k) =
     let same = same_kind-self k in
     ((promotion_as k false false, refl, same, refl), ((promotion_as k false true, refl, same, refl), tt))
 
+-- each promotion text that the definition lists for a pawn's text is that of a promotion that agrees with the move's
 each_signed : (o : Option Kind) → AllByRecursion (IsPromotionText o) (promotion_texts signed o)
 each_signed None = ((None, refl, refl), tt)
 each_signed (Some k) =
@@ -116,9 +130,11 @@ each_signed (Some k) =
       ((promotion_as k false true, refl, same), ((promotion_as k true false, refl, same), ((promotion_as k true true, refl, same), tt))),
     )
 
+-- the coordinate text of d with this promotion text
 abbrev square_text_to : Described → Text → Text
 square_text_to d promotion = square_text d.from ++ (square_text d.to ++ promotion)
 
+-- all texts of d by its two squares
 abbrev squares_texts : Described → List Text
 squares_texts d = flat_map (λ promotion. square_text_to d promotion ∷ []) (promotion_texts plain d.promotion)
 
@@ -132,6 +148,8 @@ each_squares d =
       by_squares_fits d h.0 h.2 h.3,
     ))
 
+-- t is what may be written of the square `from` after a piece's letter: its file, its rank, both or nothing (the parts
+-- f and r)
 abbrev IsStartText : ℕ → Text → Type 0
 IsStartText from t = (f : Option ℕ) × (r : Option ℕ) × (t ≡ optional file_text f ++ optional rank_text r)
     × (admits f (file from) ≡ true) × (admits r (rank from) ≡ true)
@@ -147,6 +165,7 @@ each_start from =
       ),
     )
 
+-- t is `x` (120) or empty, and is `x` only if the move captures (c)
 abbrev IsCaptureText : Bool → Text → Type 0
 IsCaptureText c t = (takes : Bool) × (t ≡ list_if takes (120 ∷ [])) × ((not takes || c) ≡ true)
 
@@ -154,6 +173,7 @@ each_capture : (c : Bool) → AllByRecursion (IsCaptureText c) (capture_texts c)
 each_capture true = ((false, refl, refl), ((true, refl, refl), tt))
 each_capture false = ((false, refl, refl), tt)
 
+-- a kind other than a pawn has a letter
 pub has_letter : (k : Kind) → same_kind k Pawn ≡ false → HasLetter k
 has_letter King h = tt
 has_letter Queen h = tt
@@ -166,12 +186,15 @@ none_is : {A : Type 0} (o : Option A) → is_some o ≡ false → o ≡ None
 none_is None e = refl
 none_is (Some x) e = absurd cc
 
+-- the text of d by its piece's letter, with this text for the start square and for `x`
 abbrev letter_text : Described → Text → Text → Text
 letter_text d start takes = kind_text d.man ++ (start ++ (takes ++ square_text d.to))
 
+-- the texts of d by its piece's letter with this text for the start square: without `x`, and for a capture also with it
 abbrev letter_texts : Described → Text → List Text
 letter_texts d start = flat_map (λ takes. letter_text d start takes ∷ []) (capture_texts d.captures)
 
+-- the text of d by its piece's letter is that of parts that fit d
 is_letter_text : (d : Described) (start takes : Text) → same_kind d.man Pawn ≡ false → d.castles ≡ None
     → IsStartText d.from start → IsCaptureText d.captures takes → IsText d (letter_text d start takes)
 is_letter_text d start takes other walks (f, r, is, file_is, rank_is) (t, written, takes_is) = (
@@ -181,6 +204,7 @@ is_letter_text d start takes other walks (f, r, is, file_is, rank_is) (t, writte
   by_letter_fits d f r t walks file_is rank_is takes_is,
 )
 
+-- all texts of d by its piece's letter: none for a pawn's move or castling
 abbrev lettered_texts : Described → List Text
 lettered_texts d = if same_kind d.man Pawn || is_some d.castles then [] else flat_map (letter_texts d) (start_texts d.from)
 
@@ -198,18 +222,20 @@ each_letter d = by_tests (same_kind d.man Pawn) (is_some d.castles) refl refl
 
 -- ---- a pawn's
 
--- what is written before the end square, with which parts fit for each promotion
+-- t is what a pawn's text has before its end square (start file, rank, `x`), and parts that name just this fit d with
+-- each promotion that agrees with d's
 abbrev IsPawnStart : Described → Text → Type 0
 IsPawnStart d t = (f : Option ℕ) × (r : Option ℕ) × (takes : Bool)
     × (t ≡ optional file_text f ++ (optional rank_text r ++ list_if takes (120 ∷ [])))
     × ((p : Option Promotion) → promotes_so p d.promotion ≡ true → parts_fit (of None f r takes d.to p) d ≡ true)
 
+-- before the end square of a pawn's move that stays on its file nothing need be written
 straight_start : (d : Described) → same_kind Pawn d.man ≡ true → (b : Bool) → (file d.from == file d.to) ≡ b
     → AllByRecursion (IsPawnStart d) (if b then [] ∷ [] else [])
 straight_start d pawn true on = ((None, None, false, refl, λ p so. straight_fits d p pawn on so), tt)
 straight_start d pawn false on = tt
 
--- by the file, and perhaps the rank
+-- t names the file of the square `from`, perhaps with its rank
 abbrev IsFileText : ℕ → Text → Type 0
 IsFileText from t = (r : Option ℕ) × (t ≡ file_text (file from) ++ optional rank_text r)
     × (admits r (rank from) ≡ true)
@@ -217,9 +243,11 @@ IsFileText from t = (r : Option ℕ) × (t ≡ file_text (file from) ++ optional
 abbrev file_texts : ℕ → List Text
 file_texts from = file_text (file from) ∷ square_text from ∷ []
 
+-- `start` alone, and for a capture also with `x` after it
 abbrev capturing : Described → Text → List Text
 capturing d start = flat_map (λ takes. (start ++ takes) ∷ []) (capture_texts d.captures)
 
+-- the start's file or square, and for a capture perhaps `x`, is what may be before the end square of a pawn's move
 file_start : (d : Described) → same_kind Pawn d.man ≡ true → (start takes : Text) → IsFileText d.from start
     → IsCaptureText d.captures takes → IsPawnStart d (start ++ takes)
 file_start d pawn start takes (r, is, rank_is) (t, written, takes_is) = (
@@ -230,6 +258,7 @@ file_start d pawn start takes (r, is, rank_is) (t, written, takes_is) = (
   λ p so. file_fits d (Some (file d.from)) r t p pawn (eq-eqb (file d.from) (file d.from) refl) rank_is takes_is so,
 )
 
+-- all that may be written before the end square of a pawn's move d
 abbrev starts_of : Described → List Text
 starts_of d = (if file d.from == file d.to then [] ∷ [] else []) ++ flat_map (capturing d) (file_texts d.from)
 
@@ -242,17 +271,21 @@ each_pawn_start d pawn =
     (λ start h. each-one (IsCaptureText d.captures) (IsPawnStart d) (λ takes. start ++ takes) (capture_texts d.captures)
     (each_capture d.captures) (λ takes g. file_start d pawn start takes h g)))
 
+-- the text of a pawn's move d: what is before its end square, the square, the promotion
 abbrev pawn_text : Described → Text → Text → Text
 pawn_text d start promotion = start ++ (square_text d.to ++ promotion)
 
+-- the texts of a pawn's move d with this text before its end square, with each promotion text
 abbrev pawn_texts : Described → Text → List Text
 pawn_texts d start = flat_map (λ promotion. pawn_text d start promotion ∷ []) (promotion_texts signed d.promotion)
 
+-- the text of a pawn's move d is that of parts that fit d
 is_pawn_text : (d : Described) (start promotion : Text) → IsPawnStart d start → IsPromotionText d.promotion promotion
     → IsText d (pawn_text d start promotion)
 is_pawn_text d start promotion (f, r, t, is, fit) (p, written, so) =
     (of None f r t d.to p, tt, rw (is, written, append_assoc, append_assoc) refl, fit p so)
 
+-- all texts of d as a pawn's move: none for another piece
 abbrev pawns_texts : Described → List Text
 pawns_texts d = if same_kind Pawn d.man then flat_map (pawn_texts d) (starts_of d) else []
 
@@ -267,6 +300,7 @@ each_pawn d = by_test (same_kind Pawn d.man) refl
         (promotion_texts signed d.promotion) (each_signed d.promotion) (λ promotion g. is_pawn_text d start promotion h g))
     by_test false other = tt
 
+-- all texts of d but castling's: by its squares, by its piece's letter, as a pawn's move
 abbrev pub texts_of : Described → List Text
 texts_of d = squares_texts d ++ (lettered_texts d ++ pawns_texts d)
 
@@ -277,6 +311,7 @@ each_text d =
 
 -- ---- each text of parts that fit is listed
 
+-- the text of a promotion without `=` that agrees with the move's is listed for coordinates
 in_plain : (o : Option Kind) (p : Option Promotion) → promotes_so p o ≡ true → has_equals p ≡ false
     → IsIn Text (promotion_texts plain o) (optional promotion_text p)
 in_plain None None so unsigned t e = grind (arith, e)
@@ -284,6 +319,7 @@ in_plain (Some k) None so unsigned t e = absurd cc
 in_plain None (Some x) so unsigned t e = absurd cc
 in_plain (Some k) (Some x) so unsigned t e = grind (arith, e, unsigned, same_kind-true x.kind k so)
 
+-- the text of a promotion that agrees with the move's is listed for a pawn's text
 in_signed : (o : Option Kind) (p : Option Promotion) → promotes_so p o ≡ true
     → IsIn Text (promotion_texts signed o) (optional promotion_text p)
 in_signed None None so t e = grind (arith, e)
@@ -308,6 +344,7 @@ kind_named : (o : Option Kind) (k : Kind) → names_kind o k ≡ true → o ≡ 
 kind_named None k e = absurd cc
 kind_named (Some j) k e = ap (λ (y : Kind). Some y) (same_kind-true j k e)
 
+-- the text of parts that fit d by its two squares is one of `squares_texts`
 squares_in : (d : Described) (letter : Option Kind) (f r : Option ℕ) (takes : Bool) (to : ℕ) (p : Option Promotion)
     → is_by_squares (of letter f r takes to p) d ≡ true
     → IsIn Text (squares_texts d) (parts_text (of letter f r takes to p))
@@ -331,6 +368,7 @@ no_pawn Bishop h = refl
 no_pawn Knight h = refl
 no_pawn Pawn h = absurd h
 
+-- the text of parts that fit d by its piece's letter is one of `lettered_texts`
 letter_in : (d : Described) (letter : Option Kind) (f r : Option ℕ) (takes : Bool) (to : ℕ) (p : Option Promotion)
     → IfSome letter HasLetter → is_by_letter (of letter f r takes to p) d ≡ true
     → IsIn Text (lettered_texts d) (parts_text (of letter f r takes to p))
@@ -353,6 +391,7 @@ letter_in d letter f r takes to p has e =
     rw (is, none, h, other, walks)
     (rw (append_assoc (optional file_text f) (optional rank_text r) (x ++ square_text d.to)) at there)
 
+-- a pawn's text is one of `pawns_texts` if what is before its end square is in `starts_of`
 in_pawn : (d : Described) (start : Text) (p : Option Promotion) → same_kind Pawn d.man ≡ true
     → promotes_so p d.promotion ≡ true → IsIn Text (starts_of d) start
     → IsIn Text (pawns_texts d) (pawn_text d start (optional promotion_text p))
@@ -361,6 +400,7 @@ in_pawn d start p pawn so there =
     rw pawn (in-flat_map (pawn_texts d) (starts_of d) start (pawn_text d start end) there
     (in-one (pawn_text d start) (promotion_texts signed d.promotion) end (in_signed d.promotion p so)))
 
+-- the text of parts that fit d, a pawn's move, by its end square alone is one of `pawns_texts`
 straight_in : (d : Described) (letter : Option Kind) (f r : Option ℕ) (takes : Bool) (to : ℕ) (p : Option Promotion)
     → is_straight (of letter f r takes to p) d ≡ true
     → IsIn Text (pawns_texts d) (parts_text (of letter f r takes to p))
@@ -382,6 +422,7 @@ in_file : (from : ℕ) (r : Option ℕ) → admits r (rank from) ≡ true
     → IsIn Text (file_texts from) (file_text (file from) ++ optional rank_text r)
 in_file from r a t e = grind (arith, nat_tests, a, e)
 
+-- the text of parts that fit d, a pawn's move, by its start file is one of `pawns_texts`
 file_in : (d : Described) (letter : Option Kind) (f r : Option ℕ) (takes : Bool) (to : ℕ) (p : Option Promotion)
     → is_by_file (of letter f r takes to p) d ≡ true
     → IsIn Text (pawns_texts d) (parts_text (of letter f r takes to p))
@@ -403,6 +444,7 @@ file_in d letter f r takes to p e =
     (in-one (λ takes. start ++ takes) (capture_texts d.captures) x (in_capture d.captures takes g)))) in
     rw (a, named f (file d.from) b, h) (rw (append_assoc start x (square_text d.to ++ optional promotion_text p)) at there)
 
+-- the text of parts that fit d, by whichever form, is in `texts_of`
 text_in : (q : Parts) (d : Described) → Lettered q → parts_fit q d ≡ true → IsIn Text (texts_of d) (parts_text q)
 text_in q d has e = by_form (form_of_fit q d e)
   where
@@ -421,6 +463,7 @@ text_in q d has e = by_form (form_of_fit q d e)
 
 -- ---- what a text denotes, with no list of texts
 
+-- an optional value that passes a test is there
 pub passing : {A : Type 0} (test : A → Bool) (o : Option A) → passes test o ≡ true
     → (x : A) × (o ≡ Some x) × (test x ≡ true)
 passing test None e = absurd cc
@@ -466,7 +509,7 @@ texts_alike d =
     ++ ((if same_kind d.man Pawn || is_some d.castles then [] else xs) ++ texts_of_pawn d)) (letters_alike d d.captures)
     ∙ ap (λ xs. squares_texts d ++ (lettered_texts d ++ xs)) (pawns_alike d)
 
--- castling, or one of the other texts
+-- a text denotes d if it names d's castling, or if without marks it is one of `texts_of`
 listed : (text : Text) (d : Described)
     → denotes_described text d
     ≡ (passes (is_castling_text text) d.castles || list_any (bytes_eq (unmarked text)) (texts_of d))
@@ -552,16 +595,19 @@ facts q d e = by_form (form_of_fit q d e)
       promotion_is = grind (arith, nat_tests, h);
     }
 
+-- a file or rank that admits n is below 8, as n is
 below : (o : Option ℕ) (n : ℕ) → n < 8 → admits o n ≡ true → IfSome o (λ x. x < 8)
 below None n h e = tt
 below (Some x) n h e = subst (λ y. y < 8) (sym (eqb-true x n e)) h
 
+-- a promotion that agrees with the move's is to a piece that a pawn may become
 promoting : (p : Option Promotion) (o : Option Kind) → IfSome o CanPromote → (is_none p || promotes_so p o) ≡ true
     → IfSome p (λ x. CanPromote x.kind)
 promoting None o h e = tt
 promoting (Some x) None h e = absurd cc
 promoting (Some x) (Some k) h e = subst CanPromote (sym (same_kind-true x.kind k e)) h
 
+-- parts that fit a move on the board are possible: squares on the board, a possible promotion
 are_parts : (q : Parts) (d : Described) → Lettered q → d.from < 64 → d.to < 64 → IfSome d.promotion CanPromote
     → parts_fit q d ≡ true → AreParts q
 are_parts q d has from to promotion e =
@@ -592,6 +638,7 @@ parts_fit_text text d q are is fit =
     or_right (passes (is_castling_text text) d.castles) (passes (λ r. parts_fit r d) (parts_at (unmarked text)))
     (ap (passes (λ r. parts_fit r d)) (ap parts_at is ∙ parts-denoted q are) ∙ fit)
 
+-- a text that denotes d passes the reader's test `fits_text`; fits_cases is the converse
 fits_so : (text : Text) (d : Described) → d.from < 64 → d.to < 64 → IfSome d.promotion CanPromote → IsDenoted text d
     → fits_text text d ≡ true
 fits_so text d from to promotion (inl h) = castling_fits text d h.0 h.1 h.2

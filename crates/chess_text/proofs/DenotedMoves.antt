@@ -19,6 +19,8 @@ same_side-true QueenSide QueenSide h = refl
 same_side-true KingSide QueenSide h = cc
 same_side-true QueenSide KingSide h = cc
 
+-- a move that the form denotes ends on the form's end square, by the man on its start square (o): parts name their end
+-- square, and castling to a side ends on one
 form_ends : (form : Form) (p : Setup) (m : Move) (o : Option Man) → passes (form_fits form) (described_by p m o) ≡ true
     → m.to ≡ end_square form p
 form_ends form p m None h = cc
@@ -28,27 +30,31 @@ form_ends (Castling w) p m (Some x) h =
     names_end p.variant p.side m c.0 (right_of p.rights p.side c.0) (castling_says p m c.0 c.1).1
     ∙ ap (λ v. castling_end p.variant p.side v (right_of p.rights p.side v)) (sym (same_side-true w c.0 c.2))
 
+-- each move that the form denotes, legal or not, ends on the form's end square
 pub denoted_ends : (form : Form) (p : Setup) (m : Move) → is_denoted form p m ≡ true → m.to ≡ end_square form p
 unfolding is_denoted described
 denoted_ends form p m h = form_ends form p m (man_at p.men m.from) h
 
 -- ---- all of them
 
+-- m is legal, and the form denotes it
 abbrev fit : Form → Setup → Move → Bool
 fit form p m = is_denoted form p m && is_legal p m
 
+-- a move to another square than the form's end square isn't denoted
 not_fit : (form : Form) (p : Setup) (m : Move) → m.to ≢ end_square form p → fit form p m ≡ false
 not_fit form p m away =
     false_from_ne_true (fit form p m)
     (λ h. away (denoted_ends form p m (and_parts (is_denoted form p m) (is_legal p m) h).0))
 
+-- a move to a number that is no square isn't legal
 not_legal : (form : Form) (p : Setup) (m : Move) → 64 ≤ m.to → fit form p m ≡ false
 not_legal form p m past =
     false_from_ne_true (fit form p m)
     (λ h. let legal = legal_move p m (and_parts (is_denoted form p m) (is_legal p m) h).1 in let below = legal.to_in in
     omega (arith, below, past))
 
--- from one square
+-- of all moves from square a, those that are denoted and legal are those to the form's end square
 from_one : (form : Form) (p : Setup) (a : ℕ) → filter (fit form p) (flat_map (λ b. map (move_of a b) promotions) squares)
     ≡ denoted_with form p a (end_square form p) promotions
 from_one form p a =
@@ -57,6 +63,7 @@ from_one form p a =
     (λ b away. none-kept (fit form p) a b (λ k. not_fit form p (move_of a b k) away))
     (λ past. none-kept (fit form p) a (end_square form p) (λ k. not_legal form p (move_of a (end_square form p) k) past))
 
+-- the denoted legal moves are found by trying, from each square, only moves to the form's end square
 pub all_denoted : (form : Form) (p : Setup)
     → flat_map (λ a. denoted_with form p a (end_square form p) promotions) squares
     ≡ filter (λ m. is_denoted form p m) (moves p)

@@ -1,4 +1,5 @@
--- What the parts denote of the legal moves of one kind of piece.
+-- Where parts can mean only one kind of piece (`one_kind`), the short test `is_denoted_of` answers the same as the full
+-- test `is_denoted` for each legal move of such a piece to their end square without a promotion (denoted_of).
 use mathlib.Core.Bool.{and-false}
 use Rattle.std.proofs.Common.{◌≡◌, ℕ, ◌<◌, true, false, not, ◌&&◌, cond, Option, Some, None, is_none, refl, sym, ap, ◌∙◌, arith, is_some}
 use Rattle.std.proofs.{lemmas.Bool.Decides.nat_tests, lemmas.Bool.and_parts, lemmas.Bool.eq-eqb, lemmas.Bool.false_from_ne_true}
@@ -14,6 +15,7 @@ use Rattle.chess_text.proofs.Origins.{named_is}
 
 -- ---- the piece
 
+-- a man x that passes the test for kind k is of this kind
 kind_there : (c : Colour) (k : Kind) (o : Option Man) (x : Man) → o ≡ Some x → is_man c k o ≡ true → k ≡ x.kind
 unfolding is_man
 kind_there c k None x at e = absurd cc
@@ -28,10 +30,12 @@ nobody : (c : Colour) (j : Kind) → is_man c j None ≡ true → ⊥
 unfolding is_man
 nobody c j a = cc
 
+-- a square that passes the test for two kinds shows that they are one kind
 both_men : (c : Colour) (j k : Kind) (o : Option Man) → is_man c j o ≡ true → is_man c k o ≡ true → j ≡ k
 both_men c j k None a b = absurd (nobody c j a)
 both_men c j k (Some x) a b = kind_there c j (Some x) x refl a ∙ sym (kind_there c k (Some x) x refl b)
 
+-- a move of a piece of kind k castles only if k is the king, so only king moves need be tested for castling
 uncastled : (p : Setup) (m : Move) (k : Kind) (o : Option CastlingSide) → castling p m ≡ o
     → is_man p.side k (man_at p.men m.from) ≡ true → is_none o ≡ not (same_kind King k && is_some o)
 uncastled p m k None e at = sym (ap not (and-false (same_kind King k)))
@@ -41,6 +45,7 @@ uncastled p m k (Some w) e at =
 
 -- ---- a pawn
 
+-- parts that don't name the whole start square don't fit a move by its two squares
 by_squares_not : (q : Parts) (d : Described) → d.from < 64 → named_square q.file q.rank ≡ None
     → is_by_squares q d ≡ false
 unfolding is_by_squares
@@ -49,11 +54,13 @@ by_squares_not q d low none = false_from_ne_true (is_by_squares q d) (λ h.
 
 -- ---- as the parts are
 
+-- parts denote a legal move exactly if they fit its description
 pub denoted_as : (p : Setup) (m : Move) (h : IsMove p m) (q : Parts) → is_denoted (Piece q) p m
     ≡ parts_fit q (described_as p m h.man)
 unfolding is_denoted
 denoted_as p m h q = rw (described_is p m h) refl
 
+-- for parts with a letter, the full test `parts_fit` of a move of that kind of piece agrees with the short one
 of_letter : (q : Parts) (p : Setup) (k : Kind) (m : Move) → q.letter ≡ Some k → q.end.promotion ≡ None
     → m.to ≡ q.end.to → m.promotion ≡ None → is_man p.side k (man_at p.men m.from) ≡ true
     → parts_fit q (described_as p m k) ≡ is_denoted_by_letter q p k m
@@ -63,6 +70,8 @@ of_letter q p k m letter plain to none man =
     rw (letter, plain, none, to, same_kind-self k, eq-eqb q.end.to q.end.to refl)
     (grind (arith, walks))
 
+-- for parts without a letter that don't name a whole start square, the full test of a pawn's move agrees with the short
+-- one
 of_pawn : (q : Parts) (p : Setup) (m : Move) → q.letter ≡ None → q.end.promotion ≡ None
     → named_square q.file q.rank ≡ None → m.from < 64
     → m.to ≡ q.end.to → m.promotion ≡ None → parts_fit q (described_as p m Pawn) ≡ is_denoted_by_pawn q p m
@@ -81,7 +90,7 @@ kind_lettered Bishop square k e = (cc, tt)
 kind_lettered Knight square k e = (cc, tt)
 kind_lettered Pawn square k e = absurd cc
 
--- the letter's kind, or a pawn
+-- the full test agrees with the short one, by the cases of `one_kind`: the letter's kind, or without a letter a pawn
 by_kind : (q : Parts) (p : Setup) (k : Kind) (m : Move) (letter : Option Kind) (square : Option ℕ)
     (promotion : Option Promotion) → q.letter ≡ letter → named_square q.file q.rank ≡ square
     → q.end.promotion ≡ promotion → cond (is_some promotion) None (kind_by letter square) ≡ Some k

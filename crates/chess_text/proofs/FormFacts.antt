@@ -1,4 +1,6 @@
--- What a text is read as fixes its shape and what it denotes.
+-- The form that a text is read as (`form_of`: castling, parts or none) decides whether it has a move's shape
+-- (shape-form), which legal moves it denotes (denotes-read), and so its reading in a position (reading_denoted,
+-- reading_nothing). What is read is legal (reads_legal).
 use Rattle.std.proofs.Common.{◌≡◌, ℕ, inl, inr, Bool, true, false, ◌&&◌, ◌||◌, cond, List, [], ◌∷◌, Option, Some, None, is_some, refl, sym, ap, ◌∙◌, arith, bytes_eq}
 use Rattle.std.proofs.{lemmas.Bool.and_parts, lemmas.Bool.cases_Bool, lemmas.List.Elements.filter_agree}
 use Rattle.std.specs.{List.list_any, List.filter, Option.option_map_or}
@@ -21,12 +23,14 @@ shape_by_parts : (o : Option Parts) → passes is_form o ≡ is_some (form_of_pa
 shape_by_parts None = refl
 shape_by_parts (Some q) = grind arith
 
+-- a and b say whether the text names castling to the king's side or to the queen's
 shape_by : (text : List ℕ) (a b : Bool) → (a || b || passes is_form (parts_at text))
     ≡ is_some (form_at (cond a (Some KingSide) (cond b (Some QueenSide) None)) text)
 shape_by text true b = refl
 shape_by text false true = refl
 shape_by text false false = shape_by_parts (parts_at text)
 
+-- the test `has_form` says whether `form_of` finds a form
 has-form : (text : List ℕ) → has_form text ≡ is_some (form_of text)
 unfolding has_form form_of is_castling_text
 has-form text = rw (has-read is_form text) (shape_by (unmarked text) (list_any (bytes_eq (unmarked text)) (castling_texts KingSide))
@@ -37,6 +41,7 @@ shape-form text = shape_is text ∙ has-form text
 
 -- ---- what is denoted
 
+-- parts fit d exactly if the form that is made of them does; parts that can make none fit no move
 fits_by_form : (d : Described) (o : Option Parts)
     → passes (λ q. parts_fit q d) o ≡ passes (λ f. form_fits f d) (form_of_parts o)
 fits_by_form d None = refl
@@ -51,7 +56,7 @@ same_for : (test other : CastlingSide → Bool) → ((v : CastlingSide) → test
 same_for test other h None = refl
 same_for test other h (Some v) = h v
 
--- a text of castling denotes castling to its side
+-- a text of castling to side w denotes just the moves that castle to this side
 pub denoted_castling : (text : List ℕ) (w : CastlingSide) (d : Described) → IsCastling text w
     → (passes (λ v. list_any (bytes_eq text) (castling_texts v)) d.castles || passes (λ q. parts_fit q d) (parts_at text))
     ≡ passes (same_side w) d.castles
@@ -59,6 +64,7 @@ denoted_castling text w d h =
     rw h.no_parts (or-false _ ∙ same_for (λ v. list_any (bytes_eq text) (castling_texts v)) (same_side w) h.names
     d.castles)
 
+-- a text that names neither side names the castling of no move
 not_named : (text : List ℕ) → list_any (bytes_eq text) (castling_texts KingSide) ≡ false
     → list_any (bytes_eq text) (castling_texts QueenSide) ≡ false
     → (o : Option CastlingSide) → passes (λ v. list_any (bytes_eq text) (castling_texts v)) o ≡ false
@@ -66,6 +72,7 @@ not_named text a b None = refl
 not_named text a b (Some KingSide) = a
 not_named text a b (Some QueenSide) = b
 
+-- the text names d's castling, or its parts fit d, exactly if its form fits d; a and b say whether it names each side
 denoted_by : (text : List ℕ) (d : Described) (a b : Bool) → list_any (bytes_eq text) (castling_texts KingSide) ≡ a
     → list_any (bytes_eq text) (castling_texts QueenSide) ≡ b
     → (passes (λ v. list_any (bytes_eq text) (castling_texts v)) d.castles || passes (λ q. parts_fit q d) (parts_at text))
@@ -75,6 +82,7 @@ denoted_by text d false true ea eb = denoted_castling text QueenSide d (castling
 denoted_by text d false false ea eb = ap (λ t. t || passes (λ q. parts_fit q d) (parts_at text))
     (not_named text ea eb d.castles) ∙ fits_by_form d (parts_at text)
 
+-- the test `fits_text` says whether the form that is read fits d
 fits-form : (text : List ℕ) (d : Described) → fits_text text d ≡ passes (λ f. form_fits f d) (form_of text)
 unfolding fits_text form_of is_castling_text
 fits-form text d = rw (has-read (λ q. parts_fit q d) text)
@@ -83,6 +91,7 @@ fits-form text d = rw (has-read (λ q. parts_fit q d) text)
 
 -- ---- the reading
 
+-- a text read as this form denotes a legal move exactly if the form does
 pub denotes-read : (form : Form) (text : List ℕ) (p : Setup) (m : Move) → is_legal p m ≡ true → form_of text ≡ Some form
     → denotes p text m ≡ is_denoted form p m
 unfolding denotes is_denoted
@@ -111,7 +120,7 @@ legal_agree p t u h =
           | inr off ↦ rw off refl
         ]
 
--- marks at the end change nothing
+-- marks (+ # ! ?) at the end of a text change nothing of its shape, nor below of its reading
 shape_unmarked : (a b : List ℕ) → unmarked a ≡ unmarked b → shape a ≡ shape b
 unfolding shape denotes_described
 shape_unmarked a b e = rw e refl
@@ -130,6 +139,7 @@ reading_unmarked p a b e =
       filter_agree (λ m. denotes p a m) (λ m. denotes p b m) (λ m. denotes_unmarked a b e (described p m)) (moves p),
     ) refl
 
+-- a text read as this form is read as what the denoted legal moves give: none, one or several
 pub reading_denoted : (p : Setup) (text : List ℕ) (form : Form) → form_of text ≡ Some form
     → one_of (filter (λ m. is_denoted form p m) (moves p)) ≡ reading p text
 unfolding reading
@@ -147,6 +157,7 @@ reading_nothing p text e =
 
 -- ---- what is read is legal
 
+-- the first element that a filter keeps passes the test
 first_kept : (test : Move → Bool) (ms : List Move) (m : Move) (rest : List Move) → filter test ms ≡ m ∷ rest
     → test m ≡ true
 first_kept test [] m rest e = absurd cc
@@ -157,16 +168,19 @@ first_kept test (n ∷ ms) m rest e = by_test (λ h. first_kept test ms m rest h
     by_test later true t e = let same : n ≡ m = cc in ap test (sym same) ∙ t
     by_test later false t e = later e
 
+-- the first element that two filters keep passes the first test too
 filter-again : (q t : Move → Bool) (ms : List Move) (m : Move) (rest : List Move) → filter t (filter q ms) ≡ m ∷ rest
     → q m ≡ true
 filter-again q t ms m rest e =
     (and_parts (q m) (t m) (first_kept (λ x. q x && t x) ms m rest (sym (filter-both q t ms) ∙ e))).0
 
+-- a list that is read as the move m has m alone
 one_is : (ms : List Move) (m : Move) → one_of ms ≡ reads.Move m → ms ≡ m ∷ []
 one_is [] m e = absurd cc
 one_is (n ∷ []) m e = let same : n ≡ m = cc in ap (λ x. x ∷ []) same
 one_is (n ∷ o ∷ ms) m e = absurd cc
 
+-- a text is read as a move only if this move is legal, since only legal moves are filtered
 read_legal : (p : Setup) (text : List ℕ) (m : Move) → reading p text ≡ reads.Move m → is_legal p m ≡ true
 unfolding reading moves
 read_legal p text m e = by_shape (shape text) refl e

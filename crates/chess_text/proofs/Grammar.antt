@@ -1,4 +1,6 @@
--- A move's text is read as its parts exactly where it is written from them.
+-- Reading and writing the parts of a move's text agree: what is read as parts is their text (denoted-parts), and the
+-- text of possible parts is read as these (parts-denoted). There is such a pair, `denoted-X` and `X-denoted`, for each
+-- part with what follows it, from the last to the first: promotion, end square, `x`, rank, file, letter.
 use Rattle.std.proofs.Common.{◌≡◌, ℕ, ◌+◌, ◌-◌, ◌*◌, ◌/◌, ◌%◌, ◌<◌, ◌≤◌, ◌⊎◌, inl, inr, Bool, true, false, cond, eqb, leb, ◌&&◌, List, [], ◌∷◌, ◌++◌, Option, Some, None, refl, sym, ap, subst, ◌∙◌, arith, IfSome, option_map}
 use Rattle.std.proofs.lemmas.Bool.Decides.{nat_tests}
 use Rattle.chess_base.specs.{declared.man.Kind.Kind, shared.Parts.optional, Options.list_if}
@@ -9,10 +11,12 @@ use Rattle.chess_text.specs.{declared.parts.Parts.Parts, declared.parts.End.End,
 use Rattle.chess_text.specs.shared.Fitting.{promotion_letter, promotion_text, end_text, parts_text}
 use Rattle.chess_text.specs.shared.Reader.{lettered_kinds, promoted, kind_from, or_else, promotion_by, promotion_at, end_at, takes_at, rank_at, with_parts, file_at, at_letter, parts_at}
 
+-- if the first of two optional values, or else the second, gives x, one of them is x
 either : {A : Type 0} (o p : Option A) (x : A) → or_else o p ≡ Some x → (o ≡ Some x) ⊎ (p ≡ Some x)
 either (Some y) p x e = inl e
 either None p x e = inr e
 
+-- a kind that is found by the letter c has this letter
 pub found : (kinds : List Kind) (c : ℕ) (k : Kind) → kind_from kinds c ≡ Some k → white_letter k ≡ c
 found [] c k e = absurd cc
 found (j ∷ kinds) c k e = by_test (λ h. found kinds c k h) (eqb (white_letter j) c) refl e
@@ -25,6 +29,7 @@ found (j ∷ kinds) c k e = by_test (λ h. found kinds c k h) (eqb (white_letter
 
 -- ---- the promotion
 
+-- of the kinds, those that are found among `promoted` are those that a pawn may become
 promoting : (k : Kind) → kind_from promoted (white_letter k) ≡ Some k → CanPromote k
 promoting Pawn e = absurd cc
 promoting Knight e = tt
@@ -36,9 +41,11 @@ promoting King e = absurd cc
 can_promote : (c : ℕ) (k : Kind) → kind_from promoted c ≡ Some k → CanPromote k
 can_promote c k e = promoting k (ap (kind_from promoted) (found promoted c k e) ∙ e)
 
+-- c is a small letter if the kind's capital letter is c - 32
 small_letter : (c : ℕ) (k : Kind) → white_letter k ≡ c - 32 → white_letter k + 32 ≡ c
 small_letter c k e = grind (arith, e)
 
+-- a byte that is read as the letter of a promotion is that promotion's letter, and a pawn may become the piece
 pub promotion_is : (equals : Bool) (c : ℕ) (p : Promotion) → promotion_by equals c ≡ Some p
     → (p.equals ≡ equals) × (c ≡ promotion_letter p) × CanPromote p.kind
 promotion_is equals c p e =
@@ -58,11 +65,13 @@ promotion_is equals c p e =
         subst (λ (r : Promotion). (r.equals ≡ equals) × (c ≡ promotion_letter r) × CanPromote r.kind) m.2
         (refl, sym (small_letter c m.0 (found promoted (c - 32) m.0 m.1)), can_promote (c - 32) m.0 m.1)
 
+-- the letter of a promotion, capital or small, is read as this promotion
 promotion_read : (equals small : Bool) (k : Kind) → CanPromote k
     → promotion_by equals (promotion_letter (record { kind = k; equals = equals; small = small }))
     ≡ Some (record { kind = k; equals = equals; small = small })
 promotion_read equals small k h = grind (arith, h)
 
+-- no promotion, or one to a piece that a pawn may become
 abbrev IsPromotion : Option Promotion → Type 0
 IsPromotion o = IfSome o (λ p. CanPromote p.kind)
 
@@ -90,6 +99,8 @@ promotion-denoted (Some p) h = grind (arith, promotion_read p.equals p.small p.k
 
 -- ---- the end
 
+-- a text that is read as an end is that end's text, and the end is possible: a square of the board, a promotion that a
+-- pawn may make
 pub denoted-end : (text : List ℕ) (x : End) → end_at text ≡ Some x
     → (text ≡ end_text x) × (x.to < 64) × IsPromotion x.promotion
 denoted-end [] x e = absurd cc
@@ -126,15 +137,19 @@ end-denoted x h p =
 
 -- ---- before the square
 
+-- the end is possible: a square of the board, and a possible promotion if there is one
 abbrev IsEnd : End → Type 0
 IsEnd e = (e.to < 64) × IsPromotion e.promotion
 
+-- whether `x` is there, with the end
 abbrev with_takes : Bool → End → Bool × End
 with_takes b y = (b, y)
 
+-- the rank, if it is named, before whether `x` is there and the end
 abbrev with_rank : Option ℕ → Bool × End → Option ℕ × Bool × End
 with_rank o y = (o, y.0, y.1)
 
+-- `x` if it is there, and the end
 abbrev takes_text : Bool → End → List ℕ
 takes_text b e = list_if b (120 ∷ []) ++ end_text e
 
@@ -158,6 +173,7 @@ denoted-takes (c ∷ rest) b x e = by_test (eqb c 120) refl e
 takes-denoted : (b : Bool) (x : End) → IsEnd x → takes_at (takes_text b x) ≡ Some (b, x)
 takes-denoted b x h = grind (arith, nat_tests, end-denoted x h.0 h.1)
 
+-- the rank if it is named, `x` if it is there, and the end
 abbrev tail_text : Option ℕ → Bool → End → List ℕ
 tail_text o b e = optional (λ r. (49 + r) ∷ []) o ++ takes_text b e
 
@@ -194,9 +210,11 @@ rank-denoted None false x k h = grind (arith, nat_tests, takes-denoted false x h
 
 -- ---- the file
 
+-- the text of parts without the letter
 abbrev body_text : Parts → List ℕ
 body_text q = optional (λ f. (97 + f) ∷ []) q.file ++ tail_text q.rank q.takes q.end
 
+-- q are possible parts with this letter, and the text is theirs without it
 record IsBody (letter : Option Kind) (text : List ℕ) (q : Parts) : Type 0 where
   letter_is : q.letter ≡ letter
   text_is : text ≡ body_text q
@@ -234,16 +252,19 @@ denoted-file letter (c ∷ rest) q e = by_case
           end_is = s.2;
         })
 
--- a file in front of the rest is not the square's own
+-- the text of an end (e4, e8=Q) can't be read as a promotion
 not_promoted : (x : End) → promotion_at (end_text x) ≡ None
 not_promoted x = grind (arith, nat_tests)
 
+-- with a start file in front, as in exd5, the text of rank, `x` and end can't be read without a file: that letter would
+-- be the end square's file, and no rank's digit follows it
 no_rank : (f : ℕ) (o : Option ℕ) (b : Bool) (x : End) → f < 8 → IsRank o → rank_at ((97 + f) ∷ tail_text o b x) ≡ None
 no_rank f None true x h k = grind (arith, nat_tests)
 no_rank f None false x h k = grind (arith, nat_tests)
 no_rank f (Some r) true x h k = grind (arith, nat_tests)
 no_rank f (Some r) false x h k = grind (arith, nat_tests, not_promoted x)
 
+-- the text of file, rank, `x` and end is read as these parts, with the letter that came before
 file-denoted : (letter : Option Kind) (file o : Option ℕ) (b : Bool) (x : End) → IfSome file (λ f. f < 8) → IsRank o
     → IsEnd x → file_at letter (optional (λ f. (97 + f) ∷ []) file ++ tail_text o b x)
     ≡ Some (record { letter = letter; file = file; rank = o; takes = b; end = x })
@@ -261,6 +282,7 @@ file-denoted letter (Some f) o b x h k e =
 
 -- ---- the letter
 
+-- a kind that is found by its letter is not a pawn
 pub lettered_is : (k : Kind) → kind_from lettered_kinds (white_letter k) ≡ Some k → HasLetter k
 lettered_is Pawn e = absurd cc
 lettered_is Knight e = tt
@@ -272,9 +294,12 @@ lettered_is King e = tt
 lettered_read : (k : Kind) → HasLetter k → kind_from lettered_kinds (white_letter k) ≡ Some k
 lettered_read k h = grind (arith, h)
 
+-- no byte below B (66) or above Z (90) is a piece's letter
 no_lettered : (c : ℕ) → (c < 66) ⊎ (90 < c) → kind_from lettered_kinds c ≡ None
 no_lettered c h = grind (arith, nat_tests, h)
 
+-- what follows a piece's letter (or none) is the text of possible parts without it: then letter and text together are
+-- the text of these parts
 parts_of : (letter : Option Kind) (text : List ℕ) (q : Parts) → IfSome letter HasLetter → IsBody letter text q
     → AreParts q × (optional kind_text letter ++ text ≡ parts_text q)
 parts_of letter text q h b = (
@@ -302,6 +327,8 @@ denoted-parts (c ∷ rest) q e = by_letter (kind_from lettered_kinds c) refl e
         (denoted-file (Some k) rest q e) in
         (p.0, ap (λ x. x ∷ rest) (sym at) ∙ p.1)
 
+-- a text that begins with a file, a rank, `x` or a square begins with no piece's letter, so it is read from its start
+-- file on
 parts-body : (file o : Option ℕ) (b : Bool) (x : End) → IfSome file (λ f. f < 8) → IsRank o
     → parts_at (optional (λ f. (97 + f) ∷ []) file ++ tail_text o b x)
     ≡ file_at None (optional (λ f. (97 + f) ∷ []) file ++ tail_text o b x)

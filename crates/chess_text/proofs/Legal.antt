@@ -25,11 +25,13 @@ described_as p m k = record {
 abbrev pub described_by : Setup → Move → Option Man → Option Described
 described_by p m o = option_map (λ (x : Man). described_as p m x.kind) o
 
--- by the kind of piece: a pawn's move, or one without a promotion
+-- what is known of a move by its kind of piece: a pawn's has a pawn's pattern and isn't castling, another has no
+-- promotion
 abbrev pub MovesAs : Setup → Move → Kind → Type 0
 MovesAs p m Pawn = (pawn_moves p m ≡ true) × (castling p m ≡ None)
 MovesAs p m k = m.promotion ≡ None
 
+-- what each legal move m of position p has (legal_move)
 pub record IsMove (p : Setup) (m : Move) : Type 0 where
   pub from_in : m.from < 64
   pub to_in : m.to < 64
@@ -47,6 +49,7 @@ unpromoted p m Rook lettered h = h
 unpromoted p m Bishop lettered h = h
 unpromoted p m Knight lettered h = h
 
+-- a promotion that fits the end rank, last or not, is to a piece that a pawn may become
 fits_last : (last : Bool) (o : Option Kind) → promotion_fits last o ≡ true → IfSome o CanPromote
 fits_last last None e = tt
 fits_last last (Some King) e = absurd cc
@@ -69,7 +72,7 @@ unfolding is_castling_to
 castling_says p m w e = and_parts (is_man p.side King (man_at p.men m.from))
     (names_castling p.variant p.side m w (right_of p.rights p.side w)) (says_from_castling p m w e)
 
--- these end on one square
+-- two squares that name castling to side w: the second is the one of `castling_end`
 pub names_end : (v : Variant) (c : Colour) (m : Move) (w : CastlingSide) (o : Option ℕ)
     → names_castling v c m w o ≡ true → m.to ≡ castling_end v c w o
 names_end v c m w None e = absurd cc
@@ -78,6 +81,7 @@ names_end Normal c m w (Some rook) e = eqb-true m.to (home_square c (castled_kin
 names_end Fischerandom c m w (Some rook) e =
     eqb-true m.to rook (and_parts (rank m.from == rank rook) (m.to == rook) e).1
 
+-- a pawn's move isn't castling, since that is the king's
 pawn_castles_not : (p : Setup) (m : Move) → man_at p.men m.from ≡ Some (record { colour = p.side; kind = Pawn })
     → (o : Option CastlingSide) → castling p m ≡ o → castling p m ≡ None
 unfolding is_man
@@ -90,6 +94,7 @@ pawn_castles_not p m at (Some w) e =
 
 -- ---- the kinds of move
 
+-- a move that is castling to o, or if o is `None` one of a piece's pattern, has no promotion
 no_promotion : (p : Setup) (m : Move) (o : Option Castle) → castles_or_moves p m o ≡ true → m.promotion ≡ None
 unfolding man_moves
 no_promotion p m None e =
@@ -97,9 +102,11 @@ no_promotion p m None e =
     is_none-None m.promotion (and_parts (is_none m.promotion) (attacks p.men m.from m.to) two.0).0
 no_promotion p m (Some k) e = castles_unpromoted p m k e
 
+-- the move is castling or of its piece's pattern, which is no pawn's
 abbrev lettered_moves : Setup → Move → Bool
 lettered_moves p m = castles_or_moves p m (castle_of p m)
 
+-- what passes the test of its kind of piece has what `MovesAs` says of the kind
 kind_moves : (p : Setup) (m : Move) (k : Kind) → man_at p.men m.from ≡ Some (record { colour = p.side; kind = k })
     → cond (same_kind Pawn k) (pawn_moves p m) (lettered_moves p m) ≡ true → MovesAs p m k
 kind_moves p m Pawn at e = (e, pawn_castles_not p m at (castling p m) refl)
@@ -109,6 +116,7 @@ kind_moves p m Rook at e = no_promotion p m (castle_of p m) e
 kind_moves p m Bishop at e = no_promotion p m (castle_of p m) e
 kind_moves p m Knight at e = no_promotion p m (castle_of p m) e
 
+-- so a promotion, if there is one, is to a piece that a pawn may become
 kind_promotes : (p : Setup) (m : Move) (k : Kind) → MovesAs p m k → IfSome m.promotion CanPromote
 unfolding pawn_moves
 kind_promotes p m Pawn e = fits_last (rank m.to == first_rank (other p.side)) m.promotion
@@ -120,6 +128,7 @@ kind_promotes p m Rook e = none_promotes m.promotion e
 kind_promotes p m Bishop e = none_promotes m.promotion e
 kind_promotes p m Knight e = none_promotes m.promotion e
 
+-- the facts of `IsMove`, from the man on the start square (o) and the test of its pattern
 move_by : (p : Setup) (m : Move) (o : Option Man) → man_at p.men m.from ≡ o → m.from < 64 → m.to < 64
     → moves_as p m o ≡ true → IsMove p m
 move_by p m None at f t e = absurd cc

@@ -13,7 +13,7 @@ pub any-map : {A B : Type 0} (t : B → Bool) (g : A → B) (xs : List A)
 any-map t g [] = refl
 any-map t g (x ∷ xs) = ap (λ b. t (g x) || b) (any-map t g xs)
 
--- a test that it passes finds something in the list
+-- x is in the list: whatever test x passes finds an element of the list that passes
 abbrev pub IsIn : (A : Type 0) → List A → A → Type 0
 IsIn A xs x = (t : A → Bool) → t x ≡ true → list_any t xs ≡ true
 
@@ -21,6 +21,7 @@ pub in-flat_map : {A B : Type 0} (g : A → List B) (xs : List A) (x : A) (y : B
     → IsIn B (flat_map g xs) y
 in-flat_map g xs x y h k t e = any-flat_map t g xs ∙ h (λ z. list_any t (g z)) (k t e)
 
+-- x in xs gives g x in the list of the g y for y in xs
 pub in-one : {A B : Type 0} (g : A → B) (xs : List A) (x : A) → IsIn A xs x → IsIn B (flat_map (λ y. g y ∷ []) xs) (g x)
 in-one g xs x h = in-flat_map (λ y. g y ∷ []) xs x (g x) h (λ t e. or_left (t (g x)) _ e)
 
@@ -33,6 +34,7 @@ in-append-left xs ys x h t e = list_any-append t xs ys ∙ or_left (list_any t x
 pub in-append-right : {A : Type 0} (xs ys : List A) (x : A) → IsIn A ys x → IsIn A (xs ++ ys) x
 in-append-right xs ys x h t e = list_any-append t xs ys ∙ or_right (list_any t xs) (list_any t ys) (h t e)
 
+-- each possible promotion, and `None`, is in the list of promotions
 pub promotion_in : (o : Option Kind) → IfSome o CanPromote → IsIn (Option Kind) promotions o
 promotion_in o h t e = grind (arith, e, h)
 
@@ -43,6 +45,7 @@ pub each-append : {A : Type 0} (P : A → Type 0) (xs ys : List A) → AllByRecu
 each-append P [] ys h k = k
 each-append P (x ∷ xs) ys h k = (h.0, each-append P xs ys h.1 k)
 
+-- if each x of xs has P, and P of x gives Q for each element of g x, each element of these lists joined has Q
 pub each-flat_map : {A B : Type 0} (P : A → Type 0) (Q : B → Type 0) (g : A → List B) (xs : List A)
     → AllByRecursion P xs → ((x : A) → P x → AllByRecursion Q (g x)) → AllByRecursion Q (flat_map g xs)
 each-flat_map P Q g [] h k = tt
@@ -53,12 +56,13 @@ pub each-one : {A B : Type 0} (P : A → Type 0) (Q : B → Type 0) (g : A → B
     → ((x : A) → P x → Q (g x)) → AllByRecursion Q (flat_map (λ y. g y ∷ []) xs)
 each-one P Q g xs h k = each-flat_map P Q (λ y. g y ∷ []) xs h (λ x p. (k x p, tt))
 
+-- if each of f 0 .. f (n - 1) has P, so has each element of the list of these
 pub each-below : {A : Type 0} (P : A → Type 0) (n : ℕ) (f : ℕ → A) → ((k : ℕ) → k < n → P (f k))
     → AllByRecursion P (from_below n f)
 each-below P zero f h = tt
 each-below P (suc n) f h = (h 0 (omega arith), each-below P n (λ k. f (suc k)) (λ k l. h (suc k) (omega arith)))
 
--- what a test finds in the list has what each element has
+-- if each element has P, a test that finds an element finds one with P
 pub found : {A : Type 0} (P : A → Type 0) (xs : List A) → AllByRecursion P xs → (t : A → Bool) → list_any t xs ≡ true
     → (x : A) × P x × (t x ≡ true)
 found P [] h t e = absurd cc

@@ -4,6 +4,7 @@ use Rattle.std.proofs.{Math.Seq.take-length, Math.Seq.take-append_seam, lemmas.L
 use Rattle.std.specs.List.{suffix_len}
 use Rattle.chess_text.specs.Parts.{is_mark, unmarked}
 
+-- the element after xs is at index length xs, and it is the last
 get_or-last : (xs : List ℕ) (c : ℕ) → get_or (xs ++ c ∷ []) (length xs) 0 ≡ c
 get_or-last [] c = refl
 get_or-last (x ∷ xs) c = get_or-last xs c

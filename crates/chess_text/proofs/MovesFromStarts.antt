@@ -18,10 +18,12 @@ use Rattle.chess_text.proofs.{DenotedMoves.denoted_ends, DenotedStart.denoted_of
 
 -- ---- no promotion
 
+-- parts without a promotion agree with a move only if it has none
 pub none_told : (o : Option Kind) → promotes_so None o ≡ true → o ≡ None
 none_told None e = refl
 none_told (Some k) e = absurd cc
 
+-- parts without a letter that fit a move name its promotion, or none if it has none
 pub promotes_as : (q : Parts) (d : Described) → q.letter ≡ None → parts_fit q d ≡ true
     → promotes_so q.end.promotion d.promotion ≡ true
 unfolding parts_fit is_by_squares is_by_letter is_straight is_by_file
@@ -29,10 +31,11 @@ promotes_as q d at h = grind (arith, nat_tests, at, h)
 
 -- ---- one kind
 
--- a denoted legal move is of such a piece, and has no promotion
+-- m is a move of a piece of kind k, without a promotion
 abbrev OfKind : Setup → Kind → Move → Type 0
 OfKind p k m = (is_man p.side k (man_at p.men m.from) ≡ true) × (m.promotion ≡ None)
 
+-- a legal move that parts with the letter of kind k denote is of a piece of kind k, without a promotion
 lettered : (p : Setup) (q : Parts) (k : Kind) (m : Move) → q.letter ≡ Some k → HasLetter k
     → is_denoted (Piece q) p m ≡ true → is_legal p m ≡ true → OfKind p k m
 lettered p q k m at has denoted legal =
@@ -41,6 +44,7 @@ lettered p q k m at has denoted legal =
     let moves_so : MovesAs p m k = subst (MovesAs p m) (sym (same_kind-true k h.man same)) h.moves_as in
     (man_is p m h k same, unpromoted p m k has moves_so)
 
+-- a legal move that parts without a letter, whole start square or promotion denote is a pawn's, without a promotion
 of_pawn : (p : Setup) (q : Parts) (m : Move) → q.letter ≡ None → named_square q.file q.rank ≡ None
     → q.end.promotion ≡ None → is_denoted (Piece q) p m ≡ true → is_legal p m ≡ true → OfKind p Pawn m
 of_pawn p q m at square plain denoted legal =
@@ -50,6 +54,7 @@ of_pawn p q m at square plain denoted legal =
       none_told m.promotion (rw plain at (promotes_as q (described_as p m h.man) at told)),
     )
 
+-- a legal move that parts denote is of the one kind of piece that they can mean, by the cases of `one_kind`
 by_kind : (p : Setup) (q : Parts) (letter : Option Kind) (square : Option ℕ) (promotion : Option Promotion) (k : Kind)
     → q.letter ≡ letter → named_square q.file q.rank ≡ square → q.end.promotion ≡ promotion
     → cond (is_some promotion) None (kind_by letter square) ≡ Some k
@@ -62,15 +67,19 @@ by_kind p q (Some x) square None k l s n e m denoted legal =
     let is = kind_lettered x square k e in
     subst (λ k. OfKind p k m) is.0 (lettered p q x m l is.1 denoted legal)
 
+-- where parts can mean only pieces of kind k, each legal move that they denote is of such a piece, without a promotion
 pub of_kind : (p : Setup) (q : Parts) (k : Kind) → one_kind q ≡ Some k
     → (m : Move) → is_denoted (Piece q) p m ≡ true → is_legal p m ≡ true → OfKind p k m
 of_kind p q k e = by_kind p q q.letter (named_square q.file q.rank) q.end.promotion k refl refl refl e
 
 -- ---- each such move begins on a square of the set
 
+-- a move to b without a promotion is `move_of` its start and b
 same_move : (m : Move) (b : ℕ) → m.to ≡ b → m.promotion ≡ None → m ≡ move_of m.from b None
 same_move m b t n = rw (sym t, sym n) refl
 
+-- the set w, of all squares with a legal move of such a piece to the end square, has the start of each legal move that
+-- the parts denote
 starts : (p : Setup) (q : Parts) (k : Kind) (w : ℕ) → one_kind q ≡ Some k → HasLegalStarts p k q.end.to w
     → IsStart p (Piece q) w
 starts p q k w e legal_starts = λ m denoted legal.
@@ -82,6 +91,8 @@ starts p q k w e legal_starts = λ m denoted legal.
 
 -- ---- one move from each of them
 
+-- of the five moves from a to b (no promotion, or one of four) that without a promotion is the only one kept, and only
+-- if s
 pub one_kept : (t : Move → Bool) (a b : ℕ) (s : Bool) → t (move_of a b None) ≡ s → t (move_of a b (Some Queen)) ≡ false
     → t (move_of a b (Some Rook)) ≡ false → t (move_of a b (Some Bishop)) ≡ false → t (move_of a b (Some Knight)) ≡ false
     → filter t (move_of a b None ∷ move_of a b (Some Queen) ∷ move_of a b (Some Rook) ∷ move_of a b (Some Bishop)
@@ -89,9 +100,11 @@ pub one_kept : (t : Move → Bool) (a b : ℕ) (s : Bool) → t (move_of a b Non
 one_kept t a b true n x y z u = rw (n, x, y, z, u) refl
 one_kept t a b false n x y z u = rw (n, x, y, z, u) refl
 
+-- m is legal, and the parts denote it
 abbrev fit : Parts → Setup → Move → Bool
 fit q p m = is_denoted (Piece q) p m && is_legal p m
 
+-- where parts can mean only one kind of piece, a move with a promotion isn't both legal and denoted
 no_other : (p : Setup) (q : Parts) (k : Kind) (a : ℕ) (x : Kind) → one_kind q ≡ Some k
     → fit q p (move_of a q.end.to (Some x)) ≡ false
 no_other p q k a x e = false_from_ne_true (fit q p (move_of a q.end.to (Some x))) (λ h.
@@ -104,6 +117,8 @@ legal_one : (s l : Bool) → l ≡ true → (s && l) ≡ s
 legal_one true l e = e
 legal_one false l e = refl
 
+-- from a square of the set w at most one legal move is denoted, that to the end square without a promotion, if the
+-- short test `is_denoted_of` says so
 one_start : (p : Setup) (q : Parts) (k : Kind) (w a : ℕ) → one_kind q ≡ Some k → HasLegalStarts p k q.end.to w
     → a < 64 → contains w a ≡ true → denoted_with (Piece q) p a q.end.to promotions ≡ denoted_start q p k a
 one_start p q k w a e legal_starts low there =
@@ -114,6 +129,7 @@ one_start p q k w a e legal_starts low there =
     ∙ denoted_of q p k (move_of a q.end.to None) e both.1 refl refl both.0)
     (no_other p q k a Queen e) (no_other p q k a Rook e) (no_other p q k a Bishop e) (no_other p q k a Knight e)
 
+-- lists made by f and by g are the same if f and g agree on the numbers that the test t keeps
 flat_map-kept : {B : Type 0} (f g : ℕ → List B) (t : ℕ → Bool) (n a : ℕ)
     → ((k : ℕ) → k < a + n → t k ≡ true → f k ≡ g k)
     → flat_map f (filter t (range_with_len a n)) ≡ flat_map g (filter t (range_with_len a n))
@@ -132,6 +148,7 @@ flat_map-members f g w h = rw (of_range w) (flat_map-kept f g (λ k. contains w 
 
 -- ---- the reading
 
+-- a reading r that is made of the short test's moves from the squares of w is the reading from all denoted legal moves
 pub by_starts : (p : Setup) (q : Parts) (k : Kind) (w : ℕ) (r : Reading) → one_kind q ≡ Some k
     → HasLegalStarts p k q.end.to w → r ≡ one_of (flat_map (denoted_start q p k) (members w))
     → r ≡ one_of (filter (λ m. is_denoted (Piece q) p m) (moves p))

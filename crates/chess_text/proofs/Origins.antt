@@ -1,4 +1,7 @@
--- Where the moves begin that a form denotes.
+-- For each form of text, a set of squares that has the start of each legal move that the text denotes (`IsStart`): for
+-- parts with a letter, with a whole start square, of a pawn, and for castling. The moves from such a set's squares are
+-- all that the text denotes (denoted_from). Last, steps of the loops that read square by square: one_found, more_found,
+-- last_found.
 use Rattle.std.proofs.Common.{◌≡◌, ℕ, ◌+◌, ◌*◌, ◌/◌, ◌%◌, ◌<◌, true, false, ◌&&◌, ◌==◌, nat_lt, Option, Some, None, List, [], ◌∷◌, ◌++◌, refl, sym, ap, ◌∙◌, arith, filter, flat_map}
 use Rattle.std.proofs.lemmas.Bool.Decides.{nat_tests}
 use Rattle.std.proofs.lemmas.Bool.{and_parts, false_from_ne_true, eq-eqb, eqb-true}
@@ -24,7 +27,7 @@ man_is p m h k e = rw h.at_from (by_colour p.side e)
     by_colour White e = e
     by_colour Black e = e
 
--- what is described of a legal move that is denoted
+-- parts that denote a legal move fit its description
 pub fits_told : (p : Setup) (q : Parts) (m : Move) (h : IsMove p m) → is_denoted (Piece q) p m ≡ true
     → parts_fit q (described_as p m h.man) ≡ true
 unfolding is_denoted
@@ -36,6 +39,7 @@ fits_told p q m h e = rw (described_is p m h) at e
 square_by : (s : ℕ) → 8 * (s / 8) + s % 8 ≡ s
 square_by s = omega arith
 
+-- a file and a rank that are those of square s name s
 pub named_is : (f r : Option ℕ) (s : ℕ) → s < 64 → names f (file s) ≡ true → names r (rank s) ≡ true
     → named_square f r ≡ Some s
 named_is None r s h e g = cc
@@ -47,18 +51,20 @@ named_is (Some f) (Some r) s h e g =
     let low' : nat_lt r 8 ≡ true = grind (arith, nat_tests, r', h) in
     rw (low, low') (ap Some (rw (f', r') (square_by s)))
 
--- what the parts say where they name a letter, a square, or neither
+-- parts with the letter of k fit only moves of pieces of kind k
 pub letter_fits : (q : Parts) (d : Described) (k : Kind) → q.letter ≡ Some k → parts_fit q d ≡ true → same_kind k d.man ≡ true
 unfolding parts_fit is_by_squares is_by_letter is_straight is_by_file
 letter_fits q d k at h = grind (arith, nat_tests, at, h)
 
--- without a letter: by its two coordinates, or as a pawn
+-- how parts without a letter fit a move: by its whole start square, as a pawn's from its file, or as a pawn's by the
+-- end square alone
 data NoLetter (q : Parts) (d : Described) : Type 0 where
   BySquares : names q.file (file d.from) ≡ true → names q.rank (rank d.from) ≡ true → NoLetter q d
   ByFile : names q.file (file d.from) ≡ true → admits q.rank (rank d.from) ≡ true → same_kind Pawn d.man ≡ true
       → NoLetter q d
   Straight : q.file ≡ None → same_kind Pawn d.man ≡ true → NoLetter q d
 
+-- parts without a letter that fit a move do so in one of the three ways of `NoLetter`
 no_letter : (q : Parts) (d : Described) → q.letter ≡ None → parts_fit q d ≡ true → NoLetter q d
 unfolding is_by_squares is_by_letter is_straight is_by_file
 no_letter q d at h = by_form (form_of_fit q d h)
@@ -72,6 +78,8 @@ no_letter q d at h = by_form (form_of_fit q d h)
 
 -- ---- the sets
 
+-- for parts with a letter, the squares of such pieces that can reach the end square (`HasOrigins`) have the start of
+-- each denoted move
 pub by_letter : (p : Setup) (q : Parts) (k : Kind) (w : ℕ) → q.letter ≡ Some k → HasOrigins p k q.end.to w
     → IsStart p (Piece q) w
 by_letter p q k w at origins = λ m denoted legal.
@@ -79,14 +87,17 @@ by_letter p q k w at origins = λ m denoted legal.
     origins m legal (man_is p m h k (letter_fits q (described_as p m h.man) k at (fits_told p q m h denoted)))
     (denoted_ends (Piece q) p m denoted)
 
+-- file and rank name one square at most
 some_is : (f r : Option ℕ) (s t : ℕ) → named_square f r ≡ Some s → named_square f r ≡ Some t → s ≡ t
 some_is f r s t e g = cc
 
+-- where a rank is named, a rank that it admits is the named one
 rank_named : (f r : Option ℕ) (s n : ℕ) → named_square f r ≡ Some s → admits r n ≡ true → names r n ≡ true
 rank_named None r s n e h = cc
 rank_named (Some f) None s n e h = cc
 rank_named (Some f) (Some r) s n e h = h
 
+-- where a square is named, its file is too
 file_there : (f r : Option ℕ) (s : ℕ) → named_square f r ≡ Some s → f ≡ None → (A : Type 0) → A
 file_there None r s e n A = absurd cc
 file_there (Some f) r s e n A = absurd cc
@@ -107,6 +118,7 @@ begins_there p q s m at square denoted legal =
         (named_is q.file q.rank a low (rw e at f) (rank_named q.file q.rank s (rank a) square (rw e at r))) square
     from_square a low d e (Straight n k) = file_there q.file q.rank s square n (a ≡ s)
 
+-- for parts without a letter that name a whole start square s, the set of s alone has the start of each denoted move
 pub by_squares : (p : Setup) (q : Parts) (s w : ℕ) → q.letter ≡ None → named_square q.file q.rank ≡ Some s
     → ((k : ℕ) → contains w k ≡ (k == s)) → IsStart p (Piece q) w
 by_squares p q s w at square single = λ m denoted legal.
@@ -122,6 +134,8 @@ pawn_named q d low at square told = by_form (no_letter q d at told)
     by_form (ByFile f r k) = k
     by_form (Straight n k) = k
 
+-- for parts without a letter and without a whole start square, the squares of pawns that can reach the end square
+-- (`HasOrigins`) have the start of each denoted move
 pub by_pawn : (p : Setup) (q : Parts) (w : ℕ) → q.letter ≡ None → named_square q.file q.rank ≡ None
     → HasOrigins p Pawn q.end.to w → IsStart p (Piece q) w
 by_pawn p q w at square origins = λ m denoted legal.
@@ -130,6 +144,7 @@ by_pawn p q w at square origins = λ m denoted legal.
     (pawn_named q (described_as p m h.man) h.from_in at square (fits_told p q m h denoted)))
     (denoted_ends (Piece q) p m denoted)
 
+-- a move that castles to side v is the king's, by the man on its start square (o)
 king_by : (v : CastlingSide) (p : Setup) (m : Move) (o : Option Man)
     → passes (form_fits (Castling v)) (described_by p m o) ≡ true → is_man p.side King (man_at p.men m.from) ≡ true
 king_by v p m None h = cc
@@ -140,6 +155,7 @@ king_denoted : (v : CastlingSide) (p : Setup) (m : Move) → is_denoted (Castlin
 unfolding is_denoted described
 king_denoted v p m h = king_by v p m (man_at p.men m.from) h
 
+-- for castling, the squares of kings that can reach the end square have the start of each denoted move
 pub by_castling : (p : Setup) (v : CastlingSide) (to w : ℕ) → to ≡ end_square (Castling v) p → HasOrigins p King to w
     → IsStart p (Castling v) w
 by_castling p v to w there origins = λ m denoted legal. origins m legal (king_denoted v p m denoted)
@@ -147,6 +163,7 @@ by_castling p v to w there origins = λ m denoted legal. origins m legal (king_d
 
 -- ---- the list over a set
 
+-- the denoted moves from the squares of w are all denoted legal moves: from another square there is none
 pub denoted_from : (form : Form) (p : Setup) (w : ℕ) → IsStart p form w
     → flat_map (λ a. denoted_with form p a (end_square form p) promotions) (members w)
     ≡ filter (λ m. is_denoted form p m)
@@ -165,25 +182,29 @@ denoted_from form p w start = flat_map_members _ w (λ k low out. none_there k o
 
 -- ---- what a text is that denotes some moves
 
+-- reading the moves of two lists joined is reading the second from what the first gave
 with_both : (found : Reading) (xs ys : List Move) → with_moves found (xs ++ ys) ≡ with_moves (with_moves found xs) ys
 with_both found [] ys = refl
 with_both found (x ∷ xs) ys = with_both (with_move found x) xs ys
 
+-- after two moves the reading stays `Ambiguous`
 stays_ambiguous : (ms : List Move) → with_moves reads.Ambiguous ms ≡ reads.Ambiguous
 stays_ambiguous [] = refl
 stays_ambiguous (m ∷ ms) = stays_ambiguous ms
 
+-- reading a list of moves from `NoSuch` on gives what `one_of` says of the list
 pub one_found : (ms : List Move) → with_moves reads.NoSuch ms ≡ one_of ms
 one_found [] = refl
 one_found (m ∷ []) = refl
 one_found (m ∷ n ∷ ms) = stays_ambiguous ms
 
--- one square more
+-- a step of the loop: the squares left are s and ns, `next` is the reading after the moves from s; so `next` and the
+-- moves from ns still give the whole reading
 pub more_found : (f : ℕ → List Move) (found next whole : Reading) (s : ℕ) (ms ns : List ℕ) → ms ≡ s ∷ ns
     → with_moves found (flat_map f ms) ≡ whole → next ≡ with_moves found (f s) → with_moves next (flat_map f ns) ≡ whole
 more_found f found next whole s ms ns e h n = rw n (sym (with_both found (f s) (flat_map f ns)) ∙ (rw e at h))
 
--- no square is left
+-- the loop's end: no square is left, so what was found is the whole reading
 pub last_found : (f : ℕ → List Move) (found whole : Reading) (ms : List ℕ) → ms ≡ []
     → with_moves found (flat_map f ms) ≡ whole → found ≡ whole
 last_found f found whole ms e h = rw e at h

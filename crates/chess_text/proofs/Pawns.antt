@@ -1,4 +1,5 @@
--- A pawn's move is fixed by where it ends and by its file.
+-- Two advances of pawns to one square begin on one square (same_advance); so do two captures on one square from one
+-- file (same_ahead). So a pawn's move is fixed by its end square and, if it captures, its start file.
 use Rattle.std.proofs.Common.{◌≡◌, ◌≢◌, ℕ, ◌<◌, ◌≤◌, inl, inr, Bool, true, false, ◌||◌, Option, Some, None, is_none, refl, sym, ap, ◌∙◌, arith, ◌==◌}
 use Rattle.std.proofs.{lemmas.Bool.Decides.nat_tests, lemmas.Bool.or_cases, lemmas.Bool.both_ways, lemmas.Bool.eqb-true}
 use Rattle.std.specs.Int.{abs_diff}
@@ -13,6 +14,7 @@ pawn_of c = record { colour = c; kind = Pawn }
 
 -- ---- no pawn is on its first rank
 
+-- a pawn on a square that is allowed to have one is not on rank 1
 stands_off : (men : Men) (c : Colour) (s : ℕ) → man_at men s ≡ Some (pawn_of c) → pawn_is_allowed men s ≡ true
     → rank s ≢ 0
 unfolding is_man
@@ -23,6 +25,7 @@ stands_off men Black s at e zero_rank =
     let e' = rw (at, zero_rank) at e in
     cc
 
+-- in a sound position a pawn's square has a number of 8 or more: it isn't on rank 1
 pub pawn_stands : (p : Setup) → IsSound p → (c : Colour) (s : ℕ) → s < 64 → man_at p.men s ≡ Some (pawn_of c) → 8 ≤ s
 unfolding no_pawn_on_end_ranks
 pawn_stands p sound c s h at =
@@ -31,6 +34,7 @@ pawn_stands p sound c s h at =
 
 -- ---- straight on
 
+-- the pawn's move is one step straight ahead, or two from its home rank over an empty square
 pub data Advance (p : Setup) (m : Move) : Type 0 where
   Single : m.to ≡ forward p.side m.from → Advance p m
   Double : m.to ≡ forward p.side (forward p.side m.from) → rank m.from ≡ pawn_rank p.side
@@ -46,6 +50,7 @@ advance_of p m e = by_test (m.to == forward p.side m.from) refl
         Double (grind (arith, nat_tests, e, other)) (grind (arith, nat_tests, e, other))
         (is_none-None (man_at p.men (forward p.side m.from)) (grind (arith, e, other)))
 
+-- one step ahead (`forward`) stays on the file; the five lemmas from here on are arithmetic with squares' numbers
 one_on_file : (c : Colour) (a b : ℕ) → 8 ≤ a → b ≡ forward c a → file a ≡ file b
 one_on_file c a b h e = grind arith
 
@@ -59,6 +64,7 @@ same_by_twos : (c : Colour) (a b t : ℕ) → rank a ≡ pawn_rank c → rank b 
     → t ≡ forward c (forward c b) → b ≡ a
 same_by_twos c a b t h k e f = grind arith
 
+-- if one step from a and two from b end on the same square, a is the square that b's pawn steps over
 one_stands_between : (c : Colour) (a b t : ℕ) → 8 ≤ a → rank b ≡ pawn_rank c → t ≡ forward c a
     → t ≡ forward c (forward c b) → forward c b ≡ a
 one_stands_between c a b t h k e f = grind arith
@@ -67,12 +73,13 @@ pub advances_on_file : (p : Setup) (m : Move) → 8 ≤ m.from → Advance p m �
 advances_on_file p m h (Single to) = one_on_file p.side m.from m.to h to
 advances_on_file p m h (Double to home free) = two_on_file p.side m.from m.to home to
 
+-- a square with a man is not an empty one
 stands_not : (p : Setup) (a b : ℕ) (x : Man) → man_at p.men a ≡ Some x → man_at p.men b ≡ None → b ≡ a → ⊥
 stands_not p a b x at none same =
     let e = ap (man_at p.men) same in
     cc
 
--- two pawns don't go straight to one square
+-- two pawns that advance to one square start on one: after one and two steps the first would stand in the second's way
 pub same_advance : (p : Setup) (m n : Move) → man_at p.men m.from ≡ Some (pawn_of p.side)
     → man_at p.men n.from ≡ Some (pawn_of p.side) → 8 ≤ m.from → 8 ≤ n.from → n.to ≡ m.to
     → Advance p m → Advance p n → n.from ≡ m.from
@@ -88,6 +95,7 @@ same_advance p m n am an hm hn to (Double a home free) (Single b) =
 
 -- ---- captures
 
+-- a pawn attacks squares on the next file, one rank ahead
 attack_of : (p : Setup) (m : Move) → man_at p.men m.from ≡ Some (pawn_of p.side) → attacks p.men m.from m.to ≡ true
     → (abs_diff (file m.from) (file m.to) ≡ 1) × (is_rank_ahead p.side m.from m.to ≡ true)
 unfolding attacks could_capture
@@ -101,6 +109,7 @@ captures_attack : (p : Setup) (m : Move) → pawn_captures p m ≡ true → atta
 unfolding pawn_captures
 captures_attack p m e = grind (arith, e)
 
+-- a pawn's capture ends on an enemy piece or is en passant
 pawn_takes : (p : Setup) (m : Move) → man_at p.men m.from ≡ Some (pawn_of p.side) → pawn_captures p m ≡ true
     → (is_of (other p.side) (man_at p.men m.to) || is_en_passant p m) ≡ true
 unfolding pawn_captures is_en_passant is_man
@@ -110,7 +119,7 @@ pawn_captures_so : (p : Setup) (m : Move) → man_at p.men m.from ≡ Some (pawn
     → captures p m ≡ true
 pawn_captures_so p m at e = captures_is p m ∙ pawn_takes p m at e
 
--- a pawn that doesn't capture advances; so does one that stays on its file
+-- a pawn's move that captures nothing is an advance
 pub advances_without : (p : Setup) (m : Move) → man_at p.men m.from ≡ Some (pawn_of p.side) → pawn_moves p m ≡ true
     → captures p m ≡ false → Advance p m
 advances_without p m at e none =
@@ -119,6 +128,7 @@ advances_without p m at e none =
       | inr takes ↦ absurd (both_ways (captures p m) none (pawn_captures_so p m at takes))
     ]
 
+-- a pawn's move that stays on its file is an advance
 pub advances_straight : (p : Setup) (m : Move) → man_at p.men m.from ≡ Some (pawn_of p.side) → pawn_moves p m ≡ true
     → file m.from ≡ file m.to → Advance p m
 advances_straight p m at e on =
@@ -127,6 +137,7 @@ advances_straight p m at e on =
       | inr takes ↦ let aside = (attack_of p m at (captures_attack p m takes)).0 in absurd (omega arith)
     ]
 
+-- no man is of a colour where there is none
 is_of-none : (c : Colour) (o : Option Man) → is_of c o ≡ true → is_none o ≡ true → ⊥
 unfolding is_of
 is_of-none c None e n = cc
@@ -148,6 +159,7 @@ captures_ahead p m at e takes =
       ]
     ]
 
+-- two squares on one file from which the same square is one rank ahead are one square
 pub same_ahead : (c : Colour) (a b t : ℕ) → is_rank_ahead c a t ≡ true → is_rank_ahead c b t ≡ true → file a ≡ file b
     → b ≡ a
 same_ahead c a b t e f on = grind (arith, nat_tests, e, f)

@@ -1,4 +1,5 @@
--- Promotions need be looked at only where a pawn promotes, and there nothing else.
+-- Of the moves from a to b that a form denotes, those that are legal all promote if a pawn would promote there
+-- (all_promote), and otherwise none does (none_promotes). So the reader tries only these.
 use Rattle.std.proofs.Common.{◌≡◌, ℕ, true, false, ◌&&◌, Option, Some, None, List, [], ◌∷◌, map, sym, ap, ◌∙◌, filter}
 use Rattle.chess_base.specs.{declared.man.Kind.Kind, declared.setup.Setup.Setup, Moves.is_legal, MoveList.promotions, MoveList.move_of}
 use Rattle.chess_base.specs.declared.man.Kind.TheVariants.{Queen, Rook, Bishop, Knight}
@@ -9,7 +10,7 @@ use mathlib.Core.Bool.{and_comm}
 use Rattle.std.proofs.lemmas.List.Elements.{filter_agree}
 use Rattle.chess_text.proofs.AllMoves.{filter-both}
 
--- the legal ones, filtered
+-- the denoted legal moves from a to b are the legal ones, filtered by what the form denotes
 of_legal : (form : Form) (p : Setup) (a b : ℕ) (ks : List (Option Kind))
     → denoted_with form p a b ks ≡ filter (λ m. is_denoted form p m) (moves_with p a b ks)
 of_legal form p a b ks =

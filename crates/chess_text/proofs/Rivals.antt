@@ -20,9 +20,11 @@ use Rattle.chess_text.proofs.{Denotations.has_letter, MovesFromStarts.one_kept}
 
 -- ---- one rival
 
+-- m is legal, and a rival of the described move d
 abbrev legal_rival : Setup → Described → Move → Bool
 legal_rival p d m = is_legal p m && is_rival p d m
 
+-- m goes to d's end square from another square
 abbrev is_other : Described → Move → Bool
 is_other d m = (m.to == d.to) && not (m.from == d.from)
 
@@ -32,11 +34,13 @@ ends p d m e =
     let two = and_parts (is_other d m) (passes (λ x. same_kind x.man d.man) (described p m)) e in
     eqb-true m.to d.to (and_parts (m.to == d.to) (not (m.from == d.from)) two.0).0
 
+-- a legal move is a rival exactly if it goes there with a piece of d's kind
 of_move : (p : Setup) (d : Described) (m : Move) (h : IsMove p m)
     → is_rival p d m ≡ (is_other d m && same_kind h.man d.man)
 unfolding is_rival
 of_move p d m h = ap (λ o. is_other d m && passes (λ x. same_kind x.man d.man) o) (described_is p m h)
 
+-- a legal rival of a move that is no pawn's has no promotion
 stays : (p : Setup) (d : Described) (m : Move) → same_kind d.man Pawn ≡ false → legal_rival p d m ≡ true
     → m.promotion ≡ None
 stays p d m other e =
@@ -48,15 +52,18 @@ stays p d m other e =
 
 -- ---- the rivals from one square
 
+-- no legal rival of d goes to another square than d does
 elsewhere : (p : Setup) (d : Described) (m : Move) → m.to ≢ d.to → legal_rival p d m ≡ false
 elsewhere p d m away = false_from_ne_true (legal_rival p d m)
     (λ e. away (ends p d m (and_parts (is_legal p m) (is_rival p d m) e).1))
 
+-- a legal rival doesn't go to a number that is no square
 outside : (p : Setup) (d : Described) (m : Move) → 64 ≤ m.to → legal_rival p d m ≡ false
 outside p d m past = false_from_ne_true (legal_rival p d m)
     (λ e. let legal = legal_move p m (and_parts (is_legal p m) (is_rival p d m) e).0 in let below = legal.to_in in
     omega (arith, below, past))
 
+-- a rival of a move that is no pawn's isn't a promotion
 promoted : (p : Setup) (d : Described) (a : ℕ) (k : Kind) → same_kind d.man Pawn ≡ false
     → legal_rival p d (move_of a d.to (Some k)) ≡ false
 promoted p d a k other = false_from_ne_true (legal_rival p d (move_of a d.to (Some k)))
@@ -66,6 +73,7 @@ promoted p d a k other = false_from_ne_true (legal_rival p d (move_of a d.to (So
 abbrev starts : Setup → Described → ℕ → Bool
 starts p d a = is_man p.side d.man (man_at p.men a) && is_legal p (move_of a d.to None) && not (a == d.from)
 
+-- a move to d's end square without a promotion is a legal rival exactly if it begins on a square of `starts`
 is_start : (p : Setup) (d : Described) (a : ℕ) → legal_rival p d (move_of a d.to None) ≡ starts p d a
 unfolding is_man
 is_start p d a =
@@ -80,6 +88,7 @@ is_start p d a =
     by_kinds : (t : Bool) (j k : Kind) → (t && same_kind j k) ≡ ((same_kind k j && true) && t)
     by_kinds t j k = grind (arith)
 
+-- the starts of the legal rivals from square a: a itself, or none
 from_square : (p : Setup) (d : Described) (a : ℕ) → same_kind d.man Pawn ≡ false
     → map (λ (m : Move). m.from) (filter (legal_rival p d) (flat_map (λ b. map (move_of a b) promotions) squares))
     ≡ cond (starts p d a) (a ∷ []) []
@@ -99,6 +108,8 @@ from_square p d a other =
 
 -- ---- all of them
 
+-- the moves of f are listed for one square after another, and for each square k there is one from k if t says so,
+-- otherwise none: then their starts are the squares that t says
 gathered : (f : ℕ → List Move) (t : ℕ → Bool) (n a : ℕ)
     → ((k : ℕ) → k < a + n → map (λ (m : Move). m.from) (f k) ≡ cond (t k) (k ∷ []) [])
     → map (λ (m : Move). m.from) (flat_map f (range_with_len a n)) ≡ filter t (range_with_len a n)
@@ -113,6 +124,8 @@ gathered f t (suc n) a h =
     joined true a xs = refl
     joined false a xs = refl
 
+-- the squares of v, which are those of w (where such pieces have the legal move) but for the move's own start (s), are
+-- the starts of the legal rivals
 pub rivals : (p : Setup) (d : Described) (w s v : ℕ) → same_kind d.man Pawn ≡ false → HasLegalStarts p d.man d.to w
     → ((k : ℕ) → contains s k ≡ (k == d.from)) → ((k : ℕ) → k < 64 → contains v k ≡ (contains w k && not (contains s k)))
     → members v ≡ rival_starts p (moves p) d
@@ -139,7 +152,8 @@ any_member : (w : ℕ) (p : ℕ → Bool) → list_any p (members w) ≡ some_sq
 unfolding members some_square
 any_member w p = any-filter (λ k. contains w k) p squares
 
--- so it does if the set x of those squares of w that are in v isn't empty, where v has just the squares that pass
+-- some square of w passes the test p if the set x isn't empty: it has the squares of w that are in v, and v has just
+-- the squares that pass
 pub some_met : (w v x : ℕ) (p : ℕ → Bool) (empty : Bool) → ((k : ℕ) → contains x k ≡ (contains w k && contains v k))
     → ((k : ℕ) → k < 64 → contains v k ≡ p k) → empty ≡ not (some_square (λ k. contains x k))
     → not empty ≡ list_any p (members w)
@@ -149,14 +163,17 @@ some_met w v x p empty both passing is =
     (λ k low. both k ∙ ap (λ b. contains w k && b) (passing k low))
     ∙ sym (any_member w p)
 
+-- a set with some square has a list of members that isn't empty
 some_member : (w : ℕ) → some_square (λ k. contains w k) ≡ true → list_any (λ s. true) (members w) ≡ true
 some_member w some = any_member w (λ s. true)
     ∙ some_square_same (λ k. contains w k && true) (λ k. contains w k) (λ k low. and-true (contains w k)) ∙ some
 
+-- without other starts nothing is written of the start
 pub alone : (from w : ℕ) → w ≡ 0 → distinction false false ≡ disambiguate from (members w)
 alone from w none = ap (disambiguate from) (sym (members_none w none))
 
--- beside others it is by their files and ranks
+-- if there are other starts (w isn't empty), the file is written if none is on it, otherwise the rank if none is on it,
+-- otherwise both
 pub beside_others : (from w : ℕ) (empty : Bool) → empty ≡ not (some_square (λ k. contains w k)) → empty ≡ false
     → (if not (some_on_file (file from) (members w)) then distinction true false
     else (if not (some_on_rank (rank from) (members w)) then distinction false true else distinction true true))
@@ -173,6 +190,7 @@ beside_others from w empty is off = by_others from (members w) (some_member w (o
     by_others from [] h = absurd cc
     by_others from (x ∷ xs) h = refl
 
+-- if there are other starts and none on the move's file, the file alone is written
 pub file_written : (from f w : ℕ) (empty on : Bool) → empty ≡ not (some_square (λ k. contains w k)) → empty ≡ false
     → f ≡ file from → on ≡ some_on_file f (members w) → on ≡ false → distinction true false ≡ disambiguate from (members w)
 file_written from f w empty on is full at found off =

@@ -1,4 +1,6 @@
--- The SAN of a legal move denotes it alone.
+-- The SAN of a legal move of a sound position denotes it alone (san_alone), so it is read as it (san_read); and it is a
+-- word of two to seven bytes (san_short, san_bytes, san_letter). For castling by its side; for pawns and other pieces
+-- the parts of the text are shown to fit this move and no other legal one.
 use Rattle.std.proofs.Common.{◌≡◌, ℕ, ◌<◌, ◌≤◌, Bool, true, false, ◌&&◌, List, ◌++◌, length, Option, Some, None, refl, sym, ap, subst, ◌∙◌, arith, ◌==◌, IfSome, IsTrue}
 use Rattle.std.specs.{Option.option_map, Option.option_map_or, List.list_any, List.list_all, List.filter}
 use Rattle.std.proofs.lemmas.Bool.Decides.{nat_tests}
@@ -30,6 +32,7 @@ same_side-self : (w : CastlingSide) → same_side w w ≡ true
 same_side-self KingSide = refl
 same_side-self QueenSide = refl
 
+-- castling has no promotion
 castles_plain : (p : Setup) (m : Move) (w : CastlingSide) (k : Kind) → MovesAs p m k → castling p m ≡ Some w
     → m.promotion ≡ None
 castles_plain p m w Pawn h e = let none = h.1 in absurd cc
@@ -39,11 +42,12 @@ castles_plain p m w Rook h e = h
 castles_plain p m w Bishop h e = h
 castles_plain p m w Knight h e = h
 
+-- what castles to the same side as w castles to w
 castles_so : (w : CastlingSide) (o : Option CastlingSide) → passes (same_side w) o ≡ true → o ≡ Some w
 castles_so w None e = absurd cc
 castles_so w (Some v) e = ap Some (sym (same_side-true w v e))
 
--- two castlings to one side are one move
+-- two castlings to one side are one move: there is one king, and their end square is the same
 same_castling : (p : Setup) (m n : Move) (w : CastlingSide) → IsSound p → IsMove p m → IsMove p n
     → castling p m ≡ Some w → castling p n ≡ Some w → n ≡ m
 same_castling p m n w sound h g e f =
@@ -56,6 +60,7 @@ same_castling p m n w sound h g e f =
 
 -- ---- pawns
 
+-- the parts of a pawn's SAN: for a capture (c) the start file and `x`, the end square, the promotion
 abbrev pawn_named : Bool → ℕ → ℕ → Option Promotion → Parts
 pawn_named c from to promotion = record {
   letter = None;
@@ -65,6 +70,7 @@ pawn_named c from to promotion = record {
   end = record { to = to; promotion = promotion };
 }
 
+-- a file that is written is below 8, and so is a rank
 written_file : (c : Bool) (s : ℕ) → IfSome (if_written c (file s)) (λ f. f < 8)
 written_file true s = omega arith
 written_file false s = tt
@@ -73,6 +79,7 @@ written_rank : (c : Bool) (s : ℕ) → s < 64 → IfSome (if_written c (rank s)
 written_rank true s h = omega arith
 written_rank false s h = tt
 
+-- the parts of a pawn's SAN are possible: its squares on the board, a promotion that a pawn may make
 pawn_are_parts : (c : Bool) (from to : ℕ) (o : Option Kind) → to < 64 → IfSome o CanPromote
     → AreParts (pawn_named c from to (written true false o))
 pawn_are_parts c from to o h k = record {
@@ -83,11 +90,13 @@ pawn_are_parts c from to o h k = record {
   promotion_is = promotion_part true false o k;
 }
 
+-- the parts of a pawn's SAN can be those of a move's text
 pawn_form : (c : Bool) (from to : ℕ) (o : Option Promotion) → is_form (pawn_named c from to o) ≡ true
 unfolding is_form
 pawn_form true from to o = refl
 pawn_form false from to o = refl
 
+-- the parts of a pawn's SAN fit its own move: without a capture it stays on its file
 pawn_fits : (p : Setup) (m : Move) (c : Bool) → captures p m ≡ c → (c ≡ false → file m.from ≡ file m.to)
     → parts_fit (pawn_named c m.from m.to (written true false m.promotion)) (described_as p m Pawn) ≡ true
 unfolding parts_fit is_by_squares is_by_letter is_straight is_by_file
@@ -102,7 +111,7 @@ pawn_fits p m false e on =
     let f = promotes-self true false m.promotion in
     rw (a, b, f) refl
 
--- what a move of some piece has that the parts of a straight move fit
+-- what a move n of a piece of kind l has if the parts of m's SAN, those of a pawn's advance, fit it
 record GoesStraight (p : Setup) (m n : Move) (l : Kind) : Type 0 where
   man : l ≡ Pawn
   on : file n.from ≡ file n.to
@@ -119,6 +128,7 @@ straight_fits p m n l e = record {
   promotion = promotes-same true false m.promotion n.promotion (grind (arith, nat_tests, e));
 }
 
+-- what a move n of a piece of kind l has if the parts of m's SAN, those of a pawn's capture, fit it
 record Takes (p : Setup) (m n : Move) (l : Kind) : Type 0 where
   man : l ≡ Pawn
   on : file m.from ≡ file n.from
@@ -137,12 +147,14 @@ takes_fits p m n l e = record {
   promotion = promotes-same true false m.promotion n.promotion (grind (arith, nat_tests, e));
 }
 
+-- a legal move of a pawn: what is on its start square, and its pattern
 as_pawn : (p : Setup) (n : Move) (g : IsMove p n) → g.man ≡ Pawn
     → (man_at p.men n.from ≡ Some (pawn_of p.side)) × (pawn_moves p n ≡ true)
 as_pawn p n g is =
     let moves_so : MovesAs p n Pawn = subst (MovesAs p n) is g.moves_as in
     (g.at_from ∙ ap (λ (k : Kind). let man : Man = record { colour = p.side; kind = k } in Some man) is, moves_so.0)
 
+-- the parts of a pawn's SAN fit no other legal move (same_ahead and same_advance of Pawns)
 pub pawn_alone : (p : Setup) (m n : Move) (c : Bool) → IsSound p → (h : IsMove p m) → h.man ≡ Pawn → (g : IsMove p n)
     → captures p m ≡ c
     → parts_fit (pawn_named c m.from m.to (written true false m.promotion)) (described_as p n g.man) ≡ true → n ≡ m
@@ -172,9 +184,11 @@ pawn_on_file p m sound h is e =
 
 -- ---- other pieces
 
+-- the start squares of m's legal rivals: the other pieces of its kind that could move to its end square
 abbrev rivals : Setup → Move → Kind → List ℕ
 rivals p m k = rival_starts p (moves p) (described_as p m k)
 
+-- the parts of another piece's SAN: letter, what `start` says of the start square, `x` for a capture, end square
 abbrev lettered_named : Kind → Disambiguation → Bool → ℕ → ℕ → Parts
 lettered_named k start c from to =
     record {
@@ -185,6 +199,7 @@ lettered_named k start c from to =
       end = record { to = to; promotion = None };
     }
 
+-- the parts by the definition of a lettered piece's SAN, without a promotion, are `lettered_named`
 lettered_is : (p : Setup) (m : Move) (k : Kind) (others : List ℕ) → m.promotion ≡ None
     → lettered_parts others (described_as p m k) ≡ lettered_named k (disambiguate m.from others) (captures p m) m.from m.to
 lettered_is p m k others none =
@@ -199,6 +214,7 @@ lettered_is p m k others none =
     } in
     q) none
 
+-- the parts of a lettered piece's SAN are possible: squares on the board
 lettered_are_parts : (k : Kind) (start : Disambiguation) (c : Bool) (from to : ℕ) → HasLetter k → from < 64 → to < 64
     → AreParts (lettered_named k start c from to)
 lettered_are_parts k start c from to lettered f t =
@@ -215,6 +231,7 @@ lettered_form : (k : Kind) (start : Disambiguation) (c : Bool) (from to : ℕ)
 unfolding is_form
 lettered_form k start c from to = refl
 
+-- the parts of a lettered piece's SAN fit its own move, with whatever is written of its start
 lettered_fits : (p : Setup) (m : Move) (k : Kind) (start : Disambiguation) → castling p m ≡ None
     → parts_fit (lettered_named k start (captures p m) m.from m.to) (described_as p m k) ≡ true
 unfolding parts_fit is_by_squares is_by_letter is_straight is_by_file
@@ -226,6 +243,7 @@ lettered_fits p m k start none =
     let e = eq-eqb m.to m.to refl in
     rw (none, a, b, c, d, e) refl
 
+-- what a move n of a piece of kind l has if the parts of m's SAN, those of a piece of kind k, fit it
 record Goes (p : Setup) (m n : Move) (k l : Kind) (start : Disambiguation) : Type 0 where
   man : l ≡ k
   walks : castling p n ≡ None
@@ -244,7 +262,7 @@ lettered_goes p m n k l start c e = record {
   to = grind (arith, nat_tests, e);
 }
 
--- a rival's start is among the rivals'
+-- a test that a legal rival's start passes finds one among `rivals`
 rival_stands : (p : Setup) (m n : Move) (k : Kind) (t : ℕ → Bool) → is_legal p n ≡ true
     → is_rival p (described_as p m k) n ≡ true → t n.from ≡ true → list_any t (rivals p m k) ≡ true
 unfolding rival_starts is_rival
@@ -254,6 +272,7 @@ rival_stands p m n k t legal rival e =
     ∙ any-move p (λ x. is_rival p (described_as p m k) x && t x.from) n legal
     (and_from (is_rival p (described_as p m k) n) (t n.from) rival e)
 
+-- a legal move of a piece of the same kind to m's end square from another square is a rival of m
 rival_is : (p : Setup) (m n : Move) (k : Kind) (g : IsMove p n) → g.man ≡ k → n.to ≡ m.to → (n.from == m.from) ≡ false
     → is_rival p (described_as p m k) n ≡ true
 unfolding is_rival
@@ -263,6 +282,8 @@ rival_is p m n k g man to apart =
     let c : same_kind g.man k ≡ true = ap (λ v. same_kind v k) man ∙ same_kind-self k in
     rw (a, apart, b, c) refl
 
+-- the parts of a piece's SAN fit no other legal move: one from another square would be a rival, from whose start the
+-- SAN is distinguished (start_is_apart of WrittenStarts)
 lettered_alone : (p : Setup) (m n : Move) (k : Kind) → HasLetter k → m.promotion ≡ None → is_legal p n ≡ true
     → (g : IsMove p n)
     → parts_fit (lettered_named k (disambiguate m.from (rivals p m k)) (captures p m) m.from m.to) (described_as p n g.man) ≡ true
@@ -285,6 +306,7 @@ lettered_alone p m n k lettered none legal g fit = by_start (n.from == m.from) r
 
 -- ---- the text
 
+-- the text of a pawn's parts is a word of two to six bytes
 pawn_word : (c : Bool) (from to : ℕ) (o : Option Kind)
     → IsWord (parts_text (pawn_named c from to (written true false o)))
 pawn_word true from to None = record { short = omega arith; long = omega arith; letter = file_letter from }
@@ -299,7 +321,8 @@ lettered_word k start c from to = by_written start.file start.rank c
     by_written : (f r c : Bool) → IsWord (parts_text (lettered_named k (record { file = f; rank = r }) c from to))
     by_written f r c = record { short = grind arith; long = grind arith; letter = man_letter k }
 
--- the text without its mark has these parts, which fit the move alone
+-- what the law needs of the parts q of m's SAN without its mark: possible, those of a move's text, a word, fitting m
+-- and no other legal move
 record HasParts (p : Setup) (m : Move) (k : Kind) (q : Parts) : Type 0 where
   are : AreParts q
   form : is_form q ≡ true
@@ -307,6 +330,7 @@ record HasParts (p : Setup) (m : Move) (k : Kind) (q : Parts) : Type 0 where
   fits_it : parts_fit q (described_as p m k) ≡ true
   alone : (n : Move) → is_legal p n ≡ true → (g : IsMove p n) → parts_fit q (described_as p n g.man) ≡ true → n ≡ m
 
+-- the parts of a pawn's SAN have what the law needs (`HasParts`)
 pawn_parts_of : (p : Setup) (m : Move) → IsSound p → (h : IsMove p m) → h.man ≡ Pawn
     → HasParts p m Pawn (pawn_named (captures p m) m.from m.to (written true false m.promotion))
 pawn_parts_of p m sound h is = record {
@@ -317,6 +341,7 @@ pawn_parts_of p m sound h is = record {
   alone = λ n legal g fit. pawn_alone p m n (captures p m) sound h is g refl fit;
 }
 
+-- the parts of another piece's SAN have what the law needs (`HasParts`)
 lettered_parts_of : (p : Setup) (m : Move) (k : Kind) → HasLetter k → castling p m ≡ None → m.promotion ≡ None
     → m.from < 64 → m.to < 64
     → HasParts p m k (lettered_named k (disambiguate m.from (rivals p m k)) (captures p m) m.from m.to)
@@ -328,6 +353,7 @@ lettered_parts_of p m k lettered walks none f t = record {
   alone = λ n legal g fit. lettered_alone p m n k lettered none legal g fit;
 }
 
+-- the parts by the definition of a lettered piece's SAN have it, since only a pawn promotes
 lettered_by : (p : Setup) (m : Move) (h : IsMove p m) → castling p m ≡ None → (k : Kind) → HasLetter k → h.man ≡ k
     → HasParts p m k (lettered_parts (rivals p m k) (described_as p m k))
 lettered_by p m h walks k lettered is =
@@ -335,6 +361,7 @@ lettered_by p m h walks k lettered is =
     let none = unpromoted p m k lettered so in
     subst (HasParts p m k) (sym (lettered_is p m k (rivals p m k) none)) (lettered_parts_of p m k lettered walks none h.from_in h.to_in)
 
+-- the parts by the definition of a piece's SAN have what the law needs, by its kind
 piece_by : (p : Setup) (m : Move) → IsSound p → (h : IsMove p m) → castling p m ≡ None → (k : Kind) → h.man ≡ k
     → HasParts p m k (piece_parts (rivals p m k) (described_as p m k))
 unfolding piece_parts
@@ -349,17 +376,19 @@ piece_has_parts : (p : Setup) (m : Move) → IsSound p → (h : IsMove p m) → 
     → HasParts p m h.man (piece_parts (rivals p m h.man) (described_as p m h.man))
 piece_has_parts p m sound h walks = piece_by p m sound h walks h.man refl
 
+-- the SAN of a legal move: the text of castling or of a piece, and the mark for check or mate
 san_text : (p : Setup) (m : Move) (h : IsMove p m)
     → san p m ≡ option_map_or castling_text (castling p m) (piece_text (rivals p m h.man) (described_as p m h.man)) ++ check_mark (after p m)
 unfolding san
 san_text p m h =
     ap (optional (λ d. unmarked_san (rival_starts p (moves p) d) d ++ check_mark (after p m))) (described_is p m h)
 
--- what the laws say of a text
+-- what is shown of a text of m: a move's shape, and that it denotes m alone of the legal moves
 pub record Law (p : Setup) (m : Move) (text : List ℕ) : Type 0 where
   pub has_shape : shape text ≡ true
   pub alone : DenotesAlone p text m
 
+-- the law for a move that castles to side w and any text that without marks is the text of castling to w
 pub castling_law : (p : Setup) (m : Move) (text : List ℕ) (w : CastlingSide) → IsSound p → IsMove p m
     → castling p m ≡ Some w → unmarked text ≡ castling_text w → Law p m text
 castling_law p m text w sound h e bare =
@@ -378,6 +407,7 @@ castling_law p m text w sound h e bare =
       );
     }
 
+-- the law for any text that without marks is the text of parts with what the law needs
 piece_law : (p : Setup) (m : Move) (text : List ℕ) (q : Parts) (h : IsMove p m) → HasParts p m h.man q
     → unmarked text ≡ parts_text q → Law p m text
 piece_law p m text q h parts bare = record {
@@ -391,6 +421,7 @@ piece_law p m text q h parts bare = record {
   );
 }
 
+-- the law for m's SAN, and that it is a word, by the side to which m castles (o)
 law_by : (p : Setup) (m : Move) (text : List ℕ) → IsSound p → (h : IsMove p m) → (o : Option CastlingSide)
     → castling p m ≡ o
     → text ≡ option_map_or castling_text o (piece_text (rivals p m h.man) (described_as p m h.man)) ++ check_mark (after p m)

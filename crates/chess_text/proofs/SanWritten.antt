@@ -5,6 +5,7 @@ use Rattle.chess_base.specs.declared.man.Kind.TheVariants.{King, Queen, Rook, Bi
 use Rattle.chess_text.specs.{ties.SanParts.unmarked_san, declared.described.Described.Described, Moves.described, San.rival_starts, San.check_mark, San.san, ties.Forms.promotes_as_a_pawn}
 use Rattle.chess_text.proofs.Legal.{MovesAs, legal_move, described_is, described_as}
 
+-- a description of a legal move has a promotion only for a pawn
 by_kind : (p : Setup) (m : Move) (k : Kind) → MovesAs p m k → promotes_as_a_pawn (described_as p m k)
 by_kind p m Pawn h = refl
 by_kind p m King h = rw h refl
@@ -24,12 +25,13 @@ legal_promotes p m d h e =
     let is : d ≡ described_as p m move.man = some_same _ _ (e ∙ described_is p m move) in
     rw is (by_kind p m move.man move.moves_as)
 
--- a legal move is one of a piece
+-- a legal move has a description, since a piece is on its start square; so `None` is impossible
 pub always_described : {A : Type 0} (p : Setup) (m : Move) → IsTrue (is_legal p m) → None ≡ described p m → A
 always_described p m h e =
     let is : described p m ≡ Some (described_as p m (legal_move p m h).man) = described_is p m (legal_move p m h) in
     absurd cc
 
+-- the unmarked SAN and the mark of the position after the move are the SAN
 pub san_marked : (p : Setup) (m : Move) (d : Described) (unmarked : List ℕ) → Some d ≡ described p m
     → unmarked ≡ unmarked_san (rival_starts p (moves p) d) d → unmarked ++ check_mark (after p m) ≡ san p m
 unfolding san

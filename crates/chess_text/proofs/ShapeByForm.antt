@@ -1,4 +1,6 @@
--- A text has a move's shape where it names castling, or where its parts are those of a form.
+-- A text has a move's shape (`shape`: it denotes one of all descriptions, even of impossible moves) exactly if it names
+-- castling or its parts can be those of a move's text (`has_form`): shape_is. One way, parts that fit a move can be a
+-- move's; the other, for such parts a description is made that they fit (fits_by).
 use Rattle.std.proofs.Common.{◌≡◌, ℕ, ◌+◌, ◌*◌, ◌<◌, inl, inr, Bool, true, false, not, ◌||◌, Option, Some, None, List, [], ◌∷◌, map, refl, sym, ap, ◌∙◌, arith, option_map, IfSome, unwrap_or}
 use Rattle.std.specs.List.{AllByRecursion, flat_map}
 use Rattle.std.proofs.lemmas.Bool.{and_right, or_cases, or_right, eq-eqb, both_ways}
@@ -14,6 +16,7 @@ use Rattle.chess_text.proofs.Denotations.{of, by_letter_fits, straight_fits, fil
 
 -- ---- all descriptions
 
+-- no condition: for lists of which nothing need be known
 abbrev Any : (A : Type 0) → A → Type 0
 Any A x = Unit {0}
 
@@ -35,9 +38,12 @@ both_in b t e = grind (arith, e)
 side_in : (o : Option CastlingSide) → IsIn (Option CastlingSide) sides o
 side_in o t e = grind (arith, e)
 
+-- no promotion, or one that is possible
 abbrev Becomes : Option Kind → Type 0
 Becomes o = IfSome o CanPromote
 
+-- a description with these values; `with_takes`, `with_move` and `with_man` make lists of them with all choices of the
+-- other values, as `all_described` is made
 abbrev with_castles : Kind → Move → Bool → Option CastlingSide → Described
 with_castles man m takes castles =
     record { man = man; from = m.from; to = m.to; promotion = m.promotion; captures = takes; castles = castles }
@@ -51,6 +57,7 @@ with_move man m = flat_map (with_takes man m) both
 abbrev with_man : Kind → List Described
 with_man man = flat_map (with_move man) all_moves
 
+-- the description is of squares of the board and a possible promotion
 record IsOnBoard (d : Described) : Type 0 where
   from_in : d.from < 64
   to_in : d.to < 64
@@ -62,6 +69,7 @@ each_square = each-below (λ s. s < 64) 64 (λ s. s) (λ k l. l)
 
 -- ---- all moves
 
+-- the move is between squares of the board, with a possible promotion or none
 record MovesOnBoard (m : Move) : Type 0 where
   from_in : m.from < 64
   to_in : m.to < 64
@@ -76,6 +84,7 @@ moves_from a = flat_map (moves_to a) squares
 on_board : (a b : ℕ) (o : Option Kind) → a < 64 → b < 64 → Becomes o → MovesOnBoard (move_of a b o)
 on_board a b o f t h = record { from_in = f; to_in = t; becomes = h }
 
+-- each move in `all_moves` is on the board
 each_move : AllByRecursion MovesOnBoard all_moves
 unfolding all_moves
 each_move =
@@ -91,6 +100,7 @@ each_move =
       ),
     )))
 
+-- each move on the board is in `all_moves`
 move_in : (a b : ℕ) (o : Option Kind) → a < 64 → b < 64 → Becomes o → IsIn Move all_moves (move_of a b o)
 unfolding all_moves
 move_in a b o f t h =
@@ -104,6 +114,7 @@ described_on_board : (man : Kind) (m : Move) (takes : Bool) (o : Option Castling
     → IsOnBoard (with_castles man m takes o)
 described_on_board man m takes o h = record { from_in = h.from_in; to_in = h.to_in; becomes = h.becomes }
 
+-- each description in `all_described` is on the board
 each_described : AllByRecursion IsOnBoard all_described
 unfolding all_described
 each_described =
@@ -117,6 +128,7 @@ each_described =
       ),
     ))))
 
+-- each description on the board is in `all_described`
 described_in : (d : Described) → IsOnBoard d → IsIn Described all_described d
 unfolding all_described
 described_in d h =
@@ -128,6 +140,7 @@ described_in d h =
 
 -- ---- parts that fit a move have a form
 
+-- parts that can't be those of a move's text fit no description
 pub no_form : (letter : Option Kind) (f r : Option ℕ) (takes : Bool) (to : ℕ) (promotion : Option Promotion) (d : Described)
     → is_form (of letter f r takes to promotion) ≡ false → parts_fit (of letter f r takes to promotion) d ≡ false
 unfolding is_form parts_fit is_by_squares is_by_letter is_straight is_by_file
@@ -151,14 +164,17 @@ fit_form q d fit = by_test (is_form q) refl
 abbrev kind_of : Option Promotion → Option Kind
 kind_of p = option_map (λ (x : Promotion). x.kind) p
 
+-- some description on the board that the parts q fit
 record Fits (q : Parts) : Type 0 where
   d : Described
   on_board : IsOnBoard d
   fits : parts_fit q d ≡ true
 
+-- the number, or 0 if there is none
 abbrev or_zero : Option ℕ → ℕ
 or_zero o = unwrap_or o 0
 
+-- a square that has the file f and the rank r as far as they are given
 abbrev start_of : Option ℕ → Option ℕ → ℕ
 start_of f r = 8 * or_zero r + or_zero f
 
@@ -188,6 +204,8 @@ becomes_of : (p : Option Promotion) → IfSome p (λ x. CanPromote x.kind) → B
 becomes_of None h = tt
 becomes_of (Some x) h = h
 
+-- possible parts that can be those of a move's text fit a description: with a letter one of its kind, otherwise a
+-- pawn's, from the named start, and a capture
 fits_by : (letter : Option Kind) (f r : Option ℕ) (takes : Bool) (to : ℕ) (p : Option Promotion)
     → AreParts (of letter f r takes to p) → is_form (of letter f r takes to p) ≡ true → Fits (of letter f r takes to p)
 unfolding is_form
@@ -227,11 +245,13 @@ fits_by None None None false to p h form =
 
 -- ---- the shape
 
+-- a text that names castling passes `has_form`
 pub castling_has : (text : List ℕ) (w : CastlingSide) → is_castling_text text w ≡ true → has_form text ≡ true
 unfolding has_form
 castling_has text KingSide h = rw h refl
 castling_has text QueenSide h = grind (arith, h)
 
+-- the text of possible parts that can be those of a move's text passes `has_form`
 parts_have : (text : List ℕ) (q : Parts) → AreParts q → unmarked text ≡ parts_text q → is_form q ≡ true
     → has_form text ≡ true
 unfolding has_form has_parts
@@ -240,6 +260,7 @@ parts_have text q are is form =
     (passes is_form (parts_at (unmarked text)))
     (ap (passes is_form) (ap parts_at is ∙ parts-denoted q are) ∙ form)
 
+-- a text that denotes a description passes `has_form`
 form_so : (text : List ℕ) (d : Described) → fits_text text d ≡ true → has_form text ≡ true
 unfolding fits_text has_parts
 form_so text d e =
@@ -251,17 +272,20 @@ form_so text d e =
           parts_have text of.0 is.0 is.1 (fit_form of.0 d of.2)
     ]
 
+-- a text with a move's shape passes `has_form`
 has_so : (text : List ℕ) → shape text ≡ true → has_form text ≡ true
 unfolding shape
 has_so text e =
     let f = found IsOnBoard all_described each_described (λ d. denotes_described text d) e in
     form_so text f.0 (sym (denotes_is text f.0 f.1.from_in f.1.to_in f.1.becomes) ∙ f.2)
 
+-- a text that denotes a description on the board has a move's shape
 shaped_by : (text : List ℕ) (d : Described) → IsOnBoard d → IsDenoted text d → shape text ≡ true
 unfolding shape
 shaped_by text d on_board denoted =
     described_in d on_board (λ e. denotes_described text e) (denoted_so text d denoted)
 
+-- a description of castling to side w
 abbrev castling_to : CastlingSide → Described
 castling_to w = record { man = King; from = 0; to = 0; promotion = None; captures = false; castles = Some w }
 
@@ -275,6 +299,7 @@ parts_shape text q are is form =
     let f = fits_by q.letter q.file q.rank q.takes q.end.to q.end.promotion are form in
     shaped_by text f.d f.on_board (inr (q, are.letter_is, is, f.fits))
 
+-- a text that passes `has_form` has a move's shape
 shape_so : (text : List ℕ) → has_form text ≡ true → shape text ≡ true
 unfolding has_form has_parts
 shape_so text e =

@@ -1,4 +1,5 @@
--- What is read decides whether the text has a move's shape.
+-- The result of reading a text tells whether the text has a move's shape: it has none exactly if the result is
+-- `NotAMove`.
 use Rattle.std.proofs.Common.{◌≡◌, ℕ, Bool, true, false, List, [], ◌∷◌, refl, if◌then◌else◌, filter}
 use Rattle.chess_base.specs.{declared.man.Move.Move, declared.setup.Setup.Setup, MoveList.moves}
 use Rattle.chess_text.specs.Moves.{one_of, reading, has_shape, shape, denotes}

@@ -22,6 +22,7 @@ solid-append xs text h = record {
   plain = h.plain;
 }
 
+-- a text that ends with a byte that is no mark has no marks to drop
 bare : (text : List ℕ) → IsSolid text → unmarked text ≡ text
 bare text h = ap unmarked h.split ∙ unmarked-solid h.front h.last h.plain ∙ sym h.split
 
@@ -31,6 +32,7 @@ digit_no_mark s h = grind (arith, nat_tests)
 letter_no_mark : (small : Bool) (k : Kind) → is_mark (if small then white_letter k + 32 else white_letter k) ≡ false
 letter_no_mark small k = grind arith
 
+-- a square with its promotion or none ends with the square's digit or the promotion's letter
 solid_end : (s : ℕ) (o : Option Promotion) → s < 64 → IsSolid (square_text s ++ optional promotion_text o)
 solid_end s None h = record { front = (97 + file s) ∷ []; last = 49 + rank s; split = refl; plain = digit_no_mark s h }
 solid_end s (Some p) h =
@@ -42,6 +44,7 @@ solid_end s (Some p) h =
       plain = letter_no_mark p.small p.kind;
     })
 
+-- the text of parts has no marks to drop
 pub bare_parts : (q : Parts) → q.end.to < 64 → unmarked (parts_text q) ≡ parts_text q
 bare_parts q h =
     bare (parts_text q)
@@ -54,6 +57,8 @@ pub bare_castling : (w : CastlingSide) → unmarked (castling_text w) ≡ castli
 bare_castling KingSide = unmarked-solid (79 ∷ 45 ∷ []) 79 refl
 bare_castling QueenSide = unmarked-solid (79 ∷ 45 ∷ 79 ∷ 45 ∷ []) 79 refl
 
+-- dropping the marks of a text with one mark after it (# is 35, + is 43), or none, gives the text back if it had none
+-- itself
 marked_by : (text : List ℕ) (a b : Bool) → unmarked text ≡ text
     → unmarked (text ++ list_if a (if b then 35 ∷ [] else 43 ∷ [])) ≡ text
 marked_by text false b e = ap unmarked (append-nil text) ∙ e

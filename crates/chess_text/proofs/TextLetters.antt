@@ -14,6 +14,7 @@ without_pawn (Some Bishop) = Some Bishop
 without_pawn (Some Knight) = Some Knight
 without_pawn (Some Pawn) = None
 
+-- the tests for the six letters, one after another, without the pawn's
 chosen_without : (k q r b n p : Bool)
     → without_pawn (cond k (Some King) (cond q (Some Queen) (cond r (Some Rook) (cond b (Some Bishop) (cond n
     (Some Knight) (cond p (Some Pawn) None))))))

@@ -69,7 +69,7 @@ lettered_square c file takes f r q square e named = by_kind (kind_from lettered_
         (parts_to (Some k) file takes f r)) letter (to_square (Some k) file takes f r square
         (lettered_is k (ap (kind_from lettered_kinds) letter ∙ is)) named refl))
 
--- a file's letter
+-- c is a file's letter, a to h
 record IsFile (c : ℕ) : Type 0 where
   named : c - 97 < 8
   letter : 97 + (c - 97) ≡ c
@@ -80,6 +80,7 @@ file_from c h =
     let high : c ≤ 104 = grind (arith, nat_tests, h) in
     record { named = omega arith; letter = omega arith }
 
+-- the parts that are read at once from four bytes, the last two of them a square, are those of the text
 four : (c d f r : ℕ) (q : Parts) → names_square f r ≡ true → four_at c d f r ≡ Some q → IsUsual (c ∷ d ∷ f ∷ r ∷ []) q
 unfolding is_form
 four c d f r q square = by_x (eqb d 120) refl
@@ -112,6 +113,7 @@ four c d f r q square = by_x (eqb d 120) refl
         subst (λ b. IsUsual (c ∷ b ∷ f ∷ r ∷ []) q) x (by_pawn (is_file_letter c) refl e)
     by_x false is e = by_file (is_file_letter d) refl e
 
+-- the parts that are read at once from a text of a usual shape are those of the text
 usual : (text : List ℕ) (q : Parts) → usual_at text ≡ Some q → IsUsual text q
 unfolding is_form
 usual [] q e = absurd cc
@@ -130,6 +132,7 @@ usual (c ∷ d ∷ x ∷ f ∷ r ∷ rest) q e = absurd cc
 
 -- ---- what the text is read as
 
+-- a text with these parts when one mark is dropped, if there is one, is read as the form of these parts
 pub usual_form : (text bare : List ℕ) (q : Parts) → unmarked bare ≡ unmarked text → Some q ≡ usual_at bare
     → Some (Piece q) ≡ form_of text
 unfolding form_of

@@ -6,12 +6,13 @@ use Rattle.chess_base.specs.{declared.man.CastlingSide.CastlingSide, declared.ma
 use Rattle.byte_devices.specs.Bytes.{is_letter}
 use Rattle.chess_text.specs.{declared.parts.Parts.Parts, declared.parts.Promotion.Promotion, laws.Laws.is_san_byte, laws.Laws.begins_with_letter, laws.Laws.AreParts, Parts.kind_text, Parts.file_text, Parts.rank_text, shared.Fitting.promotion_letter, shared.Fitting.promotion_text, shared.Fitting.parts_text, San.castling_text, San.check_mark}
 
--- a text before its mark; with it
+-- a text before its mark (+ or #): two to six bytes, the first a letter
 pub record IsWord (text : List ℕ) : Type 0 where
   pub short : 2 ≤ length text
   pub long : length text ≤ 6
   pub letter : begins_with_letter text ≡ true
 
+-- with its mark, if it has one: two to seven bytes of SAN, the first a letter
 pub record Word (text : List ℕ) : Type 0 where
   pub short : 2 ≤ length text
   pub long : length text ≤ 7
@@ -29,6 +30,7 @@ digit_byte n h = grind (arith, nat_tests)
 
 -- ---- the bytes of parts
 
+-- each byte is one that SAN may have: a letter, a digit, or one of + # = -
 abbrev AreBytes : List ℕ → Type 0
 AreBytes text = list_all (λ c. is_san_byte c) text ≡ true
 
@@ -89,6 +91,7 @@ begins-append : (xs ys : List ℕ) → begins_with_letter xs ≡ true → begins
 begins-append [] ys e = absurd cc
 begins-append (x ∷ xs) ys e = e
 
+-- a word with at most one byte of SAN after it is a word with its mark
 with_mark : (text mark : List ℕ) → length mark ≤ 1 → AreBytes mark → IsWord text → AreBytes text → Word (text ++ mark)
 with_mark text mark few all h k =
     let len = length-append text mark in
@@ -101,6 +104,7 @@ with_mark text mark few all h k =
       letter = begins-append text mark h.letter;
     }
 
+-- with the mark of `check_mark`: none, or # (35) for mate, or + (43) for check
 marked_by : (text : List ℕ) (a b : Bool) → IsWord text → AreBytes text
     → Word (text ++ list_if a (if b then 35 ∷ [] else 43 ∷ []))
 marked_by text false b h k = with_mark text [] (omega arith) refl h k

@@ -9,13 +9,15 @@ pub written_admits : (b : Bool) (n : ℕ) → admits (if_written b n) n ≡ true
 written_admits true n = eq-eqb n n refl
 written_admits false n = refl
 
+-- a number that is written admits only itself
 admitted : (n k : ℕ) → admits (if_written true n) k ≡ true → n ≡ k
 admitted n k e = eqb-true n k e
 
 pub same_square : (a b : ℕ) → file a ≡ file b → rank a ≡ rank b → b ≡ a
 same_square a b f r = omega arith
 
--- no other start among the others is
+-- a square s other than `from` doesn't fit what is written of `from`, if squares of `others` are on its file and on its
+-- rank: by the file alone no other is on `from`'s file, by the rank alone none is on its rank
 pub start_is_apart : (from s : ℕ) (others : List ℕ) → some_on_file (file s) others ≡ true
     → some_on_rank (rank s) others ≡ true → s ≢ from
     → admits (if_written (disambiguate from others).file (file from)) (file s) ≡ true

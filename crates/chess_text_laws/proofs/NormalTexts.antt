@@ -1,4 +1,5 @@
--- On positions of normal chess the texts are those of normal chess.
+-- For positions of normal chess the definitions of moves' texts, for both variants, agree with those for normal chess
+-- alone (normal_kept): which moves are legal, what a text is read as, the SAN, and the text in lists of moves.
 use Rattle.std.proofs.Common.{◌≡◌, ℕ, Bool, not, ◌&&◌, ◌==◌, List, ◌++◌, length, map, filter, codes, Option, Some, None, is_some, refl, ap, ◌∙◌, if◌then◌else◌}
 use Rattle.std.proofs.Math.Path.{fun_ext}
 use Rattle.std.specs.Option.{option_map, option_map_or}
@@ -11,12 +12,14 @@ use Rattle.chess_text.specs.Moves.{described, shape, denotes, denotes_described,
 use Rattle.chess_text.specs.San.{rival_starts, check_mark, san, castling_text, piece_text, is_fischerandom, shown_move}
 use Rattle.chess_text_laws.specs.Normal.{NormalIsKept, normal_moves, normal_described, normal_denotes, normal_reading, normal_rival_starts, normal_check_mark, normal_san}
 
+-- the lists of legal moves are the same, as each move is legal by both rules or by neither
 pub moves_kept : (p : Setup) → p.variant ≡ Normal → moves p ≡ normal_moves p
 unfolding moves normal_moves
 moves_kept p e = ap (λ (test : Move → Bool). filter test all_moves) (fun_ext (rules_kept p e).legal)
 
 -- ---- read
 
+-- what a text can say of a move, from the man on its start square and the side to which it castles
 abbrev with_castles : Setup → Move → Option Man → Option CastlingSide → Option Described
 with_castles p m man o =
     option_map (λ (x : Man). record {
@@ -49,6 +52,7 @@ reading_kept p e text =
 abbrev is_rival_as : Described → Move → Option Described → Bool
 is_rival_as d m o = (m.to == d.to) && not (m.from == d.from) && passes (λ (x : Described). same_kind x.man d.man) o
 
+-- a move is a rival of d by both
 rival_kept : (p : Setup) → p.variant ≡ Normal → (d : Described) (m : Move)
     → is_rival_as d m (described p m) ≡ is_rival_as d m (normal_described p m)
 rival_kept p e d m = ap (is_rival_as d m) (described_kept p e m)
@@ -66,6 +70,7 @@ mark_kept p e =
     ap (λ (ms : List Move). list_if (is_in_check p.men p.side) (if length ms == 0 then codes "#" else codes "+"))
     (moves_kept p e)
 
+-- the mark for check or mate, after the move
 mark_after : (p : Setup) → p.variant ≡ Normal → (m : Move)
     → check_mark (after p m) ≡ normal_check_mark (normal_after p m)
 mark_after p e m = mark_kept (after p m) (variant-after p m ∙ e) ∙ ap normal_check_mark ((rules_kept p e).after m)
@@ -74,6 +79,7 @@ mark_after p e m = mark_kept (after p m) (variant-after p m ∙ e) ∙ ap normal
 abbrev bare_san : List ℕ → Described → List ℕ
 bare_san rivals d = option_map_or castling_text d.castles (piece_text rivals d)
 
+-- the SAN by the move's description (o)
 san_by : (p : Setup) → p.variant ≡ Normal → (m : Move) (o : Option Described)
     → optional (λ d. bare_san (rival_starts p (moves p) d) d ++ check_mark (after p m)) o
     ≡ optional (λ d. bare_san (normal_rival_starts p d) d ++ normal_check_mark (normal_after p m)) o
@@ -89,6 +95,7 @@ san_kept p e m =
     ∙ ap (optional (λ d. bare_san (normal_rival_starts p d) d ++ normal_check_mark (normal_after p m)))
     (described_kept p e m)
 
+-- lists of moves show coordinates, castling too
 shown_kept : (p : Setup) → p.variant ≡ Normal → (m : Move) → shown_move p m ≡ coordinate m
 unfolding shown_move
 shown_kept p e m =

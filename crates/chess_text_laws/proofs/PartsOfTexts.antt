@@ -1,4 +1,6 @@
--- Which texts denote a described move, and have a move's shape, with no list of texts.
+-- A text denotes a described move exactly if it names its castling or is the text of parts that fit it
+-- (denoted_by_text), and has a move's shape exactly if it names castling or is the text of parts that can be a move's
+-- (shaped_by_text): said without the definition's lists of texts.
 use Rattle.std.proofs.Common.{◌≡◌, ℕ, inl, inr, IsTrue, ◌↔◌, true, ◌||◌, List, sym, ◌∙◌}
 use Rattle.std.proofs.lemmas.Bool.{or_cases}
 use Rattle.chess_base.specs.{declared.man.CastlingSide.CastlingSide, declared.man.CastlingSide.TheVariants.KingSide, declared.man.CastlingSide.TheVariants.QueenSide}
@@ -10,6 +12,7 @@ use Rattle.chess_text_laws.specs.Laws.{IsShaped}
 pub denoted_by_text : (text : List ℕ) (d : Described) → IsTrue (denotes_described text d) ↔ IsDenoted text d
 denoted_by_text text d = (is_denoted_so text d, denoted_so text d)
 
+-- a text of castling names one of the two sides
 either_side : (text : List ℕ) → (is_castling_text text KingSide || is_castling_text text QueenSide) ≡ true
     → (w : CastlingSide) × (is_castling_text text w ≡ true)
 either_side text e =
@@ -18,6 +21,7 @@ either_side text e =
       | inr h ↦ (QueenSide, h)
     ]
 
+-- a text that passes the reader's test `has_form` is such a text
 is_formed_so : (text : List ℕ) → has_form text ≡ true → IsShaped text
 unfolding has_form
 is_formed_so text e =
@@ -29,6 +33,7 @@ is_formed_so text e =
           inr (of.0, is.0, is.1, of.2)
     ]
 
+-- and such a text has a move's shape
 shaped_so : (text : List ℕ) → IsShaped text → shape text ≡ true
 shaped_so text (inl h) = shape_is text ∙ castling_has text h.0 h.1
 shaped_so text (inr h) = shape_parts text h.0 h.2 h.1 h.3

@@ -1,4 +1,5 @@
--- The text of a legal move as lists and lines of moves show it denotes it alone.
+-- The text by which lists of moves show a legal move (`shown_move`: coordinates, or in Chess960 `O-O` or `O-O-O` for
+-- castling) has a move's shape, denotes this move alone of the legal ones, and so is read as it.
 use Rattle.std.proofs.Common.{◌≡◌, Option, Some, None, refl, IsTrue, if◌then◌else◌}
 use Rattle.std.specs.Option.{option_map_or}
 use Rattle.chess_base.specs.{declared.man.CastlingSide.CastlingSide, declared.man.Move.Move, declared.man.Variant.Variant, declared.man.Variant.TheVariants.Normal, declared.man.Variant.TheVariants.Fischerandom, declared.setup.Setup.Setup, Coordinates.coordinate, Castling.castling, Moves.is_legal, Sound.IsSound}
@@ -6,9 +7,11 @@ use Rattle.chess_text.specs.declared.reading.Reading.TheVariants as reads
 use Rattle.chess_text.specs.{laws.Laws.DenotesAlone, Moves.shape, Moves.reading, San.castling_text, San.is_fischerandom, San.shown_move}
 use Rattle.chess_text.proofs.shared.Denoting.{read_alone, coordinate_alone, coordinate_shape, legal_move, Law, castling_law, bare_castling}
 
+-- coordinates have a move's shape, and denote the move alone
 by_squares : (p : Setup) (m : Move) → IsTrue (is_legal p m) → Law p m (coordinate m)
 by_squares p m legal = record { has_shape = coordinate_shape p m legal; alone = coordinate_alone p m legal }
 
+-- the same of the shown text, by variant and by the side to which the move castles (o)
 law_by : (p : Setup) (m : Move) → IsSound p → IsTrue (is_legal p m) → (v : Variant) (o : Option CastlingSide)
     → castling p m ≡ o
     → Law p m (if is_fischerandom v then option_map_or castling_text o (coordinate m) else coordinate m)

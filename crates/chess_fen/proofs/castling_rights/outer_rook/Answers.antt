@@ -1,4 +1,5 @@
--- No rook is on the files already passed, so the first rook among those left is the outermost of all (RookAmong).
+-- Before the first file the invariant is outer_among of RookAmong. A file with a rook gives the first rook of those
+-- left, which is the outermost of all (rook_here); a file without one may be dropped (no_rook_here).
 use Rattle.std.proofs.Common.{◌-◌, ◌∙◌, sym, arith}
 use Rattle.chess_fen.proofs.RookAmong.{rook_here, no_rook_here, outer_among}
 use Rattle.chess_fen.proofs.castling_rights.outer_rook.Goals as goal

@@ -1,4 +1,5 @@
--- The FEN of a sound position is ASCII (fen_is_utf8 of FenBytes).
+-- The FEN of a sound position is ASCII, so UTF-8 (fen_is_utf8 of FenBytes): the conversion to text can't fail, and the
+-- `unreachable!` isn't reached.
 use Rattle.std.proofs.Common.{subst}
 use Rattle.chess_base.specs.Sound.{IsSound}
 use Rattle.chess_fen.proofs.FenBytes.{fen_is_utf8}

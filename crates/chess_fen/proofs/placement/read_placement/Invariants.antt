@@ -1,5 +1,5 @@
--- The loop's invariant: with what the rest of the text denotes, the ranks so far give the whole board; the others are
--- still empty (Placing).
+-- The loop's invariant: reading the rest of the text below the ranks so far gives the board of the whole text, and the
+-- ranks to come are still empty (`Placing` of proofs/Placing).
 use Rattle.chess_fen.proofs.Placing.{Placing}
 use Rattle.chess_fen.proofs.placement.read_placement.Given as goal
 

@@ -1,5 +1,5 @@
--- The squares so far, followed by what the rest of the text stands for, give the board of the whole text (RowSoFar). A
--- byte's run moves squares from the rest to those so far; more than eight squares are no rank (overfull).
+-- A byte's run puts its squares after those read so far: the rank goes on (more), is whole with eight squares (whole),
+-- or denotes nothing with more (overfull), or where the text ends before (cut_short); all in RankBytes.
 use Rattle.std.proofs.Common.{◌≡◌, ◌+◌, ◌<◌, arith}
 use Rattle.chess_fen.proofs.RankBytes.{more, whole, overfull, cut_short}
 use Rattle.chess_fen.proofs.rank.read_rank.Goals as goal

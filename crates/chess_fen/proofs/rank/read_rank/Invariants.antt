@@ -1,5 +1,5 @@
--- The loop's invariant: with what the rest of the text denotes, the squares so far give the whole rank; the others are
--- still empty (RowSoFar of RankBytes).
+-- The loop's invariant: with the squares read so far, reading on in the rest of the text gives what the whole text
+-- gives; the other squares of the rank are still empty (`RowSoFar` of RankBytes).
 use Rattle.chess_fen.proofs.RankBytes.{RowSoFar}
 use Rattle.chess_fen.proofs.rank.read_rank.Given as goal
 

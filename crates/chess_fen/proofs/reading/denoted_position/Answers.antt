@@ -1,4 +1,5 @@
--- What was read is judged as the definition judges it, also where a right is named wrongly (RightsAlike).
+-- The position that was read, judged by `Position::new`, or the fault of a field, is the definition's reading
+-- (judged-read, refused-read of RightsAlike), also where a right is named wrongly.
 use Rattle.chess_fen.proofs.RightsAlike.{judged-read, refused-read}
 use Rattle.chess_fen.proofs.reading.denoted_position.Goals as goal
 

@@ -1,4 +1,5 @@
--- The parts were put one after the other, and the definition groups them otherwise.
+-- The fields and the spaces between them were appended one by one; the definition joins them in another grouping, which
+-- is the same text.
 use Rattle.std.proofs.Common.{append_assoc}
 use Rattle.chess_fen.proofs.writing.write_fen.Goals as goal
 

@@ -1,4 +1,4 @@
--- The worked examples of FENs, by computation.
+-- The worked examples of FENs: each is computed by the definitions.
 use Rattle.std.specs.Prelude.{◌∷◌, ◌++◌, replicate, codes, None, ◌≡◌, refl, Ok}
 use Rattle.chess_base.specs.{declared.man.Colour.TheVariants.White, declared.man.Kind.TheVariants.Pawn, Castling.king_square, Castling.right_is_sound, Faults.rights_are_sound, Men.is_of, Men.is_man, Initial.man_of, declared.man.Variant.TheVariants.Normal}
 use Rattle.chess_base.specs.Attacks.{is_clear, could_capture, attacks, is_attacked, is_in_check}

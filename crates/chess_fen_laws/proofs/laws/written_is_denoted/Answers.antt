@@ -1,4 +1,5 @@
--- What is written denotes its position and no other, and what denotes a sound position is read as it.
+-- The FEN that is written denotes its position and no other (fen-denoted, fen-denotes_one of chess_fen's WrittenFen),
+-- and a text that denotes a sound position is read as it (reading-denoted of chess_fen's DenotedFen).
 use Rattle.chess_fen.proofs.shared.Denoted.{reading-denoted, fen-denoted, fen-denotes_one}
 use Rattle.chess_fen.specs.Writing.{fen}
 use Rattle.chess_fen_laws.proofs.laws.written_is_denoted.Goals as goal

@@ -1,4 +1,5 @@
--- The loop's invariant: `at` is at a position of the bucket, and no later one is the same as `now` (IsAlong of Walk).
+-- The loop's invariant: `at` is at a position of the bucket or 0, and no later position is the same as `now` (`IsAlong`
+-- of Walk). Its measure is `at`: each link is smaller (walk_smaller).
 use Rattle.chess_game.proofs.Walk.{IsAlong}
 use Rattle.chess_game.proofs.index.count_same.Given as goal
 

@@ -1,4 +1,5 @@
--- No position before a capture or a pawn move is the same as one after it (ForGood).
+-- If the move to `now`, or an earlier one that the halfmove clock points to, was a capture or a pawn move, no position
+-- before that is the same as `now` (none_is_same, none_is_same_before of ForGood).
 use Rattle.std.proofs.Common.{◌-◌, ◌<◌, length, arith}
 use Rattle.std.proofs.lemmas.Bool.Decides.{nat_tests}
 use Rattle.chess_game.proofs.ForGood.{none_is_same, none_is_same_before}

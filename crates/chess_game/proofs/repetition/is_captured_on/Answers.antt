@@ -1,4 +1,5 @@
--- A pawn's legal moves to the target are the legal captures en passant (some_start of EnPassant).
+-- Whether a capture en passant is legal is asked by the squares of pawns that may legally go to the target: such a move
+-- is a capture en passant, and there is no other (some_start of EnPassant).
 use Rattle.chess_game.proofs.EnPassant.{some_start}
 use Rattle.chess_game.proofs.repetition.is_captured_on.Goals as goal
 

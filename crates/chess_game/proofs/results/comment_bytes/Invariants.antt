@@ -1,4 +1,4 @@
--- The loop's invariant: the bytes so far were kept, each as a comment has it.
+-- The loop's invariant: what was kept are the bytes so far, each put through `comment_byte`.
 use Rattle.std.proofs.Common.{◌≡◌, length, map, take}
 use Rattle.chess_game.specs.ties.CommentBytes.{comment_byte}
 use Rattle.chess_game.proofs.results.comment_bytes.Given as goal

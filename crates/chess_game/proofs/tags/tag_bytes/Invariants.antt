@@ -1,4 +1,4 @@
--- The loop's invariant: the bytes so far were kept, each as it is shown.
+-- The loop's invariant: what was kept are the bytes so far, each put through `shown_byte` (`?` if it isn't printable).
 use Rattle.std.proofs.Common.{◌≡◌, length, map, take}
 use Rattle.byte_devices.specs.Bytes.{shown_byte}
 use Rattle.chess_game.proofs.tags.tag_bytes.Given as goal

@@ -1,4 +1,5 @@
--- Where the squares of the kind's pieces are some, there is such a piece (some_of_kind of SomeKind).
+-- A piece of the kind is on the board exactly if the set of the squares of that kind isn't empty (some_of_kind of
+-- SomeKind).
 use Rattle.chess_game.proofs.SomeKind.{some_of_kind}
 use Rattle.chess_game.proofs.verdicts.has_kind.Goals as goal
 

@@ -1,4 +1,5 @@
--- The hash so far is the hash of the squares so far (xor_turn of PositionHash).
+-- Each turn joins the key of the piece on its square, if there is one, to the hash so far (xor_turn of PositionHash);
+-- after 64 turns it is the hash of all pieces (xor_end).
 use Rattle.std.proofs.Common.{◌≡◌, ℕ, ◌∙◌, ap, arith}
 use Rattle.chess_base.specs.Men.{man_at}
 use Rattle.chess_moves.specs.PositionHash.{square_keys, keys_on, xor_of}

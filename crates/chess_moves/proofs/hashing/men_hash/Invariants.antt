@@ -1,4 +1,4 @@
--- The loop's invariant: the hash is that of the pieces on the squares before `number`.
+-- The loop's invariant: `hash` is the exclusive or of the keys of the pieces on the squares before `number`.
 use Rattle.std.proofs.Common.{◌≡◌, flat_map}
 use Rattle.chess_moves.specs.PositionHash.{keys_on, xor_of}
 use Rattle.chess_moves.proofs.Gathered.{numbers}

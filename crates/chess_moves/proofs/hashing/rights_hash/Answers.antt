@@ -1,4 +1,4 @@
--- The hash of all rights is that of each, joined (rights_apart of PositionHash).
+-- The exclusive or of all rights' keys is that of each right's (rights_apart of PositionHash).
 use Rattle.std.proofs.Common.{sym}
 use Rattle.chess_moves.proofs.shared.PositionHash.{rights_apart}
 use Rattle.chess_moves.proofs.hashing.rights_hash.Goals as goal

@@ -1,4 +1,4 @@
--- The loop's invariant: all bytes from `end` on are marks.
+-- The loop's invariant: all bytes from `end` on are marks. Its measure is `end`.
 use Rattle.std.proofs.Common.{length, take, ◌-◌, ◌+◌, ◌≡◌, ◌≤◌}
 use Rattle.std.specs.List.{suffix_len}
 use Rattle.chess_text.specs.Parts.{is_mark}

@@ -1,4 +1,5 @@
--- Beside others the start is written by their files and ranks (beside_others of Rivals).
+-- Where there are other starts and none is on the move's file, the file alone is written (file_written of Rivals). The
+-- lemmas of the function's attribute `tactic` prove the other cases.
 use Rattle.std.proofs.Common.{◌∙◌}
 use Rattle.chess_text.proofs.Rivals.{file_written}
 use Rattle.chess_text.proofs.writing.disambiguate.Goals as goal

@@ -1,4 +1,4 @@
--- The mark is that of the position that the move gives.
+-- The text is the unmarked SAN with the mark of the position after the move: `make` has brought the board there.
 use Rattle.std.proofs.Common.{ap, ◌++◌, ◌∙◌}
 use Rattle.chess_text.specs.San.{check_mark}
 use Rattle.chess_text.proofs.writing.make_san.Goals as goal

@@ -1,4 +1,4 @@
--- The loop's invariant: the heads are those of the start and the played moves that are left.
+-- The loop's invariant: the table has the heads for the start and the `left` first played moves. Its measure is `left`.
 use Rattle.std.proofs.Common.{◌≡◌, ◌≤◌, length, suc}
 use Rattle.chess_game.specs.{ties.Buckets.HaveHeads, declared.index.TheConstants.BUCKETS}
 use Rattle.chess_game.proofs.index.Index.clear.Given as goal

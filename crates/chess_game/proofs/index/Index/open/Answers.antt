@@ -1,4 +1,4 @@
--- The head of each bucket is 0, which means that the bucket is empty; so the index is empty.
+-- Each element of the new table is 0, which says that the bucket is empty; so no position is in the index.
 use Rattle.std.proofs.{Common.ℕ, Common.subst, Common.sym, lemmas.List.get_or-replicate, lemmas.List.length-replicate}
 use Rattle.chess_game.specs.ties.Buckets.{IsEmpty}
 use Rattle.chess_game.proofs.index.Index.open.Goals as goal

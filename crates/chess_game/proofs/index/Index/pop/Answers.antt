@@ -1,4 +1,4 @@
--- With the played move's link as its bucket's head, the heads are those of the positions before (popped_index of
+-- The last played move's link is made the head of its bucket; then the index is that of one move fewer (popped_index of
 -- Indexed).
 use Rattle.std.proofs.Common.{refl}
 use Rattle.chess_game.specs.ties.Buckets.{bucket}

@@ -1,4 +1,5 @@
--- The position is the latest in its bucket, and its link the one that was (pushed_index of Indexed).
+-- The new position is made the head of its bucket, its link is the head that was there, and its count comes from
+-- `count_same`: so the index is that of one move more (pushed_index of Indexed).
 use Rattle.std.proofs.Common.{◌≡◌, ◌∙◌, ◌+◌, ◌<◌, suc, length, get_or, ap, sym, arith}
 use Rattle.std.proofs.lemmas.Grind.{get_or_default_zero}
 use Rattle.chess_game.specs.ties.Buckets.{bucket, is_same_at, count_below}

@@ -1,5 +1,5 @@
--- The loop's invariant: no more squares are left than turns, and putting pieces on these completes the board as putting
--- them on all squares does (PutsOn of Unpacked).
+-- The loop's invariant: the squares left to fill (`left`) are no more than the turns that are left of 64, and filling
+-- them gives the same board as filling all squares of the set from the start (`PutsOn` of Unpacked).
 use Rattle.std.proofs.Common.{◌≤◌, ◌+◌, length}
 use Rattle.chess_moves.specs.Sets.{members}
 use Rattle.chess_game.proofs.Unpacked.{PutsOn}

@@ -1,4 +1,5 @@
--- The pieces are put on the empty board kind by kind (kinds_put of Unpacked).
+-- The pieces are put on the empty board kind by kind, from pawns to kings; then each square has what the sets say
+-- (kinds_put, men_all of Unpacked).
 use Rattle.std.proofs.Common.{ap, ◌∙◌}
 use Rattle.chess_base.specs.declared.man.Kind.TheVariants.{King, Queen, Rook, Bishop, Knight, Pawn}
 use Rattle.chess_game.specs.ties.Packed.{put_at}

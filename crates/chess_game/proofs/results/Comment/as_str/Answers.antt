@@ -1,4 +1,5 @@
--- A comment is ASCII (comment_is_utf8 of CommentTexts).
+-- A comment is ASCII, so UTF-8 (comment_is_utf8 of CommentTexts): the conversion can't fail, and the `unreachable!`
+-- isn't reached.
 use Rattle.chess_game.proofs.CommentTexts.{comment_is_utf8}
 use Rattle.chess_game.proofs.results.Comment.as_str.Goals as goal
 

@@ -1,4 +1,4 @@
--- The SAN of a legal move is ASCII (san_is_ascii of SanAscii).
+-- The type's invariant: the SAN of a legal move of a sound position is ASCII (san_is_ascii of SanAscii).
 use Rattle.std.proofs.Common.{subst, sym, IsAscii}
 use Rattle.chess_text.proofs.SanAscii.{san_is_ascii}
 use Rattle.chess_text.proofs.san_text.San.of.Goals as goal
