@@ -1,4 +1,5 @@
--- Texts of games without a move, by computation. That a word has the shape of a move is a law of chess_text_laws.
+-- Texts of games without a move, by computation: the text is split, read, and the result compared. Only one thing is
+-- not computed: that a word has the shape of a move, which is a law of chess_text_laws (ShapedByText).
 use Rattle.std.proofs.Common.{◌≡◌, ◌∙◌, ℕ, inl, Bool, true, false, List, [], ◌∷◌, Option, None, Some, Result, Ok, Err, is_some, slice_get, codes, if◌then◌else◌, refl, ap}
 use Rattle.std.specs.List.{filter, filter_map, last_or}
 use Rattle.std.specs.Option.{option_map_or, unwrap_or}
@@ -60,6 +61,7 @@ unfolding squares some_square each_square is_between is_of is_man is_clear could
     target_is_sound may_name_right
 fen_is_read = refl
 
+-- the position of that FEN is mate
 is_mate : verdict mated [] ≡ Some WhiteMates
 unfolding squares some_square each_square is_between is_of is_man is_clear could_capture attacks is_attacked is_in_check
     king_square right_is_sound rights_are_sound has_one_king no_pawn_on_end_ranks has_at_most_16 target_is_sound
@@ -69,6 +71,7 @@ unfolding squares some_square each_square is_between is_of is_man is_clear could
     verdict has_bishop_on has_insufficient_material
 is_mate = refl
 
+-- so it has no legal move
 none_legal : moves mated ≡ []
 unfolding squares some_square each_square is_between is_of is_man is_clear could_capture attacks is_attacked is_in_check
     king_square right_is_sound rights_are_sound has_one_king no_pawn_on_end_ranks has_at_most_16 target_is_sound
@@ -77,6 +80,7 @@ unfolding squares some_square each_square is_between is_of is_man is_clear could
     captured_square men_after rights_after target_after resets_clock halfmove_after after is_legal all_moves moves
 none_legal = refl
 
+-- `O-O` has the shape of a move
 is_shaped : ShapedByText → shape (codes "O-O") ≡ true
 unfolding is_castling_text unmarked
 is_shaped law = (law (codes "O-O")).1 (inl (KingSide, refl))
@@ -86,7 +90,7 @@ none_read : (p : Setup) (text : List ℕ) → moves p ≡ [] → shape text ≡ 
 unfolding reading
 none_read p text none is = rw is (ap (λ (ms : List Move). one_of (filter (λ m. denotes p text m) ms)) none)
 
--- what is read of the text if its FEN is read so
+-- what is read of the text, the FEN of the mate and then the word `O-O`, if its FEN is read so
 abbrev by_fen : Result Setup FenFault → GameRead
 by_fen x =
     let fens : List (Result Setup PgnFault) =
@@ -104,6 +108,7 @@ by_word p r = word_gives (closed_by true 1 (from_start p)) (λ m. moves_read tru
 abbrev by_end : Bool → Result (Option PgnEnd) PgnFault
 by_end over = Err (record { kind = unwrap_or (if over then Some AfterEnd else None) IllegalMove; offset = 39 })
 
+-- a word with the shape of a move, in a mate, is a move after the end (AfterEnd), not an illegal one
 late_word : (p : Setup) → fen_reading_as Normal mated_fen ≡ Ok p → verdict p [] ≡ Some WhiteMates
     → reading p (codes "O-O") ≡ reads.NoSuch
     → (read_of "[FEN \"7k/6Q1/6K1/8/8/8/8/8 b - - 0 1\"] O-O").answer

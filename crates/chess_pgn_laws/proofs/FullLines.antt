@@ -1,4 +1,6 @@
--- Tokens in lines that are as full as they can be, and games that are laid out so.
+-- Tokens put into lines that are as full as they can be: the lines hold the tokens in order, a line has at most 79
+-- bytes, and would have more with the next line's first token (are_filled). No other lines are so (only_filled). A
+-- game's text has its moves in such lines (written).
 use Rattle.std.proofs.Common.{◌≡◌, ℕ, ◌<◌, ◌≤◌, Bool, true, false, cond, leb, List, [], ◌∷◌, ◌++◌, length, map, refl, sym, ap, subst, ◌∙◌, append_assoc, arith, flat_map, leb-true, length-append}
 use Rattle.std.proofs.lemmas.Bool.Decides.{nat_tests}
 use Rattle.chess_game.specs.Game.{State, IsPlayable}
@@ -45,6 +47,7 @@ grouped_all line (t ∷ ts) = by_test (leb (length (line_text (line ++ t ∷ [])
 
 -- ---- they are full
 
+-- the first line begins with the first token
 grouped_first : (u : List ℕ) (us ts : List (List ℕ)) (token : List ℕ) (rest : List (List ℕ))
     (after : List (List (List ℕ))) → grouped (u ∷ us) ts ≡ (token ∷ rest) ∷ after → token ≡ u
 grouped_first u us [] token rest after is = cc
@@ -57,11 +60,13 @@ grouped_first u us (t ∷ ts) token rest after is = by_test (leb (length (line_t
     by_test true is here = here is
     by_test false is here = cc
 
+-- fewer than two lines have no line with a next one
 no_lines : {A : Type 0} (lines before after : List (List (List ℕ))) (line next : List (List ℕ)) → length lines < 2
     → lines ≡ before ++ line ∷ next ∷ after → A
 no_lines lines before after line next few is =
     absurd (omega (arith, few, ap length is, length-append before (line ∷ next ∷ after)))
 
+-- equal lists of lines have equal rests
 same_rest : (a b : List (List ℕ)) (xs ys : List (List (List ℕ))) → a ∷ xs ≡ b ∷ ys → xs ≡ ys
 same_rest a b xs ys is = cc
 
@@ -87,6 +92,7 @@ full_cons line t ts some short over more = record {
     by_before (b ∷ before) after l rest token is = more.full before after l rest token
         (same_rest line b (grouped (t ∷ []) ts) (before ++ l ∷ (token ∷ rest) ∷ after) is)
 
+-- no lines are full lines
 pub full_none : AreFullLines []
 full_none = record {
   some = tt;
@@ -94,6 +100,7 @@ full_none = record {
   full = λ before after line rest token is. no_lines [] before after line (token ∷ rest) (omega arith) is;
 }
 
+-- lines of short tokens are full: by induction over the tokens that are left
 pub grouped_full : (u : List ℕ) (us ts : List (List ℕ)) → length (line_text (u ∷ us)) ≤ 79 → AreShort ts
     → AreFullLines (grouped (u ∷ us) ts)
 grouped_full u us [] h short = record {

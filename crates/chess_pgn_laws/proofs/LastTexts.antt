@@ -12,6 +12,7 @@ text_from name before [] = before
 text_from name before (t ∷ ts) = if may_precede_tags t.1
     then text_from name (option_or (option_map (λ tag. tag.0) (named_tag name t.1)) before) ts else before
 
+-- the text of one of two tags, the first if it is found
 text_or : (found before : Option (List ℕ × ℕ))
     → option_or (option_map (λ (tag : List ℕ × ℕ). tag.0) found) (option_map (λ (tag : List ℕ × ℕ). tag.0) before)
     ≡ option_map (λ (tag : List ℕ × ℕ). tag.0) (option_or found before)

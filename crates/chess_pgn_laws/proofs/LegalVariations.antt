@@ -1,4 +1,6 @@
--- Without a fault each move of each variation is legal: by how deep variations are nested, and then token by token.
+-- Without a fault each move of each variation is legal where it is made: by induction over how deep variations are
+-- nested (variation_legal), and within one, over its tokens (line_legal). A move that is read is legal by a law
+-- (ReadMovesAreLegal).
 use Rattle.std.proofs.Common.{◌≡◌, ℕ, zero, suc, ◌+◌, ◌-◌, Bool, true, false, cond, List, [], ◌∷◌, length, Option, Some, None, Result, Ok, Err, refl, sym, ap, ◌∙◌, ◌||◌, is_some}
 use Rattle.std.specs.{List.list_all, List.list_any, Option.option_map_or, Option.option_or}
 use Rattle.byte_devices.specs.Bytes.{is_digit}
@@ -15,9 +17,11 @@ use Rattle.chess_pgn.specs.{laws.LineEnds.is_end, shared.LineTokens.word_move, s
 use Rattle.chess_pgn.proofs.shared.Games.{line_by_kind}
 use Rattle.chess_pgn_laws.specs.LegalVariations.{is_passed, IsLegalLine, no_more, closed, passed, move, variation, VariationsAreLegal}
 
+-- a token's move is m, without a fault; `none_found`: it makes no move
 abbrev found : Move → Result (Option Move) PgnFaultKind
 found m = Ok (Some m)
 
+-- if the word's move is found, it denotes this move
 read_as : (r : Reading) (m : Move) → word_move r ≡ found m → r ≡ reads.Move m
 read_as (reads.Move n) m h = let same : n ≡ m = cc in ap reads.Move same
 read_as reads.NotAMove m h = absurd (cc)
@@ -31,6 +35,7 @@ none_of_two (Some f) b h = absurd (cc)
 abbrev none_found : Result (Option Move) PgnFaultKind
 none_found = Ok None
 
+-- a word that is read always has a move or a fault
 never_none : (r : Reading) → word_move r ≡ none_found → ⊥
 never_none (reads.Move m) h = cc
 never_none reads.NotAMove h = cc
@@ -124,6 +129,8 @@ module _ (law : ReadMovesAreLegal) (tokens : List ℕ → ℕ → List (ℕ × T
       by_kind rest false true v w k = closed w
       by_kind rest false false v w k = by_move rest (token_move tags p token) refl v k
 
+  -- a variation that is nested at most `depth` deep, and begins at the bracket at the offset `from`, where the position
+  -- is p
   variation_legal : (depth : ℕ) (p : Setup) (from : ℕ) → variation_fault tokens depth text p from ≡ None
       → IsLegalLine (tokens text) text None p (tokens text (from + 1))
   unfolding variation_fault

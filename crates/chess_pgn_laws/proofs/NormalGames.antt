@@ -16,6 +16,7 @@ initial_is : initial_setup_of Normal ≡ initial_setup
 unfolding initial_setup
 initial_is = refl
 
+-- a text without a tag Variant is read as normal chess
 read_so : (draws : Bool) (limit : ℕ) (text : List ℕ) (at : ℕ)
     → last_tag (codes "Variant") (tag_section (tokens_from text (after_byte_order_mark text at))) ≡ None
     → pgn_read draws limit text at ≡ normal_read draws limit (length text)

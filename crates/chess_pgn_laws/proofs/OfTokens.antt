@@ -1,4 +1,6 @@
--- A game that is read is that of its tokens.
+-- A game that is read is that of its tokens. The state of the reader after some tokens is what these tokens say
+-- (IsSoFar: start, moves, termination). By cases of the next token (word, tag, anything else) the reader's step keeps
+-- that, or stops rightly (Leaves); of_tokens goes through the tokens.
 use mathlib.Core.Bool.{or-true, or-false, or_assoc}
 use Rattle.std.proofs.Common.{◌≡◌, ℕ, ◌-◌, ◌<◌, Bool, true, false, not, cond, ◌||◌, List, [], ◌∷◌, ◌++◌, length, Option, Some, None, Result, Ok, Err, refl, sym, ap, subst, ◌∙◌, append_assoc, append-nil, bytes_eq, codes, is_some, nat_lt}
 use Rattle.std.specs.List.{list_any}
@@ -24,12 +26,14 @@ or_left : (a b : Bool) → (a || b) ≡ false → a ≡ false
 or_left true b e = absurd (cc)
 or_left false b e = refl
 
+-- a test of one element more is a test of the elements, or of that one
 any_more : (p : ℕ × Token → Bool) (ts : List (ℕ × Token)) (t : ℕ × Token)
     → list_any p (ts ++ t ∷ []) ≡ (list_any p ts || p t)
 any_more p ts t = list_any-append p ts (t ∷ []) ∙ ap (λ b. list_any p ts || b) (or-false (p t))
 
 -- ---- one token more
 
+-- one word more that denotes a move is one move more, if the game is open and has room
 read_more : (draws : Bool) (limit : ℕ) (start : Setup) (done : List Played) (ws : List (List ℕ)) (ms : List Played)
     (w : List ℕ) (m : Played) → AreReadAs draws limit start done ws ms
     → ending draws (game_by start (done ++ ms)) ≡ None → length (done ++ ms) < limit
@@ -54,6 +58,8 @@ read_more draws limit start done (v ∷ ws) (n ∷ ms) w m h none few k =
           (subst (λ ds. length ds < limit) (sym same) few) (ap (λ ds. reading (position_after start ds) w) same ∙ k),
     )
 
+-- the start, the termination, the words of moves, and what can be taken, of one token more: each is a step from the
+-- tokens before
 start_more : (v : Variant) (p : Setup) (ts : List (ℕ × Token)) (t : ℕ × Token)
     → tagged_start v p (ts ++ t ∷ []) ≡ start_by v (tagged_start v p ts) t.1
 start_more v p [] t = refl
@@ -82,6 +88,7 @@ taken_more v begun (u ∷ ts) t h k =
 fen_says_no_end : (name : List ℕ) → is_fen name ≡ true → bytes_eq name (codes "Termination") ≡ false
 fen_says_no_end name e = ap (λ n. bytes_eq n (codes "Termination")) ((bytes_eq-Decides name (codes "FEN")).0 e)
 
+-- an option that holds nothing is `None`
 none_by : (o : Option Verdict) → is_some o ≡ false → o ≡ None
 none_by None e = refl
 none_by (Some x) e = absurd (cc)
@@ -99,7 +106,7 @@ module _ (draws : Bool) (limit total : ℕ) (v : Variant) where
     said : tagged_termination None done ≡ g.termination
     fresh : g.is_begun ≡ false → (g.state.moves ≡ []) × (move_words done ≡ [])
 
-  -- what one token more leaves
+  -- the game `h` after the token `t` is what the token makes of the game `g` before it, part by part as in IsSoFar
   record IsNext (done : List (ℕ × Token)) (t : Token) (g h : SoFar) : Type 0 where
     can_be : can_be_taken v g.is_begun t ≡ true
     start : h.state.start ≡ start_by v g.state.start t
@@ -111,6 +118,7 @@ module _ (draws : Bool) (limit total : ℕ) (v : Variant) where
     said : termination_by_token g.termination t ≡ h.termination
     fresh : h.is_begun ≡ false → (h.state.moves ≡ []) × (move_words done ++ move_words_of t ≡ [])
 
+  -- so the state is what the tokens say with this token too
   more : (done : List (ℕ × Token)) (left : ℕ) (t : Token) (g h : SoFar) → IsSoFar done g → IsNext done t g h
       → IsSoFar (done ++ (left, t) ∷ []) h
   more done left t g h s n = record {
@@ -126,11 +134,12 @@ module _ (draws : Bool) (limit total : ℕ) (v : Variant) where
     fresh = λ e. ((n.fresh e).0, words_more done (left, t) ∙ (n.fresh e).1);
   }
 
-  -- a token that leaves the state, and has no move
+  -- a token that has no move adds no word of a move
   same_words : (done : List (ℕ × Token)) (t : Token) → move_words_of t ≡ []
       → move_words done ++ move_words_of t ≡ move_words done
   same_words done t none = ap (λ ws. move_words done ++ ws) none ∙ append-nil (move_words done)
 
+  -- a token without a move that changes only what is met, begun or said of the termination
   quiet : (done : List (ℕ × Token)) (t : Token) (g : SoFar) (met begun : Bool) (o : Option Termination) → IsSoFar done g
       → move_words_of t ≡ [] → g.state.start ≡ start_by v g.state.start t
       → can_be_taken v g.is_begun t ≡ true → (g.is_met || counts t) ≡ met → (g.is_begun || begins t) ≡ begun
@@ -161,6 +170,7 @@ module _ (draws : Bool) (limit total : ℕ) (v : Variant) where
   Leaves done t (On h) = IsSoFar (done ++ t ∷ []) h
   Leaves done t (Stop r) = IsStopped done t r
 
+  -- a token with a fault stops the reading, with that fault
   fault_leaves : (done : List (ℕ × Token)) (left : ℕ) (t : Token) (g : SoFar) (kind : PgnFaultKind) (offset : ℕ)
       → IsSoFar done g → token_fault draws limit total v g.is_begun g.state left t
       ≡ Some (record { kind = kind; offset = offset }) → Leaves done (left, t) (fails g kind offset)
@@ -251,6 +261,7 @@ module _ (draws : Bool) (limit total : ℕ) (v : Variant) where
         open_leaves (reads.Move m) is None refl _
         (λ none few. more done left (Word word) g _ s (played_next m is none few))
 
+  -- a word: an outcome ends the game, a number or marks are passed over, a move is read
   word_leaves : (done : List (ℕ × Token)) (left : ℕ) (word : List ℕ) (g : SoFar) (k : WordKind) → word_kind word ≡ k
       → IsSoFar done g → Leaves done (left, Word word) (word_step draws limit g (total - left) word k)
   word_leaves done left word g (End o) kind s = record {
@@ -333,6 +344,7 @@ module _ (draws : Bool) (limit total : ℕ) (v : Variant) where
       fault_leaves done left Unclosed_variation g UnclosedVariation (total - left) s refl
   step_leaves done left Bad g s = fault_leaves done left Bad g BadToken (total - left) s refl
 
+  -- by induction over the tokens `ts` that are left, after `done`
   of_tokens : (tokens done ts : List (ℕ × Token)) (g : SoFar) → done ++ ts ≡ tokens → IsSoFar done g
       → IsOfTokens draws limit total v tokens (game_of draws limit total g ts)
   of_tokens tokens done [] g all s = record {
@@ -371,6 +383,7 @@ module _ (draws : Bool) (limit total : ℕ) (v : Variant) where
           }
       by_step tokens done t ts all later (On k) l = later k l
 
+-- the law, from the reader's beginning
 pub game_of_tokens : GamesAreOfTokens
 game_of_tokens draws limit text at r read =
     let v : Variant = tagged_variant (tag_section read.tokens) in

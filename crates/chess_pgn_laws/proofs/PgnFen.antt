@@ -1,4 +1,4 @@
--- The bytes of a FEN that is written: none of them ends a line or has to be escaped in a string.
+-- A FEN that is written can stand in a tag as it is: none of its bytes ends a line or has to be escaped in a string.
 use Rattle.std.proofs.Common.{◌≡◌, ◌≢◌, ℕ, ◌≤◌, true, false, eqb, List, [], ◌∷◌, refl, arith}
 use Rattle.std.specs.List.{list_all}
 use Rattle.std.proofs.{lemmas.Bool.and_from, lemmas.Bool.Decides.nat_tests}
@@ -7,6 +7,7 @@ use Rattle.chess_fen.proofs.shared.Plain.{IsPlain, Plain, fen_plain}
 use Rattle.chess_fen.specs.Writing.{fen}
 use Rattle.chess_pgn_laws.proofs.PgnTags.{is_bare}
 
+-- a byte that is no control byte, quote or backslash
 byte_bare : (c : ℕ) → IsPlain 32 c → is_bare c ≡ true
 byte_bare c p =
     let least : 32 ≤ c = p.0 in

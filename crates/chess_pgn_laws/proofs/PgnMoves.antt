@@ -1,4 +1,6 @@
--- Reading the moves of a game's text, which are in filled lines, plays them one after another.
+-- Reading the moves of a game's text, which are in lines of at most 79 bytes, plays them one after another
+-- (moves_read). A token is followed by a space or a line feed (filled_ends), so it is read whole; where the lines break
+-- doesn't matter.
 use Rattle.std.proofs.Common.{◌≡◌, ℕ, suc, ◌+◌, ◌-◌, ◌<◌, ◌≤◌, Bool, true, false, not, ◌&&◌, cond, eqb, leb, List, [], ◌∷◌, ◌++◌, length, take, Option, None, refl, sym, ap, ◌∙◌, append_assoc, append-nil, arith, leb-true, length-append, codes, decimal}
 use Rattle.std.proofs.{Math.Seq.take-append_seam, lemmas.Bool.Decides.nat_tests}
 use Rattle.chess_base.specs.{declared.man.Colour.Colour, declared.man.Colour.TheVariants.White, declared.man.Colour.TheVariants.Black, declared.man.Move.Move, declared.setup.Setup.Setup, Moves.after, Sound.IsSound}
@@ -17,6 +19,7 @@ use Rattle.chess_game.proofs.shared.Lines.{position_after-snoc}
 
 -- ---- tokens in filled lines
 
+-- after a token that isn't empty the line is begun
 column_after : (column : ℕ) (t : List ℕ) → 0 < length t → 0 < next_column column t
 column_after column t some = by_test (fits_line column t)
   where
@@ -24,6 +27,7 @@ column_after column t some = by_test (fits_line column t)
     by_test true = omega arith
     by_test false = some
 
+-- and it is then closed by a line feed
 close_after : (column : ℕ) → 0 < column → line_close column ≡ 10 ∷ []
 close_after column some = let e : eqb column 0 ≡ false = grind (arith, nat_tests) in rw e refl
 
@@ -34,7 +38,7 @@ record EndsWord (text : List ℕ) : Type 0 where
   is : text ≡ first ∷ rest
   off : is_word_byte first ≡ false
 
--- what follows a token does
+-- the text after a token begins with a byte of no word: a space, or a line feed
 filled_ends : (column : ℕ) (ts : List (List ℕ)) (rest : List ℕ) → 0 < column
     → EndsWord (filled_from [] column ts ++ rest)
 filled_ends column [] rest some = record {
@@ -52,6 +56,7 @@ filled_ends column (t ∷ ts) rest some = by_test (eqb column 0) (grind (arith, 
     by_test false e true more = record { first = 32; rest = (t ++ more) ++ rest; is = refl; off = refl }
     by_test false e false more = record { first = 10; rest = (t ++ more) ++ rest; is = refl; off = refl }
 
+-- a token is part of its text in the line
 placed_long : (column : ℕ) (t : List ℕ) → length t ≤ length (wrapped_token [] column t)
 placed_long column t = by_test (eqb column 0) (leb (column + 1 + length t) 79)
   where
@@ -77,6 +82,7 @@ filled_long column (u ∷ ts) t some =
       filled_long (next_column column u) ts t some,
     )
 
+-- no outcome's text is empty
 pub outcome_some : (o : Outcome) → 0 < length (outcome_text o)
 outcome_some WhiteWins = omega arith
 outcome_some BlackWins = omega arith
@@ -140,6 +146,7 @@ module _ (draws : Bool) (limit total : ℕ) where
   Reads said start done ts rest r = (is_begun begins : Bool) (column : ℕ)
       → read_on draws limit total (read_so_far said start done is_begun) begins (filled_from [] column ts ++ rest) ≡ r
 
+  -- the number before a move, where there is one (c: the side on move), is passed over
   number_read : (said : Option Termination) (start : Setup) (done : List Move) (c : Colour) (is_first : Bool) (n : ℕ)
       (ts : List (List ℕ)) (rest : List ℕ) (r : GameRead) → n ≤ 999999 → Reads said start done ts rest r
       → Reads said start done (number_if_due c is_first n ++ ts) rest r

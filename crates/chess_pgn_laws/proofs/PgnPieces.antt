@@ -1,4 +1,6 @@
--- What reading does with each piece of a game's text as it is written.
+-- What reading does with each piece of a game's text as it is written (a number, a move in SAN, an outcome, a line of a
+-- tag): it takes the reader's state to the state with that piece (Takes, TakesLine), or ends the game (outcome_ends).
+-- PgnMoves and PgnWhole put the pieces together.
 use Rattle.std.proofs.Common.{◌≡◌, ℕ, suc, ◌+◌, ◌-◌, ◌<◌, ◌≤◌, Bool, true, false, eqb, List, [], ◌∷◌, ◌++◌, length, Option, Some, None, refl, ap, subst, ◌∙◌, append_assoc, arith, bytes_eq, Ok, is_some, codes, decimal, IsTrue, nat_lt}
 use Rattle.std.specs.List.{list_all}
 use Rattle.std.proofs.{lemmas.Bool.and_parts, lemmas.Bool.Decides.nat_tests}
@@ -48,6 +50,7 @@ ended_game t s o offset = record {
 
 -- ---- the termination that a tag names
 
+-- the texts of terminations have no byte that is escaped, and name their termination again (termination_back)
 pub termination_bare : (u : Termination) → list_all is_bare (termination_text u) ≡ true
 termination_bare ending.Abandoned = refl
 termination_bare ending.Adjudication = refl
@@ -100,6 +103,7 @@ module _ (draws : Bool) (limit total : ℕ) where
 
   -- ---- skipped bytes
 
+  -- a space, a line feed or a dot is skipped
   pub skip_space : (g : SoFar) (begins : Bool) (rest : List ℕ)
       → read_on draws limit total g begins (32 ∷ rest) ≡ read_on draws limit total g false rest
   unfolding token_at
@@ -125,6 +129,7 @@ module _ (draws : Bool) (limit total : ℕ) where
   Takes g h text = (begins : Bool) (d : ℕ) (rest : List ℕ) → is_word_byte d ≡ false
       → read_on draws limit total g begins (text ++ d ∷ rest) ≡ read_on draws limit total h false (d ∷ rest)
 
+  -- a word whose step is known, with a byte after it that is in no word
   word_takes : (g h : SoFar) (word : List ℕ) → 0 < length word → list_all is_word_byte word ≡ true
       → ((offset : ℕ) → word_step draws limit g offset word (word_kind word) ≡ On h) → Takes g h word
   word_takes g h [] some all next = absurd (omega arith)
@@ -199,9 +204,11 @@ module _ (draws : Bool) (limit total : ℕ) where
   TakesLine g h line = (begins : Bool) (rest : List ℕ)
       → read_on draws limit total g begins (line ++ 10 ∷ rest) ≡ read_on draws limit total h true rest
 
+  -- an empty line changes nothing
   pub empty_line : (g : SoFar) → TakesLine g g []
   empty_line g begins rest = skip_line_end g begins rest
 
+  -- a line of a tag whose step is known
   tag_takes : (g h : SoFar) (name text : List ℕ) → is_tag_name name ≡ true → list_all is_in_line text ≡ true
       → ((left string : ℕ) → step draws limit total g left (Tag name (escaped text) string) ≡ On h)
       → TakesLine g h (tag_line name text)
@@ -213,6 +220,7 @@ module _ (draws : Bool) (limit total : ℕ) where
       (next (suc (length (name ++ 32 ∷ 34 ∷ string))) (length string))
       ∙ skip_line_end h false rest
 
+  -- a tag that is neither FEN nor Termination only counts as met
   pub plain_tag : (met : Bool) (t : Option Termination) (s : State) (name text : List ℕ) → is_tag_name name ≡ true
       → bytes_eq name (codes "FEN") ≡ false → bytes_eq name (codes "Termination") ≡ false
       → list_all is_in_line text ≡ true → TakesLine (tagged met t s) (tagged true t s) (tag_line name text)

@@ -1,4 +1,5 @@
--- Tags as they are written: each line is one token with the text that is there.
+-- Tags as they are written, `[Name "text"]`: each line is one token with the name and the text in it. Quotes and
+-- backslashes of the text are escaped, so the string ends at its own quote.
 use Rattle.std.proofs.Common.{◌≡◌, ℕ, ◌≤◌, Bool, true, false, not, cond, ◌&&◌, ◌||◌, eqb, List, [], ◌∷◌, ◌++◌, length, drop, Some, refl, sym, ap, ◌∙◌, append_assoc, arith}
 use Rattle.std.specs.List.{list_all, prefix_len, take_while, AllByRecursion}
 use Rattle.std.proofs.{lemmas.Bool.and_parts, lemmas.Bool.and_from, lemmas.Bool.or_parts, lemmas.Bool.Decides.nat_tests}
@@ -20,6 +21,7 @@ is_in_line c = not (eqb c 10)
 abbrev pub is_bare : ℕ → Bool
 is_bare c = is_in_line c && not (eqb c 34 || eqb c 92)
 
+-- byte 10 is the line feed
 not_ten : (c : ℕ) → is_in_line c ≡ true → eqb c 10 ≡ false
 not_ten c h = by_test (eqb c 10) h
   where
@@ -49,7 +51,7 @@ string_written (c ∷ cs) rest all = by_test (eqb c 34 || eqb c 92) refl (string
         string_other c (escaped cs ++ 34 ∷ rest) (not_ten c both.0) plain.0
         ∙ rw plain.1 (ap (onto (c ∷ [])) tail)
 
--- a text of bytes that stand for themselves
+-- a text of bytes that stand for themselves is not changed by escaping
 pub bare_escaped : (text : List ℕ) → list_all is_bare text ≡ true → escaped text ≡ text
 bare_escaped [] all = refl
 bare_escaped (c ∷ cs) all =
@@ -68,6 +70,7 @@ bare_in_line (c ∷ cs) all =
     and_from (is_in_line c) (list_all is_in_line cs) (and_parts (is_in_line c) (not (eqb c 34 || eqb c 92)) both.0).0
     (bare_in_line cs both.1)
 
+-- a tag's text, which is printable ASCII, is in one line
 printable_in_line : (text : List ℕ) → AllByRecursion (λ c. (32 ≤ c) × (c ≤ 126)) text → list_all is_in_line text ≡ true
 printable_in_line [] all = refl
 printable_in_line (c ∷ cs) all =
@@ -85,11 +88,13 @@ abbrev pub is_tag_name : List ℕ → Bool
 is_tag_name [] = false
 is_tag_name (n ∷ ns) = list_all is_name_byte (n ∷ ns)
 
+-- no white space is before a name
 no_gap : (n : ℕ) (rest : List ℕ) → is_name_byte n ≡ true → after_gap (n ∷ rest) ≡ n ∷ rest
 no_gap n rest h =
     let no : (k : ℕ) → is_name_byte k ≡ false → eqb n k ≡ false = λ k e. differs is_name_byte n k h e in
     sym (gap_same (n ∷ rest)) ∙ rw (no 32 refl, no 9 refl, no 10 refl, no 13 refl) refl
 
+-- the rest of a tag after its name: a space, the string, `]`
 with_name_written : (n : ℕ) (ns text rest : List ℕ) → list_all is_in_line text ≡ true
     → with_tag_name (n ∷ ns) (32 ∷ 34 ∷ (escaped text ++ 34 ∷ 93 ∷ rest))
     ≡ (Tag (n ∷ ns) (escaped text) (length (escaped text ++ 34 ∷ 93 ∷ rest)), rest)
@@ -99,6 +104,7 @@ with_name_written n ns text rest h =
     ∙ ap (with_text (n ∷ ns) (length string)) (string_written text (93 ∷ rest) h)
     ∙ ap (λ xs. closed (n ∷ ns) (length string) (escaped text) (after_byte 93 xs)) (sym (gap_same (93 ∷ rest)))
 
+-- the whole tag, after its `[`
 tag_written : (n : ℕ) (ns text rest : List ℕ) → list_all is_name_byte (n ∷ ns) ≡ true → list_all is_in_line text ≡ true
     → tag_by_parts (n ∷ (ns ++ 32 ∷ 34 ∷ (escaped text ++ 34 ∷ 93 ∷ rest)))
     ≡ (Tag (n ∷ ns) (escaped text) (length (escaped text ++ 34 ∷ 93 ∷ rest)), rest)

@@ -1,4 +1,6 @@
--- The whole text of a game: what is written is read back.
+-- The whole text of a game is read back: its tags line by line (tags_read), then its moves (text_read, from PgnMoves),
+-- from the offset where it begins, whatever comes before (read_after). The laws of the outcome, the tag Result and the
+-- tag Variant follow (pgn_law, result_law, variant_law).
 use Rattle.std.proofs.Common.{◌≡◌, ℕ, suc, ◌+◌, ◌-◌, ◌<◌, ◌≤◌, Bool, true, false, eqb, List, [], ◌∷◌, ◌++◌, length, drop, Option, Some, None, refl, sym, ap, subst, ◌∙◌, append_assoc, arith, length-append, drop_at, codes, not, Ok, is_some, if◌then◌else◌, option_and_then}
 use Rattle.std.proofs.{lemmas.Bool.Decides.nat_tests, lemmas.Slice.Eq.bytes_eq-Decides}
 use Rattle.chess_base.specs.{declared.man.Variant.Variant, declared.man.Variant.TheVariants.Normal, declared.man.Variant.TheVariants.Fischerandom, declared.setup.Setup.Setup, Initial.initial_setup, Initial.initial_setup_of, Options.list_if, Sound.IsSound}
@@ -28,11 +30,12 @@ use Rattle.chess_pgn_laws.proofs.TagTexts.{string_of, tags_of, result_string, va
 
 -- ---- the tags
 
+-- the initial position is that of normal chess
 initial_normal : initial_setup ≡ initial_setup_of Normal
 unfolding initial_setup
 initial_normal = refl
 
--- in normal chess only the initial position has its FEN
+-- a start of normal chess whose FEN is the initial one is the initial position, since a FEN is read back
 initial_is : WrittenIsReadBack → IsSound (initial_setup_of Normal) → (start : Setup) → start.variant ≡ Normal
     → IsSound start → is_initial start ≡ true → start ≡ initial_setup_of Normal
 initial_is law initial start normal sound e =
@@ -44,6 +47,7 @@ initial_is law initial start normal sound e =
     ∙ ap (λ v. fen_reading_as v (fen (initial_setup_of Normal))) (normal ∙ sym (initial_variant Normal)) ∙ there in
     cc
 
+-- the tags, the moves and the last line feed, grouped as they are read
 grouped : (tags moves rest : List ℕ) → tags ++ moves ++ 10 ∷ [] ++ rest ≡ tags ++ (moves ++ 10 ∷ rest)
 grouped tags moves rest = simp append_assoc
 
@@ -56,7 +60,7 @@ module _ (draws : Bool) (limit total : ℕ) where
       let text : ended [] (line ∷ lines) ++ rest ≡ line ++ 10 ∷ (ended [] lines ++ rest) = simp append_assoc in
       ap (read_on draws limit total g begins) text ∙ takes begins (ended [] lines ++ rest) ∙ reads
 
-  -- the tags of a start
+  -- the tags FEN and SetUp, if there are such, give the start
   start_read : WrittenIsReadBack → IsSound (initial_setup_of Normal)
       → (t : Option Termination) (v : Variant) (start : Setup) → start.variant ≡ v → IsSound start
       → (last : List (List ℕ)) (rest : List ℕ)
@@ -201,14 +205,14 @@ module _ (draws : Bool) (limit total : ℕ) where
 
 -- ---- its offset
 
--- a text that begins so has no byte order mark
+-- a byte order mark begins with the byte 239, so a text that begins with another byte c has none
 no_mark : (before : List ℕ) (c : ℕ) (rest : List ℕ) → eqb c 239 ≡ false
     → after_byte_order_mark (before ++ c ∷ rest) (length before) ≡ length before
 no_mark [] c rest e = rw e refl
 no_mark (b ∷ before) c rest e = let some : eqb (suc (length before)) 0 ≡ false = grind (arith, nat_tests) in
     rw some refl
 
--- the tokens from the offset after `before` on
+-- the tokens of the whole text from that offset on are those of the part alone
 tokens_after : (before text : List ℕ) → tokens_from (before ++ text) (length before)
     ≡ tokens_of (length text) (begins_line (before ++ text) (length before)) text
 unfolding tokens_from
@@ -218,13 +222,14 @@ tokens_after before text =
     ap (tokens_of (length whole) (begins_line whole (length before))) (drop_at before text (length before) refl)
     ∙ enough (length whole) (length text) (begins_line whole (length before)) text fewer (omega arith)
 
--- the variant that a tag Variant with this string names
+-- the variant that a tag Variant names depends only on the tag's string
 by_string : (o : Option (List ℕ × ℕ))
     → option_map_or (λ (tag : List ℕ × ℕ). variant_named tag.0) o Normal
     ≡ option_map_or variant_named (option_map (λ (tag : List ℕ × ℕ). tag.0) o) Normal
 by_string None = refl
 by_string (Some tag) = refl
 
+-- the variant of a text is named by the last tag Variant before the moves
 named : (ts : List (ℕ × Token))
     → tagged_variant (tag_section ts) ≡ option_map_or variant_named (text_from (codes "Variant") None ts) Normal
 named ts = by_string (last_tag (codes "Variant") (tag_section ts))
@@ -247,7 +252,7 @@ read_after draws limit before text v offset said =
     ∙ ap (tokens_read draws limit (length whole)) (tokens_after before text)
     ∙ ap (λ u. game_of draws limit (length whole) (nothing_read u) tokens) (named tokens ∙ said)
 
--- what the tags of a game's text say
+-- what the tag of a name says in a game's text is what was written
 written_says : (name : List ℕ) (tags : Tags) → AreTagTexts tags → (s : State) → IsSound s.start
     → AreShort (game_tokens s) → (begins : Bool) (rest : List ℕ)
     → said_on name None begins (pgn [] tags s ++ rest) ≡ string_of name None (tags_of tags s)
@@ -271,13 +276,16 @@ variant_is t texts s sound short begins rest =
     by_variant Normal = refl
     by_variant Fischerandom = refl
 
+-- a game's text begins with `[` (91)
 first_bytes : (tags : Tags) (s : State) → pgn [] tags s ≡ 91 ∷ drop 1 (pgn [] tags s)
 unfolding pgn
 first_bytes tags s = refl
 
+-- a text with an outcome and a line feed at its end is longer than the outcome by at least two bytes
 longer : (a b : List ℕ) (n : ℕ) → n < length b → n + 2 ≤ length (a ++ b ++ 10 ∷ [])
 longer a b n h = omega (arith, length-append (a ++ b) (10 ∷ []), length-append a b)
 
+-- so is a game's text
 pgn_long : (tags : Tags) (s : State) → AreShort (game_tokens s)
     → length (outcome_text (outcome_now s)) + 2 ≤ length (pgn [] tags s)
 pgn_long tags s short =
@@ -292,6 +300,7 @@ pgn_long tags s short =
 abbrev outcome_by : Option Verdict → Option Declared → Outcome
 outcome_by v d = option_map_or (λ (x : Declared). x.outcome) (option_or (option_map verdict_result v) d) Unfinished
 
+-- an outcome that is declared is the game's outcome, if the board has no verdict
 declared_again : (o : Outcome) → outcome_by None (declared_after false o) ≡ o
 declared_again WhiteWins = refl
 declared_again BlackWins = refl
@@ -304,6 +313,7 @@ same_outcome : (v : Option Verdict) (d : Option Declared) → outcome_by v (decl
 same_outcome (Some v) d = refl
 same_outcome None d = declared_again (outcome_by None d)
 
+-- the law: what is read of a game's text, in any text, is the game
 pub pgn_law : AfterIsSound → WrittenIsReadBack → IsSound (initial_setup_of Normal) → PgnIsReadBack
 pgn_law after_law law initial draws limit tags s before rest texts h =
     let written : List ℕ = pgn [] tags s in
@@ -346,12 +356,14 @@ result_by_string : (total : ℕ) (o : Option (List ℕ × ℕ))
 result_by_string total None = refl
 result_by_string total (Some tag) = refl
 
+-- the tag Result names the outcome that was written in it
 outcome_again : (o : Outcome) → outcome_of (escaped (outcome_text o)) ≡ Some o
 outcome_again WhiteWins = refl
 outcome_again BlackWins = refl
 outcome_again Draw = refl
 outcome_again Unfinished = refl
 
+-- the law of the tag Result
 pub result_law : ResultIsWritten
 result_law limit tags s before rest texts h tokens split =
     let text : List ℕ = pgn [] tags s ++ rest in
@@ -371,6 +383,7 @@ result_law limit tags s before rest texts h tokens split =
     ∙ result_string tags s)
     ∙ outcome_again (outcome_now s)
 
+-- the offset of a tag Variant, if its variant is unknown
 abbrev if_unknown : ℕ → Bool → Option ℕ
 if_unknown offset b = if b then None else Some offset
 
@@ -381,10 +394,12 @@ known_by_string : (total : ℕ) (o : Option (List ℕ × ℕ))
 known_by_string total None known = refl
 known_by_string total (Some tag) known = rw known refl
 
+-- the variant that is written is known, or not named at all
 known_again : (v : Variant) → option_map_or is_known_variant (variant_string_of v) true ≡ true
 known_again Normal = refl
 known_again Fischerandom = refl
 
+-- the law of the tag Variant
 pub variant_law : VariantIsWritten
 variant_law limit tags s before rest texts h tokens split =
     let text : List ℕ = pgn [] tags s ++ rest in

@@ -1,4 +1,6 @@
--- What the tags of a written game's text say: the text of the last tag of each name.
+-- What the tags of a written game's text say. The text's tags are listed with their strings (tags_of); reading the
+-- text, the last tag with a name says what this list says (text_says), since the tokens after the tags stop the search
+-- (moves_stop).
 use Rattle.std.proofs.Common.{◌≡◌, ℕ, ◌<◌, ◌≤◌, Bool, true, false, cond, eqb, List, [], ◌∷◌, ◌++◌, length, map, Option, Some, None, refl, ap, subst, ◌∙◌, append_assoc, arith, bytes_eq, leb-true, codes, decimal, not}
 use Rattle.std.specs.{List.list_all, List.AllByRecursion, Option.option_map, Option.option_or}
 use Rattle.chess_base.specs.{declared.man.Colour.Colour, declared.man.Colour.TheVariants.White, declared.man.Colour.TheVariants.Black, declared.man.Move.Move, declared.man.Variant.Variant, declared.man.Variant.TheVariants.Normal, declared.man.Variant.TheVariants.Fischerandom, declared.setup.Setup.Setup, Moves.after, Options.list_if, Sound.IsSound}
@@ -33,13 +35,16 @@ abbrev pub string_of : List ℕ → Option (List ℕ) → List (List ℕ × List
 string_of name v [] = v
 string_of name v (tag ∷ tags) = string_of name (cond (bytes_eq tag.0 name) (Some (escaped tag.1)) v) tags
 
+-- the tags of a start that is not the initial position
 abbrev fen_tags : Setup → List (List ℕ × List ℕ)
 fen_tags start = (codes "FEN", fen start) ∷ (codes "SetUp", codes "1") ∷ []
 
+-- the tags that tell a game's start: none for the initial position of normal chess
 abbrev start_tags : Variant → Setup → List (List ℕ × List ℕ)
 start_tags Normal start = cond (is_initial start) [] (fen_tags start)
 start_tags Fischerandom start = fen_tags start
 
+-- the tags at the end: Termination, and Variant in Chess960
 abbrev last_tags : Variant → Termination → List (List ℕ × List ℕ)
 last_tags Normal t = (codes "Termination", termination_text t) ∷ []
 last_tags Fischerandom t =
@@ -52,6 +57,7 @@ tags_of t s =
     ∷ (codes "White", t.white) ∷ (codes "Black", t.black) ∷ (codes "Result", outcome_text (outcome_now s))
     ∷ (start_tags s.start.variant s.start ++ last_tags s.start.variant (termination_of t.ended (outcome_now s)))
 
+-- the lines that are written are those of these tags
 lines_are : (t : Tags) (s : State) → tag_lines t s ≡ lines_of (tags_of t s)
 lines_are t s =
     ap (λ lines. tag_line (codes "Event") t.event ∷ tag_line (codes "Site") t.site ∷ tag_line (codes "Date") t.date
@@ -76,6 +82,7 @@ outcome_in_line BlackWins = refl
 outcome_in_line Draw = refl
 outcome_in_line Unfinished = refl
 
+-- the tags of a game have names, and texts in one line
 are_tags : (t : Tags) → AreTagTexts t → (s : State) → IsSound s.start → AreTags (tags_of t s)
 are_tags t texts s sound = (
   (refl, tag_text_in_line t.event texts.event),
@@ -133,6 +140,7 @@ result_string t s = by_variant s.start.variant (termination_of t.ended (outcome_
     by_variant Normal u = by_test (is_initial s.start) u
     by_variant Fischerandom u = refl
 
+-- the string of the tag Variant: only Chess960 has it
 abbrev pub variant_string_of : Variant → Option (List ℕ)
 variant_string_of Normal = None
 variant_string_of Fischerandom = Some (codes "fischerandom")
@@ -151,6 +159,7 @@ variant_string t s = by_variant s.start.variant (termination_of t.ended (outcome
     by_variant Normal u = by_test (is_initial s.start) u
     by_variant Fischerandom u = refl
 
+-- the first of some lines, with its line feed, and what follows
 line_first : (line : List ℕ) (lines : List (List ℕ)) (rest : List ℕ)
     → ended [] (line ∷ lines) ++ rest ≡ line ++ 10 ∷ (ended [] lines ++ rest)
 line_first line lines rest =
@@ -167,9 +176,11 @@ module _ (name : List ℕ) where
   abbrev says : Option (List ℕ) → Token → Option (List ℕ)
   says v t = option_or (option_map (λ tag. tag.0) (named_tag name t)) v
 
+  -- what is said once the token t and the rest of the text are known, as `text_from` goes on
   said_then : Option (List ℕ) → ℕ → Token × List ℕ → ℕ → Option (List ℕ)
   said_then v c t most = cond (may_precede_tags t.0) (text_from name (says v t.0) (tokens_of most (eqb c 10) t.1)) v
 
+  -- a token that may precede tags: what it says replaces v, and reading goes on after it
   token_says : (v u : Option (List ℕ)) (begins : Bool) (c : ℕ) (rest : List ℕ) (token : Token) (more : List ℕ)
       → token_at begins c rest ≡ (token, more) → may_precede_tags token ≡ true → says v token ≡ u
       → said_on v begins (c ∷ rest) ≡ said_on u (eqb c 10) more
@@ -182,6 +193,7 @@ module _ (name : List ℕ) where
       ∙ ap (λ w. text_from name w (tokens_of (length rest) (eqb c 10) more)) said
       ∙ ap (text_from name u) (enough (length rest) (length more) (eqb c 10) more few (omega arith))
 
+  -- a token that may not, such as a number: v is what the tags say
   token_stops : (v : Option (List ℕ)) (begins : Bool) (c : ℕ) (rest : List ℕ) (token : Token) (more : List ℕ)
       → token_at begins c rest ≡ (token, more) → may_precede_tags token ≡ false → said_on v begins (c ∷ rest) ≡ v
   unfolding tokens_of said_then
@@ -189,6 +201,7 @@ module _ (name : List ℕ) where
       ap (λ (t : Token × List ℕ). said_then v c t (length rest)) is
       ∙ ap (λ b. cond b (text_from name (says v token) (tokens_of (length rest) (eqb c 10) more)) v) may
 
+  -- a line feed says nothing
   line_end_says : (v : Option (List ℕ)) (begins : Bool) (rest : List ℕ)
       → said_on v begins (10 ∷ rest) ≡ said_on v true rest
   unfolding token_at
@@ -197,6 +210,7 @@ module _ (name : List ℕ) where
 
   -- ---- lines of tags, and an empty line
 
+  -- lines of tags and an empty line, one after another
   tags_say : (v : Option (List ℕ)) (begins : Bool) (tags : List (List ℕ × List ℕ)) (rest : List ℕ) → AreTags tags
       → said_on v begins (ended [] (lines_of tags ++ [] ∷ []) ++ rest) ≡ said_on (string_of name v tags) true rest
   tags_say v begins [] rest are = line_end_says v begins rest
@@ -220,6 +234,7 @@ module _ (name : List ℕ) where
 
   -- ---- the first token of the moves
 
+  -- an outcome stops the search; so does a number (number_stops), so do the moves of a game (moves_stop)
   outcome_stops : (v : Option (List ℕ)) (o : Outcome) (begins : Bool) (rest : List ℕ)
       → said_on v begins (outcome_text o ++ 10 ∷ rest) ≡ v
   unfolding token_at

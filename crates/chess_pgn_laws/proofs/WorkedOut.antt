@@ -1,4 +1,5 @@
--- Small texts worked out: how they are split, read and laid out.
+-- Small texts worked out: how `tokens_from` splits them, what is read of a small game, and how its tokens are laid out.
+-- Where the board is asked (legal moves, verdicts), the answer is computed once and put in.
 use Rattle.std.proofs.Common.{◌≡◌, ℕ, suc, Bool, true, false, cond, List, [], ◌∷◌, ◌++◌, length, Option, None, Some, refl, sym, ap, ◌∙◌, append_assoc, arith, length-append, codes, is_some, nat_lt}
 use Rattle.std.proofs.lemmas.List.Concat.{flat_map-append}
 use Rattle.std.specs.Option.{option_or}
@@ -43,6 +44,7 @@ move_plays limit s left m r is open_yet room =
     (cond (nat_lt (length s.moves) limit) (Goes_on (played s m)) (Fails TooLong left))) open_yet
     ∙ ap (λ t. cond t (Goes_on (played s m)) (Fails TooLong left)) room
 
+-- the example `[Event "a"]`, line feed, `1. e4 *`, with its tokens, by how many bytes are left from each on
 abbrev start : State
 start = from_start (initial_setup_of Normal)
 
@@ -53,6 +55,7 @@ abbrev tokens : List (ℕ × Token)
 tokens = (19, Tag (codes "Event") (codes "a") 11) ∷ (8, Skip) ∷ (7, Word (codes "1")) ∷ (6, Skip) ∷ (5, Skip)
     ∷ (4, Word (codes "e4")) ∷ (2, Skip) ∷ (1, Word (codes "*")) ∷ []
 
+-- the example is read as the game of one move, 1. e4, if that move is what `e4` denotes
 game_is_read : (m : Move) → verdict_now (from_start (initial_setup_of Normal)) ≡ None
     → reading (current (from_start (initial_setup_of Normal))) (codes "e4") ≡ reads.Move m
     → IsRead true 1 text 0 (finished (played (from_start (initial_setup_of Normal)) m) Unfinished None 19)
@@ -113,6 +116,7 @@ texts_are_read = record {
 
 -- ---- laid out
 
+-- the lines of the tags, then an empty line, the moves and an empty line, each with the prefix `# `
 lines_laid_out : (tags : List (List ℕ)) → ended (codes "# ") tags ++ codes "# \n# 1. e4 *\n# \n"
     ≡ ended (codes "# ") (tags ++ [] ∷ codes "1. e4 *" ∷ [] ++ [] ∷ [])
 lines_laid_out tags =
@@ -122,6 +126,7 @@ lines_laid_out tags =
     (flat_map-append (λ (line : List ℕ). codes "# " ++ line ++ 10 ∷ []) tags ([] ∷ codes "1. e4 *" ∷ []))
     ∙ append_assoc (ended (codes "# ") tags) (codes "# \n# 1. e4 *\n") (codes "# \n"))
 
+-- a game of these tokens is laid out in this text
 game_is_laid_out : (t : Tags) (s : State) → game_tokens s ≡ codes "1." ∷ codes "e4" ∷ codes "*" ∷ []
     → IsPgn (codes "# ") t s (ended (codes "# ") (tag_lines t s) ++ codes "# \n# 1. e4 *\n# \n")
 game_is_laid_out t s is = record {

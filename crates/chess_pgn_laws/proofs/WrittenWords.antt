@@ -1,4 +1,5 @@
--- Words as they are written in a game: each is one token where a byte of no word follows, and of its own kind.
+-- Words as they are written in a game (numbers, SAN): each is one token where a byte of no word follows (word_token),
+-- and is of its own kind.
 use Rattle.std.proofs.Common.{◌≡◌, ℕ, ◌<◌, ◌≤◌, Bool, true, false, ◌&&◌, ◌||◌, eqb, List, [], ◌∷◌, ◌++◌, length, drop, refl, ap, ◌∙◌, inl, inr, arith, decimal, nat_le}
 use Rattle.std.proofs.{lemmas.Bool.and_parts, lemmas.Bool.and_from, lemmas.Bool.or_cases, lemmas.Bool.Decides.nat_tests, lemmas.Fmt.decimal_is_IsNumeral, lemmas.Str.Parse.digit_from_value}
 use Rattle.std.specs.{List.list_all, List.prefix_len, List.take_while, Str.Parse.AllDigits}
@@ -16,6 +17,7 @@ pub record Run (p : ℕ → Bool) (text run rest : List ℕ) : Type 0 where
   pub taken : take_while p text ≡ run
   pub left : drop (prefix_len p text) text ≡ rest
 
+-- if each byte of a run passes, and the next doesn't, the run is taken whole
 pub whole_run : (p : ℕ → Bool) (run : List ℕ) (d : ℕ) (rest : List ℕ) → list_all p run ≡ true → p d ≡ false
     → Run p (run ++ d ∷ rest) run (d ∷ rest)
 whole_run p run d rest all ends =
@@ -33,6 +35,7 @@ word_token begins c cs d rest all ends =
     ∙ ap (λ word. (Word word, drop (prefix_len is_word_byte (c ∷ (cs ++ d ∷ rest))) (c ∷ (cs ++ d ∷ rest)))) run.taken
     ∙ ap (λ left. (Word (c ∷ cs), left)) run.left
 
+-- a word that begins with a letter is a move, not a number or marks
 pub move_kind : (word : List ℕ) → begins_with_letter word ≡ true → word_kind word ≡ Move
 move_kind [] h = absurd (cc)
 move_kind (c ∷ cs) h =
@@ -61,6 +64,7 @@ all_digits (c ∷ cs) h =
     let b : nat_le c 57 ≡ true = grind (arith, nat_tests) in
     and_from (is_digit c) (list_all is_digit cs) (and_from (nat_le 48 c) (nat_le c 57) a b) (all_digits cs h.1)
 
+-- a decimal number up to 999,999 has only digits, and at least one (decimal_some)
 pub decimal_digits : (n : ℕ) → n ≤ 999999 → list_all is_digit (decimal n) ≡ true
 decimal_digits n h = all_digits (decimal n) (decimal_is_IsNumeral n (omega arith)).0.1
 

@@ -1,4 +1,5 @@
--- The report of an engine's fault is ASCII, so it is a text.
+-- The report of an engine's fault is a text (UTF-8), since each of its bytes is ASCII: by computation for each fault
+-- and side.
 use Rattle.std.proofs.Common.{◌≡◌, ◌<◌, ℕ, true, List, refl, subst, sym, IsUtf8, ltb-true}
 use Rattle.std.specs.{Char.is_ascii, List.list_all}
 use Rattle.std.proofs.{lemmas.List.Elements.All-weaker, lemmas.List.Sums.AllPass-from_list_all, lemmas.Str.IsUtf8-from_ascii, lemmas.Str.Ascii.IsAscii-from_all}

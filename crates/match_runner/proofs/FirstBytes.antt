@@ -1,4 +1,4 @@
--- A write of the first bytes of a text is a write of the text.
+-- A write of the first bytes of a text is a write of the text, since a write need not take all bytes.
 use Rattle.std.proofs.Common.{◌≡◌, ◌≤◌, ◌<◌, ◌∙◌, ℕ, List, ap, length, take, min, Result, Ok, Err, subst, arith, length-take, take-take}
 use Rattle.byte_devices.specs.Devices.{OutputState, Took, WriteStep}
 

@@ -1,5 +1,7 @@
--- The games of a match, one after another: one game more leaves what is written, logged and passed as the definition
--- says, up to the last game or the fault.
+-- What `play_game`, `play_each` and `play_games_at` need: after each game the output, the log, the steps at the table,
+-- the clock and the score are those of the games so far (SoFar; start, one_more). The match then ends in one of four
+-- ways: all games played, a fault in the last game, a game not written, an engine not started (all_played, with_fault,
+-- broke_off).
 use Rattle.std.proofs.Common.{◌≡◌, ◌∙◌, ◌<◌, ◌≤◌, ◌+◌, ◌⊎◌, ℕ, Bool, true, false, List, [], ◌∷◌, ◌++◌, length, Bor, Option, Some, None, Ok, Err, Result, refl, sym, ap, subst, append-nil, append_assoc, length-append, arith, inl, inr, IfErr, cond, count_by, flat_map, if◌then◌else◌}
 use Rattle.std.specs.List.{AllByRecursion, enumerate_from}
 use Rattle.std.proofs.{lemmas.List.Concat.flat_map-append, lemmas.List.FromFn.length-enumerate_from, lemmas.List.Sums.count_by-le-length, lemmas.List.Sums.sum_by_push}
@@ -23,14 +25,14 @@ outputs w l = record { output = w; log = l }
 
 -- ---- one game
 
--- a match leaves the game its limit
+-- playing a match leaves the limit of its game's half-moves as it is
 pub limit_kept : (notes : List Note) (setup : Setup) (end : MatchEnd) (w w' : World)
     → PlayedNoting (λ given. given ≡ notes) setup end w w' → w'.game.limit ≡ w.game.limit
 limit_kept notes setup end w w' (H, reason, given, (final, passed, reported, left)) = ap (λ (v : Seen). v.limit) left
 
 -- ---- engines that could not be started
 
--- the fault is one of the two engines
+-- a fault of starting either engine is one of starting both: it names White's command or Black's, or memory ran out
 start_fault : (white black : List ℕ) (fault : GamesFault) → FailsToStart white fault ⊎ FailsToStart black fault
     → IsStartFault white black fault
 start_fault white black (CanNotStart command) h = h
@@ -48,7 +50,7 @@ either : (x : Bool) (command white black : List ℕ) → command ≡ (if x then 
 either true command white black e = inl e
 either false command white black e = inr e
 
--- the engines of a game are those of the plan
+-- if a game's White or Black can't be started, that is one of the plan's two engines, whichever side each has
 pub plan_fault : (plan : GamesPlan) (number : ℕ) (fault : GamesFault)
     → IsStartFault (engine_command plan number White) (engine_command plan number Black) fault
     → IsStartFault plan.white.now plan.black.now fault
@@ -63,6 +65,7 @@ plan_fault plan number _ h = h
 pub steps_none : {S : Type 0} (p : List S → Type 0) → StepsPass p p []
 steps_none {S} p = record { extends = λ after h. h }
 
+-- steps that passed one after another, K and then J, passed as one list
 pub steps_more : {S : Type 0} (p p' p'' : List S → Type 0) (K J : List S) → StepsPass p p' K → StepsPass p' p'' J
     → StepsPass p p'' (K ++ J)
 steps_more {S} p p' p'' K J h k = record {
@@ -72,7 +75,7 @@ steps_more {S} p p' p'' K J h k = record {
 
 -- ---- one game, step by step
 
--- a game was logged, or not
+-- the log of a game is empty if the plan asks for none
 logs_if : (asked : Bool) (first : Colour) (l l' : LogSeen) (notes : List Note)
     → LogsGame (if asked then Some first else None) l l' notes → Logged l l' (list_if asked (log_from first 0 notes))
 logs_if false first l l' notes h = subst (λ (v : LogSeen). Logged l v []) (sym h) (logs_none l)
@@ -91,18 +94,23 @@ module _ (plan : GamesPlan) (number : ℕ) (c c1 c3 c4 : ℕ → Option ℕ) (p 
     (finishes : StepsPass p3 p4 (AtHost (Finishes played.after.engines limit played.killed) ∷ []))
     (rested : c3 ≡ played.after.coming) (left : c4 ≡ c3)
     (kills : Logged l' l'' (killed_lines number played.killed)) where
+  -- the PGN that was written, with the tags that `tags_of` made, is the text of this game
   tagged_text : pgn [] tags played.after.game.state ≡ game_text plan number played
   tagged_text = ap (λ (t : Tags). pgn [] t played.after.game.state) tagged
 
+  -- the log has the notes of the game, if asked for, and then the lines on killed engines
   logs : Logged l l'' (game_log plan number played)
   logs =
       logged_more l l' l'' _ _
       (logs_if plan.log (first_side number) l l' played.notes
       (subst (λ (f : Option Colour). LogsGame f l l' played.notes) side log)) kills
 
+  -- the engines are fresh, and the clock shows what it would have shown before they were started
   begins : BeginsAt c played
   begins = (fresh, began ∙ kept)
 
+  -- the steps of a game in order: engines are started, it is played, its PGN is written (or that fails: `write`),
+  -- engines are waited for
   all_steps : (write : List ℕ → GamesStep) → StepsPass p2 p3 (write (pgn [] tags played.after.game.state) ∷ [])
       → StepsPass p p4 (steps_by write plan number played)
   all_steps write writes =
@@ -141,7 +149,7 @@ module _ (plan : GamesPlan) (number : ℕ) (c c1 c3 c4 : ℕ → Option ℕ) (p 
     begins,
   )
 
--- the engines could not be started
+-- if the engines could not be started, nothing was played, written or logged
 pub was_not_started : (plan : GamesPlan) (number : ℕ) (c c' : ℕ → Option ℕ) (p p' : GamesFuture) (w : OutputState)
     (l : LogSeen) (white black : List ℕ) (limit : Option ℕ) (fault : GamesFault)
     → white ≡ engine_command plan number White
@@ -161,6 +169,7 @@ was_not_started plan number c c' p p' w l white black limit fault for_white for_
 
 -- ---- games with their numbers
 
+-- games numbered from n on, and one more, get the numbers from n on and the next one
 numbers_more : (n : ℕ) (games : List GameRecord) (g : GameRecord)
     → enumerate_from n (games ++ g ∷ []) ≡ enumerate_from n games ++ (n + length games, g) ∷ []
 numbers_more n [] g = ap (λ (k : ℕ). (k, g) ∷ []) (omega arith)
@@ -168,7 +177,8 @@ numbers_more n (x ∷ games) g =
     ap (λ (l : List (ℕ × GameRecord)). (n, x) ∷ l) (numbers_more (n + 1) games g)
     ∙ ap (λ (k : ℕ). (n, x) ∷ (enumerate_from (n + 1) games ++ (k, g) ∷ [])) (omega arith)
 
--- the texts of games by their numbers, of one game more
+-- what each game gives by its number (f: its PGN, log or steps), joined, of one game more is that of the games and then
+-- of the game
 joined_more : {A : Type 0} (f : ℕ × GameRecord → List A) (games : List GameRecord) (g : GameRecord)
     → flat_map f (enumerate_from 1 (games ++ g ∷ []))
     ≡ flat_map f (enumerate_from 1 games) ++ f (1 + length games, g)
@@ -189,6 +199,7 @@ logs_more plan l l' l'' games g h k =
 
 -- ---- texts of games
 
+-- the PGN of one game more comes after those of the games
 texts_more : (plan : GamesPlan) (games : List GameRecord) (g : GameRecord)
     → game_texts plan (games ++ g ∷ []) ≡ game_texts plan games ++ game_text plan (1 + length games) g
 texts_more plan games g = joined_more (λ x. game_text plan x.0 x.1) games g
@@ -201,11 +212,13 @@ games_steps_more plan games g = joined_more (λ x. steps_by Writes plan x.0 x.1)
 
 -- ---- the clock
 
+-- games that follow one another on one clock do so with one game more, if it begins at what the clock then shows
 turn_more : (c : ℕ → Option ℕ) (games : List GameRecord) (g : GameRecord) → ComeInTurn c games
     → BeginsAt (clock_after c games) g → ComeInTurn c (games ++ g ∷ [])
 turn_more c [] g h begins = (begins, tt)
 turn_more c (x ∷ games) g (first, h) begins = (first, turn_more x.after.coming games g h begins)
 
+-- the clock after one game more is the one that this game leaves
 clock_more : (c : ℕ → Option ℕ) (games : List GameRecord) (g : GameRecord)
     → clock_after c (games ++ g ∷ []) ≡ g.after.coming
 clock_more c [] g = refl
@@ -213,6 +226,7 @@ clock_more c (x ∷ games) g = clock_more x.after.coming games g
 
 -- ---- the score
 
+-- a count of outcomes with one game more: one more if the game's outcome is the wanted one for its number
 count_more : (wanted : ℕ → Outcome) (games : List GameRecord) (g : GameRecord) → count_of wanted (games ++ g ∷ [])
     ≡ count_of wanted games + cond (same_outcome g.end.outcome (wanted (1 + length games))) 1 0
 count_more wanted games g =
@@ -221,15 +235,17 @@ count_more wanted games g =
     ∙ sum_by_push (λ (x : ℕ × GameRecord). cond (same_outcome x.1.end.outcome (wanted x.0)) 1 0)
     (enumerate_from 1 games) (1 + length games, g)
 
+-- a count is at most the number of games
 count_few : (wanted : ℕ → Outcome) (games : List GameRecord) → count_of wanted games ≤ length games
 count_few wanted games = subst (λ n. count_of wanted games ≤ n) (length-enumerate_from 1 games)
     (count_by-le-length (λ (x : ℕ × GameRecord). same_outcome x.1.end.outcome (wanted x.0)) (enumerate_from 1 games))
 
--- a count below its limit is exact
+-- a count below its limit, 65,535, is exact
 plus_is : (n : ℕ) (b : Bool) → n < 65535 → plus n b ≡ n + cond b 1 0
 plus_is n true few = omega (arith, few)
 plus_is n false few = omega arith
 
+-- the counter's step is the count over one game more, while there are fewer than 65,535 games
 counted_one : (wanted : ℕ → Outcome) (games : List GameRecord) (g : GameRecord) → length games < 65535
     → plus (count_of wanted games) (same_outcome g.end.outcome (wanted (1 + length games)))
     ≡ count_of wanted (games ++ g ∷ [])
@@ -245,6 +261,7 @@ scores_are : (a a' b b' c c' d d' : ℕ) → a ≡ a' → b ≡ b' → c ≡ c' 
 scores_are a a' b b' c c' d d' e f g h =
     cc
 
+-- likewise the score, of its four counters
 score_more : (games : List GameRecord) (g : GameRecord) → length games < 65535
     → score_after (first_side (1 + length games)) g.end.outcome (score_of games) ≡ score_of (games ++ g ∷ [])
 score_more games g few =
@@ -269,13 +286,15 @@ sound_from plan k number [] g e h of none =
 sound_from plan k number (x ∷ games) g e h of none =
     (h.0, sound_from plan (k + 1) number games g (omega (arith, e)) h.1 of none)
 
+-- games without a fault, and one more without a fault, are games without a fault
 sound_more : (plan : GamesPlan) (number : ℕ) (games : List GameRecord) (g : GameRecord) → number ≡ 1 + length games
     → FaultlessGames plan games → IsOfPlan plan number g → g.end.fault ≡ None → FaultlessGames plan (games ++ g ∷ [])
 sound_more plan number games g e h of none = sound_from plan 1 number games g e h of none
 
 -- ---- so far
 
--- games without a fault were played, written and logged
+-- after `games`, all without a fault: `number` is that of the next game, `score` is that of the games, and c, p, w and
+-- l (clock, steps that may come, output and log) before the first became c', p', w' and l'
 pub record SoFar (plan : GamesPlan) (c c' : ℕ → Option ℕ) (p p' : GamesFuture) (w w' : OutputState) (l l' : LogSeen)
     (number : ℕ) (score : Score) (games : List GameRecord) : Type 0
   where
@@ -289,6 +308,7 @@ pub record SoFar (plan : GamesPlan) (c c' : ℕ → Option ℕ) (p p' : GamesFut
     pub in_turn : ComeInTurn c games
     pub clock : c' ≡ clock_after c games
 
+-- before the first game
 pub start : (plan : GamesPlan) (c : ℕ → Option ℕ) (p : GamesFuture) (w : OutputState) (l : LogSeen)
     → SoFar plan c c p p w w l l 1 no_score []
 start plan c p w l = record {
@@ -306,10 +326,12 @@ start plan c p w l = record {
 module _ (plan : GamesPlan) (c c' c'' : ℕ → Option ℕ) (p p' p'' : GamesFuture) (w w' w'' : OutputState)
     (l l' l'' : LogSeen) (number : ℕ) (score : Score) (games : List GameRecord)
     (s : SoFar plan c c' p p' w w' l l' number score games) where
+  -- the log with one game more
   logged_on : (g : GameRecord) → Logged l' l'' (game_log plan number g) → LogsGames plan l l'' (games ++ g ∷ [])
   logged_on g log =
       logs_more plan l l' l'' games g s.logged (subst (λ n. Logged l' l'' (game_log plan n g)) s.numbered log)
 
+  -- the output with one game more
   written_more : (g : GameRecord) → Sent w' w'' (game_text plan number g)
       → OutputTook w w'' (all_for (games ++ g ∷ []) (game_texts plan (games ++ g ∷ [])))
   written_more g sent =
@@ -317,10 +339,12 @@ module _ (plan : GamesPlan) (c c' c'' : ℕ → Option ℕ) (p p' p'' : GamesFut
       (game_text plan (1 + length games) g) s.written
       (subst (λ n. Sent w' w'' (game_text plan n g)) s.numbered sent))
 
+  -- the clock with one game more
   turns_on : (g : GameRecord) → BeginsAt c' g → ComeInTurn c (games ++ g ∷ [])
   turns_on g begins =
       turn_more c games g s.in_turn (subst (λ (k : ℕ → Option ℕ). BeginsAt k g) s.clock begins)
 
+  -- the steps with one game more
   passed_more : (g : GameRecord) → StepsPass p' p'' (steps_by Writes plan number g)
       → StepsPass p p'' (games_steps plan (games ++ g ∷ []))
   passed_more g steps =
@@ -328,6 +352,7 @@ module _ (plan : GamesPlan) (c c' c'' : ℕ → Option ℕ) (p p' p'' : GamesFut
       (steps_by Writes plan (1 + length games) g) s.passed
       (subst (λ n. StepsPass p' p'' (steps_by Writes plan n g)) s.numbered steps))
 
+  -- the score with one game more
   counted_more : (g : GameRecord) → number ≤ 65535
       → score_after (first_side number) g.end.outcome score ≡ score_of (games ++ g ∷ [])
   counted_more g few =
@@ -336,6 +361,7 @@ module _ (plan : GamesPlan) (c c' c'' : ℕ → Option ℕ) (p p' p'' : GamesFut
       ∙ ap (λ v. score_after (first_side (1 + length games)) g.end.outcome v) s.counted
       ∙ score_more games g (omega (arith, n, few))
 
+  -- a game without a fault keeps the state of the match: `number` and the list of games go up by one
   pub one_more : (g : GameRecord) → number ≤ plan.games → number ≤ 65535 → IsOfPlan plan number g → g.end.fault ≡ None
       → Sent w' w'' (game_text plan number g) → Logged l' l'' (game_log plan number g)
       → StepsPass p' p'' (steps_by Writes plan number g) → BeginsAt c' g → c'' ≡ g.after.coming
@@ -356,6 +382,7 @@ module _ (plan : GamesPlan) (c c' c'' : ℕ → Option ℕ) (p p' p'' : GamesFut
         clock = rests ∙ sym (clock_more c games g);
       }
 
+  -- a game with an engine's fault is the last: the match was played up to it, and the score counts it
   pub with_fault : (g : GameRecord) (side : Colour) (fault : MatchFault) → number ≤ plan.games → number ≤ 65535
       → IsOfPlan plan number g
       → g.end.fault ≡ Some (side, fault) → Sent w' w'' (game_text plan number g)
@@ -374,7 +401,7 @@ module _ (plan : GamesPlan) (c c' c'' : ℕ → Option ℕ) (p p' p'' : GamesFut
         turns_on g begins,
       )
 
-  -- a game that was not written, or not started
+  -- the steps of the games, and then those of a game that was not written or not started (`last`, by its number)
   passed_last : (last : ℕ → List GamesStep) → StepsPass p' p'' (last number)
       → StepsPass p p'' (games_steps plan games ++ last (length games + 1))
   passed_last last steps =
@@ -428,6 +455,8 @@ module _ (plan : GamesPlan) (c c' c'' : ℕ → Option ℕ) (p p' p'' : GamesFut
         passed_last (λ n. unstarted_steps plan n fault) steps,
       )
 
+  -- a fault that `play_game` returns ends the match: a game not written (not_written), or engines not started
+  -- (not_started)
   pub broke_off : (fault : GamesFault) → number ≤ plan.games → PlayedGame plan number c' c'' p' p'' w' w'' l' l'' (Err fault)
       → HasPlayed plan c p p'' w w'' l l'' (Err fault)
   broke_off WriteFailed le (next, of, breaks, log, steps, turn) = not_written next le of breaks log steps turn
@@ -437,6 +466,7 @@ module _ (plan : GamesPlan) (c c' c'' : ℕ → Option ℕ) (p p' p'' : GamesFut
       let (games, o, writes, took, logs, turns, passes) = not_started fault le is same log steps in
       (games, is, (o, writes, took, logs), turns, passes)
 
+-- when all games of the plan were played without a fault, the match was played to its end
 pub all_played : (plan : GamesPlan) (c c' : ℕ → Option ℕ) (p p' : GamesFuture) (w w' : OutputState) (l l' : LogSeen)
     (number : ℕ) (score : Score) (games : List GameRecord) → SoFar plan c c' p p' w w' l l' number score games
     → plan.games < number → HasPlayed plan c p p' w w' l l' (Ok (record { score = score; fault = None }))
@@ -447,7 +477,7 @@ all_played plan c c' p p' w w' l l' number score games s past =
 
 -- ---- the end of a match
 
--- what broke off, at the table
+-- a match that broke off in its games is one at the table: no score was written
 pub broke_at_table : (plan : GamesPlan) (c : ℕ → Option ℕ) (p p' : GamesFuture) (w w' : OutputState) (l l' : LogSeen)
     (fault : GamesFault) → HasPlayed plan c p p' w w' l l' (Err fault)
     → PlaysGamesAt plan (Err fault) c p p' (outputs w l) (outputs w' l')
@@ -458,9 +488,11 @@ broke_at_table plan c p p' w w' l l' _ (games, is, these, turns, steps) = (games
 
 module _ (plan : GamesPlan) (c : ℕ → Option ℕ) (p p' : GamesFuture) (w w' w'' : OutputState) (l l' : LogSeen)
     (played : GamesPlayed) (h : HasPlayed plan c p p' w w' l l' (Ok played)) where
+  -- the line of the score counts these games
   scored : score_text played.score ≡ score_line h.0
   scored = ap score_text h.2 ∙ score_text_is h.0
 
+  -- the output has all games and then the score
   score_sent : Sent w' w'' (score_text played.score) → OutputTook w w'' (all_of (game_texts plan h.0 ++ score_line h.0))
   score_sent sent =
       took_last w w' w'' h.0 (game_texts plan h.0) (score_line h.0) h.3
@@ -478,6 +510,7 @@ module _ (plan : GamesPlan) (c : ℕ → Option ℕ) (p p' : GamesFuture) (w w' 
   turns_all : ComeInTurn c (h.0 ++ [])
   turns_all = subst (ComeInTurn c) (sym (append-nil h.0)) h.6
 
+  -- the score was written, after games without a fault
   pub all_written : Sent w' w'' (score_text played.score) → played.fault ≡ None
       → PlaysGamesAt plan (Ok (tt {0})) c p p' (outputs w l) (outputs w'' l')
   all_written sent none = (
@@ -488,6 +521,7 @@ module _ (plan : GamesPlan) (c : ℕ → Option ℕ) (p p' : GamesFuture) (w w' 
     steps_all,
   )
 
+  -- the score was written, after a game with a fault, whose report is `text`
   pub fault_written : (number : ℕ) (side : Colour) (fault : MatchFault) (text : Bor (List ℕ))
       → text.now ≡ comment_of (Faulted side fault)
       → Sent w' w'' (score_text played.score) → played.fault ≡ Some (number, side, fault)
@@ -505,6 +539,7 @@ module _ (plan : GamesPlan) (c : ℕ → Option ℕ) (p p' : GamesFuture) (w w' 
     steps_all,
   )
 
+  -- the score could not be written, or only a beginning of it
   pub score_broken : CutShort w' w'' (score_text played.score)
       → PlaysGamesAt plan (Err WriteFailed) c p p' (outputs w l) (outputs w'' l')
   score_broken (begun, begins, failing) = (
@@ -522,7 +557,8 @@ module _ (plan : GamesPlan) (c : ℕ → Option ℕ) (p p' : GamesFuture) (w w' 
 
 -- ---- without the steps
 
--- a match with a host is a match: the steps are dropped
+-- what `play_games` claims, of the output and the log alone, follows from what `play_games_with` claims: the steps are
+-- dropped
 pub plays_games : (plan : GamesPlan) (result : Result (Unit {0}) GamesFault) (steps : List HostStep)
     (d d' : Outputs) → PlaysGamesWith plan result steps d d' → PlaysGames plan result d.output d'.output d.log d'.log
 plays_games plan result steps d d' (inl (coming, (games, unwritten, (o, writes, took, logged), turns, passed))) =

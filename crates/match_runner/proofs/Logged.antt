@@ -1,4 +1,6 @@
--- A text that was logged and then another make the log of both; a line is logged once nothing of it waits.
+-- How the log is put together: texts logged one after another make the log of both (logged_more, and adds_more while
+-- bytes still wait to be written), a line is logged once no byte of it waits (line_logged), and the lines of the notes
+-- make the log of a match (notes_logged).
 use Rattle.std.proofs.Common.{◌≡◌, ℕ, suc, ◌+◌, ◌<◌, min, length, drop, take, get_or, not, Bool, true, false, List, [], ◌∷◌, ◌++◌, refl, ap, sym, ◌∙◌, subst, append_assoc, append-nil, Option, Some, None, Result, Ok, Err, arith, is_err, ◌==◌, ◌||◌, nat_lt, flat_map, if◌then◌else◌}
 use native.Mathlib.Numerals.{unary_clauses}
 use Rattle.std.specs.List.{onto_first, position_or_len}
@@ -14,12 +16,12 @@ use Rattle.match_runner.specs.{declared.log.Log.Log, declared.log.Pending.Pendin
 
 -- ---- the output
 
--- nothing was logged
+-- with nothing logged and nothing waiting, the log is as it was, broken or not
 pends_none : (b : Bool) (o : OutputState) → LogsPending b b o o [] []
 pends_none false o = ([], took_nothing o, refl)
 pends_none true o = (refl, refl)
 
--- nothing is pending; `none`: a log that was given no text is as it was
+-- once no byte waits, `LogsPending` gives `Logged`; `none`: a log that was given no text is as it was
 all_logged : (b b' : Bool) (o o' : OutputState) (text : List ℕ) (none : text ≡ [] → log_seen o' b' ≡ log_seen o b)
     → LogsPending b b' o o' [] text → Logged (log_seen o b) (log_seen o' b') text
 all_logged false false o o' text none (written, took, is) = (
@@ -31,6 +33,7 @@ all_logged false true o o' text none h = (λ e. absurd (cc), none, λ e. h)
 all_logged true b' o o' text none (still, same) =
     (λ e. ap (log_seen o') still ∙ ap (λ v. log_seen v true) same, none, λ e. absurd (cc))
 
+-- and `Logged` gives `LogsPending` with no byte waiting
 pends_nothing : (b b' : Bool) (o o' : OutputState) (text : List ℕ) → Logged (log_seen o b) (log_seen o' b') text
     → LogsPending b b' o o' [] text
 pends_nothing false false o o' text h =
@@ -61,7 +64,7 @@ logs_sent o o' (Err e) failed (b ∷ text) some (start, begins, failing) is =
       λ e. (broke nothing start, took_some o o' start failing, (begins, refl)),
     )
 
--- bytes more are pending
+-- bytes that were added to those that wait are added to the text
 logs_pending : (b b' : Bool) (o o' : OutputState) (pending text more : List ℕ) → LogsPending b b' o o' pending text
     → LogsPending b b' o o' (pending ++ more) (text ++ more)
 logs_pending false false o o' pending text more (written, took, is) =
@@ -99,7 +102,7 @@ logs_flushed false true b'' o o' o'' pending text h (broken, same) =
 logs_flushed true b' b'' o o' o'' pending text (broken, same) k =
     let (still, kept) = subst (λ (b : Bool). LogsPending b b'' o' o'' [] pending) broken k in (still, kept ∙ same)
 
--- no text was logged, and then none
+-- if both texts are empty, the log is as it was
 still_none : (l l' l'' : LogSeen) (x y : List ℕ) → (x ≡ [] → l' ≡ l) → (y ≡ [] → l'' ≡ l') → x ++ y ≡ [] → l'' ≡ l
 still_none l l' l'' [] y h k e = k e ∙ h refl
 still_none l l' l'' (b ∷ x) y h k e = absurd (cc)
@@ -115,6 +118,7 @@ logged_more l l' l'' x y h k =
 
 -- ---- pending bytes
 
+-- two texts added one after the other are added as one
 pub adds_more : (o o' o'' : OutputState) (p p' p'' : Pending) (a b : List ℕ) → Adds o o' p p' a → Adds o' o'' p' p'' b
     → Adds o o'' p p'' (a ++ b)
 adds_more o o' o'' p p' p'' a b x y = record {
@@ -122,10 +126,11 @@ adds_more o o' o'' p p' p'' a b x y = record {
       (append_assoc text a b) (y.after from (text ++ a) (x.after from text h));
 }
 
+-- an equal text was added
 pub adds_as : (o o' : OutputState) (p p' : Pending) (a b : List ℕ) → a ≡ b → Adds o o' p p' a → Adds o o' p p' b
 adds_as o o' p p' a b e x = subst (λ (t : List ℕ). Adds o o' p p' t) e x
 
--- a byte more is pending
+-- a byte that was put with those that wait was added
 pub adds_pending : (o : OutputState) (p p' : Pending) (b : ℕ) → p'.broken ≡ p.broken
     → p'.bytes.items ≡ p.bytes.items ++ b ∷ [] → Adds o o p p' (b ∷ [])
 adds_pending o p p' b same more = record {
@@ -151,7 +156,7 @@ ends_somewhere : (start : List ℕ) (last : ℕ) → start ++ last ∷ [] ≡ []
 ends_somewhere [] last e = absurd (cc)
 ends_somewhere (b ∷ start) last e = absurd (cc)
 
--- the line that was added to no bytes, until nothing waits, was logged
+-- a line that was added when no byte waited, and after which none waits, was logged
 pub line_logged : (b : Bool) (o o' : OutputState) (p p' : Pending) (start : List ℕ) → p.broken ≡ b
     → p.bytes.items ≡ [] → p'.bytes.items ≡ [] → Adds o o' p p' (start ++ new_line ∷ [])
     → Logged (log_seen o b) (log_seen o' p'.broken) (start ++ new_line ∷ [])
@@ -165,6 +170,8 @@ line_logged b o o' p p' start same none ended a =
 
 -- ---- bytes and lines, one after the other
 
+-- a loop over the bytes of a text keeps: what was done so far, and F of the bytes from index i on, make F of the whole
+-- text. One byte more, whose part of F is `piece`, keeps that
 pub loop_step : (F : List ℕ → List ℕ) (text : List ℕ) (i : ℕ) (piece done : List ℕ) → i < length text
     → ((rest : List ℕ) → F (get_or text i 0 ∷ rest) ≡ piece ++ F rest) → done ++ F (drop i text) ≡ F text
     → (done ++ piece) ++ F (drop (i + 1) text) ≡ F text
@@ -177,13 +184,15 @@ loop_step F text i piece done lt f h =
 abbrev line_len : List ℕ → ℕ
 line_len text = position_or_len (λ x. x == new_line) text
 
--- a byte more before the first line feed
+-- to take one byte more of a list that has one byte more in front
 one_more : (n c : ℕ) (xs : List ℕ) → take (1 + n) (c ∷ xs) ∷ lines_in (drop (1 + n + 1) (c ∷ xs))
     ≡ (c ∷ take n xs) ∷ lines_in (drop (n + 1) xs)
 one_more n c xs =
     let e : 1 + n ≡ suc n = omega arith in
     ap (λ m. take m (c ∷ xs) ∷ lines_in (drop (m + 1) (c ∷ xs))) e ∙ simp unary_clauses refl
 
+-- the byte c before the text cs: if it is a line feed (b), it ends an empty first line; otherwise it is put onto cs's
+-- first line
 line_step : (c : ℕ) (cs : List ℕ) (b : Bool)
     → onto_first c (lines_in cs) ≡ take (1 + line_len cs) (c ∷ cs) ∷ lines_in (drop (1 + line_len cs + 1) (c ∷ cs))
     → (if b then [] ∷ lines_in cs else onto_first c (lines_in cs))
@@ -192,6 +201,7 @@ line_step : (c : ℕ) (cs : List ℕ) (b : Bool)
 line_step c cs true more = refl
 line_step c cs false more = more
 
+-- by induction over the text: its lines are what comes before its first line feed, and the lines after that
 first_line : (c : ℕ) (cs : List ℕ) → lines_in (c ∷ cs)
     ≡ take (line_len (c ∷ cs)) (c ∷ cs) ∷ lines_in (drop (line_len (c ∷ cs) + 1) (c ∷ cs))
 first_line c [] = line_step c [] (c == new_line) refl
@@ -228,6 +238,7 @@ given_all first side moment (x ∷ xs) all done none h = absurd (grind (arith, n
 
 -- ---- notes
 
+-- the log of one note more: the lines of the note, at the moment that the notes before it reached, come last
 log_more : (first : Colour) (moment : ℕ) (notes : List Note) (n : Note)
     → log_from first moment (notes ++ n ∷ [])
     ≡ log_from first moment notes ++ note_text (engine_name first) (moment_from moment notes) n
@@ -237,6 +248,7 @@ log_more first moment (x ∷ notes) n =
     ∙ sym (append_assoc (note_text (engine_name first) moment x) (log_from first (moment_after moment x) notes)
     (note_text (engine_name first) (moment_from (moment_after moment x) notes) n))
 
+-- the moment after one note more
 moment_more : (moment : ℕ) (notes : List Note) (n : Note) → moment_from moment (notes ++ n ∷ [])
     ≡ moment_after (moment_from moment notes) n
 moment_more moment [] n = refl
@@ -274,10 +286,12 @@ noted seen l l' n (logged, same, after) = record {
 
 -- ---- a whole match
 
+-- the text that stands for a log's beginning (`text_of_log`) gives back the side of the first engine
 first_again : (first : Colour) (l : LogSeen) → first_of_text (text_of_log first l) ≡ first
 first_again White l = refl
 first_again Black l = refl
 
+-- and it gives back the log's state
 seen_again : (first : Colour) (known : Option (List ℕ)) (failures unflushed : ℕ) (broken : Bool)
     → log_of_text (text_of_log first (record {
       output = record { known_bytes = known; failure_count = failures; unflushed = unflushed };
@@ -291,7 +305,7 @@ seen_again first None failures unflushed false = refl
 seen_again first (Some bytes) failures unflushed false = refl
 seen_again first _ failures unflushed _ = refl
 
--- a witness was given these notes from the beginning of its log on
+-- a log that a match was given as its witness, from its beginning on, has the log of the notes
 pub notes_logged : (first side side' : Colour) (from l l' : LogSeen) (moment moment' : ℕ) (notes : List Note)
     → IsLog first from side l moment []
     → WasNoted (λ before more. IsLog (first_of_text before) (log_of_text before) side l moment more)

@@ -1,5 +1,6 @@
--- A step that passed at a host over memory was the next that might come there, and those after it are such as may come
--- at the host that it left.
+-- Steps at a host over memory. A step that passed there was the next that might come, and what may come later is what
+-- may come at the host that it left (step_passes); this is used of a start that failed (none_starts) and of one that
+-- didn't (both_start).
 use Rattle.std.proofs.Common.{◌≡◌, ◌≢◌, ◌∙◌, ◌+◌, ◌≤◌, ℕ, zero, suc, Bool, List, [], ◌∷◌, ◌++◌, Option, Some, refl, sym, ap, arith, append-nil, append_assoc, length, option_map, slice_get, get_or, set, IfSome, cond, count_by}
 use Rattle.std.proofs.{lemmas.List.Sums.sum_by-cons, lemmas.Option.slice_get_past}
 use Rattle.byte_devices.specs.Transfers.{Devices}
@@ -10,7 +11,8 @@ use Rattle.match_runner.specs.{declared.fault.GamesFault.GamesFault, declared.me
 
 -- ---- what may come
 
--- one step, which may come next, passed from `host` to `host'`
+-- a step passed from `host` to `host'` if it may come next (IsNext), the engines and moments stay, and the commands
+-- that it started are noted
 pub step_passes : (host host' : MemoryHost) (step : HostStep)
     → host'.engines.now ≡ host.engines.now → host'.moments.now ≡ host.moments.now
     → started_for host'.games.items ≡ started_for host.games.items ++ started_by step
@@ -36,7 +38,7 @@ step_passes host host' step e m g next = record { extends = λ after come. recor
 
 -- ---- starts
 
--- how often a command was started is how often as White's and as Black's
+-- how many of all starts pass a test is how many of White's and of Black's do
 pub started_as : (p : List ℕ → Bool) (games : List MemoryGame)
     → count_by p (started_for games)
     ≡ count_by (λ g. p g.commands.white.now) games + count_by (λ g. p g.commands.black.now) games

@@ -188,8 +188,8 @@ fn game_count(plan: &GamesPlan<'_>) -> u32
     u32::from(plan.games)
 }
 
-// Plays the plan's games one after another, up to and with the first in which an engine has a fault, and writes and
-// logs each. Returns the score, and that fault.
+// Plays the plan's games one after another, up to the first in which an engine has a fault, which is the last; writes
+// and logs each. Returns the score, and that fault.
 fn play_each<'a, T: GamesTable, W: Output, E: Output>(
     table: &mut T,
     plan: &GamesPlan<'a>,

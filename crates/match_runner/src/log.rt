@@ -24,7 +24,7 @@ use chess_match::{Ends, MatchEnd, Moments, Note, Setup, Witness, run_match_watch
 use chess_moves::Board;
 use itoa::Buffer;
 
-// The bytes that wait of a line of the log that has not ended (a line of more than 256 is written in parts), and
+// The bytes of the log's present line that wait to be written (a line of more than 256 bytes is written in parts), and
 // whether a write or flush of the log failed.
 #[derive(Drop)]
 pub(crate) struct Pending {
@@ -205,7 +205,7 @@ fn engine_text(is_first: bool) -> &'static [u8]
     if is_first { b"first : " } else { b"second: " }
 }
 
-// How a side is called.
+// The name of a side: `White` or `Black`.
 fn colour_name(side: Colour) -> &'static [u8]
     ensures { result.now ≡ colour_name side }
 {

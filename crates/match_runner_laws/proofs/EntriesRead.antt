@@ -1,4 +1,6 @@
--- The lines of a log are read back from its text; and some of them by computation.
+-- The lines of a log are read back from its text: a line is cut at the first byte after its number, after its mark and
+-- engine, and at its `\n`, each in only one way (line_cut, logs_have_one_reading). The log of notes is the text of
+-- their lines (log_is).
 use Rattle.std.proofs.Common.{◌≡◌, ◌∙◌, ℕ, Bool, true, false, List, [], ◌∷◌, ◌++◌, map, refl, sym, ap, append_assoc, append-nil, Some, None, arith, rules, ◌==◌, codes, decimal, flat_map, if◌then◌else◌}
 use Rattle.std.proofs.{lemmas.Bool.and_parts, lemmas.Bool.Decides.nat_tests, lemmas.List.append_cancel_left, lemmas.List.Concat.flat_map-append, lemmas.Fmt.decimal_injective, lemmas.Fmt.digits_decimal, lemmas.Str.Parse.IsNumeralModel, lemmas.Str.Parse.numerals_by_value}
 use Rattle.std.specs.{Fmt.digits, Str.Parse.digits_value, List.AllByRecursion, List.list_all}
@@ -17,6 +19,7 @@ engine_text is_first = if is_first then codes "first : " else codes "second: "
 abbrev Without : ℕ → List ℕ → Type 0
 Without c bs = AllByRecursion (λ b. (b == c) ≡ false) bs
 
+-- a byte that is c doesn't differ from it
 differ : (c y : ℕ) → c ≡ y → (y == c) ≡ false → ⊥
 differ c y e n = grind (arith, nat_tests)
 
@@ -31,12 +34,14 @@ cut c (x ∷ xs) (y ∷ ys) zs ws (n, h) (m, k) e =
     let p = cut c xs ys zs ws h k rest in
     let same : x ≡ y = cc in (ap (λ (b : ℕ). b ∷ xs) same ∙ ap (λ (l : List ℕ). y ∷ l) p.0, p.1)
 
+-- decimal numbers are read back from their digits
 numeral : IsNumeralModel (λ ds. list_all is_digit ds ≡ true) (digits_value 10)
 numeral = numerals_by_value _ (search rules)
 
 digit_byte : (c : ℕ) → is_digit c ≡ true → (c == 32) ≡ false
 digit_byte c h = grind (arith, nat_tests)
 
+-- a number's digits have no space in them
 digits_without : (ds : List ℕ) → list_all is_digit ds ≡ true → Without 32 ds
 digits_without [] h = tt
 digits_without (c ∷ cs) h =
@@ -45,6 +50,7 @@ digits_without (c ∷ cs) h =
 printable_byte : (c : ℕ) → is_printable c ≡ true → (shown_byte c ≡ c) × ((c == new_line) ≡ false)
 printable_byte c h = (grind (arith, nat_tests), grind (arith, nat_tests))
 
+-- a text of printable ASCII is shown as it is, and has no line feed
 shown_text : (t : List ℕ) → list_all is_printable t ≡ true → (map shown_byte t ≡ t) × Without new_line t
 shown_text [] h = (refl, tt)
 shown_text (c ∷ cs) h =
@@ -53,7 +59,8 @@ shown_text (c ∷ cs) h =
     let r = shown_text cs p.1 in
     (ap (λ (d : ℕ). d ∷ map shown_byte cs) b.0 ∙ ap (λ (l : List ℕ). c ∷ l) r.0, (b.1, r.1))
 
--- a line and what follows, from left to right
+-- a line of the log and what follows it, as one text that is cut from the left: number, space, mark, engine, text, line
+-- feed
 spread : (first : Colour) (moment mark : ℕ) (side : Colour) (text shows rest : List ℕ) → map shown_byte text ≡ shows
     → log_line moment mark (engine_name first side) text ++ rest
     ≡ decimal moment ++ 32 ∷ mark ∷ (engine_text (same_colour side first) ++ (shows ++ new_line ∷ rest))
@@ -74,6 +81,7 @@ head_is x y xs ys e = cc
 tail_is : (x y : ℕ) (xs ys : List ℕ) → x ∷ xs ≡ y ∷ ys → xs ≡ ys
 tail_is x y xs ys e = cc
 
+-- two texts that begin with an engine's name begin with the same one
 engine_cut : (a b : Bool) (xs ys : List ℕ) → engine_text a ++ xs ≡ engine_text b ++ ys → (a ≡ b) × (xs ≡ ys)
 engine_cut true true xs ys e = (refl, append_cancel_left (codes "first : ") xs ys e)
 engine_cut false false xs ys e = (refl, append_cancel_left (codes "second: ") xs ys e)
@@ -86,10 +94,12 @@ side_is a b first e = grind (arith, e)
 abbrev entry : ℕ → ℕ → Colour → List ℕ → Entry
 entry m k s t = record { moment = m; mark = k; side = s; text = t }
 
+-- lines with equal parts are equal
 entry_is : (m n k l : ℕ) (a b : Colour) (t u : List ℕ) → m ≡ n → k ≡ l → a ≡ b → t ≡ u → entry m k a t ≡ entry n l b u
 entry_is m n k l a b t u e f g h =
     ap (λ v. entry v k a t) e ∙ ap (λ v. entry n v a t) f ∙ ap (λ v. entry n l v t) g ∙ ap (λ v. entry n l b v) h
 
+-- two texts that are equal and begin with a line begin with the same line
 line_cut : (first : Colour) (e f : Entry) (xs ys : List ℕ) → IsShown e → IsShown f
     → log_line e.moment e.mark (engine_name first e.side) e.text ++ xs
     ≡ log_line f.moment f.mark (engine_name first f.side) f.text ++ ys
@@ -132,6 +142,7 @@ logs_have_one_reading first (x ∷ xs) (y ∷ ys) (s, h) (t, k) e =
 
 -- ---- the lines of notes
 
+-- the lines that an engine is sent, as lines of the log
 sent_are : (first : Colour) (moment : ℕ) (c : Colour) (texts : List (List ℕ))
     → flat_map (log_line moment (byte ">") (engine_name first c)) texts
     ≡ entries_text first (map (λ text. record { moment = moment; mark = byte ">"; side = c; text = text }) texts)
@@ -139,6 +150,7 @@ sent_are first moment c [] = refl
 sent_are first moment c (t ∷ ts) =
     ap (λ (l : List ℕ). log_line moment (byte ">") (engine_name first c) t ++ l) (sent_are first moment c ts)
 
+-- the text of a note is that of its lines
 note_is : (first : Colour) (moment : ℕ) (n : Note)
     → note_text (engine_name first) moment n ≡ entries_text first (note_entries moment n)
 note_is first moment (Happened (Line c (Some text) now)) =

@@ -1,4 +1,5 @@
--- All games of a match but the last are without a fault of an engine, so no write to an engine failed in them.
+-- All games of a match but the last are without a fault of an engine. If a write to an engine fails, a fault is
+-- reported (none_failed), so in these games none failed, and the counts of failures are as before (no_failures).
 use Rattle.std.specs.List.{AllByRecursion, enumerate_from}
 use Rattle.std.proofs.Common.{◌≡◌, ◌∙◌, ◌<◌, ◌+◌, ℕ, Bool, true, false, List, [], ◌∷◌, length, Some, None, refl, ap, sym, arith, cond, nat_lt, option_map}
 use Rattle.std.proofs.lemmas.Bool.Decides.{nat_tests}
@@ -11,6 +12,7 @@ use Rattle.match_runner_laws.specs.Faults.{KeepsFailureCounts, OnlyLastGamesHave
 
 -- ---- a match without a fault
 
+-- if no write fault is reported, neither White's writes nor Black's failed (x, y)
 by_side : (x y : Bool)
     → option_map {U = Colour × MatchFault} (λ side. (side, Write)) (cond x (Some White) (cond y (Some Black) None)) ≡ None
     → (x ≡ false) × (y ≡ false)
@@ -23,6 +25,7 @@ by_sides : (failed : Colour → Bool) (e : (failed White ≡ false) × (failed B
 by_sides failed e White = e.0
 by_sides failed e Black = e.1
 
+-- without a reported fault no write failed to either side
 none_failed : (reason : Reason) (failed : Colour → Bool) → reported_fault reason failed ≡ None
     → (failed White ≡ false) × (failed Black ≡ false)
 none_failed (Faulted c f) failed e = absurd cc
@@ -31,6 +34,7 @@ none_failed _ failed e = by_side (failed White) (failed Black) e
 none_above : (n : ℕ) → 0 < n → nat_lt 0 n ≡ false → ⊥
 none_above n h e = grind (arith, nat_tests)
 
+-- if no block broke off, the count of failures of an engine's input stays
 all_written : (sent : List SentLine) (broken : List (List SentLine)) (w w' : OutputState) (o : ToOutput)
     → nat_lt 0 (length broken) ≡ false → OutputTook w w' o → WasSent sent broken o
     → w'.failure_count ≡ w.failure_count
@@ -39,6 +43,7 @@ all_written sent [] w w' o none took was =
 all_written sent (block ∷ []) w w' o none took was = absurd (none_above 1 (omega arith) none)
 all_written sent (block ∷ next ∷ more) w w' o none took was = absurd was
 
+-- a match without a fault leaves both counts as they were
 no_failures : (notes : List Note) (setup : Setup) (end : MatchEnd) (w w' : World)
     → PlayedNoting (λ given. given ≡ notes) setup end w w' → end.fault ≡ None
     → (S : Colour) → (w'.engines S).output.failure_count ≡ (w.engines S).output.failure_count
@@ -49,6 +54,7 @@ no_failures notes setup end w w' (H, reason, given, (final, run, reported, left)
 
 -- ---- games without a fault
 
+-- by induction over the games from `number` on
 from_there : (plan : GamesPlan) (number : ℕ) (games : List GameRecord)
     → AllByRecursion (λ g. IsOfPlan plan g.0 g.1 × (g.1.end.fault ≡ None)) (enumerate_from number games)
     → AllByRecursion KeepsFailureCounts games

@@ -1,4 +1,6 @@
--- A game is fixed by what its engines say and its clock shows, if nothing fails at its engines' pipes.
+-- A game is fixed by what its engines say and its clock shows, if nothing fails at its engines' pipes: its acts are
+-- then those that these streams give (are_of), each engine has been sent all its lines (sent_all), and what the clock
+-- will show later is fixed too (clock_left).
 use Rattle.std.proofs.Common.{◌≡◌, ◌≢◌, ◌∙◌, ◌+◌, ℕ, Bool, true, false, List, [], ◌∷◌, ◌++◌, length, Option, None, Some, refl, sym, ap, subst, append_assoc, append-nil, arith, IfSome, if◌then◌else◌, is_some, map, nat_eq, nat_lt, slice_get}
 use Rattle.std.specs.Io.KnownBytes.{Appends, Consumes, IsAtEnd}
 use Rattle.std.proofs.lemmas.List.{map-append}
@@ -11,8 +13,9 @@ use Rattle.chess_match.specs.{Acts.Act, Effects.Match, Lines.SentLine, Lines.byt
 use Rattle.chess_match_laws.specs.{Streams.Streams, OfActs.AreOf, OfActs.AreSilent}
 use Rattle.chess_match.specs.laws.Laws.{has_ended, is_broken, lines_read, moments_shown, broken_blocks, lines_sent}
 
--- ---- lines of the beginning of a text
+-- ---- the lines of a text's beginning begin the lines of the text
 
+-- the lines `all` begin with the lines `some`
 abbrev Begun : List LineSeen → List LineSeen → Type 0
 Begun all some = (rest : List LineSeen) × (all ≡ some ++ rest)
 
@@ -39,6 +42,7 @@ lines_begin n part (c ∷ a) b =
               ∙ ap (λ (ls : List LineSeen). ls ++ rest) (sym (byte_step n false part c a other)),
         )
 
+-- likewise of the lines that engines send, which have a greatest length
 engine_lines_begin : (a b : List ℕ) → (rest : List (Option (List ℕ))) × (engine_lines (a ++ b) ≡ engine_lines a ++ rest)
 engine_lines_begin a b =
     let (rest, is) = lines_begin ENGINE_LINE_LEN [] a b in
@@ -78,10 +82,12 @@ no_block_failed sent (b ∷ c ∷ more) o was none = absurd was
 
 -- ---- a match of these pipes
 
+-- a moment that is known, otherwise 0
 abbrev moment_or : Option ℕ → ℕ
 moment_or None = 0
 moment_or (Some n) = n
 
+-- if the clock's next moment is known, it is the one that was shown
 shown_moment : (o : Option ℕ) (shown : Option ℕ) → is_some o ≡ true → IfSome o (λ t. shown ≡ Some t)
     → shown ≡ Some (moment_or o)
 shown_moment None shown h k = absurd (let e : false ≡ true = h in cc)
@@ -113,9 +119,11 @@ pub record Whole (w : World) : Type 0 where
 
 module _ (texts : Colour → List ℕ) (coming : ℕ → Option ℕ) (r : Rules) (H : List Act) (final : Match) (w w' : World)
     (fresh : Fresh texts coming w) (whole : Whole w') (p : Passed r H final w w') where
+  -- what the arbiter read of an engine
   abbrev came : Colour → FromInput
   came S = (p.passed S).0
 
+  -- what the arbiter wrote to an engine
   abbrev went : Colour → ToOutput
   went S = (p.passed S).1
 
@@ -131,9 +139,11 @@ module _ (texts : Colour → List ℕ) (coming : ℕ → Option ℕ) (r : Rules)
   no_write_failed S = none_failed (went S).failed (w.engines S).output.failure_count (w'.engines S).output.failure_count
       (fresh.writes S) (whole.writes S) (p.passed S).3.failures
 
+  -- all lines were written to the engine, and none broke off
   all_sent : (S : Colour) → (is_broken H S ≡ false) × (went S ≡ all_for (lines_sent S H) (bytes_of (lines_sent S H)))
   all_sent S = no_block_failed (lines_sent S H) (broken_blocks S H) (went S) (p.passed S).4.1 (no_write_failed S)
 
+  -- the lines that were read are the first of those that the engine says
   lines_come : (S : Colour) → (rest : List (Option (List ℕ))) × (engine_lines (texts S) ≡ lines_read S H ++ rest)
   lines_come S =
       let (left, here, cut) = read S in
@@ -158,6 +168,7 @@ module _ (texts : Colour → List ℕ) (coming : ℕ → Option ℕ) (r : Rules)
       at_end None left here none = absurd (cc)
       at_end (Some xs) left here none = let same : xs ≡ left = cc in sym same ∙ none
 
+  -- the acts are those of these streams; `silent`: no look for a line found none
   pub are_of : AreSilent (λ S n. false) H → AreOf (streams texts coming) H
   are_of silent = record {
     reads = record {

@@ -1,4 +1,5 @@
--- Steps that passed at a host over memory are steps that might come there.
+-- Steps that passed at a host over memory are steps that might come there: `MayCome` holds of the empty list at the
+-- host that they left, so of the steps at the one before them.
 use Rattle.std.proofs.Common.{◌≡◌, List, [], ◌∷◌, ◌++◌, append-nil, subst}
 use Rattle.match_runner.specs.{GamesTable.HostStep, MemoryHost.MayCome}
 use Rattle.match_runner_laws.specs.Hosts.{StepsMightCome}

@@ -1,4 +1,6 @@
--- What the lines of a log show of its match, and that a log gives the match back.
+-- What the lines of a log show of its match: its events but for openings of turns (events_read), the bytes that each
+-- engine is sent (given_read) and the result (result_read). So two matches with the same log have the same events,
+-- moves, reason and items (logs_give_the_game), since the events are played again (Replays).
 use Rattle.std.proofs.Common.{◌≡◌, ◌⊎◌, ◌∙◌, ℕ, Bool, true, false, List, [], ◌∷◌, ◌++◌, map, refl, sym, ap, append_assoc, append-nil, inl, inr, Option, Some, None, arith, ◌==◌, codes, flat_map, if◌then◌else◌, not}
 use Rattle.std.proofs.{lemmas.Bool.and_parts, lemmas.List.map-append, lemmas.List.Concat.flat_map-append, lemmas.Bool.Decides.nat_tests}
 use Rattle.std.specs.List.{list_all, onto_first}
@@ -17,17 +19,21 @@ use Rattle.match_runner_laws.proofs.PlayedAgain.{again, ends_by_flag, last_lines
 
 -- ---- events
 
+-- the log's line for a line that an engine is sent
 abbrev sent_entry : ℕ → Colour → List ℕ → Entry
 sent_entry moment side text = record { moment = moment; mark = byte ">"; side = side; text = text }
 
+-- such lines show no event
 no_event : (moment : ℕ) (side : Colour) (texts : List (List ℕ))
     → flat_map entry_event (map (sent_entry moment side) texts) ≡ []
 no_event moment side [] = refl
 no_event moment side (t ∷ ts) = no_event moment side ts
 
+-- one event more in front of equal events
 event_more : (event : Event) (shown rest : List Event) → shown ≡ rest → event ∷ shown ≡ event ∷ rest
 event_more event shown rest e = ap (λ (l : List Event). event ∷ l) e
 
+-- by induction over the notes: their lines show the events of the notes, but for openings
 events_read : (moment : ℕ) (notes : List Note)
     → flat_map entry_event (entries_from moment notes) ≡ events_shown (events_in notes)
 events_read moment [] = refl
@@ -52,7 +58,7 @@ joined ls = flat_map (λ l. l ++ new_line ∷ []) ls
 is_new_line : (b : ℕ) → (b == new_line) ≡ true → new_line ≡ b
 is_new_line b h1 = grind (arith, nat_tests)
 
--- the lines of a text with `\n` at its end, and what follows
+-- the lines of a text that ends with `\n`, and then those of what follows
 ended_text : (text rest : List ℕ) → (p : List ℕ) × (ps : List (List ℕ))
     × (lines_in (text ++ new_line ∷ rest) ≡ p ∷ ps ++ lines_in rest)
     × (joined (p ∷ ps) ≡ text ++ new_line ∷ [])
@@ -99,6 +105,7 @@ block_lines (l ∷ ls) more =
           ∙ ap (λ (t : List (List ℕ)). p ∷ t) (sym (append_assoc ps before (lines_in (bytes_of more)))),
     )
 
+-- a text without `\n` that is followed by one is one line
 plain_line : (text rest : List ℕ) → list_all (λ b. not (b == new_line)) text ≡ true
     → lines_in (text ++ new_line ∷ rest) ≡ text ∷ lines_in rest
 plain_line [] rest h = refl
@@ -114,6 +121,7 @@ plain_line (b ∷ bs) rest h =
 
 -- ---- bytes that are sent
 
+-- of lines that side c is sent, S is sent all, each with its `\n`, if it is c, and otherwise none
 given_entries : (S c : Colour) (moment : ℕ) (texts : List (List ℕ))
     → flat_map (entry_given S) (map (sent_entry moment c) texts) ≡ list_if (same_colour c S) (joined texts)
 given_entries S c moment [] = grind arith
@@ -129,6 +137,7 @@ given_entries S c moment (t ∷ ts) =
 abbrev given_by : Colour → List Entry → List ℕ
 given_by S entries = flat_map (entry_given S) entries
 
+-- a block adds its bytes to what its side is sent, and nothing to the other
 given_block : (S c : Colour) (moment : ℕ) (lines more : List SentLine) (entries : List Entry)
     → given_by S entries ≡ bytes_of more
     → given_by S (note_entries moment (Gives c (bytes_of lines)) ++ entries)
@@ -151,6 +160,7 @@ given_failure : (S c : Colour) (moment : ℕ) (notes : List Note) (noted : Bool)
 given_failure S c moment notes true = refl
 given_failure S c moment notes false = refl
 
+-- by induction over the acts: a log's lines show all bytes that S is sent
 given_read : (S : Colour) (moment : ℕ) (reason : Reason) (H : List Act)
     → given_by S (entries_from moment (notes_given reason H)) ≡ bytes_of (lines_given S H)
 unfolding bytes_of
@@ -169,6 +179,7 @@ given_read S moment reason (Happens _ ∷ H) = given_read S moment reason H
 
 -- ---- the result
 
+-- the result is the text of the last line but one
 result_is : (before : List Entry) (e f : Entry) → result_line (before ++ e ∷ f ∷ []) ≡ e.text
 result_is [] e f = refl
 result_is (a ∷ []) e f = refl
@@ -188,6 +199,7 @@ last_note moment (x ∷ before) n =
           ∙ sym (append_assoc (note_entries moment x) lines (note_entries now n)),
     )
 
+-- the end lines of a match are `result ..` and `quit`
 last_two : (reason : Reason) → lines_in (bytes_of (last_lines reason)) ≡ text_of_result reason ∷ codes "quit" ∷ []
 unfolding bytes_of
 last_two reason = plain_line (text_of_result reason) _ (result_plain reason)
@@ -208,6 +220,7 @@ block_result S now lines reason =
           ∙ map-append mark before (text_of_result reason ∷ codes "quit" ∷ []),
     )
 
+-- the notes of a match end with the end lines (EndsAs), so its result is their `result ..`
 result_read : (notes : List Note) (reason : Reason) → EndsAs reason notes
     → result_line (entries_from 0 notes) ≡ text_of_result reason
 result_read notes reason (before, S, lines, is) =
@@ -221,6 +234,7 @@ result_read notes reason (before, S, lines, is) =
 
 -- ---- a whole log
 
+-- all of this of the log of a match
 pub logs_show : LogsShow
 logs_show r first reason H final h over = (
   log_is first 0 (notes_given reason H),
@@ -232,6 +246,7 @@ logs_show r first reason H final h over = (
 -- what is reported of a match shows whether a flag fell; then it is the reason itself
 module _ (r : Rules) (reason : Reason) (H : List Act) (final : Match) (h : IsMatch r H final)
     (over : final.phase ≡ Over reason) where
+  -- a match whose position has a verdict didn't end because a flag fell
   decided_in_time : (v : Verdict) → verdict r.start final.played ≡ Some v → ends_by_flag reason ≡ false
   decided_in_time v e = at (verdicts_end_matches r v H final h e)
     where
@@ -243,6 +258,7 @@ module _ (r : Rules) (reason : Reason) (H : List Act) (final : Match) (h : IsMat
       at (inr (none, c, fault, p)) = let same : Over reason ≡ Over (Faulted c fault) = sym over ∙ p in
           let is : reason ≡ Faulted c fault = cc in ap ends_by_flag is
 
+  -- whether a flag fell is the same of the reported reason
   late_shown : ends_by_flag (shown_reason r final reason) ≡ ends_by_flag reason
   late_shown = at (verdict r.start final.played) refl
     where
@@ -251,6 +267,7 @@ module _ (r : Rules) (reason : Reason) (H : List Act) (final : Match) (h : IsMat
       at None e = refl
       at (Some v) e = sym (decided_in_time v e)
 
+  -- if a flag fell, the reported reason is the reason itself
   flag_shown : ends_by_flag reason ≡ true → shown_reason r final reason ≡ reason
   flag_shown late = at (verdict r.start final.played) refl
     where
@@ -270,6 +287,7 @@ reasons_are r reason reason' H K final final' h k over over' shown lates phases 
 reasons_are r reason reason' H K final final' h k over over' shown lates phases false plain =
     let same : Over reason ≡ Over reason' = sym over ∙ phases plain ∙ over' in cc
 
+-- from equal lines: equal events, and equal results, so equal reported reasons; playing the events again gives the rest
 pub logs_give_the_game : LogsGiveTheGame
 logs_give_the_game r first reason reason' H K final final' h k over over' plain plain' same =
     let xs : List Entry = entries_from 0 (notes_given reason H) in

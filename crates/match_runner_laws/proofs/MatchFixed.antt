@@ -1,4 +1,7 @@
--- A match at a host over memory is fixed by the host and the plan.
+-- A match at a host over memory is fixed by the host and the plan (one_match). Game by game, the host starts both
+-- engines with the same texts and shows the same moments, so the games of two matches are the same as far as both have
+-- games (begin_alike). Both end at the same game, the last or the first with a fault (all_same), so their outputs, logs
+-- and faults are the same.
 use Rattle.std.proofs.Common.{◌≡◌, ◌∙◌, ◌+◌, ◌<◌, ◌-◌, ◌⊎◌, ℕ, suc, true, List, [], ◌∷◌, ◌++◌, length, Option, None, Some, Result, Ok, Err, refl, sym, ap, subst, append_assoc, append-nil, length-append, arith, inl, inr}
 use Rattle.std.specs.Prelude.{⊤, codes, decimal, is_some}
 use Rattle.std.specs.List.{AllByRecursion, enumerate_from, flat_map, last_or, slice_get}
@@ -32,6 +35,7 @@ pub record SameGame (plan : GamesPlan) (g h : GameRecord) : Type 0 where
   pub clock : (n : ℕ) → g.after.coming n ≡ h.after.coming n
   pub known : (n : ℕ) → is_some (g.after.coming n) ≡ true
 
+-- equal matches ended for the same reason
 same_reason : (m m' : Match) (reason reason' : Reason) → m ≡ m' → m.phase ≡ Over reason → m'.phase ≡ Over reason'
     → reason ≡ reason'
 same_reason m m' reason reason' e h k =
@@ -86,6 +90,7 @@ EachNext engines moments earlier [] = ⊤
 EachNext engines moments earlier (step ∷ steps) =
     IsNext engines moments earlier step × EachNext engines moments (earlier ++ started_by step) steps
 
+-- from what may come as `MayCome` says it, with all steps before a step, to the recursive form
 each_next : (engines : List MemoryEngine) (moments : List ℕ) (earlier : List (List ℕ)) (steps : List HostStep)
     → ((before : List HostStep) (step : HostStep) (after : List HostStep) → before ++ step ∷ after ≡ steps
     → IsNext engines moments (earlier ++ started_in before) step)
@@ -158,6 +163,7 @@ AllSame plan _ _ = ⊥
 
 module _ (only : OnlyOneMatch) (asked : SilencesAreAskedFor) (plan : GamesPlan) (patient : plan.patience ≡ endless)
     (engines : List MemoryEngine) (moments : List ℕ) where
+  -- by induction over the games: equal texts and an equal clock before a game make it the same, and the clock after it
   begin_alike : (number : ℕ) (earlier : List (List ℕ)) (c c' : ℕ → Option ℕ) (games games' : List GameRecord)
       → AreOfPlan plan number games → AreOfPlan plan number games'
       → ComeInTurn c games → ComeInTurn c' games'
@@ -191,6 +197,7 @@ Closed left [] = left ≡ 0
 Closed left (g ∷ gs) = (0 < left) × (((g.end.fault ≡ None) × Closed (left - 1) gs)
     ⊎ ((fault : Colour × MatchFault) × (g.end.fault ≡ Some fault) × (gs ≡ [])))
 
+-- all games that a plan asks for, without a fault, are closed
 closed_all : (plan : GamesPlan) (number : ℕ) (games : List GameRecord)
     → AllByRecursion (λ g. IsOfPlan plan g.0 g.1 × (g.1.end.fault ≡ None)) (enumerate_from number games)
     → AreOfPlan plan number games × Closed (length games) games
@@ -200,6 +207,7 @@ closed_all plan number (g ∷ gs) ((of, none), h) =
     let fewer : length gs ≡ length (g ∷ gs) - 1 = omega arith in
     ((of, ofs), (omega arith, inl (none, subst (λ (n : ℕ). Closed n gs) fewer closed)))
 
+-- games of which just the last has a fault are closed
 closed_by_fault : (plan : GamesPlan) (number at left : ℕ) (before : List GameRecord) (last : GameRecord)
     (fault : Colour × MatchFault)
     → AllByRecursion (λ g. IsOfPlan plan g.0 g.1 × (g.1.end.fault ≡ None)) (enumerate_from number before)
@@ -213,6 +221,7 @@ closed_by_fault plan number at left (g ∷ gs) last fault ((of', none), h) of co
     (omega (arith, few)) in
     ((of', ofs), (omega (arith, few), inl (none, closed)))
 
+-- so are the games of every match that was played to its score
 closed_games : (plan : GamesPlan) (games : List GameRecord) (fault : Option (ℕ × Colour × MatchFault))
     → AreAllGames plan games fault → AreOfPlan plan 1 games × Closed plan.games games
 closed_games plan games None (h, many) =
@@ -246,6 +255,7 @@ all_same plan left (g ∷ gs) (h ∷ hs) (more, closed) (more', closed') (one, a
 
 -- ---- what comes of the same games
 
+-- games that are the same are alike, by their PGN and outcome
 alike : (plan : GamesPlan) (number : ℕ) (games games' : List GameRecord) → AllSame plan games games'
     → Alike plan (enumerate_from number games) (enumerate_from number games')
 alike plan number [] [] h = tt
@@ -253,6 +263,7 @@ alike plan number (g ∷ gs) (k ∷ ks) (one, more) =
     (record { numbers = refl; texts = one.texts number; outcomes = one.outcomes }, alike plan (number + 1) gs ks more)
 alike plan number gs ks h = absurd h
 
+-- and have the same logs
 logs_alike : (plan : GamesPlan) (number : ℕ) (games games' : List GameRecord) → AllSame plan games games'
     → flat_map (λ g. game_log plan g.0 g.1) (enumerate_from number games)
     ≡ flat_map (λ g. game_log plan g.0 g.1) (enumerate_from number games')
@@ -261,6 +272,7 @@ logs_alike plan number (g ∷ gs) (k ∷ ks) (one, more) =
     rw (one.notes, one.killed, logs_alike plan (number + 1) gs ks more) refl
 logs_alike plan number gs ks h = absurd h
 
+-- and their engines were sent the same
 sent_alike : (plan : GamesPlan) (number : ℕ) (games games' : List GameRecord) → AllSame plan games games'
     → sent_in (steps_from plan number games) ≡ sent_in (steps_from plan number games')
 sent_alike plan number [] [] h = refl
@@ -276,6 +288,7 @@ last_fault [] = None
 last_fault (g ∷ []) = g.end.fault
 last_fault (g ∷ h ∷ gs) = last_fault (h ∷ gs)
 
+-- games without a fault have no last fault
 no_fault : (plan : GamesPlan) (number : ℕ) (games : List GameRecord)
     → AllByRecursion (λ g. IsOfPlan plan g.0 g.1 × (g.1.end.fault ≡ None)) (enumerate_from number games)
     → last_fault games ≡ None
@@ -288,6 +301,7 @@ fault_at_end [] last = refl
 fault_at_end (g ∷ []) last = refl
 fault_at_end (g ∷ h ∷ gs) last = fault_at_end (h ∷ gs) last
 
+-- games that are the same have the same last fault
 same_fault : (plan : GamesPlan) (games games' : List GameRecord) → AllSame plan games games'
     → last_fault games ≡ last_fault games'
 same_fault plan [] [] h = refl
@@ -310,6 +324,7 @@ abbrev in_game : ℕ → Option (Colour × MatchFault) → Option (ℕ × Colour
 in_game number None = None
 in_game number (Some (side, fault)) = Some (number, side, fault)
 
+-- the reported fault is the one in the last game
 fault_of_last : (plan : GamesPlan) (games : List GameRecord) (fault : Option (ℕ × Colour × MatchFault))
     → AreAllGames plan games fault → fault ≡ in_game (length games) (last_fault games)
 fault_of_last plan games None (h, many) =
@@ -326,6 +341,7 @@ reported (Some (number, side, fault)) =
     codes "arbiter: " ++ (codes "game " ++ decimal number ++ codes ": " ++ comment_of (Faulted side fault))
     ++ new_line ∷ []
 
+-- so two matches of the same games report the same fault, or none
 one_fault : (plan : GamesPlan) (games games' : List GameRecord) (fault fault' : Option (ℕ × Colour × MatchFault))
     → AreAllGames plan games fault → AreAllGames plan games' fault' → AllSame plan games games' → fault ≡ fault'
 one_fault plan games games' fault fault' all all' same =
@@ -334,7 +350,7 @@ one_fault plan games games' fault fault' all all' same =
     ∙ ap (λ (f : Option (Colour × MatchFault)). in_game (length games') f) (same_fault plan games games' same)
     ∙ sym (fault_of_last plan games' fault' all')
 
--- ---- a match that was played to its score
+-- ---- a match that was played to its score: its games, what they fix, and what it wrote and logged
 
 record Scored (plan : GamesPlan) (result : Result (Unit {0}) GamesFault) (steps : List HostStep) (d d' : Outputs)
     : Type 0 where
@@ -350,6 +366,7 @@ record Scored (plan : GamesPlan) (result : Result (Unit {0}) GamesFault) (steps 
   pub wrote : OutputTook d.output d'.output (all_of (game_texts plan games ++ score_line games))
   pub logged : LogsGames plan d.log d'.log games
 
+-- the games of such a match, from its parts
 scored_by : (plan : GamesPlan) (result : Result (Unit {0}) GamesFault) (steps : List HostStep) (d d' : Outputs)
     (c : ℕ → Option ℕ) (games : List GameRecord) (o : ToOutput) (fault : Option (ℕ × Colour × MatchFault))
     → report_of result ≡ reported fault → AreAllGames plan games fault
@@ -372,6 +389,7 @@ scored_by plan result steps d d' c games o fault told all is took logs turns ste
       logged = subst (LogsGames plan d.log d'.log) (append-nil games) logs;
     }
 
+-- each match that played to its score is such a match
 scored : (plan : GamesPlan) (steps : List HostStep) (d d' : Outputs) (result : Result (Unit {0}) GamesFault)
     → PlaysGamesWith plan result steps d d' → HasScore result → Scored plan result steps d d'
 scored plan steps d d' (Ok v) (inr (is, none, kept)) s = absurd (cc)
@@ -408,10 +426,12 @@ scored plan steps d d' (Err (CanNotStart command)) played s = absurd s
 
 -- ---- the clock of a host
 
+-- the last of some moments is known
 some_last : (n : ℕ) (moments : List ℕ) → is_some (last_or (Some n) moments) ≡ true
 some_last n [] = refl
 some_last n (m ∷ moments) = some_last m moments
 
+-- so each moment that a clock of a host will show is known
 moment_known : (o p : Option ℕ) → is_some p ≡ true → is_some (option_or o p) ≡ true
 moment_known None p h = h
 moment_known (Some n) p h = refl

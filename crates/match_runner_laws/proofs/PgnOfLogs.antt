@@ -1,4 +1,6 @@
--- The PGN of a game follows from its log, and what a match writes from the logs of its games.
+-- The PGN of a game follows from its log: two games of one number and plan that have the same log have the same text
+-- (logs_give_the_pgn), since their moves, names and ends are the same. So two matches whose games have the same logs
+-- write the same output, PGN and score (logs_give_the_output).
 use Rattle.std.proofs.Common.{◌≡◌, ◌∙◌, ◌+◌, ℕ, List, [], ◌∷◌, ◌++◌, map, refl, sym, ap, subst}
 use Rattle.std.specs.Prelude.{⊤, codes, cond, decimal, flat_map, fold}
 use Rattle.std.specs.List.{AllByRecursion, enumerate_from}
@@ -14,7 +16,7 @@ use Rattle.match_runner.specs.Games.{GameRecord, IsOfPlan, count_of, engine_comm
 use Rattle.match_runner_laws.specs.{Entries.IsShown, Entries.entries_from, ReadBack.AreAlike, ReadBack.LogsGiveTheOutput, ReadBack.LogsGiveThePgn}
 use Rattle.match_runner_laws.proofs.LogsRead.{logs_give_the_game}
 
--- the line of a score, by its numbers
+-- the score's line by its four numbers; it is kept closed, so that counts can be replaced in it
 unfoldable line_of : ℕ → ℕ → ℕ → ℕ → List ℕ
 line_of first second drawn unfinished =
     codes "score first " ++ decimal first ++ codes " second " ++ decimal second
@@ -27,6 +29,7 @@ score_line_is : (games : List GameRecord) → line_of (count_of (λ number. win_
 unfolding line_of
 score_line_is games = refl
 
+-- the rules of the plan's game of this number
 abbrev pub rules : GamesPlan → ℕ → Rules
 rules plan number = rules_of plan.start (of_colour (setup_of plan number).levels) plan.patience plan.draws MOST_MOVES
 
@@ -58,6 +61,7 @@ pub record IsPlayed (plan : GamesPlan) (number : ℕ) (played : GameRecord) (H :
   pub fault : played.end.fault ≡ reported_fault reason (is_broken H)
   pub game : played.after.game.state ≡ left plan reason final.played
 
+-- each game that is of the plan was played so, by the acts that its record stands for
 pub is_played : (plan : GamesPlan) (number : ℕ) (played : GameRecord) → IsOfPlan plan number played
     → (H : List Act) × (reason : Reason) × (final : Match) × IsPlayed plan number played H reason final
 is_played plan number played (limit, spared, (H, reason, notes, (final, passed, reported, game))) = (
@@ -102,6 +106,8 @@ text_is plan number w w' b b' e e' s s' p q r t =
     ap (λ (v : List ℕ). text_by plan number v b e s) p ∙ ap (λ (v : List ℕ). text_by plan number w' v e s) q
     ∙ ap (λ (v : HowEnded). text_by plan number w' b' v s) r ∙ ap (λ (v : State). text_by plan number w' b' e' v) t
 
+-- from the same log follow the same moves, items and reason (LogsRead.logs_give_the_game), so the same names, end and
+-- text
 pub logs_give_the_pgn : LogsGiveThePgn
 logs_give_the_pgn plan number one two h k plain plain' same =
     let first : Colour = first_side number in
@@ -135,17 +141,21 @@ pub record AreAsOne (plan : GamesPlan) (g h : ℕ × GameRecord) : Type 0 where
   pub texts : game_text plan g.0 g.1 ≡ game_text plan h.0 h.1
   pub outcomes : g.1.end.outcome ≡ h.1.end.outcome
 
+-- two lists of games are alike, one game after another
 abbrev pub Alike : GamesPlan → List (ℕ × GameRecord) → List (ℕ × GameRecord) → Type 0
 Alike plan [] [] = ⊤
 Alike plan (g ∷ gs) (h ∷ hs) = AreAsOne plan g h × Alike plan gs hs
 Alike plan _ _ = ⊥
 
+-- a game of the plan whose log shows its lines as they are
 abbrev IsOfLog : GamesPlan → ℕ × GameRecord → Type 0
 IsOfLog plan g = IsOfPlan plan g.0 g.1 × AllByRecursion IsShown (entries_from 0 g.1.notes)
 
+-- the log of a game by its number
 abbrev log_of : ℕ × GameRecord → List ℕ
 log_of g = log_from (first_side g.0) 0 g.1.notes
 
+-- games that are alike have the same PGN, joined
 pub texts_alike : (plan : GamesPlan) (gs hs : List (ℕ × GameRecord)) → Alike plan gs hs
     → flat_map (λ g. game_text plan g.0 g.1) gs ≡ flat_map (λ g. game_text plan g.0 g.1) hs
 texts_alike plan [] [] a = refl
@@ -158,6 +168,7 @@ texts_alike plan gs hs a = absurd a
 abbrev counted : (ℕ → Outcome) → ℕ → ℕ × GameRecord → ℕ
 counted wanted n g = n + cond (same_outcome g.1.end.outcome (wanted g.0)) 1 0
 
+-- and as many of them have a wanted outcome
 counts_alike : (plan : GamesPlan) (wanted : ℕ → Outcome) (n : ℕ) (gs hs : List (ℕ × GameRecord)) → Alike plan gs hs
     → fold (counted wanted) n gs ≡ fold (counted wanted) n hs
 counts_alike plan wanted n [] [] a = refl

@@ -1,4 +1,6 @@
--- What a line or a silence does to a match in which no time is used; and what is sent when it ends the match.
+-- A log shows no moment at which a turn was opened, so a match is played again with no time used (`again`). An event
+-- then does the same as in the match itself (Again), unless in the match a flag fell (Falls): line_again for lines,
+-- silence_again for silences. When it ends the match, both sides are sent the end lines (Stops).
 use Rattle.std.proofs.Common.{◌≡◌, ◌⊎◌, ℕ, ◌+◌, ◌-◌, Bool, true, false, List, [], ◌∷◌, ◌++◌, length, map, refl, ap, sym, ◌∙◌, subst, append_assoc, Option, None, Some, inl, inr, arith, if◌then◌else◌, nat_le, nat_lt, ◌==◌, codes, unwrap_or}
 use Rattle.std.specs.{List.list_any, Option.option_map_or}
 use Rattle.std.proofs.{lemmas.Bool.Decides.nat_tests, Math.Path.fun_ext, lemmas.List.length-map, lemmas.List.map-append}
@@ -37,6 +39,7 @@ pub record Stops (shown reason : Reason) (to : Colour → List SentLine) : Type 
   pub written : (S : Colour) → is_write_fault_of reason S ≡ false
   pub last : (S : Colour) → (before : List SentLine) × (to S ≡ before ++ last_lines shown)
 
+-- a match that ends for a reason that is no failed write sends both sides the end lines
 stops_at : (r : Rules) (reason : Reason) (m : Match) → ((S : Colour) → is_write_fault_of reason S ≡ false)
     → Stops (shown_reason r m reason) reason (ends r reason m).to
 stops_at r reason m w = record {
@@ -49,7 +52,7 @@ stops_at r reason m w = record {
 
 -- ---- no time is used
 
--- what is known of an engine whose moves took no time
+-- an engine's seat, with 0 for the time of each of its moves
 abbrev zero : Seat → Seat
 zero s = record s { used = map (λ u. 0) s.used }
 
@@ -63,6 +66,7 @@ waits phase = phase
 abbrev pub again : Match → Match
 again m = record m { phase = waits m.phase; seat = λ S. zero (m.seat S) }
 
+-- the match `m`, if its turn was opened at the moment 0
 abbrev pub opened : Match → Match
 opened m = record m { phase = waits m.phase }
 
@@ -71,6 +75,7 @@ abbrev reopened : ℕ → Phase → Phase
 reopened k (BeforeMove S opened) = BeforeMove S k
 reopened k phase = phase
 
+-- the match `m`, if its turn was opened at the moment k
 abbrev pub reopen : ℕ → Match → Match
 reopen k m = record m { phase = reopened k m.phase }
 
@@ -88,6 +93,7 @@ pub record Again (r : Rules) (done redone : Effect) : Type 0 where
   pub stops : (reason : Reason) → done.after.phase ≡ Over reason
       → (ends_by_flag reason ≡ false) × Stops (shown_reason r done.after reason) reason done.to
 
+-- what ends the match without a flag or a failed write does so again
 pub over_again : (r : Rules) (reason : Reason) (k : ℕ) (m : Match) → IsPlain reason
     → Again r (ends r reason m) (ends r reason (anew k m))
 over_again r reason k m h = record {
@@ -97,6 +103,7 @@ over_again r reason k m h = record {
       (h.0, stops_at r reason m h.1);
 }
 
+-- what leaves the match on is done again, if the matches after it agree
 on_again : {r : Rules} (done redone : Effect) → again done.after ≡ opened redone.after
     → is_over done.after.phase ≡ false → Again r done redone
 on_again done redone e on = record {
@@ -104,6 +111,7 @@ on_again done redone e on = record {
   stops = λ reason over. let no : false ≡ true = sym on ∙ ap is_over over in absurd cc;
 }
 
+-- what is done by a test b is done again, if that is so of both branches
 test_again : {r : Rules} (b : Bool) (x x' y y' : Effect) → Again r x x' → Again r y y'
     → Again r (if b then x else y) (if b then x' else y')
 test_again true x x' y y' h k = h
@@ -114,6 +122,7 @@ with_seats : (m : Match) (f g : Colour → Seat) → ((S : Colour) → f S ≡ g
     → (let x : Match = record m { seat = f } in x) ≡ record m { seat = g }
 with_seats m f g e = ap (λ (h : Colour → Seat). let x : Match = record m { seat = h } in x) (fun_ext e)
 
+-- the count of handshake lines doesn't depend on times
 counted_again : (k : ℕ) (m : Match) (n : ℕ)
     → again (record m { count = n }) ≡ opened (record (anew k m) { count = n })
 counted_again k m n = grind arith
@@ -126,6 +135,7 @@ seated_again S change k m e =
     (λ side. if same_colour side S then change (zero (m.seat side)) else zero (m.seat side))
     (λ side. grind (arith, e (m.seat side)))
 
+-- the match that has used no time is the same, whenever its turn was opened
 opened_again : (k : ℕ) (m : Match) → again m ≡ opened (anew k m)
 opened_again k m = grind arith
 
@@ -134,6 +144,7 @@ abbrev Lacks : Option MatchFault → Type 0
 Lacks lack = (fault : MatchFault) → lack ≡ Some fault → (c O : Colour)
     → is_write_fault_of (over_by.Faulted c fault) O ≡ false
 
+-- a feature that an engine lacks is such a fault
 lacks : (r : Rules) (items : List Item) → Lacks (missing r items)
 lacks r items fault h1 c O = grind arith
 
@@ -142,12 +153,14 @@ module _ (r : Rules) (S : Colour) (k : ℕ) (m : Match) (on : is_over m.phase �
   ignored = test_again (nat_le 10000 (m.count + 1)) _ _ _ _ (over_again r (over_by.Faulted S Flood) k m (refl, λ c. refl))
       (on_again _ _ (counted_again k m (m.count + 1)) on)
 
+  -- an offer of a draw: agreed if the other side offers too, passed over if this side has offered, otherwise noted
   offered : Again r (offer_row r S m) (offer_row r S (anew k m))
   offered = test_again (m.seat (other S)).offers _ _ _ _ (over_again r over_by.Agreed k m (refl, λ c. refl))
       (test_again (m.seat S).offers _ _ _ _ ignored
       (on_again _ _ (opened_again k (with_seat S (λ s. record s { offers = true }) m)
       ∙ ap opened (seated_again S (λ s. record s { offers = true }) k m (λ s. refl))) on))
 
+  -- a line that is no move and no answer, by its kind: resigning, offering, claiming, rejecting, or anything else
   in_turn : (kind : LineKind) → Again r (turn_row r S kind m) (turn_row r S kind (anew k m))
   in_turn Resigns = over_again r (over_by.Resigns S) k m (refl, λ c. refl)
   in_turn OffersDraw = offered
@@ -183,6 +196,7 @@ module _ (r : Rules) (S : Colour) (k : ℕ) (m : Match) (on : is_over m.phase �
   unless_over_again None (Some claim) n done redone h = over_again r (over_by.Claimed claim) k n (refl, λ c. refl)
   unless_over_again None None n done redone h = h
 
+  -- a line before this side's move; only a move that is legal changes the game
   before : (used : ℕ) (kind : LineKind) → Again r (before_move r S used kind m) (before_move r S 0 kind (anew k m))
   before used (Moves t) = test_again (nat_le r.limit (length m.played)) _ _ _ _
       (over_again r over_by.GameTooLong k m (refl, λ c. refl))
@@ -204,6 +218,7 @@ module _ (r : Rules) (S : Colour) (k : ℕ) (m : Match) (on : is_over m.phase �
           (moved S move used m) _ _ (on_again _ _ refl refl))
   before used kind = in_turn kind
 
+  -- a line after this side's move, up to its `pong`
   after : (kind : LineKind)
       → Again r (line_row r (AfterMove S) kind k m) (line_row r (AfterMove S) kind k (anew k m))
   after (Moves t) = over_again r (over_by.MovesOutOfTurn S) k m (refl, λ c. refl)
@@ -212,10 +227,12 @@ module _ (r : Rules) (S : Colour) (k : ℕ) (m : Match) (on : is_over m.phase �
       (test_again (n == ping_number m S) _ _ _ _ (on_again _ _ refl refl) ignored)
   after kind = in_turn kind
 
+  -- the answer that ends a side's setup: after White's Black is set up, after Black's the game begins or is over
   set_up : (side : Colour) → Again r (setup_done r side m) (setup_done r side (anew k m))
   set_up White = on_again _ _ refl refl
   set_up Black = unless_over_again (verdict r.start m.played) (draw_by_itself r m.played) m _ _ (on_again _ _ refl refl)
 
+  -- a line of the handshake, with these items: it ends the handshake, is one line too many, or is counted
   handshake : (items : List Item) → Again r (handshake_row r S items m) (handshake_row r S items (anew k m))
   handshake items =
       subst (λ (n : Match). Again r (handshake_row r S items m)
@@ -278,6 +295,7 @@ module _ (r : Rules) (S : Colour) (k : ℕ) (m : Match) (on : is_over m.phase �
   shakes (Features text) = handshake r S k (awaited_since k m) on (items_of text)
   shakes _ = handshake r S k m on []
 
+  -- a line during a side's setup: the answer to its `ping`, or anything else
   setup : (kind : LineKind) → Again r (line_row r (Setup S) kind k m) (line_row r (Setup S) kind k (anew k m))
   setup (Answers n) =
       test_again (n == 1) _ _ _ _ (set_up r S k (awaited_since k m) on S) (ignored r S k m on)
@@ -301,9 +319,11 @@ Falls r m done = (reason : Reason) × (ends_by_flag reason ≡ true) × (done.af
 no_time : (k : ℕ) → k - k ≡ 0
 no_time k = omega arith
 
+-- no time that has passed since now is above a clock
 none_less : (n k : ℕ) → nat_lt n (k - k) ≡ false
 none_less n k = grind (arith, nat_tests)
 
+-- when a flag falls the match ends by it: against a bare king as a draw, otherwise as a loss
 flagged : (r : Rules) (S : Colour) (m : Match) → Falls r m (flag_row r S m)
 flagged r S m = at (has_bare_king (other S) (position_after r.start m.played).men)
   where
@@ -311,7 +331,7 @@ flagged r S m = at (has_bare_king (other S) (position_after r.start m.played).me
     at true = (over_by.ForfeitsToBareKing, refl, refl, stops_at r over_by.ForfeitsToBareKing m (λ O. refl))
     at false = (over_by.Forfeits S, refl, refl, stops_at r (over_by.Forfeits S) m (λ O. refl))
 
--- before a move: the flag fell, or what is done is done again
+-- before a move: if it is late (`late`) the flag fell; otherwise `done` is done again, as no time has passed
 timed : (r : Rules) (S : Colour) (k : ℕ) (m : Match) (late : Bool) (done redone : Effect) → Again r done redone
     → Falls r m (if late then flag_row r S m else done)
     ⊎ Again r (if late then flag_row r S m else done)
@@ -321,6 +341,7 @@ timed r S k m false done redone h = inr (
     subst (λ (b : Bool). Again r done (if b then flag_row r S (anew k m) else redone))
     (sym (none_less (clock r (anew k m) S) k)) h)
 
+-- a line of this kind, by the phase p
 pub line_again : (r : Rules) (S : Colour) (kind : LineKind) (k : ℕ) (m : Match) (p : Phase)
     → awaits_line p S ≡ true → is_over m.phase ≡ false
     → Falls r m (line_row r p kind k m)
@@ -336,6 +357,7 @@ line_again r S kind k m (AfterMove c) aw on = inr (after r c k m on kind)
 line_again r S kind k m (Opening c) aw on = absurd cc
 line_again r S kind k m (Over reason) aw on = absurd cc
 
+-- a silence, by the phase p
 pub silence_again : (r : Rules) (S : Colour) (k : ℕ) (m : Match) (p : Phase)
     → awaits_line p S ≡ true → is_over m.phase ≡ false
     → Falls r m (silence_row r p S k m)

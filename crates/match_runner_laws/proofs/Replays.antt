@@ -1,4 +1,6 @@
--- What the acts of a match lead to, by what a log shows of them: the moves, the items and the last lines.
+-- What a log shows of a match is enough to play it again: from the events that it shows, in a match where no move takes
+-- time (`again` of PlayedAgain), follow the moves, what engines said, and the reason for the end (Goes, match_goes). Of
+-- a match that ended because a flag fell the last event is left out, since the flag itself is not shown.
 use Rattle.std.proofs.Common.{◌≡◌, ◌⊎◌, ℕ, Bool, true, false, List, [], ◌∷◌, ◌++◌, map, refl, ap, sym, ◌∙◌, subst, append_assoc, inl, inr, arith, if◌then◌else◌, fold}
 use Rattle.std.specs.List.{AllByRecursion}
 use Rattle.std.proofs.{lemmas.Bool.and_parts, lemmas.List.map-append}
@@ -11,13 +13,14 @@ use Rattle.match_runner_laws.specs.ReadBack.{events_shown}
 use Rattle.match_runner_laws.proofs.PlayedAgain.{Again, Falls, Stops, again, anew, ends_by_flag, last_lines, line_again, opened, over_again, reopen, shown_reason, silence_again, waits}
 use Rattle.chess_match.proofs.shared.MatchCases.{on_when_read}
 
--- ---- the last notes
+-- ---- the last notes are those of a block that ends with `result ..` and `quit`
 
 -- the last of these notes is of a block with the last lines at its end
 abbrev pub EndsAs : Reason → List Note → Type 0
 EndsAs reason notes = (before : List Note) × (S : Colour) × (lines : List SentLine)
     × (notes ≡ before ++ Gives S (bytes_of (lines ++ last_lines reason)) ∷ [])
 
+-- notes before them change nothing
 more_before : (reason : Reason) (more notes : List Note) → EndsAs reason notes → EndsAs reason (more ++ notes)
 more_before reason more notes (before, S, lines, e) = (
   more ++ before,
@@ -27,18 +30,22 @@ more_before reason more notes (before, S, lines, e) = (
       ∙ sym (append_assoc more before (Gives S (bytes_of (lines ++ last_lines reason)) ∷ [])),
 )
 
+-- the note of a block that was sent
 abbrev give : Block → Note
 give b = Gives b.to (bytes_of b.lines)
 
+-- notes of blocks are no events
 no_events : (due : List Block) → events_in (map give due) ≡ []
 no_events [] = refl
 no_events (b ∷ due) = no_events due
 
+-- a block with the end lines is not empty, so it is sent
 block_is : (S : Colour) (before : List SentLine) (reason : Reason)
     → block_of S (before ++ last_lines reason) ≡ record { to = S; lines = before ++ last_lines reason } ∷ []
 block_is S [] reason = refl
 block_is S (l ∷ ls) reason = refl
 
+-- the blocks that are sent when a match stops end with the end lines
 blocks_end : (shown reason : Reason) (first : Colour) (to : Colour → List SentLine) → Stops shown reason to
     → EndsAs shown (map give (blocks_from first to))
 blocks_end shown reason first to h =
@@ -52,7 +59,7 @@ blocks_end shown reason first to h =
           ∙ map-append give (block_of first (to first)) (last ∷ []),
     )
 
--- none of these blocks is for a side to which a write ended the match
+-- no block goes to a side to which a failed write ended the match
 abbrev AreWritten : Reason → List Block → Type 0
 AreWritten reason due = AllByRecursion (λ b. is_write_fault_of reason b.to ≡ false) due
 
@@ -78,15 +85,18 @@ other_block r m Black = ap (λ (bs : List Block). bs ++ [])
 other_written : (c : Colour) → is_write_fault_of (Faulted c Write) (other c) ≡ false
 other_written c = grind arith
 
+-- and the side to which the write failed is the one that `is_write_fault_of` names
 own_unwritten : (c : Colour) → is_write_fault_of (Faulted c Write) c ≡ true
 own_unwritten c = grind arith
 
 -- ---- a match that is over
 
+-- a match is not both over and not over
 not_over : {A : Type 0} (b : Bool) → b ≡ true → b ≡ false → A
 not_over true e h = absurd cc
 not_over false e h = absurd cc
 
+-- a phase that is over has a reason
 which : (p : Phase) → is_over p ≡ true → (reason : Reason) × (p ≡ Over reason)
 which (Over reason) h = (reason, refl)
 which _ h = absurd cc
@@ -95,9 +105,11 @@ which _ h = absurd cc
 abbrev Rests : Reason → Match → Match → List Block → List Note → Type 0
 Rests reason final m due notes = (final ≡ m) × (AreWritten reason due → notes ≡ map give due)
 
+-- the notes of the blocks that are due, with one block more that was sent
 sent_more : (b s : Block) (l l' : List Note) → b ≡ s → l ≡ l' → Gives s.to (bytes_of s.lines) ∷ l ≡ give b ∷ l'
 sent_more b s l l' q e = ap (λ (x : Block). give x ∷ l) (sym q) ∙ ap (λ (l : List Note). give b ∷ l) e
 
+-- likewise with a block that could not be sent to a side whose write didn't end the match: no failure is noted
 unsent_more : (reason : Reason) (b s : Block) (l l' : List Note) → b ≡ s → is_write_fault_of reason b.to ≡ false → l ≡ l'
     → Gives s.to (bytes_of s.lines)
     ∷ (list_if (is_write_fault_of reason s.to) (Happened (FailsToWrite s.to) ∷ []) ++ l) ≡ give b ∷ l'
@@ -133,8 +145,9 @@ abbrev Same : Bool → Match → Match → Type 0
 Same late final n = (final.played ≡ n.played) × ((S : Colour) → (final.seat S).items ≡ (n.seat S).items)
     × (late ≡ false → final.phase ≡ n.phase)
 
--- the match that is played again from what the notes show has the moves and the items of the end, and the reason if no
--- flag fell; and the last notes
+-- what the notes of a match from `m` on, which ended as `final` for `reason`, show: the last of them is a block with
+-- the end lines, at least one event is shown, and playing the shown events again from `m` leads to `final`'s moves and
+-- items, and to its phase unless a flag fell
 pub record Goes (r : Rules) (reason : Reason) (final m : Match) (notes : List Note) : Type 0 where
   pub last : EndsAs (shown_reason r final reason) notes
   pub some : (e : Event) × (es : List Event) × (events_shown (events_in notes) ≡ e ∷ es)
@@ -195,6 +208,8 @@ module _ (r : Rules) (reason : Reason) (final : Match) (over : final.phase ≡ O
             (subst (λ (l : List Event). Same late final (replayed r late (again (effect r m e).after) l)) more g.same));
       }
 
+  -- an event that is shown either lets a flag fall (Falls), or does the same when it is played again (Again); so the
+  -- match ends there or goes on
   shown_event : (m : Match) (e : Event) (first : Colour) (notes : List Note)
       → ((es : List Event) → events_shown (e ∷ es) ≡ e ∷ events_shown es)
       → Falls r m (effect r m e) ⊎ Again r (effect r m e) (effect r (anew (moment_of e) m) e)
@@ -251,6 +266,7 @@ module _ (r : Rules) (reason : Reason) (final : Match) (over : final.phase ≡ O
         );
       })
 
+  -- an event that opens a turn changes nothing in the match that is played again
   on_opened : (m : Match) (S : Colour) (k : ℕ) → m.phase ≡ Opening S
       → again (effect r m (Opened S k)).after ≡ again m
   on_opened m S k o = ap (λ (p : Phase). let x : Match = record (again m) { phase = p } in x) (sym (ap waits o))
@@ -262,10 +278,12 @@ module _ (r : Rules) (reason : Reason) (final : Match) (over : final.phase ≡ O
       else ((effect r m (FailsToWrite s.to)).after, blocks_from White (effect r m (FailsToWrite s.to)).to) in
       IsMatchFrom r n.0 n.1 H final
 
+  -- a match that still waits for a line isn't over
   awaiting : (m : Match) (S : Colour) (due : List Block) (notes : List Note) → awaits_line m.phase S ≡ true
       → is_over m.phase ≡ true → Rests reason final m due notes
   awaiting m S due notes aw o = not_over (is_over m.phase) o (on_when_read m.phase S aw)
 
+  -- by induction over the acts: blocks sent or not, and each kind of event
   leads : (m : Match) (due : List Block) (H : List Act) → IsMatchFrom r m due H final
       → Leads r reason final m due (notes_given reason H)
   leads m (b ∷ due) (Sends s ∷ H) (q, g) = let p = leads m due H g in (
@@ -320,7 +338,7 @@ module _ (r : Rules) (reason : Reason) (final : Match) (over : final.phase ≡ O
   leads m [] [] (o, e) = (λ over. (e, λ w. refl), λ on. not_over (is_over m.phase) o on)
   leads m due H g = absurd g
 
--- a whole match
+-- the whole match, from its beginning
 pub match_goes : (r : Rules) (reason : Reason) (H : List Act) (final : Match) → IsMatch r H final
     → final.phase ≡ Over reason → Goes r reason final beginning.after (notes_given reason H)
 match_goes r reason H final g over =

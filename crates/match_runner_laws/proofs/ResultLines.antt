@@ -1,4 +1,5 @@
--- Each reason for which a match may end has a result line of its own.
+-- Each reason for which a match may end has a result line of its own: from the line the reason can be found again
+-- (reason_read), and the line has no line feed (result_plain).
 use Rattle.std.proofs.Common.{arith, ◌≡◌, ℕ, true, List, [], ◌∷◌, ◌++◌, bytes_eq, ◌==◌, if◌then◌else◌, not, flat_map}
 use Rattle.std.specs.List.{list_all}
 use Rattle.byte_devices.specs.Bytes.{new_line}
@@ -17,6 +18,7 @@ reasons_of c =
     ∷ Faulted c Ended ∷ Faulted c Read ∷ Faulted c Write ∷ Faulted c NoDone ∷ Faulted c NoPing ∷ Faulted c NoSetboard
     ∷ Faulted c Flood ∷ Faulted c NoVariant ∷ Faulted c NoHandshake ∷ Faulted c NoAnswer ∷ []
 
+-- the reasons that name no side
 abbrev others : List Reason
 others =
     Decided WhiteMates ∷ Decided BlackMates ∷ Decided Stalemate ∷ Decided InsufficientMaterial
@@ -28,6 +30,7 @@ abbrev find : List ℕ → List Reason → Reason
 find text [] = Agreed
 find text (x ∷ xs) = if bytes_eq (text_of_result x) text then x else find text xs
 
+-- the reason that has this result line, among all of them
 abbrev pub reason_of : List ℕ → Reason
 reason_of text = find text (flat_map reasons_of (White ∷ Black ∷ []) ++ others)
 

@@ -1,4 +1,5 @@
--- White space before a game is skipped: from the game's first byte on the same is read.
+-- White space before a game is skipped: reading from an offset on gives the same as reading from the game's first byte
+-- on (begins_alike), since a skipped token changes nothing (one_skipped).
 use Rattle.std.proofs.Common.{◌≡◌, ℕ, ◌+◌, ◌-◌, ◌<◌, ◌≤◌, ◌||◌, ◌==◌, eqb, Bool, true, false, cond, List, [], ◌∷◌, length, take, drop, None, one-add, refl, sym, ap, ◌∙◌, arith, drop-drop, codes, slice_get}
 use Rattle.std.specs.{List.filter_map, List.prefix_len, Option.option_map_or}
 use Rattle.std.proofs.lemmas.Bool.Decides.{nat_tests}
@@ -12,6 +13,7 @@ use Rattle.pgn_tokens.proofs.{shared.Tags.last_step, shared.Tokens.read_kinds, s
 use Rattle.pgn_verifier.specs.{Reports.game_begin, laws.Reported.next_at}
 use Rattle.pgn_verifier_laws.proofs.PartsAlike.{TokenByToken, not_before, no_mark}
 
+-- a byte of white space is a token of its own
 blank_is_longest : (b : Bool) (c : ℕ) (rest : List ℕ) → is_white_space c ≡ true → IsLongest (IsOf b Blank) (c ∷ []) rest
 blank_is_longest b c rest white = record {
   is = (c, refl, ap (λ t. t || (c == 46)) white);
@@ -21,24 +23,28 @@ blank_is_longest b c rest white = record {
     no_more_bytes : (more : List ℕ) → IsOf b Blank (c ∷ more) → more ≡ []
     no_more_bytes more (d, is, h) = cc
 
+-- so the first token at such a byte is a skipped one, and the others follow after it
 blank_first : (text : List ℕ) (at c : ℕ) (rest : List ℕ) → drop at text ≡ c ∷ rest → is_white_space c ≡ true
     → tokens_from text at ≡ (length text - at, Skip) ∷ tokens_from text (at + 1)
 blank_first text at c rest is white =
     sym (kinds_read text (token Blank (c ∷ []) rest is (blank_is_longest (begins_line text at) c rest white) (read_kinds text (at + 1))))
 
+-- a skipped token in front doesn't change what is read
 one_skipped : (draws : Bool) (limit total left : ℕ) (ts : List (ℕ × Token))
     → tokens_read draws limit total ((left, Skip) ∷ ts) ≡ tokens_read draws limit total ts
 one_skipped draws limit total left ts =
     ap (λ o. game_of draws limit total (nothing_read (option_map_or (λ tag. variant_named tag.0) o Normal)) ts)
     (last_step (codes "Variant") None (left, Skip) ts)
 
+-- nor where the game ends
 end_skipped : (total left : ℕ) (ts : List (ℕ × Token)) → game_end total ((left, Skip) ∷ ts) ≡ game_end total ts
 end_skipped total left ts =
     ap (λ k. slice_get (filter_map (ends_at total)
     (drop (length (take k ((left, Skip) ∷ ts))) ((left, Skip) ∷ ts))) 0)
     (one-add (prefix_len (λ t. may_precede_tags t.1) ts))
 
--- what is said of tokens where nothing is said of a skipped one
+-- anything that is said of a list of tokens (`said`) and ignores a skipped token in front (`skip`) is the same from the
+-- end of the white space on
 module _ {A : Type 0} (said : List (ℕ × Token) → A)
     (skip : (left : ℕ) (ts : List (ℕ × Token)) → said ((left, Skip) ∷ ts) ≡ said ts)
   where
@@ -76,6 +82,7 @@ mark_passed text at = by_place (eqb (game_begin text at) 0) refl
         let some : 0 < first + prefix_len is_white_space (drop first text) = grind (arith, nat_tests, e) in
         no_mark text (game_begin text at) some
 
+-- the game that is read is the same from its first byte on
 pub begins_alike : TokenByToken → (draws : Bool) (limit : ℕ) (text : List ℕ) (at : ℕ)
     → pgn_read draws limit text at ≡ pgn_read draws limit text (game_begin text at)
 begins_alike law draws limit text at =

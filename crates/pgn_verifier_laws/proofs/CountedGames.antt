@@ -1,4 +1,6 @@
--- The games that are counted are games: from what is said of their tokens.
+-- Games that are counted are games by what is said of their tokens (GamesAreOfTokens): each move's word denotes just
+-- one legal move, no verdict came before the last move, and a marker ends the game (has_game). Then for all reports of
+-- a text (has_games) and of a piece (counted_games_of_pieces).
 use Rattle.std.proofs.Common.{◌≡◌, ◌∙◌, ℕ, zero, suc, ◌+◌, ◌-◌, ◌<◌, Bool, true, false, List, [], ◌∷◌, ◌++◌, length, take, Option, Some, None, Ok, refl, sym, ap, subst, append_assoc, append-nil, arith, MatchBool, if◌then◌else◌, nat_le}
 use Rattle.std.specs.{List.filter, List.list_all, Option.option_map_or, Option.unwrap_or}
 use Rattle.chess_base.specs.{Initial.initial_setup_of, MoveList.moves, Sound.IsSound, declared.man.Move.Move, declared.man.Variant.Variant, declared.setup.Setup.Setup}
@@ -22,11 +24,13 @@ use Rattle.chess_game.proofs.shared.Lines.{position_after-snoc}
 
 -- ---- moves and their words
 
+-- if just one move is found in a list, the list has only it
 one_alone : (ms : List Move) (m : Move) → one_of ms ≡ reads.Move m → ms ≡ m ∷ []
 one_alone [] m h = absurd (cc)
 one_alone (n ∷ []) m h = let same : n ≡ m = cc in ap (λ x. x ∷ []) same
 one_alone (n ∷ k ∷ ms) m h = absurd (cc)
 
+-- a word that denotes a move denotes no other legal move
 alone : (p : Setup) (word : List ℕ) (m : Move) → reading p word ≡ reads.Move m
     → filter (λ n. denotes p word n) (moves p) ≡ m ∷ []
 unfolding reading
@@ -37,6 +41,7 @@ alone p word m h = at (shape word) h
     at true e = one_alone (filter (λ n. denotes p word n) (moves p)) m e
     at false e = absurd (cc)
 
+-- each word tells the move at its index, which is legal; by induction over the words
 told : ReadMovesAreLegal
     → (draws : Bool) (limit : ℕ) (start : Setup) (done : List Move) (words : List (List ℕ)) (ms : List Move)
     → AreReadAs draws limit start done words ms → AreTold (position_after start done) words ms
@@ -50,6 +55,7 @@ told legal draws limit start done (w ∷ words) (m ∷ ms) (unended, room, denot
       (told legal draws limit start (done ++ m ∷ []) words ms more),
 )
 
+-- before each move no verdict had ended the game
 unended : (draws : Bool) (limit : ℕ) (start : Setup) (done : List Move) (words : List (List ℕ)) (ms : List Move)
     → AreReadAs draws limit start done words ms → (k : ℕ) → k < length ms
     → ending draws (game_by start (done ++ take k ms)) ≡ None
@@ -64,6 +70,7 @@ unended draws limit start done (w ∷ words) (m ∷ ms) (none, room, denoted, mo
 
 -- ---- the marker
 
+-- a word that is an outcome names this outcome
 marker_is : (word : List ℕ) (o : Outcome) → word_kind word ≡ End o → outcome_of word ≡ Some o
 marker_is word o h = at (outcome_of word) refl h
   where
@@ -89,6 +96,7 @@ record Ended (text : List ℕ) (tokens : List (ℕ × Token)) (taken : List (ℕ
   pub marks : outcome_of marker ≡ Some end.outcome
   pub ends : end.offset ≡ length text - left + length marker
 
+-- a game that ended with an outcome stopped at a marker
 ended_at : (draws : Bool) (text : List ℕ) (v : Variant) (tokens taken others : List (ℕ × Token)) (s : State)
     (end : PgnEnd)
     → taken ++ others ≡ tokens → StopsAt draws MOST_MOVES (length text) v taken others s (Ok (Some end))
@@ -105,6 +113,7 @@ ended_at draws text v tokens taken ((left, t) ∷ ts) s end all (word, is, kind,
 
 module _ (legal : ReadMovesAreLegal) (law : GamesAreOfTokens)
     (initial : (v : Variant) → IsSound (initial_setup_of v)) where
+  -- one report on a game
   has_game : (strict : Strictness) (text : List ℕ) (at : ℕ) (s : State) (end : PgnEnd)
       → IsJudged strict text at s (Ok (Some end))
       → HasGame strict.draws_of_2014 text at end.offset (length s.moves) end.outcome
@@ -140,6 +149,7 @@ module _ (legal : ReadMovesAreLegal) (law : GamesAreOfTokens)
         unended = unended strict.draws_of_2014 MOST_MOVES s.start [] (move_words of.taken) s.moves of.moves;
       }
 
+  -- all reports from the offset `at` on
   has_games : {goes_on : Bool} {strict : Strictness} {start : ℕ} {text : List ℕ} {at : ℕ} {reports : List Placed}
       → AreReports goes_on strict start text at reports
       → HasGames strict.draws_of_2014 text at (without_spans reports)

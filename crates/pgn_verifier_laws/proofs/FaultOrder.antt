@@ -1,4 +1,5 @@
--- Which fault is reported of a game that has several, and which draws are passed over, by computation.
+-- Which fault is reported of a game that has several, and which draws are passed over, by computation: each row of a
+-- definition in specs/FaultOrder is one equation.
 use Rattle.std.proofs.Common.{refl}
 use Rattle.pgn_verifier_laws.specs.FaultOrder.{DrawsArePassed, FaultsAreInOrder}
 

@@ -1,4 +1,6 @@
--- If no fault is reported on a text's pieces, then their reports are those on the text.
+-- If no fault is reported on a text's pieces, then their reports are those on the text. A piece whose reports are all
+-- on games holds whole games (part_holds), and from whole games in each part follow the same reports on the whole
+-- (Parts). Pieces must end with `\n`, and only the first may begin with a byte order mark.
 use Rattle.std.proofs.Common.{◌≡◌, ℕ, zero, suc, ◌+◌, ◌-◌, ◌<◌, ◌≤◌, Bool, true, false, cond, count_by, sum_by, ap₂, eqb, not, List, [], ◌∷◌, ◌++◌, length, get_or, drop, take, Option, Some, None, Result, Ok, Err, refl, sym, ap, subst, ◌∙◌, inl, inr, ◌⊎◌, append_assoc, append-nil, length-append, arith, bytes_eq, nat_le, if◌then◌else◌, ◌&&◌, ◌||◌}
 use Rattle.std.specs.List.{concat, flat_map, list_all, list_any}
 use Rattle.std.proofs.{lemmas.Bool.and_parts, lemmas.Bool.or_parts, lemmas.Bool.eqb-true, lemmas.Bool.Decides.nat_tests, lemmas.List.get_or_at, lemmas.List.reverse-append, Math.Path.fun_ext, lemmas.List.Folds.list_all-append, lemmas.List.Folds.sum_by-zero, lemmas.List.Sums.sum_by-cons}
@@ -17,6 +19,7 @@ use Rattle.pgn_verifier.specs.laws.Reported.{Plain, PlainGame, PlainFault, plain
 
 -- ---- reports without a fault
 
+-- a report counts 0 faults exactly if it is on a game
 no_fault : (r : Plain) → eqb (cond (not (is_game r)) 1 0) 0 ≡ is_game r
 no_fault (PlainGame plies outcome termination) = refl
 no_fault (PlainFault fault at explanation) = refl
@@ -26,6 +29,7 @@ game_alike : (report : Report) → is_counted report ≡ is_game (plain_of repor
 game_alike (Game plies outcome termination) = refl
 game_alike (Faulty fault names wrong_at part why is_unread) = refl
 
+-- the count of faults in the reports, from the reports without their spans
 faults_alike : (rs : List Placed) → count_by (λ (p : Placed). not (is_counted p.report)) rs
     ≡ sum_by (λ r. cond (not (is_game r)) 1 0) (without_spans rs)
 faults_alike [] = refl
@@ -34,6 +38,7 @@ faults_alike (p ∷ rs) =
     ∙ ap₂ (λ (b : Bool) (n : ℕ). cond (not b) 1 0 + n) (game_alike p.report) (faults_alike rs)
     ∙ sym (sum_by-cons (λ r. cond (not (is_game r)) 1 0) (plain_of p.report) (without_spans rs))
 
+-- if each game was verified without a fault, all reports are on games
 all_games : (rs : List Placed) → verified (counts_of rs) ≡ EachGame → list_all is_game (without_spans rs) ≡ true
 all_games rs h = ap (λ p. list_all p (without_spans rs)) (sym (fun_ext no_fault))
     ∙ sym (sum_by-zero (λ r. cond (not (is_game r)) 1 0) (without_spans rs))
@@ -46,6 +51,7 @@ all_games rs h = ap (λ p. list_all p (without_spans rs)) (sym (fun_ext no_fault
 
 -- ---- one part
 
+-- the part holds the games `games` whole, from its offset `at` on
 pub record Holds (strict : Strictness) (before part after : List ℕ) (at : ℕ) : Type 0 where
   pub games : List Plain
   pub holds : HoldsWhole strict before part after at games
@@ -53,6 +59,7 @@ pub record Holds (strict : Strictness) (before part after : List ℕ) (at : ℕ)
 module _ (law : TokenByToken) (strict : Strictness) (plain : strict.variations ≡ false) (start : ℕ)
     (before part after : List ℕ) (closed : IsClosed part after)
   where
+    -- by induction over how many games may still come (k): each is on a game, so it is in the text too, or no more come
     holds_whole : (k at : ℕ) → BeginsAlike before part after at → at ≤ length part → length part < k + at
         → list_all is_game (reports_from strict start k part at) ≡ true → Holds strict before part after at
     unfolding games_from
@@ -99,6 +106,7 @@ part_holds law strict plain start before part after closed begins all =
 
 -- ---- where parts begin
 
+-- a part begins with a byte order mark exactly if it does with the text after it
 mark_alike : (part after : List ℕ) → IsClosed part after → begins_with_mark (part ++ after) ≡ begins_with_mark part
 mark_alike part after (inr none) =
     ap (λ l. begins_with_mark (part ++ l)) none ∙ ap begins_with_mark (append-nil part)
@@ -112,6 +120,7 @@ mark_alike part after (inl (body, is)) =
     by_body (a ∷ b ∷ []) = refl
     by_body (a ∷ b ∷ c ∷ rest) = refl
 
+-- the first part begins as the text does
 pub begins_first : (part after : List ℕ) → IsClosed part after → BeginsAlike [] part after 0
 begins_first part after closed = record {
   line = refl;
@@ -121,6 +130,7 @@ begins_first part after closed = record {
     plus_none : (n : ℕ) → n ≡ 0 + n
     plus_none n = omega arith
 
+-- a later part begins after `\n`, and not with a byte order mark
 pub begins_later : (front part after : List ℕ) → begins_with_mark part ≡ false
     → BeginsAlike (front ++ 10 ∷ []) part after 0
 begins_later front part after unmarked =
@@ -168,10 +178,12 @@ is_new_line front end ends other =
     by_tests false true h k = absurd (cc)
     by_tests false false h k = h
 
+-- the line feed at the part's end, regrouped
 joined : (before front : List ℕ) (end : ℕ) → end ≡ 10 → before ++ (front ++ end ∷ []) ≡ (before ++ front) ++ 10 ∷ []
 joined before front end is =
     sym (append_assoc before front (end ∷ [])) ∙ ap (λ c. (before ++ front) ++ c ∷ []) is
 
+-- after a part that ends with `\n` the next one starts as it must
 next_starts : (before front : List ℕ) (end : ℕ) (parts : List (List ℕ)) → end ≡ 10
     → Starts before ((front ++ end ∷ []) ∷ parts) → Starts (before ++ (front ++ end ∷ [])) parts
 next_starts before front end parts ten (inl (none, unmarked)) =
@@ -184,6 +196,7 @@ next_starts before front end parts ten (inr (line, is, unmarked)) = inr (
 
 -- ---- all parts
 
+-- all parts hold whole games: these, and the pieces are reported so
 record AllHold (strict : Strictness) (offset : ℕ) (before : List ℕ) (parts : List (List ℕ)) : Type 0 where
   games : List Plain
   holds : AllHoldWhole strict before parts games
@@ -246,6 +259,7 @@ module _ (law : TokenByToken) (strict : Strictness) (plain : strict.variations �
       (λ rest. all_hold lines both.1 (before ++ (front ++ end ∷ [])) (offset + length (front ++ end ∷ []))
       (next_starts before front end texts ten starts) rest)
 
+-- the law, for the pieces of a text
 pub faultless_alike : TokenByToken → FaultlessTextsAreReportedAlike
 unfolding pieces
 faultless_alike law strict plain text none unmarked other =

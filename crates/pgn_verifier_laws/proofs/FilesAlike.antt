@@ -1,4 +1,6 @@
--- The reports on a collection's files, one after another, are those on the collection.
+-- The reports on a collection's files, one after another, are those on the collection: the pieces of the files are
+-- those of the collection (pieces_of_files), and a piece's reports only move with its offset (moved_in). Counts are
+-- sums over the reports, so they add up (summed).
 use Rattle.std.proofs.Common.{◌≡◌, ℕ, zero, suc, ◌+◌, Bool, true, false, List, [], ◌∷◌, ◌++◌, length, map, drop, Option, Some, None, Result, Ok, Err, refl, sym, ap, ◌∙◌, ◌&&◌, append-nil, length-append, arith, ap₂, cond, if◌then◌else◌, nat_le, nat_lt, not, is_some}
 use Rattle.std.specs.List.{onto_first, concat, flat_map, sum_by}
 use Rattle.std.specs.Option.{option_map_or, unwrap_or}
@@ -16,6 +18,7 @@ use Rattle.pgn_verifier_laws.proofs.Shards.{lines_joined, shards_are_cut}
 
 -- ---- the pieces of the files
 
+-- a text with a line feed at its end has a first line
 has_line : (cs : List ℕ) → (line : List ℕ) × (lines : List (List ℕ)) × (lines_of (cs ++ 10 ∷ []) ≡ line ∷ lines)
 has_line [] = (10 ∷ [], [], refl)
 has_line (c ∷ cs) = by_test (breaks_line c) (has_line cs)
@@ -48,6 +51,7 @@ tag_begins file (next ∷ files) h tag =
     ∙ tag_first ends.before (concat (next ∷ files))
     (sym (ap (λ text. begins_in_tag (lines_of text)) ends.whole_lines) ∙ tag)
 
+-- by induction over the files, since each is cut where a piece begins
 pieces_of_files : (files : List (List ℕ)) → AreCutWherePiecesBegin files → cut (concat files) ≡ flat_map cut files
 pieces_of_files [] h = refl
 pieces_of_files (file ∷ []) h = ap cut (append-nil file) ∙ sym (append-nil (cut file))
@@ -62,6 +66,7 @@ pieces_of_files (file ∷ next ∷ files) h =
 
 -- ---- reports at another offset
 
+-- a report whose offsets are `by` higher
 abbrev moved_placed : ℕ → Placed → Placed
 moved_placed by p = record p {
   begin = by + p.begin;
@@ -69,9 +74,11 @@ moved_placed by p = record p {
   report = moved by p.report;
 }
 
+-- offsets are added in either order
 grouped : (by start n : ℕ) → by + start + n ≡ by + (start + n)
 grouped by start n = omega arith
 
+-- the report on a game, if its text begins `by` later
 game_moved : (draws : Bool) (by start : ℕ) (text : List ℕ) (at : ℕ) (end : PgnEnd)
     → game_placed (by + start) text at end (read_at draws text at).state
     ≡ moved_placed by (game_placed start text at end (read_at draws text at).state)
@@ -80,6 +87,7 @@ game_moved draws by start text at end =
     ap₂ (λ (b e : ℕ). record there { begin = b; end = e }) (grouped by start (game_begin text at))
     (grouped by start end.offset)
 
+-- likewise the report on a fault
 fault_moved : (draws goes_on : Bool) (by start : ℕ) (text : List ℕ) (at : ℕ) (next : Option ℕ) (fault : GameFault)
     → fault_placed draws goes_on (by + start) text at next fault (read_at draws text at).state
     ≡ moved_placed by (fault_placed draws goes_on start text at next fault (read_at draws text at).state)
@@ -97,6 +105,7 @@ fault_moved draws goes_on by start text at next fault =
     (grouped by start (unwrap_or next (length text)))
     ∙ ap₂ (λ (o w : ℕ). record there { report = report o w }) (grouped by start fault.offset) (grouped by start wrong)
 
+-- the reports on at most n games from `at` on move with their text; by induction over n
 moved_from : (goes_on : Bool) (strict : Strictness) (by start n : ℕ) (text : List ℕ) (at : ℕ)
     → placed_from goes_on strict (by + start) n text at
     ≡ map (moved_placed by) (placed_from goes_on strict start n text at)
@@ -131,6 +140,7 @@ moved_from goes_on strict by start (suc n) text at =
         (fault_moved strict.draws_of_2014 goes_on by start text at (next_at goes_on text at) fault)
         (on (next_at goes_on text at) later)
 
+-- so do the reports on a piece, and on several (moved_all)
 moved_in : (strict : Strictness) (by offset : ℕ) (bytes : List ℕ)
     → placed_in strict (record { offset = by + offset; bytes = bytes })
     ≡ map (moved_placed by) (placed_in strict (record { offset = offset; bytes = bytes }))
@@ -159,6 +169,7 @@ moved_all strict by offset (bytes ∷ more) =
 
 -- ---- file after file
 
+-- the pieces of two lists one after the other have the offsets that the second begins with
 offsets_joined : (offset : ℕ) (front rest : List (List ℕ))
     → with_offsets offset (front ++ rest)
     ≡ with_offsets offset front ++ with_offsets (offset + length (concat front)) rest
@@ -174,6 +185,7 @@ offsets_joined offset (bytes ∷ more) rest =
 
 module _ (strict : Strictness) (reports : List ℕ → List Placed)
     (are : (text : List ℕ) → AreCollectionReports strict 0 (cut text) (reports text)) where
+  -- by induction over the files
   file_after_file : (offset : ℕ) (files : List (List ℕ))
       → flat_map (placed_in strict) (with_offsets offset (flat_map cut files)) ≡ one_after_another reports offset files
   file_after_file offset [] = refl
@@ -196,6 +208,7 @@ module _ (strict : Strictness) (reports : List ℕ → List Placed)
     abbrev of_placed : Placed → ℕ
     of_placed p = counted p.report
 
+    -- so moved reports have the same sum
     moved_sum : (by : ℕ) (placed : List Placed) → sum_by of_placed (map (moved_placed by) placed) ≡ sum_by of_placed placed
     moved_sum by [] = refl
     moved_sum by (p ∷ more) =
@@ -253,5 +266,6 @@ module _ (strict : Strictness) (reports : List ℕ → List Placed)
         faults = summed as_fault fault_kept (λ rs. (counts_of rs).faults) (λ rs. refl) files alike;
       }
 
+-- the law, for any reports that are those of collections
 pub files_alike : FilesAreVerifiedAlike
 files_alike strict reports are files h = sum_of_files strict reports are files h

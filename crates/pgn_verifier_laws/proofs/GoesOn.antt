@@ -1,4 +1,5 @@
--- Without a fault the reports on a text are the same, whether reading goes on after faults or not.
+-- Without a fault the reports on a text are the same, whether reading goes on after faults or not (a, b): only a report
+-- on a fault asks for that.
 use Rattle.std.proofs.Common.{◌≡◌, ℕ, zero, suc, ◌+◌, Bool, true, false, List, ◌∷◌, length, Option, Some, None, Result, Ok, Err, refl, ap}
 use Rattle.std.specs.List.{list_all}
 use Rattle.chess_game.specs.Game.{State}

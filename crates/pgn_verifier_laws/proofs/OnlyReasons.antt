@@ -1,4 +1,5 @@
--- No other reason for a fault is one than that which the function gives: a bad tag lacks one part.
+-- The reason that a fault is given is the only one for which `IsReason` holds: of a bad tag it is the first part that
+-- is lacking, by cases.
 use Rattle.std.proofs.Common.{◌≡◌, ℕ, List, Option, Some, refl, sym, ap, subst, ◌∙◌}
 use Rattle.chess_game.specs.declared.verdicts.Verdict.{Verdict}
 use Rattle.pgn_tokens.specs.Tokens.{after_next}
@@ -9,11 +10,13 @@ use Rattle.pgn_verifier.specs.WrongParts.{HasName, HasOpening, HasString, IsTagR
 use Rattle.pgn_verifier.specs.declared.game_fault.FaultKind.TheVariants.{Pgn, InVariation, UnknownVariant, ResultDiffers, BoardSaysOtherwise}
 use Rattle.pgn_verifier.proofs.shared.TagReasons.{name_found, opened, same_end, tag_reason_is}
 
+-- a tag that has an opening has a name
 opening_name : (text rest : List ℕ) → HasOpening text rest → HasName text
 opening_name text rest (name, opening, o, is) =
     let read = opening_read o rest in
     subst HasName (sym (is ∙ read.is)) (name_found read.inside (name, read.after_name) read.named)
 
+-- what follows an opening is the same, however it is split
 same_rest : (text rest others : List ℕ) → HasOpening text rest → HasOpening text others → rest ≡ others
 same_rest text rest others (name, opening, o, is) h =
     let read = opening_read o rest in
@@ -21,6 +24,7 @@ same_rest text rest others (name, opening, o, is) h =
     let both : Some rest ≡ Some others =
     sym read.quoted ∙ ap (after_next 34) (same_end (sym read.named ∙ there.named)) ∙ there.quoted in cc (both)
 
+-- two reasons for one bad tag are the same, by cases of what is lacking
 one_reason : {text : List ℕ} {r s : Option (List ℕ)} → IsTagReason text r → IsTagReason text s → r ≡ s
 one_reason (no_name a) (no_name b) = refl
 one_reason (no_name a) (no_value h b) = absurd (a h)
@@ -41,6 +45,7 @@ one_reason {text} (no_bracket {rest} o a) (not_closed {rest = others} p b) =
     absurd (b (subst HasString (same_rest text rest others o p) a))
 one_reason (no_bracket o a) (no_bracket p b) = refl
 
+-- of each kind of fault there is one reason
 pub only_reason : (kind : FaultKind) (text : List ℕ) (verdict : Option Verdict) (r : Option (List ℕ))
     → IsReason kind text verdict r → r ≡ reason kind text verdict
 only_reason (Pgn pgn.BadTag) text verdict r h = one_reason h (tag_reason_is text)

@@ -1,4 +1,6 @@
--- No other reports are those of the definitions than those that are made one after another.
+-- No other reports meet the definitions than those that are made by reading games one after another: a game is judged
+-- in one way (only_judged), so a text has one list of reports (one_list), and so have a piece and a collection. Without
+-- their spans the reports are the plain ones (same_of).
 use Rattle.std.proofs.Common.{◌≡◌, ℕ, zero, suc, ◌+◌, Bool, List, [], ◌∷◌, ◌++◌, length, drop, Option, Some, None, true, false, not, ◌&&◌, is_some, nat_lt, Result, Ok, Err, refl, sym, ap, subst, ◌∙◌, append-nil, flat_map, MatchBool, nat_le, if◌then◌else◌}
 use Rattle.std.proofs.{Math.Path.ap₂, Math.Path.fun_ext, lemmas.List.map-append}
 use Rattle.std.specs.Option.{option_map_or, unwrap_or}
@@ -23,6 +25,7 @@ same_split : (split : List ℕ → ℕ → List (ℕ × Token))
     → ((other : List ℕ) (from : ℕ) → IsSplit other from (split other from)) → split ≡ tokens_from
 same_split split splits = fun_ext (λ other. fun_ext (λ from. split_read other (splits other from)))
 
+-- a game's state and judgement are those that are computed
 pub only_judged : (strict : Strictness) (text : List ℕ) (at : ℕ) (s : State) (answer : Result (Option PgnEnd) GameFault)
     → IsJudged strict text at s answer
     → (s ≡ (read_at strict.draws_of_2014 text at).state) × (answer ≡ judged_at strict text at)
@@ -55,7 +58,8 @@ fault_given goes_on start text at next part fault names s reason =
     (Faulty (record fault { offset = start + fault.offset }) names (start + part.0) part.1
     (explanation s fault.kind reason) (goes_on && not (is_some next) && nat_lt fault.offset (length text)))
 
--- what reports are, by how their first game was judged
+-- what the reports are, if the first game was judged so: none, a report on a game and others, or a report on a fault
+-- and the others after it
 abbrev ReportsBy : Bool → Strictness → ℕ → List ℕ → ℕ → State → Result (Option PgnEnd) GameFault → List Placed → Type 0
 ReportsBy goes_on strict start text at s (Ok None) reports = reports ≡ []
 ReportsBy goes_on strict start text at s (Ok (Some end)) reports =
@@ -111,6 +115,7 @@ module _ (goes_on : Bool) (strict : Strictness) (start : ℕ) (text : List ℕ) 
             (next_at goes_on text at) fault g ∷ reports) is.0,
       )
 
+  -- any two lists of reports on the text are the same; by induction over the first
   one_list : {at : ℕ} {reports : List Placed} → AreReports goes_on strict start text at reports
       → (others : List Placed) → AreReports goes_on strict start text at others → others ≡ reports
   one_list (none_left {at} {s} j) others k =
@@ -152,6 +157,7 @@ only_reports strict start text reports h = only_reports_of false strict start te
 
 -- ---- pieces
 
+-- a piece that is too long is reported as such; any other has the reports on its text
 only_reports_in : (strict : Strictness) (piece : Piece) (reports : List Placed)
     → AreReportsIn strict piece.offset piece.bytes reports
     → reports ≡ placed_in strict piece
@@ -163,6 +169,7 @@ only_reports_in strict piece reports h = by_test (nat_le (length piece.bytes) PI
     by_test true h = only_reports_of true strict piece.offset piece.bytes reports h
     by_test false h = h
 
+-- so for all pieces one after another
 pub only_all : {strict : Strictness} {offset : ℕ} {all : List (List ℕ)} {reports : List Placed}
     → AreCollectionReports strict offset all reports
     → reports ≡ flat_map (placed_in strict) (with_offsets offset all)
@@ -184,6 +191,7 @@ record IsPlain (kind : FaultKind) (text : List ℕ) (start begin at : ℕ) : Typ
   pub word : (if is_at_begin kind then [] else (wrong_part kind text begin at).1)
       ≡ (if is_at_begin kind then [] else (wrong_part kind text at at).1)
 
+-- by cases of the kind of fault: place and word are those at the fault, unless it is told only at a game's beginning
 is_plain : (kind : FaultKind) (text : List ℕ) (start begin at : ℕ) → IsPlain kind text start begin at
 is_plain (Pgn pgn.BadTag) text start begin at = record { place = refl; word = refl }
 is_plain (Pgn (pgn.BadFen fault)) text start begin at = record { place = refl; word = refl }
@@ -200,6 +208,7 @@ is_plain UnknownVariant text start begin at = record { place = refl; word = refl
 is_plain (ResultDiffers tag_len outcome) text start begin at = record { place = refl; word = refl }
 is_plain BoardSaysOtherwise text start begin at = record { place = refl; word = refl }
 
+-- the report on a fault without its span
 plain_is : (draws goes_on : Bool) (start : ℕ) (text : List ℕ) (at : ℕ) (next : Option ℕ) (fault : GameFault)
     (s : State) → plain_of (fault_report draws goes_on start text at next fault s)
     ≡ plain_fault draws start text fault s
@@ -209,6 +218,7 @@ plain_is draws goes_on start text at next fault s =
     (xs ++ explanation s fault.kind (reason fault.kind (drop fault.offset text) (ending draws s))))
     plain.place plain.word
 
+-- reports without their spans, of at most n games from `at` on; by induction over n
 same_from : (goes_on : Bool) (strict : Strictness) (start n : ℕ) (text : List ℕ) (at : ℕ)
     → without_spans (placed_from goes_on strict start n text at) ≡ games_from goes_on strict start n text at
 unfolding placed_from games_from

@@ -1,4 +1,6 @@
--- A game that is read in a text is read in each part of it that holds the game.
+-- A game that is read in a text is read in each part of it that holds the game (in_parts), so a part that holds whole
+-- games has the same reports alone as it has in the text (alone, in_text), and so have all parts of a text together
+-- (reported_alone, whole). The law for pieces is the last.
 use Rattle.std.proofs.Common.{◌≡◌, ℕ, zero, suc, ◌+◌, ◌-◌, ◌<◌, ◌≤◌, true, false, List, [], ◌∷◌, ◌++◌, length, take, drop, Option, Some, None, Ok, Err, refl, sym, ap, subst, ◌∙◌, append_assoc, append-nil, length-append, arith, le-leb, is_some, nat_le, if◌then◌else◌}
 use Rattle.std.specs.{List.concat, List.flat_map, List.list_all, Option.option_map_or}
 use Rattle.std.proofs.Math.Seq.{drop-length, take-length}
@@ -27,6 +29,7 @@ module _ (before part after : List ℕ) (starts : begins_line (before ++ (part +
       sym (take-append-le (length us) xs ys h) ∙ ap (take (length us)) e
       ∙ take-append-le (length us) us vs (omega arith) ∙ take-length us
 
+  -- its bytes and the end of the line before it are the same, and it is the longest token there too
   fits_part : (at : ℕ) (kind : Kind) (front rest : List ℕ)
       → drop (length before + at) (before ++ (part ++ after)) ≡ front ++ rest
       → IsLongest (IsOf (begins_line (before ++ (part ++ after)) (length before + at)) kind) front rest
@@ -106,6 +109,7 @@ in_parts law strict plain before part after at end begins is inside =
 
 -- ---- reports
 
+-- later than at the part's first byte no byte order mark comes into question
 pub next_begins : (before part after : List ℕ) (at next : ℕ) → BeginsAlike before part after at → 0 < next
     → BeginsAlike before part after next
 next_begins before part after at next begins h = record {
@@ -116,6 +120,7 @@ next_begins before part after at next begins h = record {
 
 module _ (law : TokenByToken)
     (strict : Strictness) (plain : strict.variations ≡ false) (start : ℕ) (before part after : List ℕ) where
+  -- the reports on the part alone are its games
   alone : {at : ℕ} {games : List Plain} → HoldsWhole strict before part after at games
       → BeginsAlike before part after at → at ≤ length part → (k : ℕ) → length part < k + at
       → reports_from strict start k part at ≡ games
@@ -139,6 +144,7 @@ module _ (law : TokenByToken)
       (omega (arith, found.some_bytes)))
       (omega (arith, inside)) k (omega (arith, found.some_bytes, many)))
 
+  -- so are the reports on the text, in the part, and after them come those from the part's end on
   in_text : {at : ℕ} {games : List Plain} → HoldsWhole strict before part after at games
       → BeginsAlike before part after at → at ≤ length part → (most : ℕ)
       → reports_from strict start (length games + most) (before ++ (part ++ after)) (length before + at)
@@ -165,6 +171,7 @@ module _ (law : TokenByToken)
       (in_text more (next_begins before part after at next begins (omega (arith, found.some_bytes)))
       (omega (arith, inside)) most)
 
+-- so both are the same
 pub reported_alike : TokenByToken
     → WholeGamesAreReportedAlike
 reported_alike law strict plain start before part after games begins holds = record {
@@ -213,6 +220,7 @@ module _ (law : TokenByToken) (strict : Strictness) (plain : strict.variations �
             (omega (arith, found.some_bytes))) (omega (arith, inside)),
       )
 
+  -- all parts: each is reported on as its games, wherever it begins
   all_alone : {before : List ℕ} {parts : List (List ℕ)} {games : List Plain} → AllHoldWhole strict before parts games
       → (starts : List ℕ → ℕ) → flat_map (λ part. reports_on strict (starts part) part) parts ≡ games
   all_alone no_parts starts = refl
@@ -221,6 +229,7 @@ module _ (law : TokenByToken) (strict : Strictness) (plain : strict.variations �
       (reported_alike law strict plain (starts first) before first (concat parts) games begins holds).alone
       ∙ ap (λ l. games ++ l) (all_alone rest starts)
 
+  -- there are no more games than bytes
   few_of_all : {before : List ℕ} {parts : List (List ℕ)} {games : List Plain} → AllHoldWhole strict before parts games
       → length games ≤ length (concat parts)
   few_of_all no_parts = omega arith
@@ -233,6 +242,7 @@ module _ (law : TokenByToken) (strict : Strictness) (plain : strict.variations �
         few before first (concat parts) holds begins (omega arith),
       )
 
+  -- the reports on the whole text are the games of all parts
   whole : (start k : ℕ) {before : List ℕ} {parts : List (List ℕ)} {games : List Plain}
       → AllHoldWhole strict before parts games
       → reports_from strict start (length games + k) (before ++ concat parts) (length before) ≡ games

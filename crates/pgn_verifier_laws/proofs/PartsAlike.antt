@@ -1,4 +1,6 @@
--- What is alike in a text and in a part of it: places, steps, tags, and whether results agree.
+-- What is alike in a text and in a part of it, whose offsets differ: bytes and beginnings of lines (there, lines),
+-- steps of the reader, which differ only in the offsets of faults (OnOrFails), tags (HaveSameTags), and what
+-- contradicts a game's result (agrees).
 use Rattle.std.proofs.Common.{◌≡◌, ℕ, zero, suc, ◌+◌, ◌-◌, ◌<◌, ◌≤◌, Bool, true, false, cond, eqb, List, [], ◌∷◌, ◌++◌, length, get_or, take, drop, Option, Some, None, Result, Ok, Err, refl, sym, ap, ◌∙◌, arith, bytes_eq, is_some, nat_lt, not, codes, map, if◌then◌else◌, ◌&&◌, option_and_then}
 use Rattle.std.specs.List.{last_or, cons_option, prefix_len}
 use Rattle.std.specs.Option.{option_map, option_map_or, option_or, option_eq}
@@ -32,10 +34,12 @@ TokenByToken = (draws : Bool) (limit : ℕ) → (text : List ℕ) → (at : ℕ)
 
 -- ---- places
 
+-- the bytes from an offset in the part on, and what comes after the part
 pub there : (before part after : List ℕ) (at : ℕ) → at ≤ length part
     → drop (length before + at) (before ++ (part ++ after)) ≡ drop at part ++ after
 there before part after at h = drop-append-add before (part ++ after) at ∙ drop-append-le at part after h
 
+-- a line begins at an offset of the part as it does in the text, if the part begins one
 pub lines : (before part after : List ℕ) → begins_line (before ++ (part ++ after)) (length before) ≡ true → (at : ℕ)
     → at ≤ length part → begins_line (before ++ (part ++ after)) (length before + at) ≡ begins_line part at
 lines before part after starts zero h = ap (begins_line (before ++ (part ++ after))) (omega arith) ∙ starts
@@ -59,22 +63,26 @@ pub data OnOrFails : Step → Step → Type 0 where
   on : (g : SoFar) → OnOrFails (On g) (On g)
   stops : (s : State) (f : PgnFault) (other : Step) → OnOrFails (Stop (record { state = s; answer = Err f })) other
 
+-- if both branches are alike, so are the steps by a test
 either : (b : Bool) (s t u v : Step) → OnOrFails s t → OnOrFails u v → OnOrFails (cond b s u) (cond b t v)
 either true s t u v h k = h
 either false s t u v h k = k
 
+-- both steps go on with the same state g, from which the rest is read as r
 pub record GoesOn (s t : Step) (later : SoFar → GameRead) (r : GameRead) : Type 0 where
   pub g : SoFar
   pub first : s ≡ On g
   pub second : t ≡ On g
   pub rest : later g ≡ r
 
+-- a step that doesn't fail in the first text, whose game ends, goes on in both
 pub goes_on : (s t : Step) (later : SoFar → GameRead) (state : State) (end : PgnEnd) → OnOrFails s t
     → read_rest_with s later ≡ over state end → GoesOn s t later (over state end)
 goes_on s t later state end (on g) h = record { g = g; first = refl; second = refl; rest = h }
 goes_on s t later state end (stops u f other) h =
     let wrong : Err f ≡ Ok (Some end) = ap (λ (r : GameRead). r.answer) h in absurd (cc)
 
+-- reading a move goes on in both, or fails in both
 moves_alike : (draws : Bool) (limit : ℕ) (g : SoFar) (m n : ℕ) (r : Reading)
     → OnOrFails (move_step draws limit g m r) (move_step draws limit g n r)
 moves_alike draws limit g m n reads.NotAMove = stops _ _ _
@@ -94,6 +102,7 @@ pub data Does (word : List ℕ) (steps : SoFar → ℕ → Step) (precedes_tags 
       → Does word steps precedes_tags
   no_end : ((g : SoFar) (m n : ℕ) → OnOrFails (steps g m) (steps g n)) → Does word steps precedes_tags
 
+-- by the kind of the word
 pub does : (draws : Bool) (limit : ℕ) (word : List ℕ)
     → Does word (λ g m. word_step draws limit g m word (word_kind word)) (may_precede_tags (Word word))
 does draws limit word =
@@ -113,12 +122,15 @@ tags_alike draws limit total small x y g name text m n =
 
 -- ---- the texts of tags
 
+-- the strings of the tags with this name, as far as they can be the game's
 abbrev pub texts : List ℕ → List (ℕ × Token) → List (List ℕ)
 texts name ts = map (λ (t : List ℕ × ℕ). t.0) (tags_named name (tag_section ts))
 
+-- each name has the same strings in two lists of tokens, wherever they are
 abbrev pub HaveSameTags : List (ℕ × Token) → List (ℕ × Token) → Type 0
 HaveSameTags us ts = (name : List ℕ) → texts name us ≡ texts name ts
 
+-- with one token more in front, the tags of a game are that token and its tags, if the token may precede tags
 pub own_more : (t : ℕ × Token) (ts : List (ℕ × Token))
     → tag_section (t ∷ ts) ≡ cond (may_precede_tags t.1) (t ∷ tag_section ts) []
 own_more t ts = by_test (may_precede_tags t.1)
@@ -134,10 +146,13 @@ own_more t ts = by_test (may_precede_tags t.1)
         ap (λ n. take n (t ∷ ts)) next
     by_test false = refl
 
+-- so are their strings
 opened : (name : List ℕ) (t : ℕ × Token) (ts : List (ℕ × Token)) → texts name (t ∷ ts)
     ≡ map (λ (u : List ℕ × ℕ). u.0) (tags_named name (cond (may_precede_tags t.1) (t ∷ tag_section ts) []))
 opened name t ts = ap (λ l. map (λ (u : List ℕ × ℕ). u.0) (tags_named name l)) (own_more t ts)
 
+-- a skipped token, a tag or a word in front of both lists leaves their tags the same; word_ends: a word that may not
+-- precede tags leaves none
 pub skip_more : (x y : ℕ) (us ts : List (ℕ × Token)) → HaveSameTags us ts
     → HaveSameTags ((y, Skip) ∷ us) ((x, Skip) ∷ ts)
 skip_more x y us ts same name = opened name (y, Skip) us ∙ same name ∙ sym (opened name (x, Skip) ts)
@@ -174,12 +189,14 @@ word_ends y x word us ts e name =
     ∙ sym (ap (λ b. map (λ (t : List ℕ × ℕ). t.0) (tags_named name (cond b ((x, Word word) ∷ tag_section ts) []))) e)
     ∙ sym (opened name (x, Word word) ts)
 
+-- the string of the last tag, of the strings alone
 last_text : (o : Option (List ℕ × ℕ)) (tags : List (List ℕ × ℕ))
     → option_map (λ (t : List ℕ × ℕ). t.0) (last_or o tags)
     ≡ last_or (option_map (λ (t : List ℕ × ℕ). t.0) o) (map (λ (t : List ℕ × ℕ). t.0) tags)
 last_text o [] = refl
 last_text o (t ∷ ts) = last_text (Some t) ts
 
+-- the last tag of a name has the same string in both
 same_last : (us ts : List (ℕ × Token)) → HaveSameTags us ts → (name : List ℕ)
     → option_map (λ (t : List ℕ × ℕ). t.0) (last_tag name (tag_section us))
     ≡ option_map (λ (t : List ℕ × ℕ). t.0) (last_tag name (tag_section ts))
@@ -199,6 +216,7 @@ same_variant us ts same =
     by_text None = refl
     by_text (Some tag) = refl
 
+-- the outcome that a tag Result names
 abbrev pub outcome_in : Option ResultTag → Option (Option Outcome)
 outcome_in tag = option_map (λ (t : ResultTag). t.outcome) tag
 
@@ -220,6 +238,7 @@ same_result total small us ts same =
     by_text n None = refl
     by_text n (Some tag) = refl
 
+-- a variant is known in both, or in neither
 pub same_known : (total small : ℕ) (us ts : List (ℕ × Token)) → HaveSameTags us ts
     → is_some (unknown_variant_in small us) ≡ is_some (unknown_variant_in total ts)
 same_known total small us ts same =
@@ -257,12 +276,14 @@ faults_stop draws limit total o xs x g Bad k h = cc
 
 -- ---- contradictions
 
+-- how the reader answers if the game ends so; `found_so`: how the verifier does
 abbrev pub read_so : PgnEnd → Result (Option PgnEnd) PgnFault
 read_so end = Ok (Some end)
 
 abbrev pub found_so : PgnEnd → Result (Option PgnEnd) GameFault
 found_so end = Ok (Some end)
 
+-- a game without a fault was read to that end, and its end has no fault
 pub judged_so : (strict : Strictness) (variation : PgnEnd → Option PgnFault) (unknown : Option ℕ)
     (tag : Option ResultTag) (v : Option Verdict) (end : PgnEnd) (answer : Result (Option PgnEnd) PgnFault)
     → judged strict variation unknown tag v answer ≡ found_so end
@@ -283,6 +304,7 @@ none_of_two : (a b : Option GameFault) → option_or a b ≡ None → (a ≡ Non
 none_of_two None b h = (refl, h)
 none_of_two (Some f) b h = absurd (cc)
 
+-- a test by which one fault is not reported, doesn't report another; then_none: likewise with the branches exchanged
 else_none : (t : Bool) (f g : GameFault) → cond t None (Some f) ≡ None → cond t None (Some g) ≡ None
 else_none true f g h = refl
 else_none false f g h = absurd (cc)
@@ -291,6 +313,7 @@ then_none : (t : Bool) (f g : GameFault) → cond t (Some f) None ≡ None → c
 then_none true f g h = absurd (cc)
 then_none false f g h = refl
 
+-- a tag Result that agrees with the game's end does so wherever the end is (m)
 tags_agree : (tag other : Option ResultTag) (end : PgnEnd) (m : ℕ) → outcome_in other ≡ outcome_in tag
     → result_differs tag end ≡ None → result_differs other (record end { offset = m }) ≡ None
 tags_agree None None end m same h = refl
@@ -300,6 +323,8 @@ tags_agree (Some tag) (Some other) end m same h =
     let outcomes : other.outcome ≡ tag.outcome = cc in
     rw outcomes (else_none (option_eq same_outcome tag.outcome (Some end.outcome)) _ _ h)
 
+-- so does the board, and a variant that is known (variants_agree); the three lemmas after these say it of what is
+-- looked for
 board_agrees : (v : Option Verdict) (end : PgnEnd) (m : ℕ) → board_says_otherwise v end ≡ None
     → board_says_otherwise v (record end { offset = m }) ≡ None
 board_agrees v end m h = then_none (contradicts_verdict v end.outcome) _ _ h
@@ -348,6 +373,7 @@ agrees strict plain variation variation' unknown tag unknown' other v end m know
 
 -- ---- byte order marks
 
+-- reading begins at the offset or after it
 pub not_before : (text : List ℕ) (at : ℕ) → at ≤ after_byte_order_mark text at
 not_before text at = by_zero (eqb at 0) refl
   where

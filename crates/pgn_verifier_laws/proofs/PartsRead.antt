@@ -1,4 +1,6 @@
--- A part of a text that ends with a line, or with the text, is read alone as it is in the text, if it has no fault.
+-- A part of a text that ends with a line, or with the text, is read alone as it is in the text, if it has no fault: a
+-- token of the part is one of the text (same), so a game of the part is one of the text (in_text). And where the part
+-- has no more games, reading skips to the part's end (skips_to_end).
 use Rattle.std.proofs.Common.{◌≡◌, ℕ, zero, suc, ◌+◌, ◌-◌, ◌<◌, ◌≤◌, Bool, true, false, cond, eqb, List, [], ◌∷◌, ◌++◌, length, take, drop, Option, Some, None, Result, Ok, Err, refl, sym, ap, subst, ◌∙◌, inl, inr, ◌⊎◌, append_assoc, append-nil, length-append, arith, bytes_eq, is_some, nat_lt, codes, ◌&&◌, ◌==◌, if◌then◌else◌, option_and_then}
 use Rattle.std.specs.{List.last_or, Option.option_map, Option.option_map_or}
 use Rattle.std.proofs.{lemmas.Bool.and_parts, lemmas.Bool.Decides.nat_tests, lemmas.List.drop-append-le, lemmas.List.length-drop, lemmas.List.take-append-drop, lemmas.Slice.Eq.bytes_eq-Decides}
@@ -26,6 +28,7 @@ use Rattle.pgn_verifier_laws.proofs.GamesAlike.{Fits, found}
 use Rattle.pgn_verifier_laws.proofs.PartsAlike.{TokenByToken, there, lines, over, own_more, same_variant, outcome_in, same_result, same_known, faults_stop, read_so, found_so, judged_so, agrees, not_before, no_mark}
 use Rattle.pgn_verifier.specs.laws.Reported.{games_from, judged_at, read_at, report_then, reports_from}
 
+-- the reader's answer at the text's end, if no game was begun
 abbrev no_game : Result (Option PgnEnd) PgnFault
 no_game = Ok None
 
@@ -40,6 +43,7 @@ result_in total tags = option_map (λ (tag : List ℕ × ℕ). record {
   len = length tag.0;
 }) (last_or None tags)
 
+-- where the last tag Variant begins, if it names no known variant
 abbrev unknown_in : ℕ → List (List ℕ × ℕ) → Option ℕ
 unknown_in total tags = option_and_then
     (λ (tag : List ℕ × ℕ). if is_known_variant tag.0 then None else Some (total - tag.1)) (last_or None tags)
@@ -64,10 +68,12 @@ data Pass (passed : Bool) (g : SoFar) : Step → Type 0 where
   fails : (s : State) (f : PgnFault) → passed ≡ false → Pass passed g (Stop (record { state = s; answer = Err f }))
   wins : (s : State) (end : PgnEnd) → passed ≡ false → Pass passed g (Stop (over s end))
 
+-- a step by a test does what both branches do
 one_of : (p : Bool) (g : SoFar) (b : Bool) (u v : Step) → Pass p g u → Pass p g v → Pass p g (cond b u v)
 one_of p g true u v h k = h
 one_of p g false u v h k = k
 
+-- a word of a move meets one, or fails
 move_pass : (draws : Bool) (limit : ℕ) (g : SoFar) (m : ℕ) (r : Reading) → Pass false g (move_step draws limit g m r)
 move_pass draws limit g m reads.NotAMove = fails _ _ refl
 move_pass draws limit g m (reads.Move x) =
@@ -80,6 +86,7 @@ move_pass draws limit g m reads.NoSuch =
     one_of false g (is_some (ending draws g.state)) _ _ (fails _ _ refl)
     (one_of false g (nat_lt (length g.state.moves) limit) _ _ (fails _ _ refl) (fails _ _ refl))
 
+-- a word, by its kind
 word_pass : (draws : Bool) (limit : ℕ) (word : List ℕ) (g : SoFar) (m : ℕ)
     → Pass (may_precede_tags (Word word)) g (word_step draws limit g m word (word_kind word))
 word_pass draws limit word =
@@ -87,10 +94,12 @@ word_pass draws limit word =
     (λ o g m. wins _ _ refl)
     (λ g m. meets _ refl refl) (λ g m. passes refl) (λ g m. move_pass draws limit g m (reading (current g.state) word))
 
+-- a FEN tag
 fen_pass : (g : SoFar) (m : ℕ) (r : Result Setup FenFault) → Pass false g (fen_step g m r)
 fen_pass g m (Ok start) = meets _ refl refl
 fen_pass g m (Err fault) = fails _ _ refl
 
+-- each token
 pass : (draws : Bool) (limit total : ℕ) (g : SoFar) (x : ℕ) (t : Token)
     → Pass (is_passed t) g (step draws limit total g x t)
 pass draws limit total g x Skip = passes refl
@@ -110,11 +119,13 @@ is_on b g s (meets k e met) h = absurd (cc)
 is_on b g s (fails u f e) h = absurd (cc)
 is_on b g s (wins u end e) h = absurd (cc)
 
+-- a token that is passed over leaves the state
 passed_step : (draws : Bool) (limit total : ℕ) (g : SoFar) (x : ℕ) (t : Token) → is_passed t ≡ true
     → step draws limit total g x t ≡ On g
 passed_step draws limit total g x t p =
     is_on (is_passed t) g (step draws limit total g x t) (pass draws limit total g x t) p
 
+-- and isn't a tag
 passed_tags : (name : List ℕ) (x : ℕ) (t : Token) (ts : List (ℕ × Token)) → is_passed t ≡ true
     → tags_named name (tag_section ((x, t) ∷ ts)) ≡ tags_named name (tag_section ts)
 passed_tags name x Skip ts p = ap (tags_named name) (own_more (x, Skip) ts)
@@ -126,6 +137,7 @@ passed_tags name x (Unclosed_comment left) ts p = absurd (cc)
 passed_tags name x Unclosed_variation ts p = absurd (cc)
 passed_tags name x Bad ts p = absurd (cc)
 
+-- whether it is passed over doesn't depend on its offset
 passed_alike : (kind : Kind) (front : List ℕ) (m n : ℕ) → is_passed (token_of kind front m) ≡ true
     → is_passed (token_of kind front n) ≡ true
 passed_alike Blank front m n p = p
@@ -162,6 +174,7 @@ met_stays draws limit total g (t ∷ ts) met h =
 module _ (draws : Bool) (limit : ℕ) (before part after : List ℕ)
     (starts : begins_line (before ++ (part ++ after)) (length before) ≡ true) (closed : IsClosed part after)
   where
+    -- the longest token at a place of the part is the longest there in the text, if the part is closed
     longer : (b : Bool) (at : ℕ) (kind : Kind) (front rest : List ℕ) → drop at part ≡ front ++ rest
         → 0 < length front → IsLongest (IsOf b kind) front rest → IsClosed part after
         → IsLongest (IsOf b kind) front (rest ++ after)
@@ -225,6 +238,7 @@ module _ (draws : Bool) (limit : ℕ) (before part after : List ℕ)
       tags : (name : List ℕ) → tags_named name (tag_section own)
           ≡ tags_named name (tag_section (tokens_from (before ++ (part ++ after)) (length before + length part)))
 
+    -- one token more that is passed over
     one_more : (at : ℕ) (kind : Kind) (front rest : List ℕ) → is_passed (token_of kind front (length rest)) ≡ true
         → Same at kind front rest → Passes (at + length front) → Passes at
     one_more at kind front rest p fit more =
@@ -246,6 +260,7 @@ module _ (draws : Bool) (limit : ℕ) (before part after : List ℕ)
           tags = λ name. passed_tags name y u more.own q ∙ more.tags name;
         }
 
+    -- by induction over the tokens of the part that are left
     passed : {at : ℕ} {us : List (ℕ × Token)} → IsSplitByKinds part at us → at ≤ length part → (g : SoFar)
         → (game_of draws limit (length part) g us).answer ≡ Ok None → Passes at
     passed (ended {at = here} e) within g h =
@@ -336,6 +351,7 @@ in_text law strict plain before part after at end begins closed is =
 
 -- ---- where the part has no more games
 
+-- if no game is reported, none was read
 judged_none : (strict : Strictness) (variation : PgnEnd → Option PgnFault) (unknown : Option ℕ)
     (tag : Option ResultTag) (v : Option Verdict) (answer : Result (Option PgnEnd) PgnFault)
     → judged strict variation unknown tag v answer ≡ Ok None → answer ≡ Ok None

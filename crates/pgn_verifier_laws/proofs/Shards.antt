@@ -1,4 +1,6 @@
--- A text that is cut in two where a piece begins has the pieces of the one part and then those of the other.
+-- A text that is cut in two before a tag line, after a line of moves, has the pieces of the one part and then those of
+-- the other: the tag line begins a piece anyway (joins), and the lines of both parts are the lines of the text
+-- (lines_joined).
 use Rattle.std.proofs.Common.{◌≡◌, ℕ, eqb, Bool, true, false, List, [], ◌∷◌, ◌++◌, length, take, refl, sym, ap, ap₂, ◌∙◌, arith, bytes_eq, if◌then◌else◌, ◌&&◌, ◌||◌, nat_lt, ◌==◌, codes}
 use Rattle.std.specs.List.{onto_first, concat, list_any, list_all}
 use Rattle.std.proofs.{lemmas.Bool.and_left, lemmas.Bool.or_left, lemmas.Bool.eqb-true, lemmas.List.Folds.list_any-append}
@@ -15,6 +17,7 @@ abbrev is_empty_front : List ℕ → Bool
 is_empty_front front = bytes_eq (take 1 front) (codes "%") || bytes_eq (take 1 front) (codes ";")
     || list_all (λ c. is_blank c || (c == 13) || (c == 10)) front
 
+-- a line that begins with `%` or `;` begins no tag
 front_kind : (front : List ℕ) → is_empty_front front ≡ true → begins_tag front ≡ false
 front_kind [] h = refl
 front_kind (c ∷ cs) h = by_test (eqb c 91) refl
@@ -42,6 +45,7 @@ weaker true in_line comment white implies h = refl
 weaker false true comment white implies h = let no : false ≡ true = implies refl in absurd (cc)
 weaker false false comment white implies h = h
 
+-- an empty line begins no piece
 stays : (before : List (List ℕ)) (line : List ℕ) → is_empty_line line ≡ true → begins_piece before line ≡ false
 stays before line h =
     and_left (is_tag_line line) (list_any is_moves_line before || (is_event_line line && list_any is_event_line before))
@@ -67,6 +71,7 @@ module _ (tag_line : List ℕ) (others : List (List ℕ)) (tag : is_tag_line tag
   abbrev later : List (List ℕ)
   later = tag_line ∷ others
 
+  -- at the tag line a piece ends
   here : (before : List (List ℕ)) → list_any is_moves_line before ≡ true
       → cut_lines before later ≡ piece_of (concat before) ++ cut_lines [] later
   here before moves =
@@ -77,6 +82,7 @@ module _ (tag_line : List ℕ) (others : List (List ℕ)) (tag : is_tag_line tag
       ∙ ap (λ ps. ps ++ cut_lines [] later)
       (sym (piece_of_some (concat before) (some_bytes is_moves_line refl before moves)))
 
+  -- by induction over the lines before the tag line
   pub joins : (before lines : List (List ℕ)) → moves_last before lines ≡ true
       → cut_lines before (lines ++ later) ≡ cut_lines before lines ++ cut_lines [] later
   joins before [] h = here before (last_here (list_any is_moves_line before) h)
@@ -133,6 +139,7 @@ lines_joined (c ∷ cs) rest = by_test (breaks_line c) (lines_joined cs rest) (h
         ap (onto_first c) on ∙ ap (λ xs. onto_first c (xs ++ lines_of rest)) is
         ∙ sym (ap (λ xs. onto_first c xs ++ lines_of rest) is)
 
+-- the law, for the text's bytes
 pub shards_are_cut : ShardsAreCut
 shards_are_cut front rest moves tag =
     cut_is ((front ++ 10 ∷ []) ++ rest) ∙ ap (cut_lines []) (lines_joined front rest) ∙ by_lines (lines_of rest) tag

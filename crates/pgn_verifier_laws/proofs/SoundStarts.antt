@@ -1,4 +1,5 @@
--- The start of a game that was read is sound.
+-- The start of a game that was read is sound: a FEN that is read gives a sound position with 64 squares (fen_sound),
+-- since it is refused where one of the conditions fails, and other tokens leave the start (token_sound).
 use Rattle.std.proofs.Common.{◌≡◌, ◌∙◌, ℕ, zero, suc, ◌*◌, Bool, true, false, eqb, List, [], ◌∷◌, ◌++◌, length, length-append, map, take, drop, Option, Some, None, Result, Ok, Err, refl, sym, ap, subst, arith, codes, if◌then◌else◌, max, option_and_then, ◌==◌}
 use Rattle.std.specs.{List.slice_split, List.flat_map, Option.ok_or, Option.option_map, Option.option_map_or}
 use Rattle.std.proofs.lemmas.Bool.Decides.{nat_tests}
@@ -14,9 +15,11 @@ use Rattle.chess_pgn_laws.specs.GameOfTokens.{if_read, is_fen, start_by, tagged_
 
 -- ---- 64 squares
 
+-- what is on the squares of a rank, or of the board
 abbrev Row : Type 0
 Row = List (Option Man)
 
+-- a rank that was read has 8 squares
 eight : (text : List ℕ) (row : Row) → rank_of text ≡ Some row → length row ≡ 8
 eight text row is =
     at (option_map (λ parts. flat_map (λ squares. squares) parts) (all_there (map squares_of text))) is
@@ -31,6 +34,7 @@ eight text row is =
     at None h = absurd (cc)
     at (Some r) h = by_length r (length r == 8) refl h
 
+-- ranks that were read have 8 squares each, put together from the first rank on
 rows_long : (texts : List (List ℕ)) (rows : List Row) → all_there (map rank_of texts) ≡ Some rows
     → length (from_top rows) ≡ 8 * length texts
 rows_long [] rows is = let none : rows ≡ [] = cc in ap (λ r. length (from_top r)) none
@@ -89,10 +93,12 @@ without (suc n) x (y ∷ xs) h = at y.1 h (without n x xs)
     at true k more = more k
     at false k more = absurd (cc)
 
+-- if no fault is found, what is read is the position
 unfaulted : (o : Option FenFault) (p q : Setup) → option_map_or Err o (Ok p) ≡ Ok q → (o ≡ None) × (p ≡ q)
 unfaulted None p q h = (refl, (let same : p ≡ q = cc in same))
 unfaulted (Some f) p q h = absurd (cc)
 
+-- a position of 64 squares is read only if the conditions of `IsSound` are met
 sound_if : (letters : List ℕ) (p q : Setup) → length p.men ≡ 64
     → option_map_or Err (first_failing (conditions_of letters p)) (Ok p) ≡ Ok q → IsSound q
 unfolding setup_fault
@@ -125,6 +131,7 @@ read_on v letters men side castling target halfmove fullmove = do
   p ← Ok (made v men colour rights passed clock number)
   option_map_or Err (first_failing (conditions_of letters p)) (Ok p)
 
+-- by cases of what each field was read as
 on_sound : (v : Variant) (letters : List ℕ) (men : Row) (side : Option Colour) (castling : Result Rights FenFault)
     (target : Option (Option ℕ)) (halfmove fullmove : Option ℕ) (q : Setup) → length men ≡ 64
     → read_on v letters men side castling target halfmove fullmove ≡ Ok q → IsSound q
@@ -150,6 +157,7 @@ six_sound v placement side castling target halfmove fullmove q h = at (placement
         (if is_castling_field v castling then Ok (rights_in v men castling) else Err faults.Castling)
         (target_of target) (short_number 6 halfmove) (short_number 6 fullmove) q (board_long placement men e) k
 
+-- from six fields, or fewer where counters are left out
 fields_sound : (v : Variant) (fields : List (List ℕ)) (q : Setup) → reading_in v fields ≡ Ok q → IsSound q
 fields_sound v (a ∷ b ∷ c ∷ d ∷ e ∷ f ∷ []) q h = six_sound v a b c d e f q h
 fields_sound v [] q h = absurd (cc)
@@ -167,6 +175,7 @@ fen_sound v text q h =
 
 -- ---- the last FEN
 
+-- a tag FEN keeps the start sound
 read_sound : (v : Variant) (text : List ℕ) (p : Setup) (r : Result Setup FenFault) → fen_reading_as v text ≡ r
     → IsSound p → IsSound (if_read p r)
 read_sound v text p (Ok q) e h = fen_sound v text q e
@@ -180,6 +189,7 @@ token_sound v p (Tag name text to_end) h = at (is_fen name)
     at false = h
 token_sound v p _ h = h
 
+-- by induction over the tokens
 pub start_sound : (v : Variant) (p : Setup) (tokens : List (ℕ × Token)) → IsSound p → IsSound (tagged_start v p tokens)
 start_sound v p [] h = h
 start_sound v p (t ∷ ts) h = start_sound v (start_by v p t.1) ts (token_sound v p t.1 h)

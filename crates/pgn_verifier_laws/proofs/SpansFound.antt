@@ -1,4 +1,6 @@
--- The spans of reports are found one after another in the text.
+-- The spans of reports are found one after another in the text: a report's span begins where its game does, ends after
+-- that and within the text (game_there, fault_there), and the next begins at its end or later (placed_next). So they
+-- make up the text (text_made), and those of its pieces too (collection_made).
 use Rattle.std.proofs.Common.{◌≡◌, ℕ, zero, suc, ◌+◌, ◌-◌, ◌<◌, ◌≤◌, eqb, Bool, true, false, List, [], ◌∷◌, ◌++◌, length, take, drop, Option, Some, None, IfSome, Result, Ok, Err, IfOk, refl, sym, ap, subst, ◌∙◌, append_assoc, append-nil, length-append, arith, nat_le, if◌then◌else◌, drop-drop, length-drop, length-take-le, take-append-drop}
 use Rattle.std.specs.{List.concat, List.flat_map, Option.option_map_or}
 use Rattle.std.proofs.{Math.Seq.drop-length, lemmas.Bool.Decides.nat_tests, lemmas.List.Folds.concat-append, lemmas.List.Sums.prefix_len-le-length}
@@ -19,6 +21,7 @@ use Rattle.pgn_verifier_laws.proofs.{BlanksSkipped.begins_alike, BlanksSkipped.b
 
 -- ---- where a game is
 
+-- a game begins within the text
 begins_within : (text : List ℕ) (at : ℕ) → at ≤ length text → game_begin text at ≤ length text
 begins_within text at h =
     let first : ℕ = after_byte_order_mark text at in
@@ -27,6 +30,7 @@ begins_within text at h =
     let left = length-drop first text in
     omega (arith, marked, blanks, left)
 
+-- a game that is read ends after its first byte, within the text
 abbrev EndsAfter : ℕ → ℕ → Result (Option PgnEnd) PgnFault → Type 0
 EndsAfter begin total r = IfOk r (λ o. IfSome o (λ e. (begin < e.offset) × (e.offset ≤ total)))
 
@@ -35,6 +39,7 @@ module _ (law : TokenByToken) (strict : Strictness) (text : List ℕ) (at : ℕ)
       ≡ pgn_read strict.draws_of_2014 MOST_MOVES text at
   alike = sym (begins_alike law strict.draws_of_2014 MOST_MOVES text at)
 
+  -- a game's span
   game_there : (end : PgnEnd) → judged_at strict text at ≡ Ok (Some end)
       → (game_begin text at < end.offset) × (end.offset ≤ length text)
   game_there end is =
@@ -60,6 +65,7 @@ module _ (law : TokenByToken) (strict : Strictness) (text : List ℕ) (at : ℕ)
       mark_at_end [] = refl
       mark_at_end (c ∷ cs) = no_mark (c ∷ cs) (suc (length cs)) (omega arith)
 
+  -- a fault's span isn't empty: some byte is left
   fault_there : (fault : GameFault) → judged_at strict text at ≡ Err fault → game_begin text at < length text
   fault_there fault is = by_place (eqb (game_begin text at) (length text)) refl
     where
@@ -78,12 +84,14 @@ module _ (law : TokenByToken) (strict : Strictness) (text : List ℕ) (at : ℕ)
 
 -- ---- a text
 
+-- the text from i on is what is before j, and the text from j on
 split_at : (text : List ℕ) (i j : ℕ) → i ≤ j → drop i text ≡ take (j - i) (drop i text) ++ drop j text
 split_at text i j h =
     sym (take-append-drop (j - i) (drop i text))
     ∙ ap (λ xs. take (j - i) (drop i text) ++ xs)
     (drop-drop (j - i) i text ∙ ap (λ k. drop k text) (omega (arith, h)))
 
+-- a report in front of others, with the text before its span and in it
 placed_next : (start : ℕ) (text : List ℕ) (at begin end : ℕ) (placed : Placed) (reports : List Placed) → at ≤ begin
     → begin < end → end ≤ length text → placed.begin ≡ start + begin → placed.end ≡ start + end
     → MakeUp placed.end (drop end text) reports → MakeUp (start + at) (drop at text) (placed ∷ reports)
@@ -98,6 +106,7 @@ placed_next start text at begin end placed reports low some high begins ends mor
     (next (take (begin - at) (drop at text)) (take (end - begin) (drop begin text))
     (omega (arith, begins, between, low)) (omega (arith, begins, ends, game, some)) (omega (arith, game, some)) more)
 
+-- by induction over how many games may come (n)
 text_made : TokenByToken → (goes_on : Bool) (strict : Strictness) (start n : ℕ) (text : List ℕ) (at : ℕ)
     → at ≤ length text → MakeUp (start + at) (drop at text) (placed_from goes_on strict start n text at)
 unfolding placed_from
@@ -169,6 +178,7 @@ made_both (next {offset} between game {rest} {placed} {reports} begins ends some
     ∙ ap (λ xs. between ++ xs) (append_assoc game rest more)))
     (next between game begins ends some last)
 
+-- a piece that is too long has one report, whose span is all of it
 piece_made : TokenByToken → (strict : Strictness) (piece : Piece)
     → MakeUp piece.offset piece.bytes (placed_in strict piece)
 piece_made law strict piece = by_test (nat_le (length piece.bytes) PIECE_LEN) refl
@@ -181,6 +191,7 @@ piece_made law strict piece = by_test (nat_le (length piece.bytes) PIECE_LEN) re
         subst (λ xs. MakeUp piece.offset xs (too_long_placed piece ∷ [])) (append-nil piece.bytes)
         (next [] piece.bytes (omega arith) refl (omega (arith, long)) no_more)
 
+-- all pieces one after another, and `rest` after them
 all_made : TokenByToken → (strict : Strictness) (offset : ℕ) (all : List (List ℕ)) (rest : List ℕ)
     → MakeUp offset (concat all ++ rest) (flat_map (placed_in strict) (with_offsets offset all))
 all_made law strict offset [] rest = no_more

@@ -1,4 +1,5 @@
--- Names of faults, parts that are shown, and reasons, by computation.
+-- Names of faults, parts of texts that are shown for them, and reasons, by computation: each row of a definition in
+-- specs/WorkedExplanations is one equation.
 use Rattle.std.proofs.Common.{refl}
 use Rattle.std.specs.Fmt.{digits}
 use Rattle.chess_base.specs.Initial.{initial_setup, initial_setup_of}

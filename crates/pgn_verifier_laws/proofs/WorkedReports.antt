@@ -1,4 +1,5 @@
--- Lines of reports, spans of games, where texts are read on, and pieces of collections, by computation.
+-- Lines of reports, spans of games, where texts are read on, and pieces of collections, by computation: each row of a
+-- definition in specs/WorkedReports is one equation.
 use Rattle.std.proofs.Common.{refl}
 use Rattle.std.specs.Fmt.{digits}
 use Rattle.chess_pgn.specs.GameRead.{pgn_read}

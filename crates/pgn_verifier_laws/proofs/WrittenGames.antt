@@ -1,5 +1,5 @@
--- A game as it is written is read back, its variant is known, and neither its tag Result nor the board contradicts its
--- outcome.
+-- A game as it is written has no fault: it is read back, its variant is known, and neither its tag Result nor the board
+-- contradicts its outcome (nothing_contradicts).
 use Rattle.std.proofs.Common.{◌≡◌, ℕ, Bool, true, false, List, [], ◌++◌, length, Option, Some, None, Ok, Err, refl, sym, ap, subst, ◌∙◌, option_and_then, if◌then◌else◌}
 use Rattle.std.specs.Option.{option_map, option_map_or, option_or}
 use Rattle.chess_game.specs.{Ends.verdict_result, Game.outcome_now, Game.verdict_now, Results.same_outcome, declared.game.TheConstants.MOST_MOVES, declared.results.Declared.Declared, declared.results.Outcome.Outcome, declared.verdicts.Verdict.Verdict}
@@ -22,11 +22,13 @@ same_self BlackWins = refl
 same_self Draw = refl
 same_self Unfinished = refl
 
+-- a tag Result with the game's outcome o agrees with its end
 tag_agrees : (o : Outcome) (end : PgnEnd) (tag : Option ResultTag) → end.outcome ≡ o
     → option_and_then (λ (t : ResultTag). t.outcome) tag ≡ Some o → result_differs tag end ≡ None
 tag_agrees o end None is named = absurd (cc)
 tag_agrees o end (Some t) is named = rw (named, is, same_self o) refl
 
+-- the board agrees with the outcome, which is its verdict's, if it has one
 board_agrees : (v : Option Verdict) (d : Option Declared) (end : PgnEnd)
     → end.outcome ≡ option_map_or (λ (x : Declared). x.outcome) (option_or (option_map verdict_result v) d) Unfinished
     → board_says_otherwise v end ≡ None
@@ -45,6 +47,7 @@ ending_agrees false (Some InsufficientMaterial) end h = h
 ending_agrees false (Some FivefoldRepetition) end h = refl
 ending_agrees false (Some SeventyFiveMoves) end h = refl
 
+-- what is no fault is none, looked for or not
 looked_none : (looked : Bool) (fault : Option GameFault) → fault ≡ None → looked_for looked fault ≡ None
 looked_none true fault none = none
 looked_none false fault none = refl

@@ -1,4 +1,6 @@
--- Written games, one after another, have no fault.
+-- Written games, one after another, have no fault. A game's text ends with two line feeds (text_ends), after which
+-- nothing more is read (none_after), so each text has one report (one_report), on a game; then all texts together
+-- (all_reports), by Parts.
 use Rattle.std.proofs.Common.{◌≡◌, ℕ, zero, suc, ◌+◌, ◌-◌, ◌<◌, Bool, false, List, [], ◌∷◌, ◌++◌, length, drop, Some, None, Ok, refl, sym, ap, subst, ◌∙◌, inl, inr, ◌⊎◌, append_assoc, append-nil, length-append, arith, map}
 use Rattle.std.specs.List.{concat, flat_map, list_all}
 use Rattle.std.proofs.{Math.Seq.drop-append-add, lemmas.Grind.flat_map-append}
@@ -22,6 +24,7 @@ use Rattle.pgn_verifier.specs.laws.Reported.{Plain, PlainGame, games_from, judge
 
 -- ---- the end of a game's text
 
+-- lines that are not none end with a line feed
 some_end : (line : List ℕ) (lines : List (List ℕ))
     → (body : List ℕ) × (written.ended [] (line ∷ lines) ≡ body ++ 10 ∷ [])
 some_end line [] = (line, append-nil (line ++ 10 ∷ []))
@@ -31,6 +34,7 @@ some_end line (next ∷ lines) =
       ap (λ l. (line ++ 10 ∷ []) ++ l) more.1 ∙ sym (append_assoc (line ++ 10 ∷ []) more.0 (10 ∷ [])),
     )
 
+-- with an empty line after them, they end with two
 two_ends : (front back : List (List ℕ)) (line : List ℕ)
     → (body : List ℕ) × (written.ended [] ((front ++ line ∷ back) ++ [] ∷ []) ≡ body ++ 10 ∷ 10 ∷ [])
 two_ends front back line =
@@ -48,18 +52,21 @@ text_ends : (tags : Tags) (s : State) → (body : List ℕ) × (pgn [] tags s �
 unfolding pgn
 text_ends tags s = two_ends (tag_lines tags s) (written.lines_of (game_tokens s)) []
 
+-- a game's text doesn't begin with a byte order mark
 text_unmarked : (tags : Tags) (s : State) → begins_with_mark (pgn [] tags s) ≡ false
 unfolding pgn
 text_unmarked tags s = refl
 
 -- ---- after the game
 
+-- a line feed is a token of its own
 end_is_longest : (b : Bool) (rest : List ℕ) → IsLongest (IsOf b Blank) (10 ∷ []) rest
 end_is_longest b rest = record { is = (10, refl, refl); longest = λ more others same h. no_more_bytes more h }
   where
     no_more_bytes : (more : List ℕ) → IsOf b Blank (10 ∷ more) → more ≡ []
     no_more_bytes more (c, is, h) = cc
 
+-- the tokens at the end are the two line feeds, skipped
 last_tokens : (body : List ℕ) → IsSplitByKinds (body ++ 10 ∷ 10 ∷ []) (length body)
     ((length (body ++ 10 ∷ 10 ∷ []) - length body, Skip)
     ∷ (length (body ++ 10 ∷ 10 ∷ []) - (length body + 1), Skip) ∷ [])
@@ -73,6 +80,7 @@ last_tokens body =
     (end_is_longest (begins_line (body ++ 10 ∷ 10 ∷ []) (length body + 1)) [])
     (ended (ap (λ n. drop n (body ++ 10 ∷ 10 ∷ [])) both ∙ drop-append-add body (10 ∷ 10 ∷ []) 2)))
 
+-- so no game is left there, and nothing is reported (nothing_more)
 none_after : TokenByToken → (strict : Strictness) (body : List ℕ) → 0 < length body
     → judged_at strict (body ++ 10 ∷ 10 ∷ []) (length body) ≡ Ok None
 none_after law strict body some =
@@ -100,6 +108,7 @@ nothing_more strict start (suc k) text at none =
 
 -- ---- one game
 
+-- the end that was read has the termination that was written
 same_termination : (end : PgnEnd) (o : Outcome) (t : Termination) (offset : ℕ)
     → read_so end ≡ read_so (record { outcome = o; termination = Some t; offset = offset })
     → end.termination ≡ Some t
@@ -187,6 +196,7 @@ module _ (law : TokenByToken) (read : PgnIsReadBack) (result : TagsAreWritten) (
               ∙ sym (append_assoc before (tail.0 ++ 10 ∷ []) (10 ∷ [])),
         )
 
+    -- by induction over the games: each part holds one whole game
     all_held : (games : List TaggedGame) → AreWritable games → (before : List ℕ) → Starts before
         → (reports : List Plain) × AllHoldWhole strict before (map text_of games) reports
     all_held [] h before starts = ([], no_parts)

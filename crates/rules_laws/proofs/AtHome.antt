@@ -1,4 +1,5 @@
--- Rights to castle in Chess960, with king and rook on their first rank.
+-- In Chess960 a right to castle is one of a sound position exactly if king and rook are on their first rank, the rook
+-- on the right's side of the king (AreAtHome): the test on ranks and files against named squares.
 use Rattle.std.proofs.Common.{◌≡◌, ℕ, ◌≤◌, Bool, true, false, ◌&&◌, ◌==◌, Option, Some, None, refl, sym, ◌∙◌, subst, arith}
 use Rattle.std.specs.Option.{option_map_or}
 use Rattle.std.proofs.lemmas.Bool.{and_parts, and_from, eqb-true, eq-eqb}
@@ -29,6 +30,7 @@ of_first_rank Black s h =
     let high : s ≤ 63 = h.1 in
     let r : rank s ≡ 7 = omega (arith, low, high) in eq-eqb _ _ r
 
+-- chess_base's test of the side is that of the law
 to_side : (w : CastlingSide) (king rook : ℕ) → is_to_side w king rook ≡ is_towards w king rook
 to_side KingSide king rook = refl
 to_side QueenSide king rook = refl
@@ -39,12 +41,13 @@ to_side QueenSide king rook = refl
 abbrev begins : Colour → CastlingSide → ℕ → ℕ → Bool
 begins c w rook king = (rank king == first_rank c) && (rank rook == first_rank c) && is_to_side w king rook
 
--- where the king is, if the test of its square passes
+-- if a test of an optional square passes, there is a square, and it passes
 there : (test : ℕ → Bool) (o : Option ℕ) → option_map_or test o false ≡ true
     → (king : ℕ) × (o ≡ Some king) × (test king ≡ true)
 there test None e = absurd (cc)
 there test (Some king) e = (king, refl, e)
 
+-- from the definition's test: king and rook are at home
 at_home : (p : Setup) (c : Colour) (w : CastlingSide) (rook : ℕ)
     → are_placed_for_castling Fischerandom p.men c w rook ≡ true → (king : ℕ) × AreAtHome p c w king rook
 at_home p c w rook placed =
@@ -64,6 +67,7 @@ at_home p c w rook placed =
       },
     )
 
+-- from king and rook at home: the definition's test passes
 placed_at_home : (p : Setup) (c : Colour) (w : CastlingSide) (king rook : ℕ) → king_square p.men c ≡ Some king
     → AreAtHome p c w king rook → are_placed_for_castling Fischerandom p.men c w rook ≡ true
 placed_at_home p c w king rook at h =

@@ -1,4 +1,5 @@
--- Castling ends on the named squares.
+-- A legal king's move by e1g1 (and so on) in normal chess, or onto an own rook in Chess960, castles, and leaves king
+-- and rook on the named squares (HasCastled). The move can be no other kind: see normal_by and fischer_by.
 use Rattle.std.proofs.Common.{◌≡◌, ◌≢◌, ℕ, ◌<◌, ◌≤◌, ◌⊎◌, inl, inr, Bool, true, false, Option, Some, None, refl, sym, subst, ◌∙◌, arith, ◌==◌, ◌&&◌}
 use Rattle.std.proofs.lemmas.Bool.{and_parts, both_ways, cases_eq, eqb-true, eq-eqb, ne_eqb, not-true, ltb-true}
 use Rattle.std.specs.{Int.abs_diff, Option.option_map_or}
@@ -14,6 +15,7 @@ use Rattle.rules_laws.proofs.Pieces.{attacks_as, king_is_near, after_castle}
 
 -- ---- the named squares
 
+-- the named squares of a castling are the home squares by which chess_base computes it
 pub named : (c : Colour) (w : CastlingSide)
     → castling_of c w ≡ castle_from c w (home_square c king_home_file) (home_square c (rook_file w))
 named White KingSide = refl
@@ -28,6 +30,7 @@ named_from White QueenSide king rook = refl
 named_from Black KingSide king rook = refl
 named_from Black QueenSide king rook = refl
 
+-- the king's start and its end in normal chess are not next to each other, so that the move is not a king's step
 pub too_far : (c : Colour) (w : CastlingSide) (a b : ℕ) → a ≡ home_square c king_home_file
     → b ≡ home_square c (castled_king_file w) → abs_diff (file a) (file b) ≤ 1 → ⊥
 too_far White KingSide a b e f h = omega (arith, e, f, h)
@@ -35,6 +38,7 @@ too_far White QueenSide a b e f h = omega (arith, e, f, h)
 too_far Black KingSide a b e f h = omega (arith, e, f, h)
 too_far Black QueenSide a b e f h = omega (arith, e, f, h)
 
+-- the king's end tells the side
 pub one_side : (c : Colour) (w v : CastlingSide)
     → home_square c (castled_king_file w) ≡ home_square c (castled_king_file v) → v ≡ w
 one_side c KingSide KingSide e = refl
@@ -69,11 +73,13 @@ arrives : (c : Colour) (k : Kind) (o : Option Man) → is_man c k o ≡ true →
 arrives c k None e = e
 arrives c k (Some x) e = e
 
+-- the rook that castling puts down is a rook
 a_rook : (c : Colour) → is_man c Rook (Some (record { colour = c; kind = Rook })) ≡ true
 unfolding is_man
 a_rook White = refl
 a_rook Black = refl
 
+-- the king's start is empty afterwards, unless king or rook ends there
 left_king : (p : Setup) (m : Move) (w : CastlingSide) (r s : ℕ)
     → castle_of p m ≡ Some (castle_from p.side w m.from r) → m.from < 64 → s ≡ m.from
     → s ≢ home_square p.side (castled_king_file w) → s ≢ home_square p.side (castled_rook_file w)
@@ -81,6 +87,7 @@ left_king : (p : Setup) (m : Move) (w : CastlingSide) (r s : ℕ)
 left_king p m w r s e f at a b =
     rw (after_castle p m (castle_from p.side w m.from r) s e (rw at f), ne_eqb _ _ a, ne_eqb _ _ b, eq-eqb _ _ at) refl
 
+-- the same for the start of king or rook
 left_by : (p : Setup) (m : Move) (w : CastlingSide) (r s : ℕ)
     → castle_of p m ≡ Some (castle_from p.side w m.from r) → m.from < 64 → r < 64
     → (s ≡ m.from) ⊎ (s ≡ r) → s ≢ home_square p.side (castled_king_file w)
@@ -99,6 +106,7 @@ left_by p m w r s e f h (inr at) a b =
           ) refl
     ]
 
+-- king and rook have castled, from the castling that the move is (castle_of)
 has_castled : (p : Setup) (m : Move) (w : CastlingSide) (r : ℕ)
     → castle_of p m ≡ Some (castle_from p.side w m.from r) → is_man p.side King (man_at p.men m.from) ≡ true
     → m.promotion ≡ None → m.from < 64 → r < 64 → HasCastled p m (castle_from p.side w m.from r)
@@ -113,7 +121,7 @@ has_castled p m w r e king none f h = record {
       refl;
 }
 
--- ---- which rook it is
+-- ---- what is known of a move that castles with the rook on square r
 
 pub record IsCastle (p : Setup) (m : Move) (w : CastlingSide) (r : ℕ) : Type 0 where
   pub castle : castle_of p m ≡ Some (castle_from p.side w m.from r)
@@ -121,6 +129,7 @@ pub record IsCastle (p : Setup) (m : Move) (w : CastlingSide) (r : ℕ) : Type 0
   pub placed : are_placed_for_castling p.variant p.men p.side w r ≡ true
   pub rook_in : r < 64
 
+-- in a sound position, a move that castles on side w does so by the right that is there
 pub is_castle : (p : Setup) (m : Move) (w : CastlingSide) (r : ℕ) → IsSound p → castling p m ≡ Some w
     → right_of p.rights p.side w ≡ Some r → IsCastle p m w r
 unfolding right_is_sound
@@ -141,10 +150,12 @@ is_castle p m w r sound at right =
 
 -- ---- normal chess
 
+-- in normal chess the king's move ends on the castled king's square
 pub normal_named : (m : Move) (c : Colour) (w : CastlingSide) (r : ℕ) → names_castling_with Normal c m w r ≡ true
     → m.to ≡ home_square c (castled_king_file w)
 normal_named m c w r e = eqb-true _ _ (and_parts _ _ e).1
 
+-- and the rook is on its home square
 pub normal_placed : (men : Men) (c : Colour) (w : CastlingSide) (r : ℕ) → are_placed_for_castling Normal men c w r ≡ true
     → r ≡ home_square c (rook_file w)
 normal_placed men c w r e = eqb-true _ _ (and_parts _ _ (and_parts _ _ e).0).0
@@ -154,6 +165,7 @@ pub no_king_of_pawn : (p : Setup) (m : Move) → is_man p.side King (man_at p.me
 no_king_of_pawn p m king pawn =
     both_ways _ (is_man-kind p.side p.side King Pawn (man_at p.men m.from) refl king) pawn
 
+-- the king's move fits no pattern of a pawn, nor of a king's step (too_far), so it is castling, on side w (one_side)
 normal_by : (p : Setup) (m : Move) (w : CastlingSide) → IsSound p → p.variant ≡ Normal
     → is_man p.side King (man_at p.men m.from) ≡ true → m.from ≡ home_square p.side king_home_file
     → m.to ≡ home_square p.side (castled_king_file w) → m.from < 64 → MoveKind p m
@@ -181,16 +193,19 @@ normal_ends p m w sound v legal king from to =
 
 -- ---- Chess960
 
+-- a rook towards one side is not towards the other
 towards : (w u : CastlingSide) (a b : ℕ) → is_towards w a b ≡ true → is_to_side u a b ≡ true → u ≡ w
 towards KingSide KingSide a b e f = refl
 towards QueenSide QueenSide a b e f = refl
 towards KingSide QueenSide a b e f = let l = ltb-true _ _ e in let g = ltb-true _ _ f in absurd (omega (arith, l, g))
 towards QueenSide KingSide a b e f = let l = ltb-true _ _ e in let g = ltb-true _ _ f in absurd (omega (arith, l, g))
 
+-- in Chess960 the king's move ends on the rook's square
 fischer_named : (m : Move) (c : Colour) (w : CastlingSide) (r : ℕ) → names_castling_with Fischerandom c m w r ≡ true
     → m.to ≡ r
 fischer_named m c w r e = eqb-true _ _ (and_parts _ _ e).1
 
+-- and the rook is on the right's side of the king
 fischer_placed : (men : Men) (c : Colour) (w : CastlingSide) (k r : ℕ) → king_square men c ≡ Some k
     → are_placed_for_castling Fischerandom men c w r ≡ true → is_to_side w k r ≡ true
 fischer_placed men c w k r at e =
@@ -199,6 +214,8 @@ fischer_placed men c w k r at e =
     let here = subst (λ (o : Option ℕ). option_map_or test o false ≡ true) at both.0 in
     (and_parts _ _ here).1
 
+-- a king's move to a rook of its own is no pawn's move, and no step, which can't end on a piece of its own; so it is
+-- castling, on the side to which the rook is
 fischer_by : (p : Setup) (m : Move) (w : CastlingSide) → IsSound p → p.variant ≡ Fischerandom
     → is_man p.side King (man_at p.men m.from) ≡ true → is_man p.side Rook (man_at p.men m.to) ≡ true
     → is_towards w m.from m.to ≡ true → m.from < 64 → MoveKind p m

@@ -1,4 +1,6 @@
--- Repetitions and quiet moves, counted by the positions of a game.
+-- Repetitions and quiet moves, counted without the game's count and clock. The position is there for the n-th time
+-- (IsThere) exactly if repetition_count is at least n, and the last n half-moves were quiet (IsQuietFor) exactly if the
+-- halfmove clock is at least n; so the game ends, and draws can be claimed, as counting_ends says.
 use Rattle.std.proofs.Common.{◌≡◌, ℕ, zero, suc, ◌+◌, ◌-◌, ◌<◌, ◌≤◌, min, Bool, true, false, cond, List, [], ◌∷◌, length, get_or, Some, None, refl, sym, ap, ◌∙◌, arith, nat_le, inl, inr, count_by, subst, ◌⊎◌}
 use Rattle.std.proofs.lemmas.Bool.{cases_Bool, cases_eq, both_ways, leb-true, le-leb, or_parts, or_from}
 use Rattle.std.proofs.lemmas.List.Sums.{sum_by-cons}
@@ -12,6 +14,7 @@ use Rattle.rules_laws.proofs.NoMove.{judged, judged_at, has_none}
 
 -- ---- numbers that rise, from k on
 
+-- each number of the list is above the one before it, and the first is at least k
 abbrev Rises : ℕ → List ℕ → Type 0
 Rises k [] = Unit {0}
 Rises k (t ∷ ts) = (k ≤ t) × Rises (suc t) ts
@@ -27,6 +30,7 @@ earlier a b (u ∷ us) l h = (let m = h.0 in omega (arith, l, m), h.1)
 tail_pairs : (t : ℕ) (ts : List ℕ) → AllPairs (λ j k. j < k) (t ∷ ts) → AllPairs (λ j k. j < k) ts
 tail_pairs t ts h i j d l m = h (suc i) (suc j) d (omega (arith, l)) (omega (arith, m))
 
+-- the recursive form `Rises` from the pairwise form `AllPairs` that IsThere has; pairs_of is the other direction
 rises : (k t : ℕ) (ts : List ℕ) → k ≤ t → AllPairs (λ j k. j < k) (t ∷ ts) → Rises k (t ∷ ts)
 rises k t [] h p = (h, tt)
 rises k t (u ∷ us) h p =
@@ -37,6 +41,7 @@ rises_of : (ts : List ℕ) → AllPairs (λ j k. j < k) ts → Rises 0 ts
 rises_of [] p = tt
 rises_of (t ∷ ts) p = rises 0 t ts (omega arith) p
 
+-- a number at an index of the list is at least k
 from_k : (k : ℕ) (ts : List ℕ) (j d : ℕ) → Rises k ts → j < length ts → k ≤ get_or ts j d
 from_k k [] j d h l = absurd (omega (arith, l))
 from_k k (t ∷ ts) zero d h l = h.0
@@ -44,6 +49,7 @@ from_k k (t ∷ ts) (suc j) d h l =
     let more : suc t ≤ get_or ts j d = from_k (suc t) ts j d h.1 (omega (arith, l)) in
     let first = h.0 in omega (arith, more, first)
 
+-- the pairwise form from the recursive one
 pairs_of : (k : ℕ) (ts : List ℕ) → Rises k ts → AllPairs (λ j k. j < k) ts
 pairs_of k [] h i j d l m = absurd (omega (arith, m))
 pairs_of k (t ∷ ts) h zero zero d l m = absurd (omega (arith, l))
@@ -60,6 +66,7 @@ one_if b = cond b 1 0
 count-cons : {A : Type 0} (q : A → Bool) (x : A) (xs : List A) → count_by q (x ∷ xs) ≡ one_if (q x) + count_by q xs
 count-cons q x xs = sum_by-cons (λ y. one_if (q y)) x xs
 
+-- the indices of the elements that pass the test q, where the first element has the index k
 numbers : {A : Type 0} → (A → Bool) → List A → ℕ → List ℕ
 numbers q [] k = []
 numbers q (x ∷ xs) k = cond (q x) (k ∷ numbers q xs (suc k)) (numbers q xs (suc k))
@@ -82,6 +89,7 @@ rises-numbers q (x ∷ xs) k =
       | inr off ↦ rw off (lower k (numbers q xs (suc k)) (rises-numbers q xs (suc k)))
     ]
 
+-- P holds of each such index, if it holds of the index of each element that passes
 each-numbers : {A : Type 0} (q : A → Bool) (P : ℕ → Type 0) (xs : List A) (k : ℕ) (d : A)
     → ((i : ℕ) → i < length xs → q (get_or xs i d) ≡ true → P (k + i)) → AllByRecursion P (numbers q xs k)
 unfolding numbers
@@ -100,10 +108,12 @@ each-numbers q P (x ∷ xs) k d h =
     at_first : (k : ℕ) → k + 0 ≡ k
     at_first k = omega arith
 
--- rising numbers of elements that pass are no more than these
+-- a rising list of indices of elements that pass is no longer than their count (no_more); j is such an index, where the
+-- first element has the index k
 abbrev Passes : {A : Type 0} → (A → Bool) → List A → ℕ → A → ℕ → Type 0
 Passes q xs k d j = (j < k + length xs) × (q (get_or xs (j - k) d) ≡ true)
 
+-- the same indices fit the list without its first element, if they are all above the index of that element
 shifted : {A : Type 0} (q : A → Bool) (x : A) (xs : List A) (k : ℕ) (d : A) (ts : List ℕ) → Rises (suc k) ts
     → AllByRecursion (Passes q (x ∷ xs) k d) ts → AllByRecursion (Passes q xs (suc k) d) ts
 shifted q x xs k d [] r h = tt
@@ -144,6 +154,7 @@ length-positions : (start : Setup) (ms : List Move) → length (positions_of sta
 length-positions start [] = refl
 length-positions start (m ∷ ms) = ap suc (length-positions (after start m) ms)
 
+-- the k-th of a game's positions is the position after its first k moves
 position-is : (start : Setup) (ms : List Move) (k : ℕ) (d : Setup) → k ≤ length ms
     → get_or (positions_of start ms) k d ≡ position_at start ms k
 position-is start [] zero d h = refl
@@ -151,9 +162,11 @@ position-is start [] (suc k) d h = absurd (omega (arith, h))
 position-is start (m ∷ ms) zero d h = refl
 position-is start (m ∷ ms) (suc k) d h = position-is (after start m) ms k d (omega (arith, h))
 
+-- p is the same position as the game's present one
 abbrev is_now : Setup → List Move → Setup → Bool
 is_now start ms p = is_same_position p (position_after start ms)
 
+-- from the count: the indices of the positions that are the present one are the rising numbers that are asked for
 pub there : (n : ℕ) (start : Setup) (ms : List Move) → n ≤ repetition_count start ms → IsThere n start ms
 unfolding repetition_count
 there n start ms h =
@@ -174,6 +187,7 @@ there n start ms h =
     from_0 : (i : ℕ) → i ≡ 0 + i
     from_0 i = omega arith
 
+-- the numbers that IsThere gives are indices of positions that are the present one
 passing : (start : Setup) (ms : List Move) (ts : List ℕ)
     → AllByRecursion (λ k. (k ≤ length ms) × (is_now start ms (position_at start ms k) ≡ true)) ts
     → AllByRecursion (Passes (is_now start ms) (positions_of start ms) 0 start) ts
@@ -186,6 +200,7 @@ passing start ms (t ∷ ts) h =
     ap (λ (i : ℕ). get_or (positions_of start ms) i start) from_0 ∙ position-is start ms t start l in
     ((omega (arith, l, len), ap (is_now start ms) at ∙ h.0.1), passing start ms ts h.1)
 
+-- from such numbers: they are no more than the count (no_more)
 pub counted : (n : ℕ) (start : Setup) (ms : List Move) → IsThere n start ms → n ≤ repetition_count start ms
 unfolding repetition_count
 counted n start ms h =
@@ -212,6 +227,7 @@ clock_goes_on : (p : Setup) (m : Move) → resets_clock p m ≡ false → (after
 unfolding after halfmove_after
 clock_goes_on p m e = rw e refl
 
+-- from a clock of at least n: the last n moves are quiet; by induction over the moves
 pub quiet_for : (n : ℕ) (start : Setup) (ms : List Move) → n ≤ 999999 → n ≤ (position_after start ms).halfmove
     → IsQuietFor n start ms
 quiet_for n start [] l h = record { many = omega (arith, h); quiet = λ k m e. absurd (nothing k m e) }
@@ -244,6 +260,7 @@ quiet_for n start (m ∷ ms) l h =
     by_number first later zero x e short = let same : m ≡ x = cc in subst (IsQuiet start) same (first (omega (arith, short)))
     by_number first later (suc k) x e short = later k x e (omega (arith, short))
 
+-- from n quiet moves at the end: the clock is at least n; by induction over the moves
 pub clock_from : (n : ℕ) (start : Setup) (ms : List Move) → n ≤ 999999 → IsQuietFor n start ms
     → n ≤ (position_after start ms).halfmove
 clock_from n start [] l h = let many = h.many in omega (arith, many)
@@ -283,7 +300,7 @@ counters_stop p m = record {
   full_number = λ e full. (let is = number_of_black p m e in omega (arith, is, full));
 }
 
--- ---- verdicts
+-- ---- verdicts, by their tests: a no legal move, b insufficient material, c fifth time, d clock at 150, k check
 
 fivefold_by : (a b c d k : Bool) (s : Colour) → judged a b c d k s ≡ Some FivefoldRepetition → c ≡ true
 fivefold_by a b c d k s e = grind arith
@@ -291,12 +308,15 @@ fivefold_by a b c d k s e = grind arith
 seventy_five_by : (a b c d k : Bool) (s : Colour) → judged a b c d k s ≡ Some SeventyFiveMoves → d ≡ true
 seventy_five_by a b c d k s e = grind arith
 
+-- at the fifth time there is some verdict
 some_by_count : (a b d k : Bool) (s : Colour) → judged a b true d k s ≡ None → ⊥
 some_by_count a b d k s e = grind arith
 
+-- with the clock at 150 there is some verdict
 some_by_clock : (a b c k : Bool) (s : Colour) → judged a b c true k s ≡ None → ⊥
 some_by_clock a b c k s e = grind arith
 
+-- at the fifth time the verdict is not the 75-move rule
 never_by_clock : (a b d k : Bool) (s : Colour) → judged a b true d k s ≡ Some SeventyFiveMoves → ⊥
 never_by_clock a b d k s e = grind arith
 

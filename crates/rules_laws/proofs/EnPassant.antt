@@ -1,4 +1,5 @@
--- A capture en passant follows a double advance.
+-- A legal capture en passant follows a double advance, and captures the pawn that made it: the capture goes to the en
+-- passant target (to_target), and there is a target only after a double advance over it (target_of).
 use Rattle.std.proofs.Common.{◌≡◌, ◌≢◌, ℕ, ◌<◌, ◌⊎◌, inl, inr, Bool, true, false, Option, Some, None, refl, sym, arith, ◌==◌, ◌||◌, if◌then◌else◌}
 use Rattle.std.proofs.lemmas.Bool.{and_parts, and_from, both_ways, not-true, or_left, eqb-true, eq-eqb, ne_eqb, or_right}
 use Rattle.chess_base.specs.{declared.man.Colour.Colour, declared.man.Colour.TheVariants.White, declared.man.Colour.TheVariants.Black, declared.man.Kind.TheVariants.King, declared.man.Kind.TheVariants.Pawn, declared.man.Move.Move, declared.setup.Setup.Setup, Squares.file, Squares.rank, Squares.is_at, Attacks.attacks, Sound.IsSound, Sound.no_pawn_on_end_ranks}
@@ -9,6 +10,7 @@ use Rattle.chess_base.proofs.shared.MoveKinds.{MoveKind, ManMoves, Castles, Pawn
 use Rattle.rules_laws.specs.EnPassant.{CapturesEnPassant, GoesTwoSquaresOver, EnPassantFollowsDoubleAdvance}
 use Rattle.rules_laws.proofs.Pieces.{after_no_castle}
 
+-- a pawn that advances, one square or two, stays on its file
 on_one_file : (c : Colour) (a b : ℕ) → a < 64 → rank a ≢ 0 → (b ≡ forward c a) ⊎ ((rank a ≡ pawn_rank c) × (b ≡ forward c (forward c a)))
     → b < 64 → file b ≡ file a
 on_one_file White a b h z (inl e) l = omega (arith, e)
@@ -16,8 +18,7 @@ on_one_file White a b h z (inr e) l = let f = e.1 in omega (arith, f)
 on_one_file Black a b h z (inl e) l = omega (arith, e, z)
 on_one_file Black a b h z (inr e) l = let f = e.1 in let r = e.0 in omega (arith, f, r, z)
 
--- the capture goes to the target
--- no pawn is on the first rank
+-- ---- the capture goes to the target
 off_first_rank : (q : Setup) (s : ℕ) → IsSound q → s < 64 → is_man q.side Pawn (man_at q.men s) ≡ true → rank s ≢ 0
 unfolding no_pawn_on_end_ranks
 off_first_rank q s sound l pawn e =
@@ -29,6 +30,7 @@ off_first_rank q s sound l pawn e =
     of_side White h = or_left _ _ h
     of_side Black h = or_right _ _ h
 
+-- a pawn that goes to another file (on_one_file), to an empty square, attacks that square, and it is the target
 to_target : (q : Setup) (m : Move) → IsSound q → CapturesEnPassant q m → m.from < 64 → m.to < 64 → MoveKind q m
     → (attacks q.men m.from m.to ≡ true) × (is_at q.target m.to ≡ true)
 to_target q m sound h f l (ManMoves n at e) = absurd (both_ways _ n h.pawn)
@@ -41,12 +43,13 @@ to_target q m sound h f l (PawnMoves man fits (Captures e taken)) =
     absurd (both_ways _ (is_of-none (other q.side) (man_at q.men m.to) (rw h.empty refl)) taken)
 to_target q m sound h f l (PawnMoves man fits (TakesEnPassant e at)) = (e, at)
 
--- where the target is, a double advance went over it
+-- ---- where the target is, a double advance went over it
 target_of : (double : Bool) (over s : ℕ) → is_at (if double then Some over else None) s ≡ true
     → (double ≡ true) × (over ≡ s)
 target_of true over s e = (refl, eqb-true _ _ e)
 target_of false over s e = cc
 
+-- the ranks and files of a double advance from a pawn's initial rank, over square s
 goes_over : (c : Colour) (m : Move) (s : ℕ) → rank m.from ≡ pawn_rank c → m.to ≡ forward c (forward c m.from)
     → forward c m.from ≡ s → GoesTwoSquaresOver c m s
 goes_over White m s r e f = record {
@@ -63,6 +66,7 @@ goes_over Black m s r e f = record {
 step_on : (c : Colour) (a b s : ℕ) → b ≡ forward c (forward c a) → forward c a ≡ s → b ≡ forward c s
 step_on c a b s e f = rw (← f) e
 
+-- the end of a double advance is past s, the square it goes over, and is on the board
 past : (c : Colour) (a b s : ℕ) → rank a ≡ pawn_rank c → b ≡ forward c (forward c a) → forward c a ≡ s
     → (b ≢ s) × (b < 64)
 past White a b s r e f = (λ g. omega (arith, r, e, f, g), omega (arith, r, e, f))

@@ -1,4 +1,4 @@
--- Small endings, by computation.
+-- The verdicts on small endings, by computation: a FEN is read, and its verdict compared with the one that is named.
 use Rattle.std.proofs.Common.{◌≡◌, Some, None, refl}
 use Rattle.chess_base.specs.Attacks.{is_clear, could_capture, attacks, is_attacked, is_in_check}
 use Rattle.chess_base.specs.Castling.{king_square, right_is_sound, is_castling_to, castling, castle_of, castling_needs_empty, castling_way_is_empty, castling_way_is_safe, castles}
@@ -12,6 +12,7 @@ use Rattle.chess_game.specs.Same.{is_same_position, legal_en_passant_square, rep
 use Rattle.chess_game.specs.declared.verdicts.Verdict.TheVariants.{InsufficientMaterial, SeventyFiveMoves}
 use Rattle.rules_laws.specs.KnownCounts.{EndingsAreJudged, IsJudged, judged_fen}
 
+-- bishops on squares of one colour are insufficient: three on black squares, and two on white squares
 bishops : IsJudged "4kb2/8/8/8/8/8/8/B1B1K3 w - - 0 1" InsufficientMaterial
     × IsJudged "4k1b1/8/8/8/8/8/8/4KB2 w - - 0 1" InsufficientMaterial
 unfolding squares some_square each_square is_between is_of is_man is_clear could_capture attacks is_attacked is_in_check
@@ -22,6 +23,7 @@ unfolding squares some_square each_square is_between is_of is_man is_clear could
     verdict has_bishop_on has_insufficient_material
 bishops = (refl, refl)
 
+-- the 75-move rule ends a game at 150 half-moves, not at 149, but insufficient material comes first
 clocks : IsJudged "4k3/8/8/8/8/8/8/R3K3 w - - 150 1" SeventyFiveMoves
     × (judged_fen "4k3/8/8/8/8/8/8/R3K3 w - - 149 1" ≡ Some None)
     × IsJudged "4k3/8/8/8/8/8/8/4K3 w - - 150 1" InsufficientMaterial

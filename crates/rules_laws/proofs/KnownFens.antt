@@ -1,4 +1,5 @@
--- FENs that are refused or taken, by computation.
+-- FENs that are refused or taken, by computation: with the listed definitions unfolded, both sides of each statement
+-- compute to the same value.
 use Rattle.std.proofs.Common.{refl}
 use Rattle.std.specs.Fmt.{digits}
 use Rattle.chess_base.specs.Attacks.{is_clear, could_capture, attacks, is_attacked, is_in_check}
@@ -8,6 +9,7 @@ use Rattle.chess_base.specs.Squares.{squares, some_square, each_square, is_betwe
 use Rattle.chess_fen.specs.{Texts.may_name_right, Writing.placement_text}
 use Rattle.rules_laws.specs.KnownPositions.{FensAreRefused, IsWrittenAs}
 
+-- counters that are left out are written as 0 and 1
 counters_added : IsWrittenAs "4k3/8/8/8/8/8/8/4K3 w - -" "4k3/8/8/8/8/8/8/4K3 w - - 0 1"
 unfolding squares some_square each_square is_between is_of is_man is_clear could_capture attacks is_attacked
     is_in_check king_square right_is_sound rights_are_sound has_one_king no_pawn_on_end_ranks has_at_most_16

@@ -1,4 +1,5 @@
--- Games that chess players know, by computation.
+-- The scholar's mate and the fool's mate, by computation: each line is legal, and at its end no move is legal and the
+-- side on move is in check. With the listed definitions unfolded, both sides of an equation compute to one value.
 use Rattle.std.proofs.Common.{◌≡◌, true, refl, ◌∙◌, List, Some}
 use Rattle.chess_base.specs.{declared.man.Colour.Colour, declared.man.Colour.TheVariants.White, declared.man.Colour.TheVariants.Black, declared.man.Move.Move, ByColour.by_colour, Men.is_of, Men.is_man, Men.other, Initial.initial_setup, Initial.initial_setup_of, MoveList.all_moves, MoveList.moves}
 use Rattle.chess_base.specs.Squares.{squares, some_square, each_square, is_between}
@@ -59,6 +60,7 @@ fools_side : (position_after initial_setup fools_mate).side ≡ White
 unfolding after initial_setup initial_setup_of
 fools_side = refl
 
+-- a game at whose end colour c is on move, in check and without a legal move is mate by the other colour
 mated_by : (ms : List Move) (c : Colour) → has_none (position_after initial_setup ms) ≡ true
     → is_in_check (position_after initial_setup ms).men c ≡ true → (position_after initial_setup ms).side ≡ c
     → verdict initial_setup ms ≡ Some (by_colour WhiteMates BlackMates (other c))

@@ -16,7 +16,8 @@ use Rattle.chess_game.specs.Same.{same_man, same_men, same_rights, legal_en_pass
 use Rattle.rules_laws.specs.KnownGames.{move_by}
 use Rattle.rules_laws.specs.KnownPositions.{PositionsAreTheSame, TheSameHaveTheSamePieces, are_same_after, are_same_fens, open_game}
 
--- White's pawn on e5 is pinned, or is not; and one right to castle differs
+-- a target doesn't matter where White's pawn on e5 is pinned, but does where it is not; and positions with different
+-- rights to castle differ
 fens : (are_same_fens "4k3/4r3/8/4Pp2/8/8/8/4K3 w - f6 0 1" "4k3/4r3/8/4Pp2/8/8/8/4K3 w - - 0 1" ≡ Some true)
     × (are_same_fens "4k3/8/8/4Pp2/8/8/8/4K3 w - f6 0 1" "4k3/8/8/4Pp2/8/8/8/4K3 w - - 0 1" ≡ Some false)
     × (are_same_fens "4k3/8/8/8/8/8/8/R3K2R w KQ - 0 1" "4k3/8/8/8/8/8/8/R3K2R w K - 0 1" ≡ Some false)
@@ -30,6 +31,7 @@ unfolding squares some_square each_square is_between is_of is_man is_clear could
     same_men same_rights legal_en_passant_square is_same_position
 fens = (refl, refl, refl, refl, refl)
 
+-- after the kings have gone there and back, the position is another, without rights to castle
 rights : are_same_after open_game (open_game ++ move_by "e1" "e2" ∷ move_by "e8" "e7" ∷ move_by "e2" "e1"
     ∷ move_by "e7" "e8" ∷ []) ≡ false
 unfolding squares some_square each_square is_between is_of is_man is_clear could_capture attacks is_attacked is_in_check
@@ -71,11 +73,13 @@ equal_options test (Some x) (Some y) h e = ap (λ z. Some z) (h x y e)
 one_man : (x y : Man) → x.colour ≡ y.colour → x.kind ≡ y.kind → x ≡ y
 one_man x y colours kinds = (λ i. record { colour = colours i; kind = kinds i })
 
+-- pieces with the same colour and kind are equal
 equal_men : (x y : Man) → (same_colour x.colour y.colour && same_kind x.kind y.kind) ≡ true → x ≡ y
 equal_men x y e =
     let both = and_parts (same_colour x.colour y.colour) (same_kind x.kind y.kind) e in
     one_man x y (same_colour-true x.colour y.colour both.0) (same_kind-true x.kind y.kind both.1)
 
+-- positions that are the same have equal pieces on each square, from the test of all squares
 pub the_same_have_the_same_pieces : TheSameHaveTheSamePieces
 unfolding is_same_position same_men
 the_same_have_the_same_pieces p q s e below =

@@ -1,4 +1,5 @@
--- Moves and games that players know, as they are written, by computation.
+-- Moves and games that players know, as they are written, by computation: with the listed definitions unfolded, the
+-- text that the definition makes is the one named.
 use Rattle.std.proofs.Common.{◌≡◌, Some, [], ◌∷◌, codes, refl}
 use Rattle.std.specs.Fmt.{digits}
 use Rattle.chess_base.specs.Attacks.{is_clear, could_capture, attacks, is_attacked, is_in_check}
@@ -32,6 +33,7 @@ unfolding squares some_square each_square is_between is_of is_man is_clear could
     described rival_starts check_mark san
 stalemate = refl
 
+-- captures by a knight, by a pawn en passant, and with a promotion
 captures : IsWritten "4k3/8/8/4p3/8/5N2/8/4K3 w - - 0 1" (move_by "f3" "e5") "Nxe5"
     × IsWritten "4k3/8/8/3pP3/8/8/8/4K3 w - d6 0 1" (move_by "e5" "d6") "exd6"
     × IsWritten "1r2k3/P7/8/8/8/8/8/4K3 w - - 0 1" (becomes_knight "a7" "b8") "axb8=N"
@@ -104,6 +106,7 @@ results_are_worded = record {
   both = refl;
 }
 
+-- a game without a move has only its result, `*`, and no move number
 no_move : tokens_from "4k3/4P3/8/8/8/8/8/4K3 b - - 0 12" [] ≡ Some (codes "*" ∷ [])
 unfolding squares some_square each_square is_between is_of is_man is_clear could_capture attacks is_attacked is_in_check
     is_castling_to castling castle_of castling_needs_empty castling_way_is_empty castling_way_is_safe castles

@@ -1,4 +1,6 @@
--- From insufficient material nobody is mated.
+-- Material that is insufficient by the definition's counts is so by squares (`IsBare`, bare_from): no pawn, rook or
+-- queen, and few minor pieces. No legal move changes that (bare_after): there is no castling and no pawn move, and
+-- bishops keep to squares of their colour.
 use Rattle.std.proofs.Common.{◌≡◌, ◌≢◌, ℕ, zero, suc, ◌+◌, ◌-◌, ◌%◌, ◌<◌, ◌≤◌, Bool, true, false, cond, List, [], ◌∷◌, length, get_or, Some, None, Option, refl, sym, ap, ◌∙◌, arith, ◌==◌, nat_le, inl, inr, count_by, subst, ◌⊎◌, ◌||◌, ◌&&◌, not, is_none, if◌then◌else◌}
 use Rattle.std.proofs.lemmas.Bool.{and_parts, and_from, and_right, or_cases, or_left, or_right, both_ways, cases_Bool, cases_eq, cases_lt, eqb-true, eq-eqb, ne_eqb, leb-true, not-true, false_from_ne_true}
 use Rattle.std.proofs.{lemmas.List.get_or_past, lemmas.List.Folds.list_any_at, lemmas.List.Sums.sum_by-cons}
@@ -13,7 +15,7 @@ use Rattle.chess_base.proofs.shared.MoveKinds.{Moves, MoveKind, ManMoves, Castle
 use Rattle.chess_game.specs.Ends.{is_kind, has_bishop_on, has_insufficient_material}
 use Rattle.rules_laws.proofs.Pieces.{after_no_castle, attacks_of}
 
--- ---- insufficient material, by squares
+-- ---- insufficient material, by squares: minor pieces are bishops and knights, major ones here pawns, rooks and queens
 
 abbrev pub is_minor : Option Man → Bool
 is_minor o = is_kind Bishop o || is_kind Knight o
@@ -31,12 +33,14 @@ pub data FewMinors (men : Men) : Type 0 where
   Bishops : (n : ℕ) → ((s : ℕ) → is_kind Knight (man_at men s) ≡ false)
       → ((s : ℕ) → s < 64 → is_kind Bishop (man_at men s) ≡ true → shade s ≡ n) → FewMinors men
 
+-- the board has insufficient material
 pub record IsBare (men : Men) : Type 0 where
   pub majors : (s : ℕ) → is_major (man_at men s) ≡ false
   pub minors : FewMinors men
 
 -- ---- from the definition
 
+-- a test that no element passes fails at each index; the default d, read past the end, must fail it too
 none_at : {A : Type 0} (q : A → Bool) (xs : List A) (s : ℕ) (d : A) → q d ≡ false → list_any q xs ≡ false
     → q (get_or xs s d) ≡ false
 none_at q xs s d out none =
@@ -51,6 +55,7 @@ one_if b = cond b 1 0
 count-cons : {A : Type 0} (q : A → Bool) (x : A) (xs : List A) → count_by q (x ∷ xs) ≡ one_if (q x) + count_by q xs
 count-cons q x xs = sum_by-cons (λ y. one_if (q y)) x xs
 
+-- if the element at an index passes, the count is at least 1
 some_counted : {A : Type 0} (q : A → Bool) (xs : List A) (i : ℕ) (d : A) → q d ≡ false → q (get_or xs i d) ≡ true
     → 1 ≤ count_by q xs
 some_counted q [] i d out e = absurd (both_ways _ out e)
@@ -59,6 +64,7 @@ some_counted q (x ∷ xs) zero d out e = let c = count-cons q x xs in let one : 
 some_counted q (x ∷ xs) (suc i) d out e = let c = count-cons q x xs in let more = some_counted q xs i d out e in
     omega (arith, c, more)
 
+-- if at most one element passes, two indices at which an element passes are one
 only_one : {A : Type 0} (q : A → Bool) (xs : List A) (i j : ℕ) (d : A) → q d ≡ false → count_by q xs ≤ 1
     → q (get_or xs i d) ≡ true → q (get_or xs j d) ≡ true → i ≡ j
 only_one q [] i j d out few a b = absurd (both_ways _ out a)
@@ -73,6 +79,7 @@ only_one q (x ∷ xs) (suc i) (suc j) d out few a b =
     let c = count-cons q x xs in
     ap suc (only_one q xs i j d out (omega (arith, c, few)) a b)
 
+-- if no bishop is on squares of colour n, each bishop is on the other colour
 no_bishop_at : (n : ℕ) (men : Men) (s : ℕ) → has_bishop_on n men ≡ false → s < 64
     → is_kind Bishop (man_at men s) ≡ true → shade s ≢ n
 unfolding has_bishop_on
@@ -82,6 +89,7 @@ no_bishop_at n men s none l bishop e =
 other_shade : (s n : ℕ) → shade s ≢ n → n < 2 → shade s ≡ 1 - n
 other_shade s n h l = omega (arith, h, l)
 
+-- without knights, and without bishops on squares of both colours, minor pieces are few
 all_on_one_shade : (men : Men) → (has_bishop_on 0 men && has_bishop_on 1 men) ≡ false
     → ((s : ℕ) → is_kind Knight (man_at men s) ≡ false) → FewMinors men
 all_on_one_shade men e knights =
@@ -93,6 +101,7 @@ all_on_one_shade men e knights =
     second : has_bishop_on 0 men ≡ true → has_bishop_on 1 men ≡ false
     second some = false_from_ne_true _ (λ one. both_ways _ e (and_from _ _ some one))
 
+-- from the definition, which tests lists and counts, to what is on each square
 pub bare_from : (men : Men) → has_insufficient_material men ≡ true → IsBare men
 unfolding has_insufficient_material
 bare_from men e =
@@ -124,6 +133,7 @@ no_rook men c s bare =
     false_from_ne_true _ (λ e. both_ways _ (bare.majors s)
     (or_left _ _ (or_right (is_kind Pawn (man_at men s)) _ (is_kind-of c Rook (man_at men s) e))))
 
+-- without rooks a sound position has no right to castle
 no_right : (p : Setup) (c : Colour) (w : CastlingSide) → IsSound p → IsBare p.men → (o : Option ℕ)
     → right_of p.rights c w ≡ o → o ≡ None
 no_right p c w sound bare None e = refl
@@ -136,6 +146,7 @@ no_castling_to p m w sound bare =
     let none = no_right p p.side w sound bare (right_of p.rights p.side w) refl in
     rw none (and_right (is_man p.side King (man_at p.men m.from)) false refl)
 
+-- so no move of it castles
 pub no_castling_here : (p : Setup) (m : Move) → IsSound p → IsBare p.men → castling p m ≡ None
 unfolding castling
 no_castling_here p m sound bare =
@@ -149,6 +160,7 @@ pub record HasMoved (men new : Men) (a b : ℕ) : Type 0 where
   pub leaves : man_at new a ≡ None
   pub others : (s : ℕ) → s ≢ a → s ≢ b → man_at new s ≡ man_at men s
 
+-- a piece that doesn't promote arrives as it left
 stays_as : (o : Option Man) (k : Option Kind) → k ≡ None → arriving_man o k ≡ o
 stays_as None k e = refl
 stays_as (Some x) k e = rw e refl
@@ -160,7 +172,8 @@ length-after : (p : Setup) (m : Move) → length (after p m).men ≡ 64
 unfolding after
 length-after p m = length-men_after p m
 
--- the only moves are of a king or a minor piece
+-- a move by a piece's pattern from a position of insufficient material only takes a piece from its start to its end: it
+-- doesn't castle, and captures no pawn en passant
 pub moved : (p : Setup) (m : Move) → IsSound p → IsBare p.men → m.from < 64 → m.to < 64
     → is_of p.side (man_at p.men m.from) ≡ true → man_moves p m ≡ true → HasMoved p.men (after p m).men m.from m.to
 unfolding man_moves captured_square
@@ -186,7 +199,8 @@ moved p m sound bare from_in to_in own e =
     not_taken true s b = rw (ne_eqb m.to s (λ e. b (sym e))) refl
     not_taken false s b = refl
 
--- where a piece of the new position came from
+-- a square whose content passes q after the move had such content before; or it is the move's end, and the piece that
+-- moved passes q
 pub origin : (men new : Men) (a b s : ℕ) (q : Option Man → Bool) → HasMoved men new a b → q None ≡ false
     → q (man_at new s) ≡ true → ((s ≢ b) × (s ≢ a) × (q (man_at men s) ≡ true)) ⊎ ((s ≡ b) × (q (man_at men a) ≡ true))
 origin men new a b s q h out e =
@@ -198,6 +212,7 @@ origin men new a b s q h out e =
       ]
     ]
 
+-- a test that nothing on the board passes, nothing passes after the move
 none_new : (men new : Men) (a b : ℕ) (q : Option Man → Bool) → HasMoved men new a b → q None ≡ false
     → ((s : ℕ) → q (man_at men s) ≡ false) → (s : ℕ) → q (man_at new s) ≡ false
 none_new men new a b q h out none s =
@@ -206,6 +221,7 @@ none_new men new a b q h out none s =
       | inr arrives ↦ both_ways _ (none a) arrives.1
     ])
 
+-- few minor pieces are few after the move, if a bishop that moves keeps to its colour
 minors_moved : (men new : Men) (a b : ℕ) → HasMoved men new a b → b < 64 → a < 64
     → (is_kind Bishop (man_at men a) ≡ true → shade a ≡ shade b) → FewMinors men → FewMinors new
 minors_moved men new a b h l l' keeps (OneMinor one) =
@@ -252,7 +268,7 @@ knight_shade men c a b e =
     other_sum f r g q (inl h) e = let x = h.0 in let y = h.1 in omega (arith, x, y, e)
     other_sum f r g q (inr h) e = let x = h.0 in let y = h.1 in omega (arith, x, y, e)
 
--- what attacks, by its kind
+-- a piece of kind k that attacks a square could capture there, as a piece of some colour c
 pub attacks_by_kind : (men : Men) (a b : ℕ) (k : Kind) → is_kind k (man_at men a) ≡ true → attacks men a b ≡ true
     → (c : Colour) × (could_capture men c k a b ≡ true)
 unfolding attacks
@@ -271,6 +287,7 @@ bishop_keeps : (men : Men) (a b : ℕ) → attacks men a b ≡ true → is_kind 
     → shade a ≡ shade b
 bishop_keeps men a b hits e = let h = attacks_by_kind men a b Bishop e hits in bishop_shade men h.0 a b h.1
 
+-- a legal move leaves insufficient material insufficient
 pub bare_after : (p : Setup) (m : Move) → IsSound p → is_legal p m ≡ true → IsBare p.men → IsBare (after p m).men
 unfolding is_legal
 bare_after p m sound legal bare = by h.kind

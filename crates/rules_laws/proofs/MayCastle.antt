@@ -1,4 +1,7 @@
--- When castling is legal in normal chess.
+-- In normal chess, castling is legal exactly if the side on move has the right, the named squares between king and rook
+-- are empty, and those from the king's start to its end are not attacked (MayCastle). The definitions speak of any
+-- square on the way, so the ways of the four castlings are compared with the named squares by computation over 64
+-- squares. The last part: castling uncovers no attack on the king's new square (attack_before).
 use Rattle.std.proofs.Common.{◌≡◌, ◌≢◌, ℕ, ◌<◌, ◌⊎◌, inl, inr, Bool, true, false, Option, Some, None, refl, sym, subst, ap, ◌∙◌, arith, ◌==◌, ◌&&◌, ◌||◌, not, is_none, nat_lt, length, if◌then◌else◌}
 use Rattle.std.proofs.lemmas.Bool.{and_parts, and_from, and_right, both_ways, cases_eq, eqb-true, eq-eqb, ne_eqb, not-true, not_from_false, or_cases, or_left, or_right, false_from_ne_true}
 use Rattle.std.specs.List.{AllByRecursion}
@@ -16,8 +19,9 @@ use Rattle.rules_laws.specs.Castled.{castling_of, castling_move, empty_squares, 
 use Rattle.rules_laws.proofs.Castled.{named, too_far, one_side, no_king_of_pawn, normal_named, normal_placed, is_castle}
 use Rattle.rules_laws.proofs.Pieces.{attacks_as, king_is_near, after_castle, attacks_of}
 
--- ---- the squares on the way
+-- ---- the squares on the way, as tests of all squares and as lists of names (square 4 is e1, 60 is e8)
 
+-- from the test of the whole way: each named square is empty
 empty_by : (men : Men) (c : Colour) (w : CastlingSide) → castling_way_is_empty men (castling_of c w) ≡ true
     → AllByRecursion (λ s. man_at men s ≡ None) (empty_squares c w)
 unfolding castling_way_is_empty castling_needs_empty is_between
@@ -30,6 +34,7 @@ empty_by men Black KingSide e =
 empty_by men Black QueenSide e =
     (is_none-None _ (each_square-at _ e 57 (omega arith)), (is_none-None _ (each_square-at _ e 58 (omega arith)), (is_none-None _ (each_square-at _ e 59 (omega arith)), tt)))
 
+-- from the test of the king's way: each named square is not attacked
 safe_by : (men : Men) (c : Colour) (w : CastlingSide) → castling_way_is_safe men c (castling_of c w) ≡ true
     → AllByRecursion (λ s. is_attacked men s (other c) ≡ false) (safe_squares c w)
 unfolding castling_way_is_safe is_between
@@ -42,11 +47,12 @@ safe_by men Black KingSide e =
 safe_by men Black QueenSide e =
     (not-true _ (each_square-at _ e 58 (omega arith)), (not-true _ (each_square-at _ e 59 (omega arith)), (not-true _ (each_square-at _ e 60 (omega arith)), tt)))
 
--- on the way are only king, rook and the squares listed
+-- square x is on the way of the king or of the rook
 abbrev on_either : Castle → ℕ → Bool
 on_either k x = is_on_way k.king_from k.king_to x || is_on_way k.rook_from k.rook_to x
 
--- a test that is true or leaves a few squares, each of which is empty
+-- if a square that is on the way, and is not where king or rook starts, is a or b, and these are empty, then it is
+-- empty
 two_left : (men : Men) (x a b : ℕ) (off king rook : Bool) → (off || king || rook || (x == a) || (x == b)) ≡ true
     → man_at men a ≡ None → man_at men b ≡ None → (off || king || rook || is_none (man_at men x)) ≡ true
 two_left men x a b off king rook e f g =
@@ -58,6 +64,7 @@ two_left men x a b off king rook e f g =
       ]
     ]
 
+-- the same with three squares: a, b or c
 three_left : (men : Men) (x a b c : ℕ) (off king rook : Bool)
     → (off || king || rook || (x == a) || (x == b) || (x == c)) ≡ true → man_at men a ≡ None → man_at men b ≡ None
     → man_at men c ≡ None → (off || king || rook || is_none (man_at men x)) ≡ true
@@ -67,6 +74,8 @@ three_left men x a b c off king rook e f g h =
       | inl rest ↦ two_left men x a b off king rook rest f g
     ]
 
+-- square x is not on the way of this castling, or is where king or rook starts, or is one of the named squares;
+-- likewise for the other three castlings
 abbrev empty_white_king : ℕ → Bool
 empty_white_king x = not (on_either (castling_of White KingSide) x) || (x == 4) || (x == 7) || (x == 5) || (x == 6)
 
@@ -81,6 +90,7 @@ abbrev empty_black_queen : ℕ → Bool
 empty_black_queen x =
     not (on_either (castling_of Black QueenSide) x) || (x == 60) || (x == 56) || (x == 57) || (x == 58) || (x == 59)
 
+-- each square passes this test; likewise for the other three castlings
 white_king_way : each_square empty_white_king ≡ true
 unfolding each_square squares is_between
 white_king_way = refl
@@ -97,6 +107,7 @@ black_queen_way : each_square empty_black_queen ≡ true
 unfolding each_square squares is_between
 black_queen_way = refl
 
+-- from named squares that are empty: the whole way is (the converse of empty_by)
 empty_from : (men : Men) (c : Colour) (w : CastlingSide) → AllByRecursion (λ s. man_at men s ≡ None) (empty_squares c w)
     → castling_way_is_empty men (castling_of c w) ≡ true
 empty_from men White KingSide h = castling_way_is_empty_by men (castling_of White KingSide) ∙ each_square-all _ (λ x l.
@@ -114,11 +125,12 @@ empty_from men Black QueenSide h =
     three_left men x 57 58 59 (not (on_either (castling_of Black QueenSide) x)) (x == 60) (x == 56)
     (each_square-at empty_black_queen black_queen_way x l) h.0 h.1.0 h.1.1.0)
 
--- and the king's way has three squares
+-- square x is not on the king's way from `from` to `to`, or is a, b or c
 
 abbrev on_three : ℕ → ℕ → ℕ → ℕ → ℕ → ℕ → Bool
 on_three from to a b c x = not (is_on_way from to x) || (x == a) || (x == b) || (x == c)
 
+-- the king's way from e1 to g1 has only the squares e1, f1 and g1; likewise for the other three castlings
 white_king_steps : each_square (on_three 4 6 4 5 6) ≡ true
 unfolding each_square squares is_between
 white_king_steps = refl
@@ -135,6 +147,7 @@ black_queen_steps : each_square (on_three 60 58 58 59 60) ≡ true
 unfolding each_square squares is_between
 black_queen_steps = refl
 
+-- if a square on the way is a, b or d, and these are not attacked, it is not
 three_safe : (men : Men) (c : Colour) (x a b d : ℕ) (off : Bool) → (off || (x == a) || (x == b) || (x == d)) ≡ true
     → is_attacked men a c ≡ false → is_attacked men b c ≡ false → is_attacked men d c ≡ false
     → (off || not (is_attacked men x c)) ≡ true
@@ -153,6 +166,7 @@ three_safe men c x a b d off e f g h =
     here : (s : ℕ) → x ≡ s → is_attacked men s c ≡ false → (off || not (is_attacked men x c)) ≡ true
     here s at calm = or_right off _ (not_from_false _ (ap (λ (t : ℕ). is_attacked men t c) at ∙ calm))
 
+-- from named squares that are not attacked: the king's whole way is not (the converse of safe_by)
 safe_from : (men : Men) (c : Colour) (w : CastlingSide)
     → AllByRecursion (λ s. is_attacked men s (other c) ≡ false) (safe_squares c w)
     → castling_way_is_safe men c (castling_of c w) ≡ true
@@ -171,6 +185,7 @@ safe_from men Black QueenSide h = each_square-all _ (λ x l.
 right_is_there : (o : Option ℕ) (r : ℕ) → o ≡ Some r → o ≢ None
 right_is_there o r e f = let n : Some r ≡ None = sym e ∙ f in cc
 
+-- of what legal castling needs: its way is empty, and the king's way is safe
 parts_of : (p : Setup) (m : Move) (k : Castle) → castles p m k ≡ true
     → (castling_way_is_empty p.men k ≡ true) × (castling_way_is_safe p.men p.side k ≡ true)
 unfolding castles
@@ -185,6 +200,8 @@ moves_to White QueenSide = refl
 moves_to Black KingSide = refl
 moves_to Black QueenSide = refl
 
+-- a king's move from e1 to g1 or c1 (e8 to g8 or c8) that fits the pattern of some kind of move is castling, since a
+-- king goes only one square otherwise; so the side may castle
 by_kind : (p : Setup) (w : CastlingSide) → IsSound p → p.variant ≡ Normal
     → is_man p.side King (man_at p.men (castling_of p.side w).king_from) ≡ true
     → MoveKind p (castling_move p.side w) → MayCastle p w
@@ -226,6 +243,7 @@ by_kind p w sound v king (Castles u r at right e) =
 
 -- ---- where the way is free, castling is legal
 
+-- what is known where castling is to be proved legal
 record IsFree (p : Setup) (w : CastlingSide) : Type 0 where
   pub sound : IsSound p
   pub normal : p.variant ≡ Normal
@@ -252,12 +270,14 @@ names_normal : (v : Variant) (c : Colour) (w : CastlingSide) (r : ℕ) → v ≡
 names_normal Normal c w r e = and_from _ _ (moves_to c w) (moves_on c w)
 names_normal Fischerandom c w r e = cc
 
+-- the king's move to the c-file doesn't name castling on the king side
 names_no_king_side : (v : Variant) (c : Colour) (o : Option ℕ) → v ≡ Normal
     → names_castling v c (castling_move c QueenSide) KingSide o ≡ false
 names_no_king_side Normal c None e = refl
 names_no_king_side Normal c (Some r) e = and_right _ _ (off_king_side c)
 names_no_king_side Fischerandom c o e = cc
 
+-- the king's move names castling on side w, by a right that is there
 says : (p : Setup) (w : CastlingSide) → IsFree p w → is_castling_to p (castling_move p.side w) w ≡ true
 unfolding is_castling_to
 says p w h =
@@ -270,6 +290,7 @@ says_not : (p : Setup) → p.variant ≡ Normal → is_castling_to p (castling_m
 unfolding is_castling_to
 says_not p v = and_right _ _ (names_no_king_side p.variant p.side (right_of p.rights p.side KingSide) v)
 
+-- the move castles on side w, and on no other
 castles_to : (p : Setup) (w : CastlingSide) → IsFree p w → castling p (castling_move p.side w) ≡ Some w
 unfolding castling
 castles_to p KingSide h = rw (says p KingSide h) refl
@@ -293,6 +314,7 @@ castle_is p w h =
     rook_of Normal e {r} placed = normal_placed p.men p.side w r placed
     rook_of Fischerandom e {r} placed = cc
 
+-- the move passes all tests of castling
 castles_here : (p : Setup) (w : CastlingSide) → IsFree p w
     → castles p (castling_move p.side w) (castling_of p.side w) ≡ true
 unfolding castles
@@ -315,6 +337,7 @@ squares_in White QueenSide = refl
 squares_in Black KingSide = refl
 squares_in Black QueenSide = refl
 
+-- the castling move is pseudo-legal
 is_pattern : (p : Setup) (w : CastlingSide) → IsFree p w → is_pseudo_legal p (castling_move p.side w) ≡ true
 unfolding is_pseudo_legal
 is_pattern p w h =
@@ -322,11 +345,14 @@ is_pattern p w h =
     (as_castling p (castling_move p.side w) (castling_of p.side w) (man_at p.men (castling_of p.side w).king_from) h.king
     (castle_is p w h) (castles_here p w h))
 
--- ---- no attack is uncovered
+-- ---- the king's old square uncovers no attack: the rook now stands between
 
+-- a line from square a to the king's end `to` that crosses the king's old square `king` also crosses the rook's end
+-- `rook`
 abbrev hides : ℕ → ℕ → ℕ → ℕ → Bool
 hides to king rook a = not (is_between a to king) || is_between a to rook
 
+-- this holds of each square a, for White's king side; likewise for the other three castlings
 white_king_hides : each_square (hides 6 4 5) ≡ true
 unfolding each_square squares is_between
 white_king_hides = refl
@@ -343,9 +369,12 @@ black_queen_hides : each_square (hides 58 60 59) ≡ true
 unfolding each_square squares is_between
 black_queen_hides = refl
 
+-- a line from square a to the king's end `to` doesn't cross the rook's old square `rook`
 abbrev apart : ℕ → ℕ → ℕ → Bool
 apart to rook a = not (is_between a to rook)
 
+-- this holds of each square a, for White's king side, since no line goes on past a corner; likewise for the other three
+-- castlings
 white_king_corner : each_square (apart 6 7) ≡ true
 unfolding each_square squares is_between
 white_king_corner = refl
@@ -379,6 +408,7 @@ rook_hides White QueenSide a l b = from_hidden 2 4 3 a (each_square-at (hides 2 
 rook_hides Black KingSide a l b = from_hidden 62 60 61 a (each_square-at (hides 62 60 61) black_king_hides a l) b
 rook_hides Black QueenSide a l b = from_hidden 58 60 59 a (each_square-at (hides 58 60 59) black_queen_hides a l) b
 
+-- no line to the king's end crosses the rook's corner
 corner_is_apart : (c : Colour) (w : CastlingSide) (a : ℕ) → a < 64
     → is_between a (castling_of c w).king_to (castling_of c w).rook_from ≡ false
 corner_is_apart White KingSide a l = not-true _ (each_square-at (apart 6 7) white_king_corner a l)
@@ -388,6 +418,7 @@ corner_is_apart Black QueenSide a l = not-true _ (each_square-at (apart 58 56) b
 
 -- ---- what castling leaves, square by square
 
+-- the squares of a castling are on the board, and no end is another end or a start
 record AreApart (k : Castle) : Type 0 where
   pub ends : (k.rook_to == k.king_to) ≡ false
   pub king : (k.king_from == k.king_to) ≡ false
@@ -445,6 +476,7 @@ are_apart Black QueenSide = record {
   rook_from_in = omega arith;
 }
 
+-- what is on each square of the board `new` after colour c has castled by k on the board `men`
 record Castled (men new : Men) (c : Colour) (k : Castle) : Type 0 where
   pub king : is_man c King (man_at men k.king_from) ≡ true
   pub on_king : man_at new k.king_to ≡ man_at men k.king_from
@@ -458,6 +490,7 @@ arrives_same : (o : Option Man) → arriving_man o None ≡ o
 arrives_same None = refl
 arrives_same (Some x) = refl
 
+-- the board after a move that castles is such a board
 castled_by : (p : Setup) (m : Move) (k : Castle) → AreApart k → castle_of p m ≡ Some k → m.from ≡ k.king_from
     → m.promotion ≡ None → is_man p.side King (man_at p.men k.king_from) ≡ true
     → Castled p.men (after p m).men p.side k
@@ -477,13 +510,14 @@ castled_by p m k a e from none king = record {
     either true o = refl
     either false o = refl
 
--- a piece on a square afterwards: the king, the rook, or what was there
+-- a rook of colour c is no piece of the other colour
 rook_is : (c : Colour) → is_of (other c) (Some (record { colour = c; kind = Rook })) ≡ false
 unfolding is_of
 rook_is White = refl
 rook_is Black = refl
 
--- where q holds of the content of a square, and of none of the four, the square is another
+-- a square whose content passes the test q afterwards is the king's end, or had the same content before; q must refuse
+-- an empty square and c's rook
 another : (men new : Men) (c : Colour) (k : Castle) (q : Option Man → Bool) (s : ℕ) → Castled men new c k → s < 64
     → q (man_at new s) ≡ true → q None ≡ false → q (Some (record { colour = c; kind = Rook })) ≡ false
     → (s ≡ k.king_to) ⊎ ((s ≢ k.king_to) × (s ≢ k.king_from) × (man_at new s ≡ man_at men s))
@@ -502,7 +536,7 @@ another men new c k q s h l e none rook =
       ]
     ]
 
--- a line to the king's new square was clear before
+-- a line to the king's new square that is clear after castling was clear before
 clear_before : (men new : Men) (c : Colour) (w : CastlingSide) (a : ℕ) → Castled men new c (castling_of c w) → a < 64
     → is_clear new a (castling_of c w).king_to ≡ true → is_clear men a (castling_of c w).king_to ≡ true
 unfolding is_clear
@@ -542,6 +576,7 @@ clear_before men new c w a h l e = each_square-all _ (λ x m. by x m (is_between
 kept_if : (a b c : Bool) → (b ≡ true → c ≡ true) → (a && b) ≡ true → (a && c) ≡ true
 kept_if a b c h e = let both = and_parts a b e in and_from a c both.0 (h both.1)
 
+-- what kind k of piece could capture on the king's end from square a afterwards, it could before
 attack_before : (men new : Men) (c d : Colour) (w : CastlingSide) (k : Kind) (a : ℕ) → Castled men new c (castling_of c w)
     → a < 64 → could_capture new d k a (castling_of c w).king_to ≡ true
     → could_capture men d k a (castling_of c w).king_to ≡ true
@@ -553,6 +588,7 @@ attack_before men new c d w Bishop a h l e = kept_if _ _ _ (clear_before men new
 attack_before men new c d w Knight a h l e = e
 attack_before men new c d w Pawn a h l e = e
 
+-- what attacks the king's end afterwards, from a square with the same piece, attacked it before
 attacked_before : (men new : Men) (c : Colour) (w : CastlingSide) (a : ℕ) → Castled men new c (castling_of c w) → a < 64
     → man_at new a ≡ man_at men a → attacks new a (castling_of c w).king_to ≡ true
     → attacks men a (castling_of c w).king_to ≡ true
@@ -567,6 +603,7 @@ attacked_before men new c w a h l same e =
 
 -- ---- the king is not in check after castling
 
+-- the king's end is one of the named squares that are not attacked
 ends_safe : (men : Men) (c : Colour) (w : CastlingSide)
     → AllByRecursion (λ s. is_attacked men s (other c) ≡ false) (safe_squares c w)
     → is_attacked men (castling_of c w).king_to (other c) ≡ false
@@ -575,6 +612,7 @@ ends_safe men White QueenSide h = h.0
 ends_safe men Black KingSide h = h.1.1.0
 ends_safe men Black QueenSide h = h.0
 
+-- so after castling no piece attacks the king's end: it would have attacked it before
 unattacked : (men new : Men) (c : Colour) (w : CastlingSide) → Castled men new c (castling_of c w)
     → is_attacked men (castling_of c w).king_to (other c) ≡ false
     → is_attacked new (castling_of c w).king_to (other c) ≡ false
@@ -589,6 +627,7 @@ unattacked men new c w h calm =
           (ap (is_of (other c)) (sym away.2) ∙ both.0) (attacked_before men new c w a h l away.2 both.1)))
     ]))
 
+-- the one king is on its end, which is not attacked, so it is not in check
 out_of_check : (men new : Men) (c : Colour) (w : CastlingSide) → Castled men new c (castling_of c w) → length men ≡ 64
     → has_one_king men c ≡ true → is_attacked men (castling_of c w).king_to (other c) ≡ false
     → is_in_check new c ≡ false

@@ -13,17 +13,20 @@ use Rattle.rules_laws.proofs.MirrorMoves.{forward-mirrored, forward_in, off_last
 
 -- ---- lists over the squares
 
+-- lists of the values of functions that agree below n
 from_below_same : {A : Type 0} (n : ℕ) (f g : ℕ → A) → ((k : ℕ) → k < n → f k ≡ g k) → from_below n f ≡ from_below n g
 from_below_same zero f g h = refl
 from_below_same {A} (suc n) f g h =
     ap (λ (x : A). x ∷ from_below n (λ k. f (suc k))) (h zero (omega arith))
     ∙ ap (λ xs. g zero ∷ xs) (from_below_same n (λ k. f (suc k)) (λ k. g (suc k)) (λ k l. h (suc k) (omega (arith, l))))
 
+-- functions that agree on the 64 squares make equal lists over them
 map_same : {A : Type 0} (f g : ℕ → A) → ((k : ℕ) → k < 64 → f k ≡ g k) → map f squares ≡ map g squares
 map_same f g h = map_squares f ∙ from_below_same 64 f g h ∙ sym (map_squares g)
 
 -- ---- what is on a square afterwards
 
+-- a piece that arrives, promoted or not, arrives in the mirror in the other colour
 arriving-flipped : (o : Option Man) (k : Option Kind) → arriving_man (flipped o) k ≡ flipped (arriving_man o k)
 arriving-flipped None k = refl
 arriving-flipped (Some x) k = refl
@@ -32,6 +35,8 @@ flipped_if : (b : Bool) (x y : Option Man) → flipped (if b then x else y) ≡ 
 flipped_if true x y = refl
 flipped_if false x y = refl
 
+-- the captured square is mirrored, if the move captures en passant (passes), captures a piece of the other side (enemy)
+-- or captures nothing; forward squares must be mirrored where it captures en passant
 captured_by : (p : Setup) (m : Move) (passes enemy : Bool)
     → (passes ≡ true → forward (other (other p.side)) (mirrored m.to) ≡ mirrored (forward (other p.side) m.to))
     → (if passes then Some (forward (other (other p.side)) (mirrored m.to)) else if enemy then Some (mirrored m.to) else None)
@@ -40,6 +45,7 @@ captured_by p m true enemy h = ap (λ (s : ℕ). Some s) (h refl)
 captured_by p m false true h = refl
 captured_by p m false false h = refl
 
+-- a capture en passant doesn't end on a last rank, so the square of the captured pawn is on the board
 passes_off : (p : Setup) (m : Move) → IsSound p → is_en_passant p m ≡ true → rank m.to ≢ first_rank (other (other p.side))
 unfolding is_en_passant
 passes_off p m sound e = by p.side (at_target p m.to sound.target (and_parts _ _ e).1).0
@@ -48,6 +54,7 @@ passes_off p m sound e = by p.side (at_target p m.to sound.target (and_parts _ _
     by White at off = omega (arith, at, off)
     by Black at off = omega (arith, at, off)
 
+-- the mirrored move captures on the mirrored square
 captured-mirrored : (p : Setup) (m : Move) → IsSound p → m.from < 64 → m.to < 64
     → captured_square (mirrored_setup p) (mirrored_move m) ≡ option_map mirrored (captured_square p m)
 unfolding captured_square
@@ -64,12 +71,14 @@ captured_in_by p m t true enemy h l e = let same : forward (other p.side) m.to �
 captured_in_by p m t false true h l e = let same : m.to ≡ t = cc in subst (λ (s : ℕ). s < 64) same l
 captured_in_by p m t false false h l e = cc
 
+-- the captured square is on the board
 captured_in : (p : Setup) (m : Move) (t : ℕ) → IsSound p → m.to < 64 → captured_square p m ≡ Some t → t < 64
 unfolding captured_square
 captured_in p m t sound l e =
     captured_in_by p m t (is_en_passant p m) (is_of (other p.side) (man_at p.men m.to))
     (λ passes. forward_in (other p.side) m.to l (passes_off p m sound passes)) l e
 
+-- what is on square t after a move that doesn't castle
 moving-mirrored : (p : Setup) (m : Move) (t : ℕ) → IsSound p → m.from < 64 → m.to < 64 → t < 64
     → after_moving (mirrored_setup p) (mirrored_move m) (mirrored t) ≡ flipped (after_moving p m t)
 moving-mirrored p m t sound h l k =
@@ -86,6 +95,7 @@ moving-mirrored p m t sound h l k =
       arriving-flipped (man_at p.men m.from) m.promotion,
     ) refl
 
+-- what is on square t after castling
 castling-mirrored : (p : Setup) (m : Move) (k : Castle) (t : ℕ) → IsInBoard k → m.from < 64 → t < 64
     → after_castling (mirrored_setup p) (mirrored_move m) (mirrored_castle k) (mirrored t) ≡ flipped (after_castling p m k t)
 castling-mirrored p m k t in_board h l =
@@ -105,9 +115,11 @@ castling-mirrored p m k t in_board h l =
       arriving-flipped (man_at p.men m.from) m.promotion,
     ) refl
 
+-- what is on square s after move m, where o is the castling that m is, if any
 abbrev on_by : Setup → Move → ℕ → Option Castle → Option Man
 on_by p m s o = option_map_or (λ k. after_castling p m k s) o (after_moving p m s)
 
+-- the same for a move of which one knows whether it castles (o)
 by_castle : (p : Setup) (m : Move) (t : ℕ) (o : Option Castle) → ((k : Castle) → o ≡ Some k → IsInBoard k) → IsSound p
     → m.from < 64 → m.to < 64 → t < 64
     → on_by (mirrored_setup p) (mirrored_move m) (mirrored t) (option_map mirrored_castle o) ≡ flipped (on_by p m t o)
@@ -121,6 +133,7 @@ on-mirrored p m t sound h l k =
     ap (on_by (mirrored_setup p) (mirrored_move m) (mirrored t)) (castle-mirrored p m sound h l)
     ∙ by_castle p m t (castle_of p m) (λ c e. castle_in p m c sound h e) sound h l k
 
+-- the whole board after the mirrored move is the mirrored board
 pub men_after-mirrored : (p : Setup) (m : Move) → IsSound p → m.from < 64 → m.to < 64
     → men_after (mirrored_setup p) (mirrored_move m) ≡ mirrored_men (men_after p m)
 unfolding men_after mirrored_men
@@ -134,6 +147,7 @@ men_after-mirrored p m sound h l =
 
 -- ---- legal moves
 
+-- the move leaves its own king in check exactly if the mirrored move does
 check-mirrored : (p : Setup) (m : Move) → IsSound p → m.from < 64 → m.to < 64
     → is_in_check (after (mirrored_setup p) (mirrored_move m)).men (other p.side) ≡ is_in_check (after p m).men p.side
 unfolding after
@@ -148,6 +162,7 @@ mirror_is_as_legal p m sound h l =
 
 -- ---- the other parts of a position
 
+-- a right is lost or kept alike in the mirror, by three tests: the king moves, the rook moves, or it is captured
 lost_by : (king from to : Bool) (r : ℕ)
     → option_map mirrored (if king || from || to then None else Some r) ≡ (if king || from || to then None else Some (mirrored r))
 lost_by true from to r = refl
@@ -155,6 +170,8 @@ lost_by false true to r = refl
 lost_by false false true r = refl
 lost_by false false false r = refl
 
+-- the right of colour c with its rook on the square o, after move m: none if the king or that rook moves, or if the
+-- rook is captured
 abbrev kept : Men → Colour → Move → Option ℕ → Option ℕ
 kept men c m o = option_and_then
     (λ (rook : ℕ). if is_man c King (man_at men m.from) || (m.from == rook) || (m.to == rook) then None else Some rook) o
@@ -179,12 +196,14 @@ right_kept p m c w sound h l =
     ap (kept (mirrored_men p.men) (other c) (mirrored_move m)) (right-mirrored p.rights c w)
     ∙ kept-mirrored p m c (right_of p.rights c w) h l (λ r e. rook_in p c w r sound e)
 
+-- the right of a colour and side among rights that are given by a function
 right_by : (f : Colour → CastlingSide → Option ℕ) (c : Colour) (w : CastlingSide) → right_of (rights_by f) c w ≡ f c w
 right_by f White KingSide = refl
 right_by f White QueenSide = refl
 right_by f Black KingSide = refl
 right_by f Black QueenSide = refl
 
+-- the rights after the mirrored move are the mirrored ones
 rights-mirrored : (p : Setup) (m : Move) → IsSound p → m.from < 64 → m.to < 64
     → rights_after (mirrored_setup p) (mirrored_move m) ≡ mirrored_rights (rights_after p m)
 unfolding rights_after
@@ -198,15 +217,18 @@ rights-mirrored p m sound h l =
     at White w = right_kept p m Black w sound h l
     at Black w = right_kept p m White w sound h l
 
+-- a double advance doesn't start on the last rank, so the square ahead is on the board
 double_starts : (p : Setup) (m : Move) → is_double_advance p m ≡ true → rank m.from ≢ first_rank (other p.side)
 unfolding is_double_advance
 double_starts p m e = off_last p.side m.from (eqb-true _ _ (and_parts _ _ (and_parts _ _ e).0).1)
 
+-- the target is there exactly if the move is a double advance, and is then mirrored
 target_by : (double : Bool) (s t : ℕ) → (double ≡ true → s ≡ mirrored t)
     → (if double then Some s else None) ≡ option_map mirrored (if double then Some t else None)
 target_by true s t h = ap (λ (x : ℕ). Some x) (h refl)
 target_by false s t h = refl
 
+-- the target after the mirrored move is the mirrored one
 target-mirrored : (p : Setup) (m : Move) → m.from < 64 → m.to < 64
     → target_after (mirrored_setup p) (mirrored_move m) ≡ option_map mirrored (target_after p m)
 unfolding target_after
@@ -215,6 +237,7 @@ target-mirrored p m h l =
     ∙ target_by (is_double_advance p m) (forward (other p.side) (mirrored m.from)) (forward p.side m.from)
     (λ e. forward-mirrored p.side m.from h (double_starts p m e))
 
+-- captures and pawn moves are the same in the mirror, so the halfmove clock is
 clock-mirrored : (p : Setup) (m : Move) → m.from < 64 → m.to < 64
     → halfmove_after (mirrored_setup p) (mirrored_move m) ≡ halfmove_after p m
 unfolding halfmove_after
@@ -226,6 +249,7 @@ clock-mirrored p m h l =
 
 -- ---- the whole position
 
+-- positions with equal parts are equal; the fullmove number n is taken to be one
 parts_same : (v : Variant) (c : Colour) (n : ℕ) (men men' : Men) (r r' : Rights) (t t' : Option ℕ) (h h' : ℕ)
     → men ≡ men' → r ≡ r' → t ≡ t' → h ≡ h'
     → (let a : Setup = record { variant = v; men = men; side = c; rights = r; target = t; halfmove = h; fullmove = n } in

@@ -1,4 +1,6 @@
--- A piece in the mirror attacks the mirrored squares of those it attacks.
+-- In the mirror colours are exchanged, and square s is `mirrored s`: same file, rank counted from the other side. A
+-- piece in the mirror attacks the mirrored squares of those it attacks: shown for ranks and files, lines, single
+-- pieces, and then checks.
 use Rattle.std.proofs.Common.{◌≡◌, ℕ, ◌+◌, ◌-◌, ◌<◌, ◌≤◌, Bool, true, false, Some, None, Option, refl, sym, ap, ap₂, ◌∙◌, arith, ◌==◌, inl, inr, subst, ◌||◌, ◌&&◌, not, is_none, option_map}
 use Rattle.std.proofs.{lemmas.Bool.cases_eq, lemmas.Bool.eq-eqb, lemmas.Bool.ne_eqb, lemmas.Bool.Decides.nat_tests}
 use Rattle.std.specs.{Cmp.both_ways, Int.abs_diff}
@@ -15,6 +17,7 @@ use Rattle.rules_laws.specs.Mirror.{mirrored, mirrored_man, mirrored_men, Mirror
 pub mirrored_in : (s : ℕ) → s < 64 → mirrored s < 64
 mirrored_in s h = omega (arith, h)
 
+-- the mirror of the mirror is the square itself
 pub twice : (s : ℕ) → s < 64 → mirrored (mirrored s) ≡ s
 twice s h = omega (arith, h)
 
@@ -27,6 +30,7 @@ other_rank s h = omega (arith, h)
 pub rank_in : (s : ℕ) → s < 64 → rank s ≤ 7
 rank_in s h = omega (arith, h)
 
+-- squares are equal in the mirror exactly if they are equal
 pub same_square : (a b : ℕ) → a < 64 → b < 64 → (mirrored a == mirrored b) ≡ (a == b)
 same_square a b h l =
     elim (cases_eq a b) [
@@ -34,11 +38,12 @@ same_square a b h l =
       | inr n ↦ ne_eqb (mirrored a) (mirrored b) (λ e. n (sym (twice a h) ∙ ap mirrored e ∙ twice b l)) ∙ sym (ne_eqb a b n)
     ]
 
--- over ranks
+-- ---- ranks counted from the other side: r becomes 7 - r
 
 pub same_ranks : (r q : ℕ) → r ≤ 7 → q ≤ 7 → (7 - r == 7 - q) ≡ (r == q)
 same_ranks r q h l = grind (arith, nat_tests)
 
+-- ranks are as far apart as before
 pub ranks_apart : (r q : ℕ) → r ≤ 7 → q ≤ 7 → abs_diff (7 - r) (7 - q) ≡ abs_diff r q
 ranks_apart r q h l = omega (arith, h, l)
 
@@ -46,6 +51,7 @@ ranks_between : (r q t : ℕ) → r ≤ 7 → q ≤ 7 → t ≤ 7
     → is_strictly_between (7 - r) (7 - q) (7 - t) ≡ is_strictly_between r q t
 ranks_between r q t a b c = grind (arith, nat_tests)
 
+-- one rank ahead for a colour is one rank ahead for the other in the mirror
 ahead : (c : Colour) (r q : ℕ) → r ≤ 7 → q ≤ 7
     → by_colour (7 - q == 7 - r + 1) (7 - r == 7 - q + 1) (other c) ≡ by_colour (q == r + 1) (r == q + 1) c
 ahead White r q h l = grind (arith, nat_tests)
@@ -53,6 +59,7 @@ ahead Black r q h l = grind (arith, nat_tests)
 
 -- ---- all squares and some square
 
+-- a test passes on all mirrored squares exactly if it passes on all squares; some_mirrored says so of some square
 pub each_mirrored : (p : ℕ → Bool) → each_square (λ s. p (mirrored s)) ≡ each_square p
 each_mirrored p =
     both_ways _ _
@@ -84,9 +91,11 @@ some_mirrored p =
 
 -- ---- pieces
 
+-- what is on a square, with its colour exchanged
 abbrev pub flipped : Option Man → Option Man
 flipped o = option_map mirrored_man o
 
+-- on the mirrored square of the mirrored board is the same piece in the other colour
 pub man_at-mirrored : (men : Men) (s : ℕ) → s < 64 → man_at (mirrored_men men) (mirrored s) ≡ flipped (man_at men s)
 unfolding mirrored_men
 man_at-mirrored men s h =
@@ -127,6 +136,7 @@ is_none-mirrored men s h = ap (λ (o : Option Man). is_none o) (man_at-mirrored 
 
 -- ---- lines
 
+-- squares between others stay between them, so lines that are clear stay clear (clear-mirrored)
 pub is_between-mirrored : (a b x : ℕ) → a < 64 → b < 64 → x < 64
     → is_between (mirrored a) (mirrored b) (mirrored x) ≡ is_between a b x
 unfolding is_between
@@ -165,6 +175,7 @@ diagonal-mirrored a b h l =
 
 -- ---- attacks
 
+-- each kind of piece could capture on mirrored squares what it could on these
 pub could_capture-mirrored : (men : Men) (c : Colour) (k : Kind) (a b : ℕ) → a < 64 → b < 64
     → could_capture (mirrored_men men) (other c) k (mirrored a) (mirrored b) ≡ could_capture men c k a b
 unfolding could_capture
@@ -194,6 +205,7 @@ attacks-mirrored men a b h l =
     ap (λ (o : Option Man). could_capture_as (mirrored_men men) o (mirrored a) (mirrored b)) (man_at-mirrored men a h)
     ∙ as_flipped men (man_at men a) a b h l
 
+-- a square is attacked exactly if its mirror is attacked by the other colour; likewise check
 pub is_attacked-mirrored : (men : Men) (b : ℕ) (c : Colour) → b < 64
     → is_attacked (mirrored_men men) (mirrored b) (other c) ≡ is_attacked men b c
 unfolding is_attacked

@@ -1,4 +1,5 @@
--- Mate, stalemate and insufficient material are the same in the mirror.
+-- Mate, stalemate and insufficient material are the same in the mirror: no move is legal in both, and tests and counts
+-- of pieces give the same.
 use Rattle.std.proofs.Common.{◌≡◌, ℕ, zero, suc, ◌+◌, ◌-◌, ◌%◌, ◌<◌, ◌≤◌, Bool, cond, Some, None, Option, refl, sym, ap, ap₂, ◌∙◌, arith, ◌==◌, subst, ◌||◌, ◌&&◌, List, [], ◌∷◌, length, map, count_by, ext_get_or}
 use Rattle.std.proofs.{lemmas.Bool.both_ways, lemmas.Bool.false_from_ne_true, lemmas.Bool.Decides.nat_tests, lemmas.List.Sums.sum_by-cons, Math.Bool.and_comm}
 use Rattle.std.specs.List.{list_any}
@@ -15,10 +16,12 @@ use Rattle.rules_laws.proofs.MirrorAfter.{mirror_is_as_legal}
 
 -- ---- no legal move
 
+-- the mirror of the mirrored move is the move itself
 pub move_twice : (m : Move) → m.from < 64 → m.to < 64 → mirrored_move (mirrored_move m) ≡ m
 move_twice m h l =
     ap₂ (λ (a b : ℕ). record { from = a; to = b; promotion = m.promotion }) (twice m.from h) (twice m.to l)
 
+-- a legal move in the mirror would have a legal mirror in p; none_from_mirror is the other direction
 pub none_in_mirror : (p : Setup) → IsSound p → HasNoMove p → HasNoMove (mirrored_setup p)
 none_in_mirror p sound none m =
     false_from_ne_true _ (λ legal.
@@ -39,20 +42,24 @@ is_kind-flipped : (k : Kind) (o : Option Man) → is_kind k (flipped o) ≡ is_k
 is_kind-flipped k None = refl
 is_kind-flipped k (Some x) = refl
 
+-- a test of a mapped list is a test of the list
 any-map : {A B : Type 0} (q : B → Bool) (f : A → B) (xs : List A) → list_any q (map f xs) ≡ list_any (λ x. q (f x)) xs
 any-map q f [] = refl
 any-map q f (x ∷ xs) = ap (λ (b : Bool). q (f x) || b) (any-map q f xs)
 
+-- a board of 64 squares is the list of what is on each square
 men_are : (men : Men) → length men ≡ 64 → men ≡ map (λ s. man_at men s) squares
 men_are men whole =
     ext_get_or None men (map (λ s. man_at men s) squares) (whole ∙ sym (length-map_squares (λ s. man_at men s)))
     (λ i l. sym (get_or-map_squares (λ s. man_at men s) i None (subst (λ (n : ℕ). i < n) whole l)))
 
+-- some element of the board passes exactly if what is on some square passes
 any_is : (q : Option Man → Bool) (men : Men) → length men ≡ 64
     → list_any q men ≡ some_square (λ s. q (man_at men s))
 unfolding some_square
 any_is q men whole = ap (list_any q) (men_are men whole) ∙ any-map q (λ s. man_at men s) squares
 
+-- some piece in the mirror passes a test that ignores colours exactly if some piece passes it
 any-mirrored : (q : Option Man → Bool) (men : Men) → length men ≡ 64 → ((o : Option Man) → q (flipped o) ≡ q o)
     → list_any q (mirrored_men men) ≡ list_any q men
 unfolding mirrored_men some_square
@@ -68,10 +75,12 @@ any-mirrored q men whole same =
 abbrev one_if : Bool → ℕ
 one_if b = cond b 1 0
 
+-- the sum of t over the numbers below n
 total : (ℕ → ℕ) → ℕ → ℕ
 total t zero = 0
 total t (suc n) = t 0 + total (λ k. t (suc k)) n
 
+-- a count over a list of values f k is the sum of 1 for each value that passes
 count-from_below : (q : Option Man → Bool) (n : ℕ) (f : ℕ → Option Man)
     → count_by q (from_below n f) ≡ total (λ k. one_if (q (f k))) n
 unfolding total
@@ -85,16 +94,18 @@ unfolding total
 total_same zero s t h = refl
 total_same (suc n) s t h = ap₂ (λ (a b : ℕ). a + b) (h 0) (total_same n (λ k. s (suc k)) (λ k. t (suc k)) (λ k. h (suc k)))
 
--- the ranks are added in the other order
+-- the sum over the mirrored squares is the same: the ranks are added in the other order
 total-mirrored : (t : ℕ → ℕ) → total (λ k. t (mirrored k)) 64 ≡ total t 64
 unfolding total
 total-mirrored t = omega arith
 
+-- a count over the board is a sum over the squares
 count_is : (q : Option Man → Bool) (men : Men) → length men ≡ 64
     → count_by q men ≡ total (λ s. one_if (q (man_at men s))) 64
 count_is q men whole =
     ap (count_by q) (men_are men whole ∙ map_squares (λ s. man_at men s)) ∙ count-from_below q 64 (λ s. man_at men s)
 
+-- as many pieces in the mirror pass a test that ignores colours
 count-mirrored : (q : Option Man → Bool) (men : Men) → length men ≡ 64 → ((o : Option Man) → q (flipped o) ≡ q o)
     → count_by q (mirrored_men men) ≡ count_by q men
 unfolding mirrored_men
@@ -107,12 +118,14 @@ count-mirrored q men whole same =
 
 -- ---- bishops
 
+-- the mirrored square of file f and rank r has the other colour; shade_turned_back says the converse
 shade_turned : (f r : ℕ) → r ≤ 7 → ((f + (7 - r)) % 2 == 0) ≡ ((f + r) % 2 == 1)
 shade_turned f r h = grind (arith, nat_tests)
 
 shade_turned_back : (f r : ℕ) → r ≤ 7 → ((f + (7 - r)) % 2 == 1) ≡ ((f + r) % 2 == 0)
 shade_turned_back f r h = grind (arith, nat_tests)
 
+-- a bishop is on a square of colour n in the mirror exactly if one is on the other colour, m
 bishop_on : (n m : ℕ) (men : Men) → ((f r : ℕ) → r ≤ 7 → ((f + (7 - r)) % 2 == n) ≡ ((f + r) % 2 == m))
     → has_bishop_on n (mirrored_men men) ≡ has_bishop_on m men
 unfolding has_bishop_on
@@ -123,6 +136,7 @@ bishop_on n m men turned =
     (ap₂ (λ (f r : ℕ). (f + r) % 2 == n) (same_file s) (other_rank s l) ∙ turned (file s) (rank s) (rank_in s l))
     (ap (is_kind Bishop) (man_at-mirrored men s l) ∙ is_kind-flipped Bishop (man_at men s)))
 
+-- so material is insufficient in both or in neither
 pub material-mirrored : (men : Men) → length men ≡ 64
     → has_insufficient_material (mirrored_men men) ≡ has_insufficient_material men
 unfolding has_insufficient_material

@@ -1,4 +1,6 @@
--- A game in the mirror has the mirrored verdict and the same claims.
+-- A game in the mirror has the mirrored verdict and the same claims. A game's position and that of the mirrored game
+-- are mirrors but for the fullmove number (IsMirror), on which nothing here depends (after_ignores, moves_ignore,
+-- same_ignores); so repetitions, legal moves and the clock agree.
 use Rattle.std.proofs.Common.{◌≡◌, ℕ, ◌+◌, ◌<◌, Bool, true, false, cond, Some, None, Option, refl, sym, ap, ap₂, ◌∙◌, arith, ◌==◌, nat_le, subst, ◌&&◌, List, [], ◌∷◌, length, map, count_by, option_map, if◌then◌else◌}
 use Rattle.std.proofs.lemmas.Bool.{and_parts, both_ways, eqb-true, ne_eqb}
 use Rattle.std.proofs.{lemmas.List.Sums.sum_by-cons, Math.Bool.and_comm}
@@ -22,6 +24,7 @@ use Rattle.rules_laws.proofs.MirrorEndings.{move_twice, none_in_mirror, none_fro
 
 -- ---- positions but for their fullmove numbers
 
+-- p with another fullmove number, n
 abbrev pub numbered : ℕ → Setup → Setup
 numbered n p = record p { fullmove = n }
 
@@ -39,6 +42,7 @@ square_ignores : (n : ℕ) (p : Setup) → legal_en_passant_square (numbered n p
 unfolding legal_en_passant_square is_en_passant
 square_ignores n p = rw (moves_ignore n p) refl
 
+-- that two positions are the same doesn't depend on their fullmove numbers
 same_ignores : (n k : ℕ) (p q : Setup) → is_same_position (numbered n p) (numbered k q) ≡ is_same_position p q
 unfolding is_same_position
 same_ignores n k p q = rw (square_ignores n p, square_ignores k q) refl
@@ -59,6 +63,7 @@ men_same men others =
     ap₂ (λ (o r : Option Man). same_man o r) (man_at-mirrored men s l) (man_at-mirrored others s l)
     ∙ flipped_same (man_at men s) (man_at others s))
 
+-- two optional squares on the board are equal exactly if their mirrors are
 square_same : (o r : Option ℕ) → ((s : ℕ) → o ≡ Some s → s < 64) → ((s : ℕ) → r ≡ Some s → s < 64)
     → same_square (option_map mirrored o) (option_map mirrored r) ≡ same_square o r
 square_same None None h l = refl
@@ -89,6 +94,7 @@ unfolding is_en_passant
 passes_parts p m e =
     let both = and_parts _ _ e in ((and_parts _ _ both.0).0, both.1)
 
+-- a target is not on the last rank, so a capture en passant doesn't promote (no_promotion)
 short_of_last : (c : Colour) (s : ℕ) → rank s ≡ crossed_rank (other c) → (rank s == first_rank (other c)) ≡ false
 short_of_last White s e = ne_eqb _ _ (λ f. omega (arith, e, f))
 short_of_last Black s e = ne_eqb _ _ (λ f. omega (arith, e, f))
@@ -104,6 +110,8 @@ no_promotion p m sound legal passes = by (Moves-from_legal p m legal).kind
         let last = short_of_last p.side m.to (at_target p m.to sound.target (passes_parts p m passes).1).0 in
         unpromoted_below m.promotion (subst (λ (b : Bool). promotion_fits b m.promotion ≡ true) last fits)
 
+-- all legal captures en passant end on the target `to` and don't promote, as AllFound asks; so to look for one it is
+-- enough to look at the starts
 found : (p : Setup) (to : ℕ) → IsSound p → p.target ≡ Some to → AllFound p (λ m. is_en_passant p m) to
 found p to sound at = record {
   ends = λ m legal passes. (let on = (passes_parts p m passes).1 in
@@ -126,6 +134,7 @@ found_in_mirror p to sound at = record {
       (sym (en_passant-mirrored p (mirrored_move m) sound inside inside') ∙ ap (is_en_passant (mirrored_setup p)) same ∙ passes));
 }
 
+-- there is a legal capture en passant exactly if there is one in the mirror
 captures_alike : (p : Setup) (to : ℕ) → IsSound p → p.target ≡ Some to
     → list_any (λ m. is_en_passant (mirrored_setup p) m) (moves (mirrored_setup p))
     ≡ list_any (λ m. is_en_passant p m) (moves p)
@@ -143,6 +152,7 @@ captures_alike p to sound at =
     (mirror_is_as_legal p (move_of a to None) sound l low))
     ∙ any_by_start p (λ m. is_en_passant p m) to low (found p to sound at)
 
+-- the square of a legal capture en passant is mirrored, where o is the target
 square_by : (p : Setup) → IsSound p → (o : Option ℕ) → p.target ≡ o
     → (if list_any (λ m. is_en_passant (mirrored_setup p) m) (moves (mirrored_setup p)) then option_map mirrored o else None)
     ≡ option_map mirrored (if list_any (λ m. is_en_passant p m) (moves p) then o else None)
@@ -166,6 +176,7 @@ square-mirrored : (p : Setup) → IsSound p
 unfolding legal_en_passant_square
 square-mirrored p sound = square_by p sound p.target refl
 
+-- that square is on the board
 square_in : (p : Setup) (s : ℕ) → IsSound p → legal_en_passant_square p ≡ Some s → s < 64
 unfolding legal_en_passant_square
 square_in p s sound e = by (list_any (λ m. is_en_passant p m) (moves p)) e
@@ -174,6 +185,7 @@ square_in p s sound e = by (list_any (λ m. is_en_passant p m) (moves p)) e
     by true e = target_in p s sound e
     by false e = cc
 
+-- positions are the same exactly if their mirrors are
 same-mirrored : (p q : Setup) → IsSound p → IsSound q
     → is_same_position (mirrored_setup p) (mirrored_setup q) ≡ is_same_position p q
 unfolding is_same_position
@@ -194,6 +206,7 @@ same-mirrored p q sound sound' =
 abbrev IsMirror : Setup → Setup → Type 0
 IsMirror p q = numbered 1 q ≡ numbered 1 (mirrored_setup p)
 
+-- mirrors stay mirrors after a legal move and its mirror
 next_mirror : (p q : Setup) (m : Move) → IsMirror p q → IsSound p → is_legal p m ≡ true
     → IsMirror (after p m) (after q (mirrored_move m))
 next_mirror p q m is sound legal =
@@ -202,6 +215,7 @@ next_mirror p q m is sound legal =
     ∙ after_ignores 1 (mirrored_setup p) (mirrored_move m)
     ∙ mirror_moves_alike p m sound legal
 
+-- positions are the same exactly if their mirrors are, though fullmove numbers may differ
 same_by : (p q now now' : Setup) → IsMirror p q → IsMirror now now' → IsSound p → IsSound now
     → is_same_position q now' ≡ is_same_position p now
 same_by p q now now' is is' sound sound' =
@@ -210,6 +224,7 @@ same_by p q now now' is is' sound sound' =
     ∙ same_ignores 1 1 (mirrored_setup p) (mirrored_setup now)
     ∙ same-mirrored p now sound sound'
 
+-- the last positions of a game and of the mirrored game are mirrors; by induction over the moves
 last_mirror : (p q : Setup) (ms : List Move) → IsMirror p q → IsSound p → IsLine p ms
     → IsMirror (position_after p ms) (position_after q (map mirrored_move ms))
 last_mirror p q [] is sound line = is
@@ -220,6 +235,7 @@ last_mirror p q (m ∷ ms) is sound line =
 abbrev one_if : Bool → ℕ
 one_if b = cond b 1 0
 
+-- the position now' occurs as often in the mirrored game as its mirror `now` in the game; by induction over the moves
 count_alike : (p q : Setup) (ms : List Move) (now now' : Setup) → IsMirror p q → IsMirror now now' → IsSound p
     → IsSound now → IsLine p ms
     → count_by (λ r. is_same_position r now') (positions_of q (map mirrored_move ms))
@@ -242,6 +258,7 @@ none_alike p sound =
     same_tests _ _ (λ e. none_from p (none_from_mirror p sound (none_to (mirrored_setup p) e)))
     (λ e. none_from (mirrored_setup p) (none_in_mirror p sound (none_to p e)))
 
+-- no move is legal in a position exactly if none is in its mirror q
 none_by : (p q : Setup) → IsMirror p q → IsSound p → has_none q ≡ has_none p
 none_by p q is sound =
     sym (ap (λ ms. length ms == 0) (moves_ignore 1 q)) ∙ ap has_none is
@@ -260,6 +277,7 @@ alike p q is = record {
   clock = ap (λ (r : Setup). r.halfmove) is;
 }
 
+-- the same tests with the other side on move give the mirrored verdict
 judged-mirrored : (a b c d k : Bool) (s : Colour)
     → judged a b c d k (other s) ≡ option_map mirrored_verdict (judged a b c d k s)
 judged-mirrored true b c d true White = refl
@@ -270,10 +288,12 @@ judged-mirrored false false true d k s = refl
 judged-mirrored false false false true k s = refl
 judged-mirrored false false false false k s = refl
 
+-- equal tests give equal verdicts
 judged_same : (a a' b b' c c' d d' k k' : Bool) (s s' : Colour) → a ≡ a' → b ≡ b' → c ≡ c' → d ≡ d' → k ≡ k' → s ≡ s'
     → judged a b c d k s ≡ judged a' b' c' d' k' s'
 judged_same a a' b b' c c' d d' k k' s s' ea eb ec ed ek es = rw (ea, eb, ec, ed, ek, es) refl
 
+-- so the present position has occurred as often in both games
 repetitions_alike : (start : Setup) (ms : List Move) → IsSound start → IsLine start ms
     → repetition_count (mirrored_setup start) (map mirrored_move ms) ≡ repetition_count start ms
 unfolding repetition_count

@@ -1,4 +1,6 @@
--- Moves in the mirror: a move is pseudo-legal exactly if its mirror is.
+-- A move is pseudo-legal in a sound position exactly if its mirror is in the mirrored position: test by test, for
+-- pawns, other pieces and castling. Where a test asks for the square ahead (forward), the pawn must not be on its last
+-- rank, since that square would be off the board.
 use Rattle.std.proofs.Common.{◌≡◌, ◌≢◌, ℕ, ◌<◌, Bool, true, false, cond, Some, None, Option, refl, sym, ap, ap₂, ◌∙◌, arith, ◌==◌, subst, ◌||◌, ◌&&◌, not, is_none, option_and_then, option_map}
 use Rattle.std.proofs.lemmas.Bool.{and_parts, and_from, both_ways, eqb-true, eq-eqb, lt-ltb, not-true, or_left, or_right}
 use Rattle.chess_base.specs.{declared.castling.Castle.Castle, declared.man.CastlingSide.CastlingSide, declared.man.CastlingSide.TheVariants.KingSide, declared.man.CastlingSide.TheVariants.QueenSide, declared.man.Colour.Colour, declared.man.Colour.TheVariants.White, declared.man.Colour.TheVariants.Black, declared.man.Kind.Kind, declared.man.Kind.TheVariants.King, declared.man.Kind.TheVariants.Rook, declared.man.Kind.TheVariants.Pawn, declared.man.Man.Man, declared.man.Move.Move, declared.man.Rights.Rights, declared.man.Variant.Variant, declared.man.Variant.TheVariants.Normal, declared.man.Variant.TheVariants.Fischerandom, declared.setup.Setup.Setup, Squares.rank, Squares.is_at, Attacks.is_attacked, Sound.IsSound, Sound.no_pawn_on_end_ranks, shared.Parts.crossed_rank, shared.Splits.names_castling, shared.Splits.castles_or_moves}
@@ -12,12 +14,14 @@ use Rattle.rules_laws.proofs.MirrorAttacks.{mirrored_in, other_rank, rank_in, sa
 
 -- ---- tests of which the first decides whether the others matter
 
+-- b and c need to agree only where a is true
 pub and_if : (a b c : Bool) → (a ≡ true → b ≡ c) → (a && b) ≡ (a && c)
 and_if true b c h = h refl
 and_if false b c h = refl
 
 -- ---- squares ahead
 
+-- the square ahead of the mirrored square is the mirror of the square ahead
 pub forward-mirrored : (c : Colour) (s : ℕ) → s < 64 → rank s ≢ first_rank (other c)
     → forward (other c) (mirrored s) ≡ mirrored (forward c s)
 forward-mirrored White s h off = omega (arith, h, off)
@@ -37,6 +41,7 @@ pawn_rank-mirrored : (c : Colour) (s : ℕ) → s < 64
 pawn_rank-mirrored White s h = rw (other_rank s h) (same_ranks (rank s) 1 (rank_in s h) (omega arith))
 pawn_rank-mirrored Black s h = rw (other_rank s h) (same_ranks (rank s) 6 (rank_in s h) (omega arith))
 
+-- a pawn's initial rank is not its last one; nor is the rank ahead of it (off_last_again)
 pub off_last : (c : Colour) (s : ℕ) → rank s ≡ pawn_rank c → rank s ≢ first_rank (other c)
 off_last White s e f = omega (arith, e, f)
 off_last Black s e f = omega (arith, e, f)
@@ -45,6 +50,7 @@ off_last_again : (c : Colour) (s : ℕ) → s < 64 → rank s ≡ pawn_rank c �
 off_last_again White s h e f = omega (arith, h, e, f)
 off_last_again Black s h e f = omega (arith, h, e, f)
 
+-- b is two squares ahead of a, on a pawn's initial rank, exactly if it is so in the mirror
 two_ahead : (c : Colour) (a b : ℕ) → a < 64 → b < 64 → rank a ≡ pawn_rank c
     → (mirrored b == forward (other c) (forward (other c) (mirrored a))) ≡ (b == forward c (forward c a))
 two_ahead c a b h l e =
@@ -75,6 +81,7 @@ target_in p t sound e =
     let here : is_at p.target t ≡ true = subst (λ (o : Option ℕ). is_at o t ≡ true) (sym e) (eq-eqb t t refl) in
     low_rank (other p.side) t (at_target p t sound.target here).0
 
+-- an optional square, such as the target, is s exactly if their mirrors are the same
 pub is_at-mirrored : (o : Option ℕ) (s : ℕ) → s < 64 → ((t : ℕ) → o ≡ Some t → t < 64)
     → is_at (option_map mirrored o) (mirrored s) ≡ is_at o s
 is_at-mirrored None s l h = refl
@@ -90,7 +97,7 @@ unfolding is_en_passant
 en_passant-mirrored p m sound h l =
     rw (is_man-mirrored p.men p.side Pawn m.from h, attacks-mirrored p.men m.from m.to h l, at-mirrored p m.to sound l) refl
 
--- no pawn is on an end rank
+-- a pawn of the side on move is not on its last rank
 pub off_ends : (p : Setup) (s : ℕ) → IsSound p → s < 64 → is_man p.side Pawn (man_at p.men s) ≡ true
     → rank s ≢ first_rank (other p.side)
 unfolding no_pawn_on_end_ranks
@@ -142,6 +149,7 @@ man_moves-mirrored p m h l = rw (attacks-mirrored p.men m.from m.to h l, is_of-m
 
 -- ---- castling
 
+-- the home square on a file, such as e1, has the other colour's home square, e8, as its mirror
 pub home-mirrored : (c : Colour) (f : ℕ) → f < 8 → home_square (other c) f ≡ mirrored (home_square c f)
 home-mirrored White f h = omega (arith, h)
 home-mirrored Black f h = omega (arith, h)
@@ -151,6 +159,7 @@ home_named c f s h l =
     ap (λ (t : ℕ). mirrored s == t) (home-mirrored c f h)
     ∙ same_square s (home_square c f) l (home_square-below c f h)
 
+-- the right of the other colour in the mirror has the mirrored rook
 pub right-mirrored : (r : Rights) (c : Colour) (w : CastlingSide)
     → right_of (mirrored_rights r) (other c) w ≡ option_map mirrored (right_of r c w)
 right-mirrored r White KingSide = refl
@@ -158,6 +167,7 @@ right-mirrored r White QueenSide = refl
 right-mirrored r Black KingSide = refl
 right-mirrored r Black QueenSide = refl
 
+-- the rook of a right is on the board
 pub rook_in : (p : Setup) (c : Colour) (w : CastlingSide) (r : ℕ) → IsSound p → right_of p.rights c w ≡ Some r → r < 64
 rook_in p c w r sound e =
     in_board p.men c Rook r sound.board (castling_rook_is_there p c w r (right_is_sound_of p sound c w) e)
@@ -165,6 +175,7 @@ rook_in p c w r sound e =
 same_rank : (a b : ℕ) → a < 64 → b < 64 → (rank (mirrored a) == rank (mirrored b)) ≡ (rank a == rank b)
 same_rank a b h l = rw (other_rank a h, other_rank b l) (same_ranks (rank a) (rank b) (rank_in a h) (rank_in b l))
 
+-- a move names castling with the rook r exactly if its mirror names it with the mirrored rook
 names_with : (v : Variant) (c : Colour) (m : Move) (w : CastlingSide) (r : ℕ) → m.from < 64 → m.to < 64 → r < 64
     → names_castling_with v (other c) (mirrored_move m) w (mirrored r) ≡ names_castling_with v c m w r
 names_with Normal c m w r h l k =
@@ -173,6 +184,7 @@ names_with Normal c m w r h l k =
 names_with Fischerandom c m w r h l k =
     ap₂ (λ (a b : Bool). a && b) (same_rank m.from r h k) (same_square m.to r l k)
 
+-- the same for an optional right o
 names-mirrored : (v : Variant) (c : Colour) (m : Move) (w : CastlingSide) (o : Option ℕ) → m.from < 64 → m.to < 64
     → ((r : ℕ) → o ≡ Some r → r < 64)
     → names_castling v (other c) (mirrored_move m) w (option_map mirrored o) ≡ names_castling v c m w o
@@ -187,6 +199,7 @@ castling_to-mirrored p m w sound h l =
     (ap (names_castling p.variant (other p.side) (mirrored_move m) w) (right-mirrored p.rights p.side w)
     ∙ names-mirrored p.variant p.side m w (right_of p.rights p.side w) h l (λ r e. rook_in p p.side w r sound e))
 
+-- a move castles on the same side as its mirror, or neither castles
 castling-mirrored : (p : Setup) (m : Move) → IsSound p → m.from < 64 → m.to < 64
     → castling (mirrored_setup p) (mirrored_move m) ≡ castling p m
 unfolding castling
@@ -194,6 +207,7 @@ castling-mirrored p m sound h l =
     ap₂ (λ (a b : Bool). cond a (Some KingSide) (cond b (Some QueenSide) None))
     (castling_to-mirrored p m KingSide sound h l) (castling_to-mirrored p m QueenSide sound h l)
 
+-- a castling of which each square is mirrored
 abbrev pub mirrored_castle : Castle → Castle
 mirrored_castle k = record {
   king_from = mirrored k.king_from;
@@ -215,6 +229,7 @@ castle_with-mirrored : (c : Colour) (w : CastlingSide) (king : ℕ) (o : Option 
 castle_with-mirrored c w king None = refl
 castle_with-mirrored c w king (Some r) = ap (λ (k : Castle). Some k) (castle_from-mirrored c w king r)
 
+-- the same castling is made of a side o, if there is one, in the mirror
 castle_by : (p : Setup) (m : Move) (o : Option CastlingSide)
     → option_and_then (λ w. option_map (castle_from (other p.side) w (mirrored m.from)) (right_of (mirrored_rights p.rights) (other p.side) w)) o
     ≡ option_map mirrored_castle (option_and_then (λ w. option_map (castle_from p.side w m.from) (right_of p.rights p.side w)) o)
@@ -223,6 +238,7 @@ castle_by p m (Some w) =
     ap (λ (o : Option ℕ). option_map (castle_from (other p.side) w (mirrored m.from)) o) (right-mirrored p.rights p.side w)
     ∙ castle_with-mirrored p.side w m.from (right_of p.rights p.side w)
 
+-- the castling that a move is, if any, is mirrored
 pub castle-mirrored : (p : Setup) (m : Move) → IsSound p → m.from < 64 → m.to < 64
     → castle_of (mirrored_setup p) (mirrored_move m) ≡ option_map mirrored_castle (castle_of p m)
 unfolding castle_of
@@ -273,6 +289,7 @@ castles-mirrored : (p : Setup) (m : Move) (k : Castle) → IsInBoard k
 unfolding castles
 castles-mirrored p m k h = rw (way_is_empty-mirrored p.men k h, way_is_safe-mirrored p.men p.side k h) refl
 
+-- castling by the right o is on the board; castle_in says so of the castling that a move is
 castle_in_by : (p : Setup) (m : Move) (k : Castle) → IsSound p → m.from < 64 → (w : CastlingSide) (o : Option ℕ)
     → right_of p.rights p.side w ≡ o → option_map (castle_from p.side w m.from) o ≡ Some k → IsInBoard k
 castle_in_by p m k sound h w None at e = cc
@@ -296,6 +313,7 @@ castle_in p m k sound h e = castle_in_side p m k sound h (castling p m) e
 
 -- ---- all kinds
 
+-- the tests of a move that is the castling o, or none, are the same in the mirror
 by_castle : (p : Setup) (m : Move) (o : Option Castle) → ((k : Castle) → o ≡ Some k → IsInBoard k) → m.from < 64
     → m.to < 64
     → castles_or_moves (mirrored_setup p) (mirrored_move m) (option_map mirrored_castle o) ≡ castles_or_moves p m o
@@ -309,6 +327,7 @@ castles_or_moves-mirrored p m sound h l =
     ap (castles_or_moves (mirrored_setup p) (mirrored_move m)) (castle-mirrored p m sound h l)
     ∙ by_castle p m (castle_of p m) (λ k e. castle_in p m k sound h e) h l
 
+-- for a piece of the side on move: b tells whether it is a pawn, so by which of the two tests it moves
 kind_by : (p : Setup) (m : Move) (c : Colour) (b : Bool) (k : Kind) → same_kind Pawn k ≡ b → IsSound p → m.from < 64
     → m.to < 64 → same_colour p.side c ≡ true → man_at p.men m.from ≡ Some (record { colour = c; kind = k })
     → cond b (pawn_moves (mirrored_setup p) (mirrored_move m))
@@ -320,6 +339,7 @@ kind_by p m c true k kind sound h l own at =
     pawn_moves-mirrored p m sound h l (off_ends p m.from sound h pawn)
 kind_by p m c false k kind sound h l own at = castles_or_moves-mirrored p m sound h l
 
+-- the same for what is on the move's start: nothing, or a piece of either colour
 moves_by : (p : Setup) (m : Move) (o : Option Man) → IsSound p → m.from < 64 → m.to < 64 → man_at p.men m.from ≡ o
     → moves_as (mirrored_setup p) (mirrored_move m) (flipped o) ≡ moves_as p m o
 moves_by p m None sound h l at = refl

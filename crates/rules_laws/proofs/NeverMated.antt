@@ -1,4 +1,6 @@
--- With insufficient material a side in check has a legal move: its king goes one square along a rank or file.
+-- With insufficient material a side in check has a legal move: its king, on k, goes to a square n that is next to k on
+-- its rank or file. One of two such squares is not near the enemy king (away_from), and no bishop or knight attacks it
+-- (unattacked); so no position of such a game is mate.
 use Rattle.std.proofs.Common.{◌≡◌, ◌≢◌, ℕ, ◌+◌, ◌-◌, ◌<◌, ◌≤◌, true, false, List, [], ◌∷◌, Some, None, Option, refl, sym, ap, ◌∙◌, arith, inl, inr, subst, ◌⊎◌, ◌%◌}
 use Rattle.std.proofs.lemmas.Bool.{and_parts, and_from, or_cases, or_left, or_right, both_ways, cases_lt, eqb-true, ne_eqb, le-leb, lt-ltb, not_from_false, false_from_ne_true}
 use Rattle.std.specs.Int.{abs_diff}
@@ -17,6 +19,7 @@ use Rattle.rules_laws.proofs.Material.{is_minor, is_major, shade, FewMinors, One
 
 -- ---- squares
 
+-- a king on a would reach b, or they are one square
 abbrev IsNear : ℕ → ℕ → Type 0
 IsNear a b = (abs_diff (file a) (file b) ≤ 1) × (abs_diff (rank a) (rank b) ≤ 1)
 
@@ -25,6 +28,7 @@ record IsBeside (k n : ℕ) : Type 0 where
   pub inside : n < 64
   pub step : abs_diff (file k) (file n) + abs_diff (rank k) (rank n) ≡ 1
 
+-- a square beside k on k's rank: to the right of it, or to the left from the h-file
 along_rank : (k : ℕ) → k < 64 → (n : ℕ) × IsBeside k n × (rank n ≡ rank k)
 along_rank k l =
     elim (cases_lt (file k) 7) [
@@ -32,6 +36,7 @@ along_rank k l =
       | inr last ↦ (k - 1, record { inside = omega (arith, l); step = omega (arith, l, last) }, omega (arith, l, last))
     ]
 
+-- a square beside k on k's file: above it, or below it from the eighth rank
 along_file : (k : ℕ) → k < 64 → (n : ℕ) × IsBeside k n × (file n ≡ file k)
 along_file k l =
     elim (cases_lt (rank k) 7) [
@@ -49,7 +54,7 @@ decide_near a b =
       ]
     ]
 
--- a square that is not near k is not near both of the squares beside it
+-- if e (the enemy king) is not near k, it is not near one of the two squares that along_rank and along_file give
 away_from : (k e : ℕ) → k < 64 → (IsNear k e → ⊥) → (n : ℕ) × IsBeside k n × (IsNear n e → ⊥)
 away_from k e l far =
     let side = along_rank k l in
@@ -80,6 +85,7 @@ unfolding could_capture
 king_reaches men c a b apart near =
     and_from _ _ (and_from _ _ (not_from_false _ (ne_eqb a b apart)) (le-leb _ _ near.0)) (le-leb _ _ near.1)
 
+-- squares have only two colours
 two_shades : (a k n : ℕ) → shade a ≢ shade k → shade a ≢ shade n → shade k ≢ shade n → ⊥
 two_shades a k n x y z = omega (arith, x, y, z)
 
@@ -89,6 +95,7 @@ two_shades a k n x y z = omega (arith, x, y, z)
 abbrev IsFree : Setup → ℕ → Type 0
 IsFree p n = (e : ℕ) → e < 64 → is_man (other p.side) King (man_at p.men e) ≡ true → IsNear n e → ⊥
 
+-- in a sound position the kings are not next to each other, since the side that is not on move is not in check
 kings_apart : (p : Setup) (k e : ℕ) → IsSound p → k < 64 → e < 64 → is_man p.side King (man_at p.men k) ≡ true
     → is_man (other p.side) King (man_at p.men e) ≡ true → IsNear k e → ⊥
 kings_apart p k e sound l m king enemy near =
@@ -99,6 +106,7 @@ kings_apart p k e sound l m king enemy near =
     both_ways _ (no_king_where_attacked p.men p.side k e l m (is_of-from_is_man p.side King (man_at p.men k) king) hits sound.check)
     enemy
 
+-- a square beside k that the enemy king, on the square o, is not near
 free_by : (p : Setup) (k : ℕ) → IsSound p → k < 64 → is_man p.side King (man_at p.men k) ≡ true → (o : Option ℕ)
     → king_square p.men (other p.side) ≡ o → (n : ℕ) × IsBeside k n × IsFree p n
 free_by p k sound l king None at =
@@ -133,7 +141,7 @@ record Check (p : Setup) (k a n : ℕ) : Type 0 where
   pub beside : IsBeside k n
   pub free : IsFree p n
 
--- a piece by its kind
+-- a piece on a board with insufficient material is a king, a bishop or a knight
 kind_cases : (men : Men) (s : ℕ) (c : Colour) → IsBare men → is_of c (man_at men s) ≡ true
     → (is_man c King (man_at men s) ≡ true) ⊎ (is_kind Bishop (man_at men s) ≡ true)
     ⊎ (is_kind Knight (man_at men s) ≡ true)
@@ -181,7 +189,8 @@ no_bishop_and_knight (Some x) e f =
     let k : Knight ≡ x.kind = same_kind-true Knight x.kind f in
     let n : Bishop ≡ Knight = b ∙ sym k in cc
 
--- no bishop is on a square of n's colour, and no knight on one of k's
+-- no bishop is on a square of n's colour: if a bishop gives check, all are on k's colour; and if a knight does, it is
+-- the only minor piece
 no_bishop : (p : Setup) (k a n s : ℕ) → Check p k a n → s < 64 → is_kind Bishop (man_at p.men s) ≡ true
     → shade s ≢ shade n
 no_bishop p k a n s h l bishop same = by h.bare.minors (checker p k a n h)
@@ -199,7 +208,7 @@ no_bishop p k a n s h l bishop same = by h.bare.minors (checker p k a n h)
         other_colour k n h.beside (sym b.1 ∙ on a h.enemy_in b.0 ∙ sym (on s l bishop) ∙ same)
     by (Bishops c knights on) (inr b) = both_ways _ (knights a) b.0
 
--- a knight is the piece that gives check
+-- if there is a knight, it is the piece that gives check, and it isn't on the colour of the king's square
 only_knight : (p : Setup) (k a n s : ℕ) → Check p k a n → is_kind Knight (man_at p.men s) ≡ true
     → (s ≡ a) × (shade s ≢ shade k)
 only_knight p k a n s h knight = by h.bare.minors (checker p k a n h)
@@ -264,9 +273,11 @@ is_empty p k a n h = by (man_at p.men n) refl
 
 -- ---- the king's move is legal
 
+-- the king's move
 abbrev flight : ℕ → ℕ → Move
 flight k n = record { from = k; to = n; promotion = None }
 
+-- it is a move of a king: n is beside k, and no piece of its own is there
 goes : (p : Setup) (k a n : ℕ) → Check p k a n → man_moves p (flight k n) ≡ true
 unfolding man_moves
 goes p k a n h =
@@ -284,6 +295,7 @@ as_king p m (Some x) e c h =
     let kind : King ≡ x.kind = same_kind-true King x.kind both.1 in
     rw (both.0, ← kind, c) h
 
+-- the king's move is pseudo-legal
 is_pattern : (p : Setup) (k a n : ℕ) → Check p k a n → is_pseudo_legal p (flight k n) ≡ true
 unfolding is_pseudo_legal
 is_pattern p k a n h =
@@ -291,7 +303,8 @@ is_pattern p k a n h =
     and_from _ _ (and_from _ _ (lt-ltb _ _ h.king_in) (lt-ltb _ _ h.beside.inside))
     (as_king p m (man_at p.men k) h.king (no_castle p m (no_castling_here p m h.sound h.bare)) (goes p k a n h))
 
--- what would attack the king on its new square
+-- no enemy piece on s attacks the king on its new square n: not the king (free), nor a bishop or knight, by the colours
+-- of squares
 unattacked_by : (p : Setup) (k a n s : ℕ) → Check p k a n → (new : Men) → HasMoved p.men new k n → s < 64
     → is_of (other p.side) (man_at new s) ≡ true → attacks new s n ≡ true → ⊥
 unattacked_by p k a n s h new step l enemy hits =
@@ -346,6 +359,7 @@ flight_is_legal p k a n h =
 
 -- ---- nobody is mated
 
+-- in check, on k from a, there is a legal move: contradiction with HasNoMove
 never_by : (p : Setup) (k a : ℕ) → IsSound p → IsBare p.men → HasNoMove p → k < 64 → a < 64
     → is_man p.side King (man_at p.men k) ≡ true → is_of (other p.side) (man_at p.men a) ≡ true
     → attacks p.men a k ≡ true → ⊥
@@ -372,6 +386,7 @@ never_mated p sound bare none =
     both_ways _ (some_square-none _ (λ a m. false_from_ne_true _ (λ f.
     let hit = and_parts _ _ f in never_by p k a sound bare none l m both.0 hit.0 hit.1))) both.1))
 
+-- no later position is mate, since material stays insufficient (bare_after); by induction over the moves
 never_on : (p : Setup) (ms : List Move) → IsSound p → IsBare p.men → IsLine p ms → IsMate (position_after p ms) → ⊥
 never_on p [] sound bare line mate = both_ways _ (never_mated p sound bare mate.moves) mate.check
 never_on p (m ∷ ms) sound bare line mate =

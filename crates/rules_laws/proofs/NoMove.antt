@@ -1,5 +1,5 @@
--- A game ends by mate or stalemate exactly if no move is legal, in check or not; the tests of its verdict are gone
--- through.
+-- A game ends by mate or stalemate exactly if no move is legal, in check or not. The verdict is a chain of tests
+-- (`judged`), of which the first is that no move is legal; so the laws follow from the tests alone.
 use Rattle.std.proofs.Common.{ℕ, ◌≡◌, Bool, true, false, List, [], ◌∷◌, length, Some, None, Option, refl, sym, ◌∙◌, arith, ◌==◌, nat_le, filter, if◌then◌else◌}
 use Rattle.std.proofs.lemmas.Bool.{eqb-true, eq-eqb, false_from_ne_true, ltb-true}
 use Rattle.chess_base.specs.{declared.man.Colour.Colour, declared.man.Colour.TheVariants.White, declared.man.Colour.TheVariants.Black, declared.man.Move.Move, declared.setup.Setup.Setup, Attacks.is_in_check, ByColour.by_colour, Men.other, MoveList.all_moves, MoveList.moves, Moves.is_legal}
@@ -18,6 +18,7 @@ judged none bare five quiet check side =
     else if quiet then Some SeventyFiveMoves
     else None
 
+-- no move is legal: the list of legal moves is empty
 abbrev pub has_none : Setup → Bool
 has_none p = length (moves p) == 0
 
@@ -38,6 +39,8 @@ pub some_numbers : Numbers
 unfolding verdict
 some_numbers = record { times = _; clock = _; is = λ start ms. refl }
 
+-- by its tests, White mates only if no move is legal (a), in check (k), and Black is on move; the next two lemmas say
+-- so of Black's mate and of stalemate
 white_by : (a b c d k : Bool) (s : Colour) → judged a b c d k s ≡ Some WhiteMates
     → (a ≡ true) × (k ≡ true) × (s ≡ Black)
 white_by true b c d true White e = cc
@@ -69,10 +72,12 @@ stalemate_by false false false false k s e = cc
 
 -- ---- no legal move
 
+-- if no element passes a test, none is kept
 none_kept : {A : Type 0} (q : A → Bool) (xs : List A) → ((x : A) → q x ≡ false) → length (filter q xs) ≡ 0
 none_kept q [] h = refl
 none_kept q (x ∷ xs) h = rw (h x) (none_kept q xs h)
 
+-- from `HasNoMove`, which speaks of each move, to the empty list of legal moves; none_to is the other direction
 pub none_from : (p : Setup) → HasNoMove p → has_none p ≡ true
 unfolding moves
 none_from p h = eq-eqb _ _ (none_kept (λ m. is_legal p m) all_moves h)

@@ -7,6 +7,7 @@ use Rattle.chess_base.specs.Men.{Men, man_at, is_man, same_colour, same_kind}
 use Rattle.chess_base.specs.Moves.{after, man_moves, men_after, after_castling, after_moving}
 use Rattle.chess_base.proofs.{shared.Men.same_colour-true, shared.Men.same_kind-true, shared.Squares.get_or-map_squares}
 
+-- what a piece attacks is what its colour and kind could capture; attacks_as says it of a square
 as_kind : (men : Men) (a b : ℕ) (c : Colour) (k : Kind) (o : Option Man) → is_man c k o ≡ true
     → could_capture_as men o a b ≡ could_capture men c k a b
 unfolding is_man
@@ -32,6 +33,7 @@ king_is_near men c a b e =
     let first = and_parts (not (a == b)) _ both.0 in
     (eqb-false _ _ (not-true _ first.0), leb-true _ _ first.1, leb-true _ _ both.1)
 
+-- what is on square s after a move: by `after_castling` if the move castles, otherwise by `after_moving`
 on_square : (p : Setup) (m : Move) (s : ℕ) → s < 64
     → man_at (after p m).men s
     ≡ option_map_or (λ (k : Castle). after_castling p m k s) (castle_of p m) (after_moving p m s)

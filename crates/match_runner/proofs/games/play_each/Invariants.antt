@@ -1,5 +1,5 @@
--- The loop's invariant: `number` games were played, written and logged, none with a fault; the next has the number
--- after that.
+-- The loop's invariant (GamesWritten.SoFar): the first `number` games of the plan were played without a fault, written,
+-- logged and counted in the score, and the next has the number `number + 1`. The measure is how many games are left.
 use Rattle.std.proofs.Common.{◌≡◌, ◌+◌, ◌-◌, List}
 use Rattle.match_runner.specs.{Games.GameRecord, Log.log_seen}
 use Rattle.match_runner.proofs.GamesWritten.{SoFar}

@@ -1,4 +1,5 @@
--- The match was watched from the beginning of its log to its end (Logged.notes_logged).
+-- The log was begun anew and then given the notes of the match as its witness, so it has the log of these notes
+-- (Logged.notes_logged).
 use Rattle.chess_match.specs.laws.Laws.{notes_given}
 use Rattle.match_runner.proofs.Logged.{notes_logged}
 use Rattle.match_runner.proofs.log.run_match_logged.Goals as goal

@@ -1,3 +1,4 @@
+-- The order of faults and the draws that are passed over, by computation (FaultOrder).
 use Rattle.pgn_verifier_laws.proofs.FaultOrder.{draws_are_passed, faults_are_in_order}
 use Rattle.pgn_verifier_laws.proofs.laws.faults_are_in_order.Goals as goal
 

@@ -1,4 +1,4 @@
--- The whole line is logged: after its `\n` no byte of it waits (clause `nothing`).
+-- The line is logged as a whole: no byte waited before it, and none waits after its `\n` (Logged.line_logged).
 use Rattle.std.proofs.Common.{Bool, [], ◌∷◌, ◌++◌, map, subst}
 use Rattle.byte_devices.specs.Bytes.{new_line, shown_byte}
 use Rattle.match_runner.specs.{Log.Logged, Log.log_seen, ties.Logging.line_head}

@@ -1,4 +1,5 @@
--- Before each turn of the loop the lines before `rest` have been logged, at first none; a turn logs one line more.
+-- The loop logs the lines of the text one by one. At first nothing is logged and `rest` is the whole text; a turn logs
+-- the first line of `rest` (Logged.given_more); at the end `rest` is empty, so all is logged (Logged.given_all).
 use Rattle.std.proofs.Common.{◌≡◌, ℕ, List, [], ◌++◌, ◌∙◌, length, refl, subst, sym, true, ◌==◌}
 use Rattle.byte_devices.specs.Bytes.{byte}
 use Rattle.chess_base.specs.declared.man.Colour.{Colour}

@@ -1,4 +1,5 @@
--- The loop's invariant: what was logged so far, with the lines of `rest`, is all that is to be logged.
+-- The loop's invariant: what was logged so far (`done`) and the log of the lines in `rest` make the log of the whole
+-- text; side and moment of the log stay. The measure is the length of `rest`.
 use Rattle.std.proofs.Common.{◌≡◌, ℕ, List, ◌++◌, length}
 use Rattle.chess_match.specs.Notes.{Gives}
 use Rattle.match_runner.specs.Log.{Logged, engine_name, log_seen, note_text}

@@ -1,4 +1,4 @@
--- What is logged is the line, or in place of one that was too long, that it was.
+-- What is logged is the engine's line, or `line too long` for one that was too long (`None`).
 use Rattle.match_runner.proofs.log.Log.note_line.Goals as goal
 
 pub returns-in-Some : goal.returns-in-Some

@@ -1,4 +1,5 @@
--- The whole line of the report is written: after its `\n` no byte of it waits (clause `nothing`).
+-- The line of the report is written as a whole: no byte waited before it, and none waits after its `\n`
+-- (Logged.line_logged).
 use Rattle.std.proofs.Common.{List, ℕ, ◌++◌, codes}
 use Rattle.match_runner.specs.Games.{fault_text}
 use Rattle.match_runner.proofs.Logged.{line_logged}

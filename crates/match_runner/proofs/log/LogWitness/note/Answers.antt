@@ -1,4 +1,5 @@
--- Each kind of note has its lines, and these are logged; an opening has none.
+-- For each kind of note the lines that the log must have are those that were logged; an opening has none, and only sets
+-- the moment.
 use Rattle.std.proofs.Common.{refl}
 use Rattle.match_runner.proofs.Logged.{logs_none}
 use Rattle.match_runner.proofs.log.LogWitness.note.Goals as goal

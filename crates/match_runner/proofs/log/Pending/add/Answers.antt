@@ -1,4 +1,5 @@
--- First there is room for the byte, then it waits with the others, and if it ends the line, all are written.
+-- Three steps log one byte: room is made for it, it is put with the bytes that wait (Logged.adds_pending), and they are
+-- written if it ends a line; their effects are joined by Logged.adds_more.
 use Rattle.std.proofs.Common.{[], ◌∷◌, refl}
 use Rattle.match_runner.proofs.Logged.{adds_more, adds_pending}
 use Rattle.match_runner.proofs.log.Pending.add.Goals as goal

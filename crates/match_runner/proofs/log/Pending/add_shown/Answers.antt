@@ -1,4 +1,5 @@
--- Before each turn of the loop the bytes before this one have been logged as they are shown; a turn logs one more.
+-- A turn of the loop logs the byte at its index, or `?` for it, which keeps the invariant (Logged.adds_more,
+-- loop_step).
 use Rattle.std.proofs.Common.{ℕ, List, [], ◌∷◌, refl, ap, map}
 use Rattle.byte_devices.specs.Bytes.{shown_byte}
 use Rattle.match_runner.proofs.Logged.{adds_as, adds_more, loop_step}

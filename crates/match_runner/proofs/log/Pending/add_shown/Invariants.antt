@@ -1,4 +1,5 @@
--- The loop's invariant: what was logged so far, with the bytes that are left, is the whole text, as it is shown.
+-- The loop's invariant: what was logged so far (`done`) and the bytes from the loop's index on, with `?` for those that
+-- are no printable ASCII, make the whole text with its `?`.
 use Rattle.std.proofs.Common.{◌≡◌, ℕ, List, ◌++◌, drop, map}
 use Rattle.byte_devices.specs.Bytes.{shown_byte}
 use Rattle.match_runner.specs.ties.Logging.{Adds}

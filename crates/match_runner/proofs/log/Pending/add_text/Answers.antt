@@ -1,4 +1,4 @@
--- Before each turn of the loop the bytes before this one have been logged; a turn logs one more.
+-- A turn of the loop logs the byte at its index, which keeps the invariant (Logged.adds_more, loop_step).
 use Rattle.std.proofs.Common.{ℕ, List, refl}
 use Rattle.match_runner.proofs.Logged.{adds_more, loop_step}
 use Rattle.match_runner.proofs.log.Pending.add_text.Goals as goal

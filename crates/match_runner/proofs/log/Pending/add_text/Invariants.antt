@@ -1,4 +1,4 @@
--- The loop's invariant: what was logged so far, with the bytes that are left, is the whole text.
+-- The loop's invariant: what was logged so far (`done`) and the bytes from the loop's index on make the whole text.
 use Rattle.std.proofs.Common.{◌≡◌, ℕ, List, ◌++◌, drop}
 use Rattle.match_runner.specs.ties.Logging.{Adds}
 use Rattle.match_runner.proofs.log.Pending.add_text.Given as goal
