@@ -1,4 +1,6 @@
--- What was parsed, taken as written and planned is a reading of the arguments.
+-- What read_words returns is a right reading of the arguments. If `clap` refused them, its error or `NoMemory` is
+-- returned (refused_reading). Otherwise the options that it matched are taken as written (`Request`), and then judged:
+-- levels, FEN and date of a match, and the kinds after `--ignore` (planned_reading).
 use Rattle.std.proofs.Common.{◌≡◌, ◌∙◌, ◌≤◌, ◌&&◌, ◌||◌, Bool, true, false, refl, ap, ap₂, sym, subst, inl, inr, option_map, unwrap_or, [], ◌∷◌, bytes_eq, codes, IfOk, IfErr, IfSome, List, Option, Some, None, Result, Ok, Err, Bor, ◌*◌}
 use Rattle.std.proofs.Math.Bool.{or-false}
 use Rattle.std.specs.List.{list_all, list_any}
@@ -14,12 +16,13 @@ use Rattle.arbiter_cli.specs.declared.fault.WordsFault.TheVariants.{Words, NoMem
 use Rattle.arbiter_cli.specs.declared.request.Request.TheVariants as request
 use Rattle.arbiter_cli.proofs.shared.Turns.{read_as}
 
--- `clap` gave no matches
+-- the fault is an error of `clap` of one of these kinds, or that memory ran out
 abbrev IsRefusalBy : Kinds → WordsFault → Type 0
 IsRefusalBy kinds (Words e) = IsAmong (kind_of e) kinds
 IsRefusalBy kinds NoMemory = Unit {0}
 IsRefusalBy kinds _ = ⊥
 
+-- such is the fault made of an error of `clap`
 refusal_by : (kinds : Kinds) (e : Error) (f : WordsFault) → HasKind kinds e → Refuses e f → IsRefusalBy kinds f
 refusal_by kinds e (Words x) (inl none) (other, same) = absurd (other none)
 refusal_by kinds e (Words x) (inr among) (other, same) =
@@ -30,6 +33,7 @@ refusal_by kinds e (BadFen x) h fits = absurd fits
 refusal_by kinds e BadDate h fits = absurd fits
 refusal_by kinds e BadKind h fits = absurd fits
 
+-- and such a fault is a right reading
 refused_by : (kinds : Kinds) (said : Said) (f : WordsFault) → IsRefusalBy kinds f → IsReadAs kinds said (Err f)
 refused_by kinds said (Words x) h = h
 refused_by kinds said NoMemory h = h
@@ -50,8 +54,10 @@ in_millis : (o : Option Text) → option_map (λ n. n * 1000) (option_map number
 in_millis None = refl
 in_millis (Some t) = refl
 
--- a match that was taken as written and then judged is played by what its options denote
+-- a match whose options (`value`) were taken as written (`m`) and then judged: the plan, or the fault, is the one that
+-- the options denote
 module _ (value : Values) (m : MatchRequest) (is : IsMatchOf value m) where
+  -- the texts of levels, the variant and the FEN are those of the options, so they denote the same
   level_is : levels_asked value ≡ levels_in m
   level_is = ap (λ (t : Text). levels_by t (value (codes "white-level")) (value (codes "black-level"))) (sym is.level)
       ∙ ap₂ (levels_by m.level.now) (sym is.white_level) (sym is.black_level)
@@ -59,6 +65,7 @@ module _ (value : Values) (m : MatchRequest) (is : IsMatchOf value m) where
   start_is : start_asked value ≡ start_of m.variant (option_map (λ t. t.now) m.fen)
   start_is = ap₂ start_of (sym is.variant) (sym is.fen)
 
+  -- a plan made of the request is one of the options
   match_judged : (plan : GamesPlan) → IsJudged m plan → IsMatchPlan value plan
   match_judged plan validate = record {
     white = is.white ∙ ap (λ (t : Bor Text). Some t.now) (sym validate.white);
@@ -76,6 +83,7 @@ module _ (value : Values) (m : MatchRequest) (is : IsMatchOf value m) where
     draws = validate.draws ∙ is.draws;
   }
 
+  -- a fault of the request is that of the options: of level, FEN and date the first that is not valid
   judged_fault : (f : WordsFault) → IsJudgedFault m f → levels_start_and_date value ≡ Err f
   judged_fault (Words x) h = absurd h
   judged_fault NoMemory h = absurd h
@@ -88,6 +96,7 @@ module _ (value : Values) (m : MatchRequest) (is : IsMatchOf value m) where
   judged_fault BadDate (l, p, level, start, date) =
       read_as value (Ok l) (Ok p) m.date.now false (level_is ∙ level) (start_is ∙ start) (sym is.date) date
 
+-- so the fault is a right reading of arguments that ask for a match
 match_fault : (kinds : Kinds) (said : Said) (f : WordsFault) → kinds ≡ [] → said.command ≡ codes "match"
     → (m : MatchRequest) → IsMatchOf said.value m → IsJudgedFault m f → IsReadAs kinds said (Err f)
 match_fault kinds said (Words x) none name m is h = absurd h
@@ -101,6 +110,7 @@ match_fault kinds said BadDate none name m is h = (none, name, judged_fault _ m 
 abbrev are_kinds : Option Text → Bool
 are_kinds list = list_all is_kind (names_in list)
 
+-- whether a name is that of a kind, as two definitions say it: by a list, and by a test for each (kind_listed)
 abbrev is_listed : Text → Bool
 is_listed name =
     list_any (bytes_eq name) (codes "variant" ∷ codes "result" ∷ codes "board" ∷ codes "after-end" ∷ [])
@@ -119,6 +129,8 @@ kinds_judged : (value : Values) (list : Option Text) (are : Bool) → list ≡ v
     → are_kinds list ≡ are → ignores_kinds value ≡ are
 kinds_judged value list are is e = all_listed (names_in (value (codes "ignore"))) ∙ sym (ap are_kinds is) ∙ e
 
+-- the plan made of a request is one that the arguments ask for; a fault in place of the plan is a right reading
+-- (plan_fault)
 planned_plan : (said : Said) (s : Request) (plan : Plan) → IsRequestOf said s → IsPlanned s plan → IsPlanOf said plan
 planned_plan said request.Session plan is e = subst (IsPlanOf said) (sym e) is
 planned_plan said (request.Verify keep_going options ignored) plan is e =
@@ -136,7 +148,7 @@ plan_fault kinds said (request.Verify keep_going options ignored) f none is h =
 plan_fault kinds said (request.Stub arguments) f none is h = absurd h
 plan_fault kinds said (request.Match m) f none is h = match_fault kinds said f none is.0 m is.1 h
 
--- what was taken as written was planned
+-- a request that the arguments denote was planned: the plan or the fault is a right reading of them
 pub planned_reading : (names : OptionNames) (texts : List Text) → fault_of (arbiter_app names) texts ≡ []
     → (s : Request) → IsRequestOf (said_of (asked names texts)) s
     → (r : Result Plan WordsFault) → IfOk r (IsPlanned s) → IfErr r (IsPlanFault s) → IsReading texts r
@@ -146,13 +158,16 @@ planned_reading names texts none s is (Err e) p f =
 
 -- ---- the command that was entered
 
+-- the subcommand's name and the rows of its options, behind references
 abbrev pub with_rows : Bor Text × Bor ArgMatches → Text × List Row
 with_rows p = (p.0.now, rows_of (found_of p.1.now))
 
+-- what is asked for by the subcommand that was found; without one a session
 abbrev or_session : Option (Text × List Row) → Text × List Row
 or_session o = unwrap_or o (codes "session", [])
 
--- the matches, and what was entered in them
+-- `clap` parsed the arguments `texts` into `m`, and `o` is the subcommand found in it: what is asked for is that one, or a
+-- session if there is none, and it has all that its grammar requires (entered_well)
 module _ (texts : List Text) (m : ArgMatches) (p : IsParsed texts (Ok m)) (o : Option (Bor Text × Bor ArgMatches))
     (e : option_map with_rows o ≡ subcommand_rows_of m) where
   abbrev pub met : option_map with_rows o ≡ subcommand_of (arbiter_app p.0) texts

@@ -60,7 +60,8 @@ fn start_of(variant: Variant, fen: Option<&str>) -> Result<Position, FenFault>
     }
 }
 
-// How long a match waits for its engines: whether its flags fall without a line, and so many seconds for a reply.
+// How long a match waits for its engines: whether a flag falls as soon as the time is over, without waiting for a line,
+// and for how many seconds an engine's reply is waited for (`None`: without a limit), which are kept as milliseconds.
 fn patience_of(flag: bool, seconds: Option<u16>) -> Patience
     ensures { result ≡ patience_by flag seconds }
 {

@@ -15,7 +15,8 @@ use clap::ArgMatches;
 use pgn_verifier::{Strictness, VerifyOptions};
 use std::alloc::{AllocError, Global};
 
-/// The options of a match, not yet read as levels or positions.
+/// The options of a match, not yet read as levels or positions. Each field has the value of the option of its name, and
+/// `reply` that of `--reply-timeout`, in seconds.
 #[derive(Clone, Copy, Debug)]
 pub(crate) struct MatchRequest<'a> {
     pub white: &'a str,

@@ -1,4 +1,7 @@
--- A parse that passes leaves a value in each row, so a required option has its value, and a number is in its range.
+-- If `clap` reports no fault, what it matched is complete (required_there): a match has its two engines, and the
+-- numbers are in their ranges. For this each row has a value, and its values fit (HasValues): true before the walk over
+-- the arguments, and kept by each of its steps that reports no fault. The lemma X_kept says so for the function X of
+-- `clap`'s walk.
 use Rattle.std.proofs.Common.{◌≡◌, ◌<◌, ◌++◌, ◌&&◌, ◌||◌, ℕ, zero, suc, Bool, true, false, List, [], ◌∷◌, length, Option, Some, None, is_some, refl, sym, subst, ap, arith, true≢false, nat_lt, IfSome, codes, lit<, option_map, inl, inr, ◌∙◌, ◌⊎◌, unwrap_or, bytes_eq, chars, find, fold, slice_get, option_and_then, if◌then◌else◌, cond, ◌==◌, drop, encode_utf8}
 use Rattle.std.specs.{List.list_all, Option.option_map_or}
 use Rattle.clap.specs.{Lexer.long_of, Lexer.short_of, Values.is_request, Facts.explicit_source, Facts.unwrap_or_range, Kinds.Kinds, Kinds.check_kinds, Kinds.or_else, Takes.is_given, Takes.value_passes, declared.builder.value_parser.Reading.Reading, declared.builder.action.ArgAction.ArgAction, declared.error.kind.ErrorKind.ErrorKind, declared.parser.matches.ValueSource.ValueSource, declared.parser.matches.ValueSource.TheVariants.CommandLine, declared.parser.matches.ValueSource.TheVariants.DefaultValue, ValueTests.is_unsigned_in}
@@ -24,6 +27,7 @@ Fit id ts = list_all (fits id) ts ≡ true
 abbrev HasValue : Row → Type 0
 HasValue r = (0 < length r.values) × Fit r.id r.values
 
+-- so has each of the rows
 abbrev HasValues : List Row → Type 0
 HasValues [] = Unit {0}
 HasValues (r ∷ rs) = HasValue r × HasValues rs
@@ -32,6 +36,8 @@ HasValues (r ∷ rs) = HasValue r × HasValues rs
 abbrev pub asks : Rule → Bool
 asks a = (nat_lt 0 (unwrap_or_range a.range).start_inclusive || is_request (action_of a)) || nat_lt 0 (length a.missing)
 
+-- what the lemmas need of a rule: a use of it leaves a value or fails (`asks`), each text that passes its check fits,
+-- and so do its defaults and the texts that stand for a missing value
 abbrev Asks : Rule → Type 0
 Asks a = (asks a ≡ true) × ((t : Text) → value_passes a t ≡ true → fits a.id t ≡ true) × Fit a.id a.defaults
     × Fit a.id a.missing
@@ -40,13 +46,16 @@ abbrev AllAsk : List Rule → Type 0
 AllAsk [] = Unit {0}
 AllAsk (a ∷ c) = Asks a × AllAsk c
 
+-- a list of faults with a fault in it is not empty
 some_kind : (k : ErrorKind) (ks : Kinds) → (k ∷ ks) ≡ [] → ⊥
 some_kind k ks e = let bad : suc (length ks) ≡ 0 = ap length e in absurd (omega arith)
 
+-- `or_else a b` has no fault: then neither has
 no_kinds : (a b : Kinds) → or_else a b ≡ [] → (a ≡ []) × (b ≡ [])
 no_kinds [] b e = (refl, e)
 no_kinds (k ∷ ks) b e = absurd (some_kind k ks e)
 
+-- a test that is true reports the fault `x`
 first_not : (b : Bool) (x : ErrorKind) (rest : Kinds) → b ≡ true → (if b then x ∷ [] else rest) ≡ [] → ⊥
 first_not true x rest e none = some_kind x [] none
 first_not false x rest e none = true≢false (sym e)
@@ -80,6 +89,7 @@ at_choice : (b : Bool) (xs ys : List Row) → (b ≡ true → HasValues xs) → 
 at_choice true xs ys h k = h refl
 at_choice false xs ys h k = k
 
+-- a change of the row of an id keeps `HasValues`, if the changed row and the one put in for a missing row have values
 at_row_values : (id : Text) (change : Row → List Row) (missing : List Row)
     → ((r : Row) → bytes_eq r.id id ≡ true → HasValue r → HasValues (change r)) → HasValues missing
     → (rows : List Row) → HasValues rows → HasValues (at_row id change missing rows)
@@ -92,6 +102,7 @@ longer : (xs ys : List Text) → 0 < length xs → 0 < length (xs ++ ys)
 longer [] ys lt = absurd (omega arith)
 longer (x ∷ xs) ys lt = omega arith
 
+-- values are added to the row of an id, or make a new row; they fit, so `HasValues` is kept
 with_values_kept : (id : Text) (how : Reading) (s : ValueSource) (v : Text) (vs : List Text) (rows : List Row)
     → Fit id (v ∷ vs) → HasValues rows
     → HasValues (with_values id how s (v ∷ vs) rows)
@@ -127,6 +138,7 @@ used_as_kept _ id how v vs rows g h = h
 
 -- ---- one use
 
+-- a use that asks for help or the version is reported as a fault
 requests_fail : (x : ArgAction) (again : Bool) (a : Rule) (values : List Text) (rows : List Row) → is_request x ≡ true
     → action_fault x again a values rows ≡ [] → ⊥
 requests_fail Help again a values rows e none = some_kind kind.DisplayHelp [] none
@@ -135,6 +147,7 @@ requests_fail HelpLong again a values rows e none = some_kind kind.DisplayHelp [
 requests_fail Version again a values rows e none = some_kind kind.DisplayVersion [] none
 requests_fail _ again a values rows e none = true≢false (sym e)
 
+-- a rule that needs a value, or asks for a text, reports a fault if it is used without one
 no_value : (b : Bool) (again : Bool) (a : Rule) (rows : List Row) → nat_lt 0 (unwrap_or_range a.range).start_inclusive
     ≡ b → (b || is_request (action_of a)) ≡ true
     → use_fault again a [] rows ≡ [] → ⊥
@@ -148,6 +161,7 @@ accepted : (b : Bool) (k : ErrorKind) → (if b then [] else k ∷ []) ≡ [] �
 accepted true k e = refl
 accepted false k e = absurd (some_kind k [] e)
 
+-- values without a fault pass the rule's check, each of them
 all_pass : (a : Rule) (vs : List Text) → values_fault a vs ≡ [] → list_all (value_passes a) vs ≡ true
 all_pass a [] e = refl
 all_pass a (v ∷ vs) e = and_from (value_passes a v) _ (accepted (value_passes a v) _ (no_kinds _ _ e).0)
@@ -159,7 +173,7 @@ all_pass_too p q [] too e = refl
 all_pass_too p q (v ∷ vs) too e =
     and_from (q v) _ (too v (both (p v) _ e).0) (all_pass_too p q vs too (both (p v) _ e).1)
 
--- the values of a use that passes are checked
+-- the values of a use that reports no fault were checked, unless it asks for help or the version
 checked : (x : ArgAction) (again : Bool) (a : Rule) (v : Text) (vs : List Text) (rows : List Row)
     → action_fault x again a (v ∷ vs) rows ≡ [] → (values_fault a (v ∷ vs) ≡ []) ⊎ (is_request x ≡ true)
 checked Set again a v vs rows e = inl (no_kinds _ _ e).1
@@ -169,6 +183,7 @@ checked Append again a v vs rows e = inl e
 checked Count again a v vs rows e = inl e
 checked _ again a v vs rows e = inr refl
 
+-- so the values of such a use fit
 fit_of_use : (again : Bool) (a : Rule) (v : Text) (vs : List Text) (rows : List Row) → Asks a
     → action_fault (action_of a) again a (v ∷ vs) rows ≡ [] → Fit a.id (v ∷ vs)
 fit_of_use again a v vs rows asks e = elim (checked (action_of a) again a v vs rows e) [
@@ -180,7 +195,7 @@ the_first : (a b : Bool) → (a || b) ≡ true → b ≡ false → a ≡ true
 the_first true b e f = refl
 the_first false b e f = absurd (true≢false (sym e ∙ f))
 
--- a use with no value, in place of which these are
+-- a use without a value, with no fault: the texts `ms` stand for the value, and there is one
 used_missing : (again : Bool) (a : Rule) (rows : List Row) → Asks a → (ms : List Text) → a.missing ≡ ms
     → use_fault again a [] rows ≡ [] → HasValues rows
     → HasValues (used_as (action_of a) a.id (reading_by a) ms rows)
@@ -191,6 +206,7 @@ used_missing again a rows asks [] is none h =
 used_missing again a rows asks (m ∷ ms) is none h =
     used_as_kept (action_of a) a.id (reading_by a) m ms rows (sym (ap (list_all (fits a.id)) is) ∙ asks.3) h
 
+-- a use of a rule that reports no fault
 used_kept : (again : Bool) (a : Rule) (values : List Text) (rows : List Row) → Asks a
     → use_fault again a values rows ≡ [] → HasValues rows
     → HasValues (used a values rows)
@@ -198,6 +214,7 @@ used_kept again a [] rows asks none h = used_missing again a rows asks a.missing
 used_kept again a (v ∷ vs) rows asks none h =
     used_as_kept (action_of a) a.id (reading_by a) v vs rows (fit_of_use again a v vs rows asks (no_kinds _ _ none).1) h
 
+-- the rule that is found among rules of which each is as `Asks` says, is so, too
 found : (b : Bool) (a : Rule) (o : Option Rule) → Asks a → IfSome o Asks → IfSome (cond b (Some a) o) Asks
 found true a o h k = h
 found false a o h k = k
@@ -212,6 +229,7 @@ settle_arg : (again : Bool) (values : List Text) (rows : List Row) (o : Option R
 settle_arg again values rows None s none h = h
 settle_arg again values rows (Some a) s none h = used_kept again a values rows s none h
 
+-- the steps of the walk by the rules `c`, from inside to outside: an option's use, a flag word, an argument
 module _ (c : List Rule) (again : Bool) (all : AllAsk c) where
   settle_pending : (rows : List Row) (p : Option (Text × List Text))
       → option_map_or (λ p. option_map_or (λ a. use_fault again a p.1 rows) (arg_by_id c p.0) []) p [] ≡ []
@@ -281,6 +299,7 @@ module _ (c : List Rule) (again : Bool) (all : AllAsk c) where
   bundle_step_kept (Some x) flags (suc skip) so_far h nf nm go none k =
       go (drop (length (encode_utf8 x)) flags) skip so_far h none k
 
+  -- short flags in one word, as `-ab`; `k` is the most characters that are looked at
   bundle_kept : (k : ℕ) (flags : Text) (skip : ℕ) (so_far : Outcome) (h : Held)
       → flags_fault c again k flags skip h ≡ []
       → HasValues h.rows → HasValues (bundle_met c k flags skip so_far h).0.rows
@@ -336,6 +355,7 @@ module _ (c : List Rule) (again : Bool) (all : AllAsk c) where
   positional_word true h none v = v
   positional_word false h none v = settle_kept h none v
 
+-- the walk over the arguments of a command `s`
 module _ (s : Shape) (names : Names) (all : AllAsk s.rules) where
   other_kept : (o : Option Text) (waiting : Waiting) (position : ℕ) (word : Text) (h : Held)
       → other_fault s o word h ≡ []
@@ -358,6 +378,7 @@ module _ (s : Shape) (names : Names) (all : AllAsk s.rules) where
   to_positional_kept (Some a) word w h none v =
       positional_word s.rules s.args_override_self all (is_pending a h.pending && takes_several a) h none v
 
+  -- no fault of a positional, whatever `stray` would be reported for want of one
   value_fault : (o : Option Rule) (h : Held) (stray : Kinds)
       → option_map_or (λ a. positional_fault s.rules s.args_override_self a h) o stray ≡ []
       → option_map_or (λ a. positional_fault s.rules s.args_override_self a h) o [] ≡ []
@@ -389,6 +410,7 @@ module _ (s : Shape) (names : Names) (all : AllAsk s.rules) where
   unfolding walked
   walked_kept w word none v = walked_on w.stopped w word none v
 
+  -- the whole walk; by induction on the words
   walk_kept : (words : List Text) (w : Walk) → walk_fault s names w words ≡ [] → HasValues w.held.rows
       → HasValues (fold (walked s.rules names) w words).held.rows
   unfolding walk_fault
@@ -402,6 +424,7 @@ default_rows_kept : (id : Text) (how : Reading) (values : List Text) (rows : Lis
 default_rows_kept id how [] rows g h = h
 default_rows_kept id how (v ∷ vs) rows g h = with_values_kept id how DefaultValue v vs rows g h
 
+-- filling in the defaults, which fit
 defaults_kept : (c : List Rule) (rows : List Row) → AllAsk c → HasValues rows → HasValues (fold with_default rows c)
 defaults_kept [] rows all h = h
 defaults_kept (a ∷ c) rows all h =
@@ -411,6 +434,7 @@ defaults_kept (a ∷ c) rows all h =
 
 -- ---- one level
 
+-- a command whose arguments have no fault: each of its rows has a value, and the last check has no fault
 level_rows : (s : Shape) (words : List Text) → AllAsk s.rules → level_fault s [] nothing_held words false [] ≡ []
     → HasValues (rows_after s.rules [] words) × (check_fault s (rows_after s.rules [] words) false ≡ [])
 level_rows s words all none =
@@ -430,11 +454,13 @@ first_there : (xs : List Text) → 0 < length xs → is_some (slice_get xs 0) �
 first_there [] lt = absurd (omega arith)
 first_there (x ∷ xs) lt = refl
 
+-- a row that was given has a first value
 given_row : (o : Option Row) → IfSome o HasValue → option_map_or (λ r. explicit_source r.source) o false ≡ true
     → is_some (option_and_then (λ r. slice_get r.values 0) o) ≡ true
 given_row None h e = e
 given_row (Some r) h e = first_there r.values h.0
 
+-- the row that is found among rows with values has one
 row_found : (b : Bool) (r : Row) (o : Option Row) → HasValue r → IfSome o HasValue → IfSome (cond b (Some r) o) HasValue
 row_found true r o h k = h
 row_found false r o h k = k
@@ -443,11 +469,12 @@ find_values : (p : Row → Bool) (rows : List Row) → HasValues rows → IfSome
 find_values p [] h = tt
 find_values p (r ∷ rs) h = row_found (p r) r (find p rs) h.0 (find_values p rs h.1)
 
+-- an option that counts as given has a value
 given_first : (id : Text) (rows : List Row) → HasValues rows → is_given id rows ≡ true
     → is_some (first_of id rows) ≡ true
 given_first id rows h e = given_row (find (λ r. bytes_eq r.id id) rows) (find_values _ rows h) e
 
--- the row that is found of an id
+-- the row that is found of an id has values, and has that id
 of_id : (p : Row → Bool) (b : Bool) (r : Row) (o : Option Row) → p r ≡ b → HasValue r
     → IfSome o (λ q. HasValue q × (p q ≡ true))
     → IfSome (cond b (Some r) o) (λ q. HasValue q × (p q ≡ true))
@@ -468,11 +495,14 @@ fitting_row : (name : Text) (o : Option Row) (t : Text) → IfSome o (λ q. HasV
 fitting_row name None t h is = absurd (true≢false (sym (ap is_some is)))
 fitting_row name (Some r) t h is = first_passes (fits name) r.values t (fit_same r.id name r.values h.1 h.0.1) is
 
+-- the value of an option fits
 given_fits : (name : Text) (rows : List Row) → HasValues rows → (t : Text) → first_of name rows ≡ Some t
     → fits name t ≡ true
 given_fits name rows h t is =
     fitting_row name (find (λ r. bytes_eq r.id name) rows) t (find_of_id (λ r. bytes_eq r.id name) rows h) is
 
+-- what the lemmas need of a subcommand: its rules are as `Asks` says; it is one of the four commands; and if it is
+-- `match`, the last check fails unless both engines were given
 abbrev Needs : Shape → Type 0
 Needs s = AllAsk s.rules × ((rows : List Row) → check_fault s rows false ≡ [] → s.name ≡ codes "match"
     → (is_given (codes "white") rows ≡ true) × (is_given (codes "black") rows ≡ true)) × IsCommand s.name
@@ -481,6 +511,7 @@ abbrev AllNeed : List Shape → Type 0
 AllNeed [] = Unit {0}
 AllNeed (s ∷ ss) = Needs s × AllNeed ss
 
+-- the subcommand that is found is such a one
 level_found : (b : Bool) (s : Shape) (o : Option Shape) → Needs s → IfSome o Needs → IfSome (cond b (Some s) o) Needs
 level_found true s o h k = h
 level_found false s o h k = k
@@ -492,10 +523,13 @@ find_level p (s ∷ ss) h = level_found (p s) s (find p ss) h.0 (find_level p ss
 shorter : (xs ys : List ℕ) → length xs < length ys → xs ≡ ys → ⊥
 shorter xs ys lt e = let same : length xs ≡ length ys = ap length e in absurd (omega arith)
 
+-- the check of required options reports no fault: none is missing
 third : (b : Bool) → check_kinds false false b ≡ [] → b ≡ false
 third false e = refl
 third true e = absurd (some_kind kind.MissingRequiredArgument [] e)
 
+-- the four subcommands are: for each rule the three tests are computed, and a value that passes the check of `--games`
+-- or `--reply-timeout` is in its range
 subs_need : (names : OptionNames) → AllNeed (built (arbiter_app names)).subs
 subs_need names =
     let not_session : codes "session" ≡ codes "match" → ⊥ = λ e. shorter (codes "match") (codes "session") (lit< tt)
@@ -597,6 +631,7 @@ subs_need names =
       ),
     )
 
+-- what was matched by the subcommand that was entered is complete
 level_of : (o : Option Shape) (words : List Text) → IfSome o Needs
     → option_map_or (λ s. level_fault s [] nothing_held words false []) o [] ≡ []
     → IfSome (option_map (λ s. rows_at s words) o) IsComplete
@@ -619,6 +654,7 @@ stop_level a None n none = tt
 stop_level a (Some p) n none = level_of (find (λ s. answers_to p.0 (label_of s)) a.subs) p.1 (find_level _ a.subs n)
     none
 
+-- what was matched of arguments without a fault is complete, if they name a subcommand
 pub required_there : (names : OptionNames) (words : List Text) → fault_of (arbiter_app names) words ≡ []
     → IfSome (subcommand_of (arbiter_app names) words) IsComplete
 required_there names words none =

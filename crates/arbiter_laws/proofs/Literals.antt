@@ -1,4 +1,5 @@
--- What the grammar makes of arguments that are written out.
+-- What `clap` makes, by the program's grammar, of a few command lines that are written out, such as `verify` or
+-- `--help`: the parse is computed. `names` are the names of variants and of draws, which the grammar holds in memory.
 use Rattle.std.proofs.Common.{[], ◌∷◌, codes, refl}
 use Rattle.clap.proofs.OnLiterals.{clap_on_literals}
 use Rattle.clap.specs.declared.error.kind.ErrorKind.TheVariants.{DisplayHelp, DisplayVersion, MissingRequiredArgument}

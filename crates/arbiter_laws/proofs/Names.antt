@@ -1,4 +1,5 @@
--- A plan is that of the command that was asked for.
+-- The plan that the program makes of its arguments is of the kind of their subcommand (plan_named), and a plan to
+-- verify has the flags that they set (verify_denoted).
 use Rattle.std.proofs.Common.{ap₂}
 use Rattle.arbiter_laws.specs.Arguments.{PlansAreNamed, VerifyIsAsAsked}
 use Rattle.arbiter_cli.specs.declared.plan.Plan.TheVariants.{Session, Verify, Stub, Match}

@@ -1,4 +1,6 @@
--- What no arguments, `session` and `verify` do.
+-- What the program does without arguments, with `session` and with `verify`: a session, or it verifies games
+-- (serves_session, verifies_games). Reading such arguments gives the plan of this subcommand, or fails as memory ran
+-- out, which the session and `verify` may do themselves.
 use Rattle.std.proofs.Common.{◌≡◌, ◌∙◌, ◌<◌, ℕ, Bool, List, [], ◌∷◌, bytes_eq, length, lit<, codes, Result, Ok, Err, refl, sym, ap, subst, inr, false, arith, true≢false}
 use Rattle.std.specs.List.{list_all, list_any}
 use Rattle.clap.specs.Words.{IsAmong, Text, kind_of}
@@ -15,14 +17,15 @@ use Rattle.match_runner.specs.GamesTable.{HostStep}
 use Rattle.pgn_verifier.specs.{Verify.Verifies, declared.options.VerifyOptions.VerifyOptions}
 use Rattle.pgn_verifier.specs.declared.fault.VerifyFault.TheVariants as verifying
 
+-- a text that is shorter than another one is not equal to it
 pub shorter : (xs ys : Text) → length xs < length ys → xs ≡ ys → ⊥
 shorter xs ys lt e = let same : length xs ≡ length ys = ap length e in absurd (omega arith)
 
--- what was read is what was done
+-- the program does what reading its arguments gave, and plain arguments are read as what they say; so it does that
 pub as_followed : PlainArgumentsAreRead → PlainArgumentsAreFollowed
 as_followed law line s s' steps status plain (read, is, ran) = (read, law line read plain is, ran)
 
--- a plan that was read of arguments that ask for that command
+-- arguments that ask for the subcommand `name` are read as a plan of this subcommand
 read_argument : PlansAreNamed → (arguments : List Text) (name : Text) (plan : Plan) → AskFor arguments name
     → IsReading arguments (Ok plan) → name ≡ command_name plan
 read_argument named arguments name plan a (names, (none, is)) = sym (a.named names)
@@ -33,11 +36,13 @@ abbrev pub is_listed : Text → Bool
 is_listed name =
     list_any (bytes_eq name) (codes "variant" ∷ codes "result" ∷ codes "board" ∷ codes "after-end" ∷ [])
 
--- arguments that are taken and ask for no match are refused for being out of memory alone
+-- the fault is that memory ran out
 abbrev IsWant : WordsFault → Type 0
 IsWant faults.NoMemory = Unit {0}
 IsWant _ = ⊥
 
+-- reading arguments that `clap` takes, and that ask for another subcommand than `match` without `--ignore`, can fail
+-- only as memory ran out
 refused_argument : (arguments : List Text) (name : Text) (fault : WordsFault) → AskFor arguments name
     → (name ≡ codes "match" → ⊥) → IsReading arguments (Err fault) → IsWant fault
 refused_argument ws name (faults.Words e) a other (names, among) =
@@ -59,11 +64,12 @@ no_match_by_session e = shorter (codes "match") (codes "session") (lit< tt) (sym
 no_match_by_verify : codes "verify" ≡ codes "match" → ⊥
 no_match_by_verify e = shorter (codes "match") (codes "verify") (lit< tt) (sym e)
 
--- devices whose states are the same
+-- devices are the same if their inputs and their outputs are
 pub both_same : (d d' : Devices) → d'.input ≡ d.input → d'.output ≡ d.output → d' ≡ d
 both_same d d' same kept = ap (λ v. record { input = v; output = d'.output }) same
     ∙ ap (λ v. record { input = d.input; output = v }) kept
 
+-- nothing was read from an input that is as before
 nothing_read : (r : InputState) → InputGave r r (came r [] false false)
 nothing_read r = record {
   bytes = consumes_none r.known_bytes;
@@ -87,6 +93,7 @@ not_begun options d d' same kept =
     ) in
     subst (λ (v : Devices). Ran (Verifies options (Err verifying.NoMemory)) d v) (sym (both_same d d' same kept)) here
 
+-- a program that ends as memory ran out does what the plan of a session allows
 session_or_want : (fault : WordsFault) (s s' : Surroundings) (steps : List HostStep) (status : ℕ)
     → IsWant fault → Does (Err fault) s s' steps status → Does (Ok Session) s s' steps status
 session_or_want faults.NoMemory s s' steps status want (none, same, (kept, is)) =
@@ -97,6 +104,7 @@ session_or_want (faults.BadFen f) s s' steps status want ran = absurd want
 session_or_want faults.BadDate s s' steps status want ran = absurd want
 session_or_want faults.BadKind s s' steps status want ran = absurd want
 
+-- the same for the plan of `verify` without flags
 verify_or_want : (fault : WordsFault) (s s' : Surroundings) (steps : List HostStep) (status : ℕ)
     → IsWant fault → Does (Err fault) s s' steps status → Does (Ok bare_plan) s s' steps status
 verify_or_want faults.NoMemory s s' steps status want (none, same, (kept, is)) =
@@ -107,6 +115,8 @@ verify_or_want (faults.BadFen f) s s' steps status want ran = absurd want
 verify_or_want faults.BadDate s s' steps status want ran = absurd want
 verify_or_want faults.BadKind s s' steps status want ran = absurd want
 
+-- whatever was read of arguments that ask for a session, what the program does is what a session does: other plans have
+-- another name
 serves : PlansAreNamed → (arguments : List Text) → AskFor arguments (codes "session") → (read : Result Plan WordsFault)
     → IsReading arguments read
     → (s s' : Surroundings) (steps : List HostStep) (status : ℕ) → Does read s s' steps status
@@ -131,6 +141,7 @@ without_flags : VerifyIsAsAsked → (arguments : List Text) (keep_going : Bool) 
 without_flags denoted ws keep_going options bare (names, (none, is)) =
     denoted (said_by names ws) keep_going options is ∙ bare names
 
+-- the same for `verify` without flags
 verifies : PlansAreNamed → VerifyIsAsAsked → (arguments : List Text) → AskFor arguments (codes "verify")
     → VerifyAsBare arguments → (read : Result Plan WordsFault) → IsReading arguments read
     → (s s' : Surroundings) (steps : List HostStep) (status : ℕ) → Does read s s' steps status

@@ -1,4 +1,6 @@
--- The options of `verify` and `match` as the walk meets them.
+-- `clap`'s walk takes each option of `verify` (of_verify) and of `match` (of_match): for each name the fields of
+-- TakesValue or IsFlag of PlainWalk are computed from the subcommand's rules. For an option with a checked value, such
+-- as `--games`, this needs that the value passes.
 use Rattle.std.proofs.Common.{◌≡◌, ◌∙◌, ◌++◌, ◌<◌, ◌≤◌, ◌^◌, ℕ, Bor, Bool, true, false, List, [], ◌∷◌, codes, refl, sym, subst, ap, inl, inr, arith, if◌then◌else◌, bytes_eq}
 use Rattle.std.specs.{List.list_any, Str.Parse.digits_value, Str.Parse.without_leading_plus}
 use Rattle.clap.specs.{Faults.repeat_fault, Kinds.or_else, ValueTests.accepts, Walk.Rule, Walk.Text, Walk.walked}
@@ -10,7 +12,7 @@ use Rattle.arbiter_grammar.specs.Grammar.{OptionNames, match_app, stub_app, veri
 use Rattle.arbiter_laws.specs.PlainArguments.{Given, IsDraws, IsNumberTo, IsOfMatch, IsOfVerify, IsVariant, flag, has_hyphen, valued}
 use Rattle.arbiter_laws.proofs.PlainWalk.{IsFlag, Known, TakesValue}
 
--- a subcommand as `build` leaves it, with these rules
+-- the subcommand `name` with these rules, as `clap` completes it: with a rule for `--help`
 abbrev pub built_shape : Text → List Rule → Shape
 built_shape name rules = record (new_shape name) {
   rules = filled_from 1 (rules ++ help_rule ∷ []);
@@ -30,6 +32,7 @@ match_shape names = built_shape (codes "match") (match_app names).top.rules
 
 -- ---- verify
 
+-- `--ignore` takes any text that no hyphen begins
 ignore : (text : Text) → has_hyphen text ≡ false → TakesValue verify_shape (codes "ignore") text
 unfolding walked
 ignore text plain = record {
@@ -61,9 +64,11 @@ of_verify (flag name) (inr (inr (inr (inr (inr (inr e)))))) = subst (IsFlag veri
 
 -- ---- match
 
+-- a number up to 1,000 fits into 64 bits
 small : (n most : ℕ) → n ≤ most → most ≤ 1000 → n < 2 ^ 64
 small n most le limit = omega arith
 
+-- a number from 1 to `most` passes the check of an option that takes such numbers
 number_passes : (most : ℕ) → most ≤ 1000 → (text : Text) → IsNumberTo most text
     → accepts false (vp.Unsigned 1 most) text ≡ true
 number_passes most limit text is = Accepts-accepts false (vp.Unsigned 1 most) text
@@ -75,6 +80,7 @@ is_text text name = bytes_eq name text
 abbrev now_of : Bor Text → Text
 now_of name = name.now
 
+-- the name of a variant, or of how draws end games, is in the list of names that the option takes
 variant_named : (text : Text) → IsVariant text
     → list_any (is_text text) (codes "normal" ∷ codes "fischerandom" ∷ []) ≡ true
 variant_named text (inl e) =
@@ -89,6 +95,7 @@ draws_named text (inl e) =
 draws_named text (inr e) =
     subst (λ t. list_any (is_text t) (codes "claimed" ∷ codes "automatic" ∷ []) ≡ true) (sym e) refl
 
+-- the options of `match` that take the value `text`
 module _ (names : OptionNames) (text : Text) (plain : has_hyphen text ≡ false) where
   white : TakesValue (match_shape names) (codes "white") text
   unfolding walked

@@ -1,4 +1,6 @@
--- Plain arguments are read as what they say.
+-- Plain arguments are read as what they say (plain_read). For each kind of command line two things are shown (SaysIt):
+-- `clap` reports no fault, and what it matched says the same as the command line itself. Then reading gives the same
+-- plan by both (read_alike).
 use Rattle.std.proofs.Common.{◌≡◌, ◌∙◌, ◌==◌, ◌&&◌, ◌||◌, Bool, true, false, not, List, [], ◌∷◌, Option, Some, None, Result, Ok, Err, codes, find, fold, flat_map, is_some, option_map, refl, sym, subst, ap, ap₂, lit<, bytes_eq, ◌*◌, if◌then◌else◌, unwrap_or}
 use Rattle.std.specs.{List.list_all, List.list_any, List.slice_split, Option.option_map_or, Option.option_or}
 use Rattle.clap.specs.Words.{Kinds, Row, Text, all_of, fault_of, first_of, subcommand_of}
@@ -26,6 +28,7 @@ use Rattle.arbiter_cli.proofs.shared.Turns.{date_asked, read_as}
 
 -- ---- the first argument names the subcommand
 
+-- the program's grammar as `clap` completes it
 abbrev whole : OptionNames → App
 whole names = built (arbiter_app names)
 
@@ -38,12 +41,16 @@ abbrev said_of : Text × List Row → Said
 said_of p =
     record { command = p.0; value = λ name. first_of name p.1; replies = unwrap_or (all_of (codes "words") p.1) [] }
 
+-- this pair, as a function
 abbrev with_name : Text → List Row → Text × List Row
 with_name name rows = (name, rows)
 
+-- the walk over the arguments has stopped at the subcommand `command`, with these arguments left for it
 abbrev stopped_at : Text → List Text → Walk
 stopped_at command rest = record (walk_from nothing_held) { stopped = Some (command, rest) }
 
+-- arguments that begin with `command`, the name of the subcommand `s` (`named`): the walk stops there (`stops`) without
+-- a fault (`turns`), and `s` has the rest
 module _ (names : OptionNames) (command : Text) (s : Shape) (rest : List Text)
     (stops : walked (whole names).top.rules (names_of (whole names)) (walk_from nothing_held) command
     ≡ stopped_at command [])
@@ -56,15 +63,18 @@ module _ (names : OptionNames) (command : Text) (s : Shape) (rest : List Text)
   walk_is = ap (λ (w : Walk). fold (walked (whole names).top.rules (names_of (whole names))) w rest) stops
       ∙ sym (walk_stopped (whole names).top.rules (names_of (whole names)) (walk_from nothing_held) command [] rest)
 
+  -- what is asked for is `s`, with the rows that its rules make of the rest
   asked_is : asked names all ≡ (s.name, rows_after s.rules [] rest)
   asked_is = ap (λ (w : Walk). unwrap_or (entered (whole names) w.stopped) (codes "session", [])) walk_is
       ∙ ap (λ (o : Option Shape). unwrap_or (option_map (λ s. rows_at s rest) o) (codes "session", [])) named
 
+  -- the walk over all arguments reports no fault
   walk_passes : walk_fault (whole names).top (names_of (whole names)) (walk_from nothing_held) all ≡ []
   unfolding walk_fault
   walk_passes = ap₂ (λ (x : Kinds) (w : Walk). or_else x (walk_fault (whole names).top (names_of (whole names)) w rest))
       turns stops ∙ stopped_fault (whole names).top (names_of (whole names)) (walk_from nothing_held) (command, []) rest
 
+  -- nor do the checks after it, if `s` has no fault with the rest
   below_passes : level_fault s [] nothing_held rest false [] ≡ []
       → or_else (entered_fault (whole names) (Some (command, rest)))
       (check_fault (whole names).top (finished (whole names).top.rules nothing_held)
@@ -76,6 +86,7 @@ module _ (names : OptionNames) (command : Text) (s : Shape) (rest : List Text)
       ∙ ap (λ (x : Kinds). or_else x
       (check_fault (whole names).top (finished (whole names).top.rules nothing_held) true)) level
 
+  -- so there is none at all, if `s` has none with the rest
   no_fault : level_fault s [] nothing_held rest false [] ≡ [] → fault_of (arbiter_app names) all ≡ []
   unfolding defaults_fault
   no_fault level = ap₂ (λ (x : Kinds) (w : Walk). or_else x (or_else (entered_fault (whole names) w.stopped)
@@ -88,7 +99,7 @@ module _ (names : OptionNames) (command : Text) (s : Shape) (rest : List Text)
 
 -- ---- who says the same
 
--- a match is asked for alike
+-- two sets of values ask for the same match: each option of `match` has the same value in both
 record Agrees (v w : Values) : Type 0 where
   white : v (codes "white") ≡ w (codes "white")
   black : v (codes "black") ≡ w (codes "black")
@@ -118,6 +129,7 @@ levels_by text white black = do
   second ← option_map_or level_reading black (Ok level)
   Ok (first, second)
 
+-- such values ask for the same levels, start and date
 same_start : (v w : Values) → Agrees v w → levels_start_and_date v ≡ levels_start_and_date w
 same_start v w a =
     read_as v (levels_asked w) (start_asked w) (date_asked w) (is_date (date_asked w))
@@ -130,6 +142,7 @@ same_start v w a =
 abbrev draws_with : Option Text → Draws
 draws_with name = if option_map_or (λ t. bytes_eq t (codes "automatic")) name false then Automatic else Claimed
 
+-- such values have the same plan of a match
 same_match : (v w : Values) → Agrees v w → (plan : GamesPlan) → IsMatchPlan v plan → IsMatchPlan w plan
 same_match v w a plan is = record {
   white = sym a.white ∙ is.white;
@@ -143,18 +156,20 @@ same_match v w a plan is = record {
   draws = is.draws ∙ ap draws_with a.draws;
 }
 
--- verifying is asked for alike
+-- two sets of values ask for the same with `verify`
 record VerifiesAlike (v w : Values) : Type 0 where
   keeps_going : is_set (codes "keep-going") v ≡ is_set (codes "keep-going") w
   options : verify_options_of v ≡ verify_options_of w
   ignored : ignored_in v ≡ ignored_in w
 
+-- two accounts of arguments ask for the same subcommand, and what counts for it is the same
 record SaysTheSame (a b : Said) : Type 0 where
   command : a.command ≡ b.command
   on_verify : a.command ≡ codes "verify" → VerifiesAlike a.value b.value
   on_stub : a.command ≡ codes "stub" → a.replies ≡ b.replies
   on_match : a.command ≡ codes "match" → Agrees a.value b.value
 
+-- whatever is right to read by one account is right by the other
 read_alike : (a b : Said) → SaysTheSame a b → (r : Result Plan WordsFault) → IsReadAs [] a r → IsReadAs [] b r
 read_alike a b s (Ok Session) (none, is) = (none, sym s.command ∙ is)
 read_alike a b s (Ok (Verify keep_going options)) (none, is) =
@@ -183,6 +198,7 @@ read_alike a b s (Err BadDate) (none, named, h) =
 
 -- ---- each kind of line
 
+-- `clap` reports no fault for a command line, and what it matched says the same as the command line
 record SaysIt (names : OptionNames) (line : CommandLine) : Type 0 where
   passes : fault_of (arbiter_app names) (arguments_of line) ≡ []
   says : SaysTheSame (said_by names (arguments_of line)) (said_in line)
@@ -203,15 +219,18 @@ matched rows = λ name. first_of name rows
 abbrev is_true : Option Text → Bool
 is_true o = option_map_or (λ t. bytes_eq t (codes "true")) o false
 
+-- a flag that was not given has the default `false`, so it is not set either way
 or_default : (o : Option Text) → is_true (option_or o (Some (codes "false"))) ≡ is_true o
 or_default None = refl
 or_default (Some t) = refl
 
+-- an option without a default has no value if none was given
 or_none : (o : Option Text) → option_or o None ≡ o
 or_none None = refl
 or_none (Some t) = refl
 
--- a flag is set alike, and an option has the same value
+-- the option `name` of the subcommand `s`, in what `clap` matched and in the options given: a flag is set in both or in
+-- neither, and an option has the same value
 module _ (s : Shape) (options : List Given) (name : Text) where
   flag_alike : default_in name s.rules ≡ Some (codes "false")
       → is_set name (matched (rows_of_given s options)) ≡ is_set name (values_in options)
@@ -222,6 +241,7 @@ module _ (s : Shape) (options : List Given) (name : Text) where
   value_alike default = value_found name options s.rules ∙ ap (option_or (values_in options name)) default
       ∙ or_none (values_in options name)
 
+-- the options of `verify` by its flags and by the names after `--ignore`
 abbrev options_with : Bool → Bool → Bool → Bool → Bool → Bool → List Text → VerifyOptions
 options_with quiet strict explain spans names variations ignored = record {
   quiet = quiet;
@@ -237,10 +257,12 @@ options_with quiet strict explain spans names variations ignored = record {
   explain = explain;
 }
 
--- the names in the value of `--ignore`
+-- the names in the value of `--ignore`, which commas (44) separate
 abbrev names_in : Option Text → List Text
 names_in list = option_map_or (slice_split (λ b. b == 44)) list []
 
+-- what `clap` matched and the options given ask for the same: of `verify` (this lemma and the next), and of `match`
+-- (match_alike)
 ignored_alike : (options : List Given)
     → ignored_in (matched (rows_of_given verify_shape options)) ≡ ignored_in (values_in options)
 ignored_alike options = ap names_in (value_alike verify_shape options (codes "ignore") refl)
@@ -281,6 +303,7 @@ match_alike names options =
       draws = alike (codes "draws") refl;
     }
 
+-- two accounts of the same subcommand, `verify`, `stub` or `match`, say the same if what counts for it is the same
 of_verify_only : (a b : Said) → a.command ≡ codes "verify" → b.command ≡ codes "verify"
     → VerifiesAlike a.value b.value → SaysTheSame a b
 of_verify_only a b e f same = record {
@@ -308,6 +331,7 @@ of_match_only a b e f same = record {
   on_match = λ is. same;
 }
 
+-- each kind of plain command line
 says_it : (names : OptionNames) (line : CommandLine) → IsPlain line → SaysIt names line
 unfolding walked
 says_it names empty plain = record {

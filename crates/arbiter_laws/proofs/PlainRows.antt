@@ -1,4 +1,6 @@
--- The rows of options that were each given once, and the defaults of the others.
+-- The rows that `clap` has for a subcommand's options after its walk: one for each option that was given, in their
+-- order, and then one for each default of another. So an option has the value that it was given, or else its default
+-- (value_found); it counts as given in the first case (value_given); and defaults pass their checks (defaults_fine).
 use Rattle.std.proofs.Common.{◌≡◌, ◌∙◌, ◌++◌, ◌||◌, Bool, true, false, true≢false, List, [], ◌∷◌, Option, Some, None, IsSome, cond, find, fold, map, option_map, option_and_then, bytes_eq, refl, sym, subst, ap, ap₂, slice_get, if◌then◌else◌, append-nil}
 use Rattle.std.specs.{List.list_all, List.list_any, Option.option_map_or, Option.option_or}
 use Rattle.std.proofs.{lemmas.Bool.or_parts, lemmas.List.Folds.find-append, lemmas.Slice.Eq.bytes_eq-Decides}
@@ -21,7 +23,7 @@ abbrev pub added : Given → List Row → List Row
 added g rows =
     with_values (name_of g) reading.AsWritten CommandLine (value_of g ∷ []) (without (name_of g) rows)
 
--- where no row has the id, the new rows come last
+-- where no row has the id, `at_row` changes none and puts the rows `missing` at the end
 absent : (id : Text) (change : Row → List Row) (missing rows : List Row) → has_row id rows ≡ false
     → at_row id change missing rows ≡ rows ++ missing
 absent id change missing [] none = refl
@@ -30,6 +32,7 @@ absent id change missing (r ∷ rs) none =
     ap₂ (λ (b : Bool) (xs : List Row). if b then change r ++ rs else r ∷ xs) parts.0
     (absent id change missing rs parts.1)
 
+-- one more option, which has no row yet, adds its row at the end
 pub added_is : (g : Given) (rows : List Row) → has_row (name_of g) rows ≡ false → added g rows ≡ rows ++ row_for g ∷ []
 added_is g rows none =
     let new : List Row → List Row =
@@ -40,7 +43,7 @@ added_is g rows none =
 
 -- ---- defaults
 
--- a row that is there stays
+-- the row that a test finds is still found when the default of one rule is added
 kept_one : (p : Row → Bool) (id : Text) (how : Reading) (has : Bool) (values : List Text) (rows : List Row) (r : Row)
     → has_row id rows ≡ has → find p rows ≡ Some r
     → find p (if has then rows else default_rows id how values rows) ≡ Some r
@@ -51,6 +54,7 @@ kept_one p id how false (v ∷ vs) rows r none e =
     ap (find p) (absent id (more_values DefaultValue (v ∷ vs)) (row ∷ []) rows none)
     ∙ find-append p rows (row ∷ []) ∙ ap (λ o. option_or o (find p (row ∷ []))) e
 
+-- and when those of all rules are
 kept : (p : Row → Bool) (c : List Rule) (rows : List Row) (r : Row) → find p rows ≡ Some r
     → find p (fold with_default rows c) ≡ Some r
 kept p [] rows r e = e
@@ -64,6 +68,7 @@ default_in name [] = None
 default_in name (a ∷ c) =
     if bytes_eq a.id name then option_or (slice_get a.defaults 0) (default_in name c) else default_in name c
 
+-- if no row is found by a test, none passes it
 none_any : (p : Row → Bool) (rows : List Row) → find p rows ≡ None → list_any p rows ≡ true → ⊥
 none_any p [] e any = true≢false (sym any)
 none_any p (r ∷ rs) e any = none_of (p r) (find p rs) e (list_any p rs) any (none_any p rs)
@@ -88,6 +93,7 @@ module _ (name : Text) (a : Rule) (c : List Rule) (rows : List Row) (none : find
       ∙ find-append p rows (row ∷ [])
       ∙ ap₂ (λ (o : Option Row) (b : Bool). option_or o (cond b (Some row) None)) none is
 
+  -- so the option has the first default of the rule `a`, if that has its name, or else what later rules give it
   default_one : (same has : Bool) (values : List Text) → bytes_eq a.id name ≡ same → has_row a.id rows ≡ has
       → first_of name (fold with_default (if has then rows else default_rows a.id (reading_by a) values rows) c)
       ≡ (if same then option_or (slice_get values 0) (default_in name c) else default_in name c)
@@ -104,6 +110,7 @@ module _ (name : Text) (a : Rule) (c : List Rule) (rows : List Row) (none : find
       (kept (λ r. bytes_eq r.id name) c (default_rows a.id (reading_by a) (v ∷ vs) rows)
       (row_with a.id (reading_by a) DefaultValue (v ∷ vs)) (new_row true v vs is there))
 
+-- an option without a row has its first default, after the defaults of all rules were added; by induction on the rules
 missing : (name : Text) (c : List Rule) (rows : List Row) → find (λ r. bytes_eq r.id name) rows ≡ None
     → first_of name (fold with_default rows c) ≡ default_in name c
 missing name [] rows none = ap (option_and_then (λ (r : Row). slice_get r.values 0)) none
@@ -112,10 +119,12 @@ missing name (a ∷ c) rows none = default_one name a c rows none (λ now f. mis
 
 -- ---- what is found
 
+-- the option `name` among the options given, where the subcommand has the rules `c`
 module _ (name : Text) (options : List Given) (c : List Rule) where
   abbrev has_name : Row → Bool
   has_name r = bytes_eq r.id name
 
+  -- its row is found just where the option itself is
   found_row : (o : Option Given) → find (λ g. bytes_eq (name_of g) name) options ≡ o
       → find has_name (map row_for options) ≡ option_map row_for o
   found_row o e = sym (find-map has_name row_for options) ∙ ap (option_map row_for) e
@@ -138,6 +147,7 @@ module _ (name : Text) (options : List Given) (c : List Rule) where
   given_as (Some g) e some = ap (λ (o : Option Row). option_map_or (λ r. explicit_source r.source) o false)
       (kept has_name c (map row_for options) (row_for g) (found_row (Some g) e))
 
+  -- an option that has a value among those given counts as given
   pub value_given : IsSome (values_in options name) → is_given name (fold with_default (map row_for options) c) ≡ true
   value_given some = given_as (find (λ g. bytes_eq (name_of g) name) options) refl some
 
@@ -147,12 +157,14 @@ module _ (name : Text) (options : List Given) (c : List Rule) where
 abbrev pub is_fine : Rule → Bool
 is_fine a = is_empty a.defaults || is_empty (given_default_fault a a.defaults)
 
+-- a default reports no fault if it isn't used, if there is none, or if its check has no fault
 fine_one : (has none : Bool) (kinds : Kinds) → (none || is_empty kinds) ≡ true
     → (if has || none then [] else kinds) ≡ []
 fine_one true none kinds fine = refl
 fine_one false true kinds fine = refl
 fine_one false false kinds fine = is_nil kinds fine
 
+-- where the defaults of all rules are accepted, filling them in reports no fault
 pub defaults_fine : (c : List Rule) (rows : List Row) → list_all is_fine c ≡ true → defaults_fault rows c ≡ []
 unfolding defaults_fault
 defaults_fine [] rows fine = refl

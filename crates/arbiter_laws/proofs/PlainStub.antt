@@ -1,4 +1,5 @@
--- `clap`'s walk over what a stub plays: each argument is one more value of its rule `words`.
+-- `clap`'s walk over what a stub plays: each argument is one more value of the positional rule `words`. So what is
+-- matched are just these arguments (replies_are), and no fault is reported (replies_pass).
 use Rattle.std.proofs.Common.{◌≡◌, ◌∙◌, ◌++◌, Bool, false, List, [], ◌∷◌, Option, Some, None, fold, codes, refl, subst, ap, ap₂, append_assoc, if◌then◌else◌, unwrap_or}
 use Rattle.std.specs.{List.AllByRecursion, Option.option_map_or}
 use Rattle.clap.specs.Faults.{bundle_fault, check_fault, defaults_fault, flag_word_fault, level_fault, settle_fault, step_fault, turn_fault, walk_fault, word_fault}
@@ -9,7 +10,7 @@ use Rattle.arbiter_laws.specs.PlainArguments.{has_hyphen}
 use Rattle.arbiter_laws.proofs.{PlainOptions.stub_shape, PlainRows.defaults_fine}
 use Rattle.arbiter_laws.proofs.PlainWalk.{held, no_dashes, no_long, no_short}
 
--- the rows of these words
+-- the rows for these words: none without words, or else one row that has them all
 abbrev pub words_rows : List Text → List Row
 words_rows [] = []
 words_rows (x ∷ xs) = record {
@@ -20,7 +21,7 @@ words_rows (x ∷ xs) = record {
   reading = reading.AsWritten;
 } ∷ []
 
--- the walk after these words and one more
+-- the walk after the words `before`, which have their row, and the word `last`, which is still pending
 abbrev after_one : List Text → Text → Walk
 after_one before last = record {
   held = held (words_rows before) (Some (codes "words", last ∷ []));
@@ -35,7 +36,7 @@ abbrev IsFree : Waiting → Type 0
 IsFree (option name) = ⊥
 IsFree _ = Unit {0}
 
--- an argument that no hyphen begins is a value
+-- an argument that no hyphen begins is a value, not a flag
 value_met : (waiting : Waiting) → IsFree waiting → (text : Text) (h : Held) → has_hyphen text ≡ false
     → word_met stub_shape.rules [] false waiting 1 text h ≡ (h, value)
 value_met (option name) free text h plain = absurd free
@@ -48,6 +49,7 @@ value_met positional free text h plain = ap₂ (λ (b : Bool) (o : Option (Text 
     (no_dashes text plain) (no_long text plain)
     ∙ ap (λ (o : Option Text). short_or_plain stub_shape.rules positional text o h) (no_short text plain)
 
+-- and it has no fault
 value_fault : (waiting : Waiting) → IsFree waiting → (text : Text) (h : Held) → has_hyphen text ≡ false
     → word_fault stub_shape [] false waiting text h ≡ []
 value_fault (option name) free text h plain = absurd free
@@ -60,6 +62,7 @@ value_fault positional free text h plain = ap₂ (λ (b : Bool) (o : Option (Tex
     ∙ ap (λ (o : Option Text). option_map_or (λ flags. bundle_fault stub_shape.rules false flags h) o [])
     (no_short text plain)
 
+-- a pending word becomes the last value of the row
 more : (before : List Text) (last : Text)
     → with_values (codes "words") reading.AsWritten CommandLine (last ∷ []) (words_rows before)
     ≡ words_rows (before ++ last ∷ [])
@@ -68,6 +71,7 @@ more (x ∷ xs) last = refl
 
 -- ---- one argument more
 
+-- the first word and each later one: the walk goes on with it pending, and reports no fault
 first_walked : (text : Text) → has_hyphen text ≡ false
     → walked stub_shape.rules [] (walk_from nothing_held) text ≡ after_one [] text
 unfolding walked
@@ -96,11 +100,13 @@ next_passes before last text plain =
 
 -- ---- all of them
 
+-- the walk from `from` over `replies` comes to the row of `all` words, and reports no fault
 record Plays (from : Walk) (replies all : List Text) : Type 0 where
   rows : (settled stub_shape.rules (fold (walked stub_shape.rules []) from replies).held).rows ≡ words_rows all
   settles : settle_fault stub_shape.rules false (fold (walked stub_shape.rules []) from replies).held ≡ []
   passes : walk_fault stub_shape [] from replies ≡ []
 
+-- such a walk with one word more at its front
 one_more : (from to : Walk) (text : Text) (replies all : List Text) → walked stub_shape.rules [] from text ≡ to
     → turn_fault stub_shape [] from text ≡ [] → Plays to replies all → Plays from (text ∷ replies) all
 unfolding walk_fault
@@ -115,6 +121,7 @@ one_more from to text replies all is passes plays = record {
 abbrev ArePlain : List Text → Type 0
 ArePlain replies = AllByRecursion (λ reply. has_hyphen reply ≡ false) replies
 
+-- the walk that has begun, over the rest; by induction on it
 plays_on : (rest before : List Text) (last : Text) → ArePlain rest → Plays (after_one before last) rest
     (before ++ last ∷ rest)
 unfolding walk_fault
@@ -131,6 +138,7 @@ plays [] plain = record { rows = refl; settles = refl; passes = refl }
 plays (x ∷ xs) plain = one_more (walk_from nothing_held) (after_one [] x) x xs (x ∷ xs) (first_walked x plain.0)
     (first_passes x plain.0) (plays_on xs [] x plain.1)
 
+-- the values of `words` in these rows are the words, also after defaults were added
 words_there : (replies : List Text)
     → unwrap_or (all_of (codes "words") (fold with_default (words_rows replies) stub_shape.rules)) [] ≡ replies
 words_there [] = refl
@@ -143,6 +151,7 @@ replies_are replies plain =
     ap (λ (rows : List Row). unwrap_or (all_of (codes "words") (fold with_default rows stub_shape.rules)) [])
     (plays replies plain).rows ∙ words_there replies
 
+-- the subcommand `stub` reports no fault for them
 pub replies_pass : (replies : List Text) → ArePlain replies
     → level_fault stub_shape [] nothing_held replies false [] ≡ []
 replies_pass replies plain =

@@ -1,5 +1,6 @@
--- `clap`'s walk over options that are each given once: a lemma for one option more (`step`), and then all of them
--- (`steps`).
+-- `clap`'s walk over options that are each given once. Its state (`Held`) has a row for each option so far, and the
+-- option whose value is pending, which is settled into the rows when the next option comes. A lemma for one option more
+-- (step), for all of them (steps), and for the whole subcommand (takes_options).
 use Rattle.std.proofs.Common.{◌≡◌, ◌≢◌, ◌∙◌, ◌<◌, ◌++◌, ◌&&◌, ◌||◌, suc, Bool, true, false, not, List, [], ◌∷◌, length, Option, Some, None, All, AllPairs, fold, flat_map, map, option_and_then, bytes_eq, codes, refl, sym, subst, ap, ap₂, arith, if◌then◌else◌, slice_index_or, append-nil, append_assoc}
 use Rattle.std.specs.{List.AllByRecursion, List.list_all, Option.option_map_or}
 use Rattle.std.proofs.{lemmas.Bool.false_from_ne_true, lemmas.List.Folds.list_any-append, lemmas.Slice.Eq.bytes_eq-Decides}
@@ -11,6 +12,7 @@ use Rattle.clap.specs.declared.error.kind.ErrorKind.TheVariants as kind
 use Rattle.arbiter_laws.specs.PlainArguments.{Given, flag, has_hyphen, name_of, valued, written}
 use Rattle.arbiter_laws.proofs.PlainRows.{added, added_is, defaults_fine, is_fine, row_for}
 
+-- what the walk holds: rows, and the pending option with its values so far
 abbrev pub held : List Row → Option (Text × List Text) → Held
 held rows pending = record { rows = rows; pending = pending; skip = 0 }
 
@@ -30,6 +32,7 @@ awaiting name rows = record {
 
 -- ---- a text without a hyphen before it
 
+-- such a text is not `--`, not `--name`, and not `-x`
 pub no_dashes : (text : Text) → has_hyphen text ≡ false → bytes_eq text (45 ∷ 45 ∷ []) ≡ false
 no_dashes [] plain = refl
 no_dashes (b ∷ bs) plain = ap (λ (c : Bool). c && bytes_eq bs (45 ∷ [])) plain
@@ -45,21 +48,27 @@ no_short (b ∷ bs) plain = ap (λ (c : Bool). option_and_then short_of_rest (if
 
 -- ---- what is asked of an option
 
--- the option takes this value: its name is met, and then the value. `s` is the subcommand
+-- the subcommand `s` takes the option `--name text`. The fields say what the walk does at the name and at the value,
+-- for any rows and any pending option
 pub record TakesValue (s : Shape) (name text : Text) : Type 0 where
+  -- at the name: what is pending is settled, and the walk waits for the value
   pub first : (rows : List Row) (p : Option (Text × List Text))
       → walked s.rules [] (between rows p) (codes "--" ++ name) ≡ awaiting name (settled_rows s.rules p rows)
+  -- the only fault there may be one of settling
   pub first_fault : (rows : List Row) (p : Option (Text × List Text))
       → turn_fault s [] (between rows p) (codes "--" ++ name)
       ≡ or_else (settle_fault s.rules s.args_override_self (held rows p)) []
   pub plain : has_hyphen text ≡ false
+  -- at the value: it is pending then
   pub taken : (rows : List Row) → plain_word s.rules (option name) text (held rows (Some (name, [])))
       ≡ (held rows (Some (name, text ∷ [])), next idle)
+  -- settled, it is the option's row; the only fault there may be that the option is repeated
   pub uses : (rows : List Row) → settled_rows s.rules (Some (name, text ∷ [])) rows ≡ added (valued name text) rows
   pub passes : (rows : List Row) → settle_fault s.rules s.args_override_self (held rows (Some (name, text ∷ [])))
       ≡ or_else (repeat_fault false name rows) []
 
--- the flag is met
+-- the subcommand `s` takes the flag `--name`: what is pending is settled, and the flag has its row at once. The only
+-- faults may be those of settling, or that the flag is repeated
 pub record IsFlag (s : Shape) (name : Text) : Type 0 where
   pub first : (rows : List Row) (p : Option (Text × List Text))
       → walked s.rules [] (between rows p) (codes "--" ++ name)
@@ -69,6 +78,7 @@ pub record IsFlag (s : Shape) (name : Text) : Type 0 where
       ≡ or_else (or_else (settle_fault s.rules s.args_override_self (held rows p))
       (or_else (repeat_fault false name (settled_rows s.rules p rows)) [])) []
 
+-- the subcommand takes this option
 abbrev pub Known : Shape → Given → Type 0
 Known s (valued name text) = TakesValue s name text
 Known s (flag name) = IsFlag s name
@@ -78,22 +88,25 @@ pub all_known : (s : Shape) (IsOf : Given → Type 0) (options : List Given) →
 all_known s IsOf [] known all = tt
 all_known s IsOf (g ∷ gs) known all = (known g all.0, all_known s IsOf gs known all.1)
 
+-- an option that has no row yet is not repeated
 no_repeat : (name : Text) (rows : List Row) → has_row name rows ≡ false → or_else (repeat_fault false name rows) [] ≡ []
 no_repeat name rows none =
     ap (λ (b : Bool). or_else (if b && not false then kind.ArgumentConflict ∷ [] else []) []) none
 
 -- ---- one option more
 
--- what is held comes to these rows, and passes
+-- what the walk holds settles to the rows `all`, without a fault
 pub record Ready (s : Shape) (rows : List Row) (pending : Option (Text × List Text)) (all : List Row) : Type 0 where
   pub settles : settled_rows s.rules pending rows ≡ all
   pub passes : settle_fault s.rules s.args_override_self (held rows pending) ≡ []
 
--- the walk takes the words, and is then there
+-- the walk takes `words` from the state `from` to the state `to`, and reports no fault at them, whatever follows
+-- (`rest`)
 record GoesOn (s : Shape) (from : Walk) (words : List Text) (to : Walk) : Type 0 where
   walks : (rest : List Text) → fold (walked s.rules []) from (words ++ rest) ≡ fold (walked s.rules []) to rest
   passes : (rest : List Text) → walk_fault s [] from (words ++ rest) ≡ walk_fault s [] to rest
 
+-- a walk over one word, and over two, by what it does at each
 one_word : (s : Shape) (from to : Walk) (word : Text) → turn_fault s [] from word ≡ []
     → walked s.rules [] from word ≡ to → GoesOn s from (word ∷ []) to
 unfolding walk_fault
@@ -124,6 +137,7 @@ module _ (s : Shape) (name text : Text) (h : Held) (plain : has_hyphen text ≡ 
       ∙ ap (λ (o : Option Text). option_map_or (λ flags. bundle_fault s.rules s.args_override_self flags h) o [])
       (no_short text plain)
 
+-- a walk that waits for a value takes it
 value_word : (s : Shape) (name text : Text) (rows : List Row) → TakesValue s name text
     → GoesOn s (awaiting name rows) (text ∷ []) (between rows (Some (name, text ∷ [])))
 unfolding walked
@@ -134,7 +148,7 @@ value_word s name text rows k =
     (ap₂ (λ (x : Kinds) (m : Held × Step). or_else x (step_fault s 1 m.0 m.1)) (value_fault s name text h k.plain) met)
     (ap (λ (m : Held × Step). after_step s.rules text (awaiting name rows) m.0 m.1) met)
 
--- where the walk is after words that it takes, with all rows so far
+-- the walk over `words` comes to a state between options that settles to the rows `all`, and reports no fault
 pub record Ends (s : Shape) (from : Walk) (words : List Text) (all : List Row) : Type 0 where
   pub rows : List Row
   pub pending : Option (Text × List Text)
@@ -142,12 +156,15 @@ pub record Ends (s : Shape) (from : Walk) (words : List Text) (all : List Row) :
   pub walks : fold (walked s.rules []) from words ≡ between rows pending
   pub passes : walk_fault s [] from words ≡ []
 
+-- the same of the words of one option, whatever follows them
 record Steps (s : Shape) (from : Walk) (words : List Text) (all : List Row) : Type 0 where
   rows : List Row
   pending : Option (Text × List Text)
   ready : Ready s rows pending all
   goes : GoesOn s from words (between rows pending)
 
+-- one option more: the walk is between options, what it holds settles to `all`, and no row of these is the option's.
+-- Then it takes the option's words, and its row comes last
 step : (s : Shape) (g : Given) (rows : List Row) (p : Option (Text × List Text)) (all : List Row) → Known s g
     → Ready s rows p all → has_row (name_of g) all ≡ false
     → Steps s (between rows p) (written g) (all ++ row_for g ∷ [])
@@ -180,9 +197,11 @@ step s (flag name) rows p all k ready none = record {
 
 -- ---- all options
 
+-- no two of the options have the same name
 abbrev pub AreApart : List Given → Type 0
 AreApart options = AllPairs (λ g h. name_of g ≢ name_of h) options
 
+-- none of the options has a row yet
 abbrev AreFresh : List Given → List Row → Type 0
 AreFresh options rows = All (λ g. has_row (name_of g) rows ≡ false) options
 
@@ -199,6 +218,7 @@ still_fresh g gs rows apart fresh k d lt =
     list_any-append (λ (r : Row). bytes_eq r.id name) rows (row_for g ∷ [])
     ∙ ap₂ (λ (a b : Bool). a || (b || false)) (fresh (suc k) d later) other
 
+-- all options, one after another: each adds its row at the end; by induction on the options
 pub steps : (s : Shape) (options : List Given) (rows : List Row) (p : Option (Text × List Text)) (all : List Row)
     → AllByRecursion (Known s) options → AreApart options → AreFresh options all → Ready s rows p all
     → Ends s (between rows p) (flat_map written options) (all ++ map row_for options)
@@ -231,6 +251,7 @@ steps s (g ∷ gs) rows p all known apart fresh ready =
 abbrev pub rows_of_given : Shape → List Given → List Row
 rows_of_given s options = fold with_default (map row_for options) s.rules
 
+-- the subcommand takes these options: the rows are as in `rows_of_given`, and there is no fault
 pub record TakesOptions (s : Shape) (options : List Given) : Type 0 where
   pub rows : rows_after s.rules [] (flat_map written options) ≡ rows_of_given s options
   pub passes : level_fault s [] nothing_held (flat_map written options) false [] ≡ []

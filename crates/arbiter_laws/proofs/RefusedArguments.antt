@@ -1,4 +1,6 @@
--- What arguments do that ask for no plan.
+-- What the program does if `clap` refuses its arguments with a fault of a single kind: for help or the version it
+-- writes a text (shows_help), and for any other kind it writes nothing to its output and has the status 2
+-- (refuses_arguments); in both cases memory may run out instead.
 use Rattle.std.proofs.Common.{◌≡◌, ◌≢◌, ◌∙◌, ◌⊎◌, ℕ, List, [], ◌∷◌, Ok, Err, sym, subst, inl, inr}
 use Rattle.clap.specs.Words.{IsAmong, Kinds, Text, kind_of}
 use Rattle.clap.specs.{declared.error.kind.ErrorKind.ErrorKind, declared.error.kind.ErrorKind.TheVariants.DisplayHelp, declared.error.kind.ErrorKind.TheVariants.DisplayVersion}
@@ -9,9 +11,11 @@ use Rattle.byte_devices.specs.Devices.{OutputState}
 use Rattle.chess_arbiter.specs.Program.{WritesHelp, ReportsArguments}
 use Rattle.arbiter_laws.proofs.PlainArguments.{both_same}
 
+-- the faults of arguments can't be none and one
 no_fault : (k : ErrorKind) (kinds : Kinds) → kinds ≡ [] → kinds ≡ k ∷ [] → ⊥
 no_fault k kinds none one = absurd (cc)
 
+-- a kind among one kind is that kind
 only_one : (k x : ErrorKind) → IsAmong x (k ∷ []) → x ≡ k
 only_one k x (inl e) = e
 only_one k x (inr none) = absurd none
@@ -19,12 +23,13 @@ only_one k x (inr none) = absurd none
 the_fault : (k x : ErrorKind) (kinds : Kinds) → kinds ≡ k ∷ [] → IsAmong x kinds → x ≡ k
 the_fault k x kinds one among = only_one k x (subst (IsAmong x) one among)
 
--- they are refused by that kind, or for being out of memory
+-- the fault of reading is `clap`'s, of the kind `k`, or that memory ran out
 abbrev pub IsRefusal : ErrorKind → WordsFault → Type 0
 IsRefusal k (faults.Words e) = kind_of e ≡ k
 IsRefusal k faults.NoMemory = Unit {0}
 IsRefusal k _ = ⊥
 
+-- reading such arguments fails in one of these ways, and gives no plan (no_plan)
 refusal : (ws : List Text) (k : ErrorKind) (fault : WordsFault) → AreRefused ws (k ∷ []) → IsReading ws (Err fault)
     → IsRefusal k fault
 refusal ws k (faults.Words e) one (names, among) = the_fault k (kind_of e) _ (one names) among
@@ -45,6 +50,7 @@ is_shown : (k x : ErrorKind) → (k ≡ DisplayHelp) ⊎ (k ≡ DisplayVersion) 
 is_shown k x (inl help) is no_help no_version = no_help (is ∙ help)
 is_shown k x (inr version) is no_help no_version = no_version (is ∙ version)
 
+-- what is reported is then the text that was asked for
 shown : (k : ErrorKind) (fault : WordsFault) (w w' : OutputState) (status : ℕ)
     → (k ≡ DisplayHelp) ⊎ (k ≡ DisplayVersion) → IsRefusal k fault → ReportsArguments fault w w' status
     → WritesHelp w w' status
@@ -57,6 +63,7 @@ shown k (faults.BadFen f) w w' status help is reported = absurd is
 shown k faults.BadDate w w' status help is reported = absurd is
 shown k faults.BadKind w w' status help is reported = absurd is
 
+-- so `--help` and `--version` write a text
 pub shows_help : (ws : List Text) (k : ErrorKind) → (k ≡ DisplayHelp) ⊎ (k ≡ DisplayVersion) → AreRefused ws (k ∷ [])
     → ShowsHelp ws
 shows_help ws k help one s s' steps status (Ok plan, is, ran) = absurd (no_plan ws k plan one is)
@@ -68,11 +75,13 @@ shows_help ws k help one s s' steps status (Err fault, is, (none, same, reported
 
 -- ---- other kinds
 
+-- a fault can't both ask for a text and be of another kind
 pub no_help_asked : {A : Type 0} (x : ErrorKind) → (x ≡ DisplayHelp) ⊎ (x ≡ DisplayVersion) → x ≢ DisplayHelp
     → x ≢ DisplayVersion → A
 no_help_asked x (inl asked) help version = absurd (help asked)
 no_help_asked x (inr asked) help version = absurd (version asked)
 
+-- for a fault of another kind nothing is written, and the status is 2, or 1 as memory ran out
 refused : (k : ErrorKind) (fault : WordsFault) (w w' : OutputState) (status : ℕ) → k ≢ DisplayHelp → k ≢ DisplayVersion
     → IsRefusal k fault → ReportsArguments fault w w' status → (w' ≡ w) × ((status ≡ 2) ⊎ (status ≡ 1))
 refused k (faults.Words e) w w' status help version is (inl (asked, writes)) =

@@ -1,4 +1,5 @@
--- Exit statuses, as what the program does says them.
+-- The exit status of the program for each fault of its arguments and each result of its commands, as the definition of
+-- what it does (`Does`) says it.
 use Rattle.std.proofs.Common.{◌≡◌, ◌≢◌, ℕ, inl, inr, refl}
 use Rattle.clap.specs.Words.{kind_of}
 use Rattle.clap.specs.{declared.error.Error.Error, declared.error.kind.ErrorKind.TheVariants.DisplayHelp, declared.error.kind.ErrorKind.TheVariants.DisplayVersion}

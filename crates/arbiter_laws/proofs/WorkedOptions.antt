@@ -1,4 +1,5 @@
--- What options mean, by computation; of a match, by the parts of its plan.
+-- The examples of specs/WorkedOptions: levels, starts, dates and the options of `verify` are computed; what an option
+-- of `match` means is the field of its plan (`IsMatchPlan`) that says so.
 use Rattle.std.proofs.Common.{refl}
 use Rattle.cecp_engine.specs.Levels.{base_of, level_reading, milliseconds_of, thousandths_of}
 use Rattle.text_lines.specs.Words.{argument_of}

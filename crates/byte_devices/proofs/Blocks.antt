@@ -1,5 +1,6 @@
--- The first byte of a text that passes a test is found block by block: a block's mask has a bit for each of its bytes,
--- which is 1 where the byte passes.
+-- How the first byte that passes a test is found block by block: a block's mask has a bit for each of its bytes, which
+-- is 1 where the byte passes. If no bit is set, the block is passed over (passed); otherwise the lowest set bit is that
+-- of the first such byte (found).
 use Rattle.std.proofs.Common.{◌≡◌, ◌≢◌, ℕ, ◌+◌, ◌*◌, ◌≤◌, ◌%◌, ◌^◌, Bool, true, false, not, cond, eqb, ◌||◌, List, [], ◌∷◌, length, map, drop, bit_or, refl, sym, ap, ◌∙◌, arith, ◌==◌}
 use Rattle.std.specs.List.{position_or_len}
 use Rattle.std.proofs.{Math.Path.fun_ext, lemmas.List.length-map, lemmas.List.Folds.prefix_len-append, lemmas.List.Sums.prefix_len-le-length}
@@ -11,6 +12,7 @@ use lib.{Count.count_trailing_zeros, Lanes.chunk, Lanes.mask_l, Lanes.top}
 abbrev pub is_any : ℕ → ℕ → ℕ → ℕ → Bool
 is_any a b c = λ x. x == a || (x == b || x == c)
 
+-- so the first byte that is any of `a`, `a` and `a` is the first `a`
 one_of_one : (b : Bool) → (b || (b || b)) ≡ b
 one_of_one true = refl
 one_of_one false = refl
@@ -31,6 +33,8 @@ tops false true false = refl
 tops false false true = refl
 tops false false false = refl
 
+-- the mask by the top bits of the lanes is the mask by the test `p`, if the lane of each byte has its top bit set just
+-- where `p` passes
 pub mask_of : (p : ℕ → Bool) (f : ℕ → ℕ) (xs lanes : List ℕ) → lanes ≡ map f xs → ((x : ℕ) → top 7 (f x) ≡ p x)
     → length xs ≤ 64 → mask_l (map (top 7) lanes) % 2 ^ 64 ≡ mask_l (map p xs)
 mask_of p f xs lanes is tests few =
@@ -45,6 +49,7 @@ bit_unset true n l m few all on = absurd (omega (arith, all))
 bit_unset false n l m few all on = let none = on (omega (arith, all)) in omega (arith, none)
 
 module _ (p : ℕ → Bool) where
+  -- no byte passes: the mask is 0; by induction on the bytes
   none_set : (xs : List ℕ) → position_or_len p xs ≡ length xs → mask_l (map p xs) ≡ 0
   none_set [] all = refl
   none_set (x ∷ xs) all =
@@ -52,6 +57,7 @@ module _ (p : ℕ → Bool) where
       let few = prefix_len-le-length (λ y. not (p y)) xs in
       bit_unset (p x) (position_or_len p xs) (length xs) (mask_l (map p xs)) few up (none_set xs)
 
+  -- the block of `n` bytes from the offset `k` on, and how many bytes `after` it come before the next that passes
   module _ (xs : List ℕ) (k n : ℕ) (room : k + n ≤ length xs) where
     abbrev block : List ℕ
     block = chunk k n xs
@@ -59,6 +65,7 @@ module _ (p : ℕ → Bool) where
     abbrev after : ℕ
     after = position_or_len p (drop (k + n) xs)
 
+    -- the first byte that passes from `k` on is in the block, or comes after it
     by_block : position_or_len p (drop k xs)
         ≡ cond (eqb (position_or_len p block) (length block)) (length block + after) (position_or_len p block)
     by_block = ap (position_or_len p) (chunk-drop k n xs) ∙ prefix_len-append (λ x. not (p x)) block (drop (k + n) xs)
@@ -81,5 +88,6 @@ module _ (p : ℕ → Bool) where
         ∙ sym (trailing_mask_l p 64 block (omega (arith, long, few)) (omega (arith, is, some)))
         ∙ ap (λ m. count_trailing_zeros 64 m) (sym is)
 
+-- no more bytes come before it than there are
 pub few_before : (p : ℕ → Bool) (xs : List ℕ) (r : ℕ) → r ≡ position_or_len p xs → r ≤ length xs
 few_before p xs r is = let few = prefix_len-le-length (λ x. not (p x)) xs in omega (arith, few, is)

@@ -1,13 +1,15 @@
--- What a writer that counts its bytes passes on of its own writer's answer, with the counts after it, is a write as the
--- definitions say.
+-- A write of `Counted`: it passes on what the device answers, `Ok n` or a fault, and counts it. So its counts change as
+-- `WriteStep` asks of a write (counted_write).
 use Rattle.std.proofs.Common.{◌≡◌, ℕ, ◌<◌, ◌≤◌, ◌==◌, ◌&&◌, nat_lt, Bool, true, false, if◌then◌else◌, List, [], length, take, Option, None, Some, Result, Ok, Err, refl, sym, ap, subst, ◌∙◌, arith, append-nil, length-take-le}
 use Rattle.std.proofs.{lemmas.Bool.and_parts, lemmas.Bool.Decides.nat_tests}
 use Rattle.std.specs.{Io.WritesAtMost, Io.KnownBytes.Keeps, Io.KnownBytes.Appends, Io.KnownBytes.WriteAppends}
 use Rattle.byte_devices.specs.{declared.counted.Counts.Counts, Devices.OutputState, Devices.WriteStep, Devices.saturating_add, ties.Counting.one_failure_more, ties.Counting.write_passed_on, ties.Counting.counts_after_write}
 
+-- the state of an output with these known bytes and these counts
 abbrev pub state_of : Option (List ℕ) → Counts → OutputState
 state_of known c = record { known_bytes = known; failure_count = c.failures; unflushed = c.unflushed }
 
+-- the device took `n` bytes: they are appended, and counted as unflushed
 wrote : (F : Type 0) (a b : Option (List ℕ)) (old new : Counts) (n : ℕ) (buf : List ℕ) → n ≤ length buf
     → (0 < length buf → 0 < n) → Appends a b (take n buf)
     → new ≡ counts_after_write {E = F} old (Ok n) → WriteStep {E = F} (state_of a old) (state_of b new) (Ok n) buf
@@ -21,18 +23,20 @@ wrote F a b old new n buf within some bytes is = (
   },
 )
 
+-- the device failed: nothing is appended, and one failure more is counted
 failed : {F : Type 0} (fault : F) (a b : Option (List ℕ)) (old new : Counts) (buf : List ℕ) → Appends a b []
     → new ≡ one_failure_more old
     → WriteStep {E = F} (state_of a old) (state_of b new) (Err fault) buf
 failed fault a b old new buf bytes is =
     record { bytes = bytes; failures = ap (λ c. c.failures) is; unflushed = ap (λ c. c.unflushed) is }
 
+-- bytes that stayed as they were got nothing appended
 kept : (a b : Option (List ℕ)) → Keeps a b → Appends a b []
 kept None b h = tt
 kept (Some s) None h = absurd h
 kept (Some s) (Some t) h = h ∙ sym (append-nil s)
 
--- what is made of a writer's answer is a write
+-- either answer of the device is such a write; taking no byte of a text that isn't empty is a failure
 pub counted_write : {E F : Type 0} (fault : F) (a b : Option (List ℕ)) (old new : Counts) (answered : Result ℕ E)
     (result : Result ℕ F) (buf : List ℕ)
     → WritesAtMost answered buf → WriteAppends a b answered buf → result ≡ write_passed_on fault (length buf) answered

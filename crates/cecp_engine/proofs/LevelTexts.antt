@@ -1,4 +1,5 @@
--- What is written of a level is ASCII.
+-- The text of a level, such as `40 0:30 0.5`, is ASCII: digits, points, colons and spaces. A lemma for each part of it,
+-- and last the whole (level_ascii).
 use Rattle.std.proofs.Common.{◌≡◌, ℕ, ◌+◌, ◌/◌, ◌%◌, ◌<◌, ◌≤◌, Bool, true, false, eqb, List, [], ◌∷◌, ◌++◌, refl, arith, IsAscii, decimal, append-nil}
 use Rattle.std.proofs.{lemmas.Fmt.IsAscii-decimal, lemmas.Str.IsAscii-append, lemmas.Str.Ascii.IsAscii-nil, lemmas.Str.Ascii.IsAscii-cons}
 use Rattle.byte_devices.specs.Bytes.{byte}

@@ -1,4 +1,4 @@
--- Where there is nothing to report, the output of the log stays as it is.
+-- A match without a fault reports none: the error output stays as its logs left it.
 use Rattle.std.proofs.Common.{false, [], refl}
 use Rattle.byte_devices.specs.Transfers.{nothing}
 use Rattle.byte_devices.proofs.shared.Transfers.{took_nothing}

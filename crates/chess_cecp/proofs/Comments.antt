@@ -1,4 +1,5 @@
--- A comment keeps all of the text of a claim.
+-- The comment of each draw claim, such as `50-move rule`, is short and has no braces, so `cut_comment`, which shortens
+-- the comments of results, changes nothing in it.
 use Rattle.std.proofs.Common.{◌≡◌, refl}
 use Rattle.chess_game.specs.{Ends.claim_comment, Results.cut_comment, declared.verdicts.DrawClaim.DrawClaim, declared.verdicts.DrawClaim.TheVariants.Threefold, declared.verdicts.DrawClaim.TheVariants.FiftyMoves}
 

@@ -18,7 +18,8 @@ is_show_pgn : (c : Command) → shows_pgn c ≡ true → c ≡ ShowPgn
 is_show_pgn ShowPgn e = refl
 is_show_pgn _ e = cc
 
--- the response to a line that is not too long and is this command, if its row says only a text
+-- the response of a session to a line that is not too long and has this command, if the command's row in the table of
+-- commands only answers a text and keeps the game
 said : (seen : SessionSeen) (line : LineSeen) (command : Command) (text : List ℕ) → line.too_long ≡ false
     → command_of line.text ≡ command
     → row seen.tags seen.limit seen.state line.text (argument_of line.text) command ≡ says seen.state text
@@ -54,11 +55,14 @@ pgn_row seen line asks =
     said seen line ShowPgn (pgn_text seen) (not-true line.too_long both.0)
     (is_show_pgn (command_of line.text) both.1) refl
 
--- a line that is answered by a text that the session gives once the line is obeyed; the session goes on
+-- the response to `line` is the text that `text_of` gives for the session `obeyed`, which is the one after the line;
+-- and the session goes on
 pub record IsOwnReply (text_of : SessionSeen → List ℕ) (seen obeyed : SessionSeen) (line : LineSeen) : Type 0 where
   pub text : (session_response seen line).text ≡ text_of obeyed
   pub goes_on : (session_response seen line).ends ≡ false
 
+-- a row that answers `text_of` of the session before the line and keeps the session: so the text can be taken from the
+-- session after the line, as the code does
 by_row : (text_of : SessionSeen → List ℕ) (seen obeyed : SessionSeen) (line : LineSeen)
     → session_response seen line ≡ says seen (text_of seen)
     → obeyed ≡ (session_response seen line).state → IsOwnReply text_of seen obeyed line
@@ -69,6 +73,7 @@ by_row text_of seen obeyed line row is =
       goes_on = ap (λ (r : Response SessionSeen). r.ends) row;
     }
 
+-- the two cases for the code: a line that is replied to by the legal moves, and one that is by the game's PGN
 pub by_moves : (seen obeyed : SessionSeen) (line : LineSeen) → Moves ≡ reply_to line
     → obeyed ≡ (session_response seen line).state → IsOwnReply moves_text seen obeyed line
 by_moves seen obeyed line e is =
@@ -81,7 +86,8 @@ by_pgn seen obeyed line e is =
     let asks : asks_for_pgn line ≡ true = grind arith in
     by_row pgn_text seen obeyed line (pgn_row seen line asks) is
 
--- whether the session goes on after a text that was put together
+-- after a line that is replied to by a text, the `Go` that the code returns is `Quit` just if the session's response
+-- ends it
 pub text_go : (seen : SessionSeen) (line : LineSeen) (go : Further) → Text go ≡ reply_to line
     → go ≡ (if (session_response seen line).ends then further.Quit else further.On)
 text_go seen line go e = rw (line_ends seen line) (grind arith)

@@ -1,26 +1,29 @@
--- The responses to lines one after another: those after the first lines go on from the state where these left the
--- server, unless it ended.
+-- A server's response to several lines, taken apart: if the server ends with none of the first lines, the response to
+-- all is the text for the first ones, and then the response to the others from the state that the first ones left
+-- (responses_on).
 use Rattle.std.proofs.Common.{◌≡◌, ℕ, Bool, true, false, List, [], ◌∷◌, ◌++◌, refl, sym, ap, ◌∙◌, append_assoc, append-nil, if◌then◌else◌, arith}
 use Rattle.text_lines.specs.Lines.{LineSeen}
 use Rattle.chess_cecp.specs.Serving.{Response, Server, and_then, responses}
 
--- a response after that text
+-- the response `r` with this text before its own
 abbrev pub with_front : {S : Type 0} → List ℕ → Response S → Response S
 with_front text r = record r { text = text ++ r.text }
 
 fronts : {S : Type 0} (a b : List ℕ) (r : Response S) → with_front a (with_front b r) ≡ with_front (a ++ b) r
 fronts a b r = ap (λ t. record r { text = t }) (sym (append_assoc a b r.text))
 
+-- two responses as one: `next` follows `r` if the server goes on after `r`, and is left out if it ends with it
 pub passes : {S : Type 0} (r next : Response S) → r.ends ≡ false → and_then r next ≡ with_front r.text next
 passes r next e = rw e
 
 pub stops : {S : Type 0} (r next : Response S) → r.ends ≡ true → and_then r next ≡ r
 stops r next e = rw e
 
--- where the responses go on, the first does
+-- if the server goes on after two responses, it went on after the first
 first_goes : {S : Type 0} (r next : Response S) → (and_then r next).ends ≡ false → r.ends ≡ false
 first_goes r next h = grind arith
 
+-- the response to a single line is the server's response to it, whether or not it ends with it
 alone_by : {S : Type 0} (b : Bool) (r : Response S) → r.ends ≡ b
     → (if b then r else with_front r.text (record { text = []; state = r.state; ends = false })) ≡ r
 alone_by true r e = refl
@@ -32,7 +35,7 @@ pub alone : {S : Type 0} (respond : Server S) (s : S) (line : LineSeen)
     → responses respond s (line ∷ []) ≡ respond s line
 alone respond s line = alone_by (respond s line).ends (respond s line) refl
 
--- lines with none of which the server ends: those after them go on from where they left it
+-- the server ends with none of `xs`: it responds to `ys` from the state in which `xs` left it; by induction on `xs`
 pub responses_on : {S : Type 0} (respond : Server S) (s : S) (xs ys : List LineSeen)
     → (responses respond s xs).ends ≡ false
     → responses respond s (xs ++ ys)

@@ -1,4 +1,5 @@
--- What is true of each row: a session ends with `quit` and with no other line, and a refusal changes nothing.
+-- Two facts of each row of the table of commands (`row`), shown command by command: the session ends just if the
+-- command is `quit` (line_ends), and an answer that is a refusal changes nothing (refused_keeps).
 use Rattle.std.proofs.Common.{◌≡◌, ℕ, ◌==◌, ◌&&◌, ◌||◌, inl, inr, Bool, true, false, List, [], ◌∷◌, ◌++◌, get_or, codes, refl, sym, ap, ◌∙◌, if◌then◌else◌, length, Option, None, Some, bytes_eq, nat_le, nat_lt, not, Result, Ok, Err}
 use Rattle.std.specs.Option.{option_map_or}
 use Rattle.chess_base.specs.{declared.fen_fault.FenFault.FenFault, declared.man.Variant.TheVariants.Fischerandom, declared.setup.Setup.Setup, Initial.initial_setup, Initial.initial_setup_of}
@@ -15,7 +16,7 @@ use Rattle.chess_game.specs.{declared.verdicts.Verdict.Verdict, declared.results
 use Rattle.chess_cecp.specs.declared.command.Command.TheVariants.{New, SetBoard, UserMove, BareMove, Undo, Remove, Declare, Claim, Protover, Variant}
 use Rattle.chess_cecp.specs.Session.{row, answers, becomes_judged, take_back_row, result_row, declares, setboard_row, features_line, reading_row, move_row, IsRefusal, session_response}
 
--- the first bytes of refusals: E, I and t
+-- whether a text begins with `E`, `I` or `t`, as the refusals do (`Error ..`, `Illegal move ..`, `tellusererror ..`)
 abbrev begins_refusal : List ℕ → Bool
 begins_refusal text = (get_or text 0 0 == 69) || (get_or text 0 0 == 73) || (get_or text 0 0 == 116)
 
@@ -29,24 +30,28 @@ pub record Obeys (s : State) (quits : Bool) (r : Response State) : Type 0 where
   pub ends : r.ends ≡ quits
   pub keeps : IsRefusal r.text → r.state ≡ s
 
--- a row whose text is no refusal
+-- a row that goes on, and whose text doesn't begin as a refusal: whatever it changes, it is as `Obeys` asks
 accepted : (s : State) (r : Response State) → begins_refusal r.text ≡ false → r.ends ≡ false → Obeys s false r
 accepted s r e on = record {
   ends = on;
   keeps = λ h. (let t : begins_refusal r.text ≡ true = refusal_begins r.text h in cc);
 }
 
+-- a row that answers any text and keeps the game
 unchanged : (s : State) (text : List ℕ) → Obeys s false (says s text)
 unchanged s text = record { ends = refl; keeps = λ h. refl }
 
+-- a row that changes the game and answers nothing
 moved : (s s' : State) → Obeys s false (becomes s')
 moved s s' = accepted s (becomes s') refl refl
 
+-- both rows of a test are as `Obeys` asks, so the test's result is
 by_test : (b : Bool) {s : State} {x y : Response State} → Obeys s false x → Obeys s false y
     → Obeys s false (if b then x else y)
 by_test true h k = h
 by_test false h k = k
 
+-- the line of a result begins with `0`, `1` or `*`, as no refusal does
 outcome_begins : (o : Outcome) (comment : List ℕ)
     → begins_refusal (result_text (record { outcome = o; comment = comment }) ++ new_line ∷ []) ≡ false
 unfolding result_text
@@ -58,9 +63,11 @@ verdict_begins : (o : Option Verdict)
 verdict_begins None = refl
 verdict_begins (Some v) = outcome_begins (verdict_result v).outcome (verdict_result v).comment
 
+-- a row that changes the game and answers the board's verdict, if there is one
 judged : (s s' : State) → Obeys s false (becomes_judged s')
 judged s s' = accepted s (becomes_judged s') (verdict_begins (verdict_now s')) refl
 
+-- the rows of the table, first those with definitions of their own
 reading_obeys : (s : State) (text : List ℕ) (r : Reading) → Obeys s false (reading_row s text r)
 reading_obeys s text (reads.Move m) = judged s (played s m)
 reading_obeys s text _ = unchanged s _
@@ -89,6 +96,7 @@ claim_obeys s (Some c) = accepted s (declares s (record { outcome = Draw; commen
     (outcome_begins Draw (claim_comment c)) refl
 claim_obeys s None = unchanged s _
 
+-- each row of the table of commands
 row_obeys : (tags : Tags) (limit : ℕ) (s : State) (text argument : List ℕ) (command : Command)
     → Obeys s (is_quit_command command) (row tags limit s text argument command)
 row_obeys tags limit s text argument New = moved s (from_start initial_setup)
@@ -113,6 +121,7 @@ line_row seen line =
     if line.too_long then answers seen.state (codes "Error (line too long): ") line.text
     else row seen.tags seen.limit seen.state line.text (argument_of line.text) (command_of line.text)
 
+-- a line that is too long is refused, which keeps the game and is no `quit`
 unless_long : (long quits : Bool) {s : State} (text : List ℕ) {r : Response State} → Obeys s quits r
     → Obeys s (not long && quits) (if long then says s text else r)
 unless_long true quits {s} text h = unchanged s text
@@ -134,7 +143,7 @@ unfolding session_response
 refused_keeps seen line h =
     ap (λ v. record { tags = seen.tags; limit = seen.limit; state = v }) ((line_obeys seen line).keeps h)
 
--- the same of a session that is left; and tags and limit stay in any case
+-- the same of a session `left` that is the one after the line; and in any case the line keeps tags and limit
 pub refused : (seen left : SessionSeen) (line : LineSeen) → left ≡ (session_response seen line).state
     → IsRefusal (session_response seen line).text → left ≡ seen
 refused seen left line is h = is ∙ refused_keeps seen line h

@@ -1,4 +1,6 @@
--- A run of a server of lines, line by line.
+-- What serve_lines does, as the claim `Served` says it. The loop's invariant is SoFar: all lines reached were answered,
+-- and the server ended with none of them. It holds at the start (start), an answer more keeps it (go_on), and each way
+-- out of the loop gives `Served`: by_line, by_write, by_last, by_end, by_read.
 use Rattle.std.proofs.Common.{◌≡◌, ℕ, ◌+◌, ◌-◌, ◌≤◌, inl, inr, Bool, true, false, List, [], ◌∷◌, ◌++◌, length, Some, None, Ok, Err, refl, sym, ap, ◌∙◌, arith, append_assoc, append-nil, length-append, if◌then◌else◌, subst, slice_get, MatchBool}
 use Rattle.std.proofs.{Math.Seq.take-append-add, Math.Seq.take-append_seam, lemmas.Grind.common_steps}
 use Rattle.std.specs.Io.KnownBytes.{Consumes, IsAtEnd}
@@ -16,20 +18,28 @@ use Rattle.chess_cecp.proofs.Responses.{with_front, stops, alone, responses_on}
 
 -- ---- the lines so far
 
--- after some lines were answered, with none of which the server ended
+-- the invariant: from the input `r`, the output `w` and the server `s` the loop has come to `r'`, `w'` and `s'`. The
+-- bytes `given` were read, their lines `done` were answered, the server ended with none of them, and the bytes `held`
+-- are left, with no line of them returned yet
 pub record SoFar {S : Type 0} (respond : Server S) (r r' : InputState) (w w' : OutputState) (s s' : S) (held : Held)
     (given : List ℕ) (done : List LineSeen) : Type 0 where
   pub bytes : Consumes r.known_bytes r'.known_bytes given
+  -- the answers to `done` were written and flushed
   pub took : OutputTook w w' (all_for done (responses respond s done).text)
   pub state : s' ≡ (responses respond s done).state
   pub goes_on : (responses respond s done).ends ≡ false
+  -- whatever bytes follow (`rest`), and whether or not the end is reported then: the lines of all are `done`, and then
+  -- those of the bytes held and of `rest`
   pub lines : (reported : Bool) (rest : List ℕ)
       → stream_lines COMMAND_LEN reported (given ++ rest) ≡ done ++ lines_held COMMAND_LEN reported held rest
+  -- the lines that were complete before the last read were all answered, so that read was needed
   pub on_demand : length (stream_lines COMMAND_LEN false (before_piece r'.last_len given)) ≤ length done
+  -- no failure, end or silence is counted
   pub failures : r'.failure_count ≡ r.failure_count
   pub ends : r'.end_count ≡ r.end_count
   pub silences : r'.silence_count ≡ r.silence_count
 
+-- the invariant before the first line: nothing was read, answered or held
 pub start : {S : Type 0} (respond : Server S) (r : InputState) (w : OutputState) (s : S)
     → SoFar respond r r w w s s nothing_held [] []
 start respond r w s = record {
@@ -45,7 +55,8 @@ start respond r w s = record {
   silences = refl;
 }
 
--- a line was reached: the lines that were given are those that are done, and that one, and what follows it
+-- `line` was read, after the lines `done`: the bytes `given` have the lines `done`, then `line`, then `after`.
+-- `reported`: the input's end was reported after these bytes, as it is if no `\n` ended the line
 pub record Reached (r r' : InputState) (given : List ℕ) (reported : Bool) (done : List LineSeen) (line : LineSeen)
     (after : List LineSeen) : Type 0 where
   pub bytes : Consumes r.known_bytes r'.known_bytes given
@@ -56,6 +67,7 @@ pub record Reached (r r' : InputState) (given : List ℕ) (reported : Bool) (don
   pub silences : r'.silence_count ≡ r.silence_count
   pub at_end : reported ≡ true → IsAtEnd r'.known_bytes
 
+-- `MatchBool b P Q` is `P` if `b` is true, and otherwise `Q`
 of_true : (b : Bool) (P Q : Type 0) → b ≡ true → MatchBool b P Q → P
 of_true true P Q e p = p
 of_true false P Q e p = cc
@@ -64,12 +76,12 @@ of_false : (b : Bool) (P Q : Type 0) → b ≡ false → MatchBool b P Q → Q
 of_false true P Q e p = cc
 of_false false P Q e p = p
 
--- where a line was reached
+-- `line` was read after the lines `done`, for some bytes and some lines after it
 abbrev pub IsReached : InputState → InputState → List LineSeen → LineSeen → Type 0
 IsReached r r' done line = (given : List ℕ) × (reported : Bool) × (after : List LineSeen)
     × Reached r r' given reported done line after
 
--- what the input gave up to a line that was reached
+-- what the input gave up to a line that was reached, as `InputGave` says it
 gave : {r r' : InputState} {given : List ℕ} {reported : Bool} {done : List LineSeen} {line : LineSeen}
     {after : List LineSeen} → Reached r r' given reported done line after
     → InputGave r r' (came r' given reported false)
@@ -82,20 +94,21 @@ gave at = record {
   silences = at.silences;
 }
 
--- the line that was reached, and the lines before it
+-- of the lines `done`, `line` and `after`, `line` is the one at the index `length done`
 line_there : (done : List LineSeen) (line : LineSeen) (after : List LineSeen)
     → slice_get (done ++ line ∷ after) (length done) ≡ Some line
 line_there [] line after = refl
 line_there (x ∷ done) line after = line_there done line after
 
--- from there on
+-- what the next call for a line leads to, where the invariant (`f`) holds
 module _ {S : Type 0} {respond : Server S} {r r' : InputState} {w w' : OutputState} {s s' : S} {held : Held}
     {given : List ℕ} {done : List LineSeen} (f : SoFar respond r r' w w' s s' held given done) where
   -- the answers so far
   abbrev front : List ℕ
   front = (responses respond s done).text
 
-  -- before the last piece of what was given, no line is whole but those that are done
+  -- the lines that were complete before the last read are still no more than `done`, since a call for a line reads on
+  -- only if no whole line is held
   waited : (r'' : InputState) (more : List ℕ) → Waits COMMAND_LEN r' r'' held more
       → length (stream_lines COMMAND_LEN false (before_piece r''.last_len (given ++ more))) ≤ length done
   waited r'' more (inl (none, same)) = rw (none, append-nil given, same) f.on_demand
@@ -105,6 +118,7 @@ module _ {S : Type 0} {respond : Server S} {r r' : InputState} {w w' : OutputSta
       rw (at, take-append-add given more (length more - r''.last_len)) (
       rw (f.lines false (before_piece r''.last_len more), none, append-nil done) (omega arith))
 
+  -- the line that was read is the last one, which the input's end ended
   reached_last : {r'' : InputState} {held' : Held} {more : List ℕ} {line : LineSeen}
       → Consumes r'.known_bytes r''.known_bytes more → Waits COMMAND_LEN r' r'' held more
       → GotLast COMMAND_LEN r' r'' held held' more line → Reached r r'' (given ++ more) true done line []
@@ -118,6 +132,7 @@ module _ {S : Type 0} {respond : Server S} {r r' : InputState} {w w' : OutputSta
     at_end = λ e. got.at_end;
   }
 
+  -- the line that was read is reached: either `\n` ended it (`line.ended`), or the input's end
   reached_by : (E : Type 0) (r'' : InputState) (held' : Held) (line : LineSeen) (b : Bool) → line.ended ≡ b
       → NextLine {E = E} COMMAND_LEN r' r'' held held' (Ok (Some line)) → IsReached r r'' done line
   reached_by E r'' held' line true e (more, bytes, waits, got) =
@@ -143,14 +158,14 @@ module _ {S : Type 0} {respond : Server S} {r r' : InputState} {w w' : OutputSta
       → NextLine {E = E} COMMAND_LEN r' r'' held held' (Ok (Some line)) → IsReached r r'' done line
   reached E {r''} held' line n = reached_by E r'' held' line line.ended refl n
 
-  -- the responses with that to a line, at the state that was reached
+  -- the response to `done` and one line more: the text so far, and then the response to that line from the state `s'`
   one_more : (line : LineSeen) → responses respond s (done ++ line ∷ []) ≡ with_front front (respond s' line)
   one_more line =
       responses_on respond s done (line ∷ []) f.goes_on
       ∙ ap (with_front front)
       (alone respond (responses respond s done).state line ∙ ap (λ v. respond v line) (sym f.state))
 
-  -- the same of a line with which the server ends, and lines after it
+  -- the same with any lines after that line, if the server ends with it
   one_last : (line : LineSeen) (later : List LineSeen) → (respond s' line).ends ≡ true
       → responses respond s (done ++ line ∷ later) ≡ with_front front (respond s' line)
   one_last line later over =
@@ -158,7 +173,7 @@ module _ {S : Type 0} {respond : Server S} {r r' : InputState} {w w' : OutputSta
       ∙ ap (λ v. with_front front (responses respond v (line ∷ later))) (sym f.state)
       ∙ ap (with_front front) (stops (respond s' line) (responses respond (respond s' line).state later) over)
 
-  -- the next line, once it was answered
+  -- the invariant is kept: the line after `done` was read and answered, and the server goes on
   pub go_on : (E : Type 0) {r'' : InputState} {w'' : OutputState} {s'' : S} {held' : Held} (line : LineSeen)
       → NextLine {E = E} COMMAND_LEN r' r'' held held' (Ok (Some line)) → line.ended ≡ true
       → Sent w' w'' (respond s' line).text → s'' ≡ (respond s' line).state → (respond s' line).ends ≡ false
@@ -283,6 +298,7 @@ module _ {S : Type 0} {respond : Server S} {r r' : InputState} {w w' : OutputSta
     (refl, (refl, refl, rw (f.lines false more, got.whole, append-nil done) (refl, f.state, f.goes_on))),
   )
 
+-- what the returned `Go` says of the response's end `b`: `Quit` that the server ended, `On` that it didn't
 pub over_said : (b : Bool) (go : Go) → go ≡ (if b then goes.Quit else goes.On) → go ≡ goes.Quit → b ≡ true
 over_said b go h k = grind arith
 

@@ -49,7 +49,7 @@ pub enum Go {
 
 // How a line is answered.
 enum Reply {
-    // The text that was put together, and whether the session goes on after it.
+    // The text in the buffer, and whether the session goes on after it.
     Text(Go),
     // The legal moves.
     Moves,
@@ -62,6 +62,7 @@ enum Reply {
 #[derive(Drop)]
 pub struct Session<B: Board> {
     game: Game<B>,
+    // A second board, on which `showpgn` plays the game again to write its moves.
     scratch: B,
     tags: Tags,
 }

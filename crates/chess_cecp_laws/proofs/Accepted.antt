@@ -1,4 +1,5 @@
--- The moves of a game that was read are accepted: what reading asks of a move, a session asks too.
+-- The moves of a game that was read from a PGN are accepted by a session: reading a move asks that the game has no
+-- verdict and has room, and that the word denotes a legal move (PlayedWords), and the row of `usermove` asks no more.
 use Rattle.std.proofs.Common.{◌≡◌, ℕ, true, false, List, [], ◌∷◌, length, None, refl, arith, nat_lt, nat_le}
 use Rattle.std.proofs.lemmas.Bool.Decides.{nat_tests}
 use Rattle.chess_base.specs.declared.man.Move.{Move}
@@ -11,6 +12,7 @@ use Rattle.chess_cecp_laws.proofs.PlayedWords.{AreRead, game_words}
 use Rattle.chess_cecp.specs.{declared.command.Command.TheVariants.UserMove, Session.becomes_judged, Session.row}
 use Rattle.chess_cecp_laws.specs.Accepted.{AreAccepted, ReadGamesAreAccepted}
 
+-- in such a game `usermove` with the word plays the move
 move_accepted : (tags : Tags) (limit : ℕ) (s : State) (m : Move) → verdict_now s ≡ None → s.declared ≡ None
     → nat_lt (length s.moves) limit ≡ true → (line word : List ℕ) → reading (current s) word ≡ reads.Move m
     → row tags limit s line word UserMove ≡ becomes_judged (played s m)
@@ -18,6 +20,7 @@ move_accepted tags limit s m unended bare room line word is =
     let full : nat_le limit (length s.moves) ≡ false = grind (arith, nat_tests, room) in
     rw (unended, bare, full, is) refl
 
+-- so it is for each move, one after another; by induction on the moves
 accepted : (tags : Tags) (limit : ℕ) (s : State) (words : List (List ℕ)) (ms : List Move) → s.declared ≡ None
     → AreRead limit s words ms → AreAccepted tags limit s ms
 accepted tags limit s [] [] bare are = tt

@@ -1,4 +1,5 @@
--- A bare move gets the response of `usermove` with the move.
+-- A bare move, such as `e4`, gets the response of `usermove e4`: both are answered by `move_row` for the same text,
+-- since the first word of a bare move is no command's name, and the argument of `usermove` is the whole text after it.
 use Rattle.std.proofs.Common.{◌≡◌, ◌∙◌, ℕ, suc, Bool, true, false, ◌==◌, List, [], ◌∷◌, ◌++◌, length, Option, None, refl, sym, ap, arith, bytes_eq, codes, if◌then◌else◌, unwrap_or}
 use Rattle.std.specs.List.{list_any}
 use Rattle.std.proofs.lemmas.Bool.{ne_eqb, or_parts}
@@ -12,10 +13,12 @@ use Rattle.chess_cecp_laws.proofs.SessionLines.{if_false, no_name, responds_by}
 
 -- ---- a text whose first word is not empty
 
+-- if the word that begins at a byte is not empty, that byte is no space or tab
 word_by : (blank : Bool) (word : List ℕ) → bytes_eq (if blank then [] else word) [] ≡ false → blank ≡ false
 word_by true word e = absurd (cc)
 word_by false word e = refl
 
+-- such a text has no spaces or tabs at its front
 kept : (text : List ℕ) → bytes_eq (word_of text) [] ≡ false → without_front_blanks text ≡ text
 kept [] e = refl
 kept (c ∷ cs) e =
@@ -24,17 +27,19 @@ kept (c ∷ cs) e =
 more_than_none : (n : ℕ) → (suc n == 0) ≡ false
 more_than_none n = ne_eqb (suc n) 0 (λ e. omega (arith, e))
 
+-- and it is not empty
 filled : (text : List ℕ) → bytes_eq (word_of text) [] ≡ false → (length text == 0) ≡ false
 filled [] e = absurd (cc)
 filled (c ∷ cs) e = more_than_none (length cs)
 
--- no known word is empty, since the first of them is
+-- the empty word is the first of the known words, so a first word that is none of them is not empty
 word_there : (text : List ℕ) → list_any (bytes_eq (word_of text)) known_words ≡ false
     → bytes_eq (word_of text) [] ≡ false
 word_there text e = (or_parts (bytes_eq (word_of text) []) _ e).0
 
 -- ---- the two commands
 
+-- a first word that names no command, in a text that has a move's shape: a bare move
 shaped : (named : Option Command) (b : Bool) → named ≡ None → b ≡ true
     → unwrap_or named (if b then BareMove else Unknown) ≡ BareMove
 shaped named b e f = rw (e, f) refl
@@ -50,6 +55,7 @@ argument_is : (text : List ℕ) → bytes_eq (word_of text) [] ≡ false → arg
 unfolding argument_of
 argument_is text e = kept text e
 
+-- `usermove ` and then this text is the command `usermove`, since the argument is not empty
 is_named : (text : List ℕ) → bytes_eq (word_of text) [] ≡ false → command_of (codes "usermove " ++ text) ≡ UserMove
 unfolding command_of named_command is_ignored
 is_named text e =

@@ -55,10 +55,11 @@ over_move limit s text e =
     (if nat_le limit (length s.moves) then answers s (codes "Error (game too long): ") text
     else reading_row s text (reading (current s) text)) e
 
--- a move when the game has as many half-moves as the limit allows
+-- a limit that is reached, as the row tests it
 full : (a b : ℕ) → a ≤ b → nat_le a b ≡ true
 full a b h = grind (arith, nat_tests, h)
 
+-- a move when the game has as many half-moves as the limit allows, or more
 long_move : (limit : ℕ) (s : State) (text : List ℕ) → is_over s ≡ false → limit ≤ length s.moves
     → move_row limit s text ≡ answers s (codes "Error (game too long): ") text
 long_move limit s text e h =
@@ -68,7 +69,7 @@ long_move limit s text e h =
     ∙ if_true (nat_le limit (length s.moves)) (answers s (codes "Error (game too long): ") text)
     (reading_row s text (reading (current s) text)) (full limit (length s.moves) h)
 
--- a text that is read so in a game that is on
+-- a move's text in a game that is not over and has room: the answer depends only on what the text denotes (`read`)
 read_move : (limit : ℕ) (s : State) (text : List ℕ) (read : Reading) → is_over s ≡ false → length s.moves < limit
     → reading (current s) text ≡ read → move_row limit s text ≡ reading_row s text read
 read_move limit s text read e h is =
@@ -79,7 +80,7 @@ read_move limit s text read e h is =
     (reading_row s text (reading (current s) text)) (lt-leb limit (length s.moves) h)
     ∙ ap (reading_row s text) is
 
--- a game, with the answer by this verdict
+-- the response that keeps the game `s` and answers the line of this verdict, or nothing without one
 abbrev judged_by : State → Option Verdict → Response State
 judged_by s v = says s (option_map_or (λ x. result_text (verdict_result x) ++ new_line ∷ []) v [])
 
@@ -90,7 +91,7 @@ judged s v e = ap (judged_by s) e
 abbrev with_moves : State → List Move → State
 with_moves s ms = record s { moves = ms; declared = None }
 
--- `undo` takes back one move, and `remove` two
+-- `undo` takes back one move, and `remove` two, of a game of one, two or three moves
 one_back : (s : State) (m : Move) → s.moves ≡ m ∷ []
     → take_back_row 1 (codes "undo") s ≡ becomes (from_start s.start)
 one_back s m e =
@@ -123,7 +124,7 @@ not_two_back s m e =
     (answers s (codes "Error (command not legal now): ") (codes "remove"))
     (ap (λ (ms : List Move). nat_le 2 (length ms)) e)
 
--- a draw that may be claimed, or none
+-- the response to `claim` in a game that is not over, by the draw that can be claimed, if there is one
 abbrev claimed : State → Option DrawClaim → Response State
 claimed s claim =
     option_map_or (λ c. declares s (record { outcome = Draw; comment = claim_comment c })) claim
@@ -191,6 +192,7 @@ fen_row : (s : State) (text : List ℕ) (fault : FenFault) → s.start.variant �
 fen_row s text fault e read =
     ap (λ (v : Variant). setboard_row s (fen_reading_as v text)) e ∙ ap (setboard_row s) read
 
+-- `e4` is refused for its missing fields, and a board with a single king for its kings; by computation
 no_fields : fen_reading_as Normal (argument_of (codes "setboard e4")) ≡ Err faults.Fields
 unfolding argument_of
 no_fields = refl

@@ -1,4 +1,6 @@
--- What is answered where it is known which bytes the input has to give.
+-- The law reads_change_no_answer: if the bytes that the input will give are known, the lines read are the first of
+-- their lines (are_first), and a run that ends without a fault answered these lines, as if all bytes had come at once
+-- (answers_input).
 use Rattle.std.proofs.Common.{◌≡◌, ℕ, Bool, true, false, List, [], ◌∷◌, ◌++◌, Option, Some, None, Ok, refl, sym, ap, ◌∙◌, append-nil, subst, IfSome}
 use Rattle.std.proofs.KnownBytes.{Consumes-whole}
 use Rattle.std.specs.Io.KnownBytes.{Consumes}
@@ -9,14 +11,16 @@ use Rattle.chess_cecp.specs.{Serving.Response, Serving.Server, Serving.responses
 use Rattle.chess_cecp.proofs.shared.Lines.{first_lines, stays_ended}
 use Rattle.chess_cecp_laws.specs.KnownInput.{AreFirstLines, AnswersInput, lines_of}
 
--- what holds of the bytes that were read, however they go on, holds of the known bytes
+-- the bytes `bs` were read, and `P` holds of them with any bytes after them: then it holds of all known bytes `a`,
+-- which begin with `bs`. `b`: those that are left, if they are known
 known_front : (a b : Option (List ℕ)) (bs : List ℕ) (P : List ℕ → Type 0) → Consumes a b bs
     → ((rest : List ℕ) → P (bs ++ rest)) → IfSome a P
 known_front None b bs P p h = tt
 known_front (Some x) None bs P p h = absurd p
 known_front (Some x) (Some y) bs P p h = subst P (sym p) (h y)
 
--- what holds of the lines that were read, whatever lines follow, holds of those of the known bytes
+-- `P` holds of the lines read (of `i`) with any lines after them: then it holds of the lines of all known bytes. If the
+-- end was reported, these are the lines read; otherwise more may follow
 known_lines : (d d' : Devices) (i : FromInput) (P : List LineSeen → Type 0) → InputGave d.input d'.input i
     → ((more : List LineSeen) → P (lines_read i ++ more)) → IfSome d.input.known_bytes (λ xs. P (lines_of xs))
 known_lines d d' i P g h = by i.ended refl
@@ -32,12 +36,14 @@ pub are_first : (d d' : Devices) (i : FromInput) → InputGave d.input d'.input 
 are_first d d' i g = known_lines d d' i (λ ls. (more : List LineSeen) × (ls ≡ lines_read i ++ more)) g
     (λ more. (more, refl))
 
--- the responses to these lines are what was written and flushed, and the state after them
+-- between the states of the devices, just the responses to the lines `ls` were written and flushed, and `s'` is the
+-- server's state after them
 abbrev IsAll : {S : Type 0} → Server S → S → S → Devices → Devices → List LineSeen → Type 0
 IsAll respond s s' d d' ls =
     let due = responses respond s ls in OutputTook d.output d'.output (all_for ls due.text) × (s' ≡ due.state)
 
--- lines with which the server ends, and lines after them
+-- if the server ends with one of the lines `ls`, there is a line, so a flush succeeded, with or without `more` after
+-- them
 and_later : {S : Type 0} (respond : Server S) (s : S) (ls more : List LineSeen) (text : List ℕ)
     → (responses respond s ls).ends ≡ true → all_for ls text ≡ all_for (ls ++ more) text
 and_later respond s [] more text ends = absurd cc

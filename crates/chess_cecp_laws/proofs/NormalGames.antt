@@ -1,5 +1,6 @@
--- In a game of normal chess each position is of normal chess, so what is said of the game and its text is what is said
--- for normal chess alone.
+-- In a game that starts in normal chess every later position is of normal chess too, since a move keeps the variant. So
+-- each definition about the game (its positions, repetitions, verdict and PGN) equals the one for normal chess alone,
+-- whose name begins with `normal_`. Lemmas named .._kept say this equation, for one definition each.
 use Rattle.std.proofs.Common.{◌≡◌, ℕ, cond, Bool, ◌||◌, List, [], ◌∷◌, ◌++◌, codes, None, refl, ap, ◌∙◌, if◌then◌else◌, count_by, not}
 use Rattle.std.specs.List.{list_any}
 use Rattle.std.proofs.lemmas.List.Sums.{sum_by-cons}
@@ -39,12 +40,13 @@ same_kept : (p q : Setup) → p.variant ≡ Normal → q.variant ≡ Normal → 
 unfolding is_same_position normal_same
 same_kept p q e h = rw (target_kept p e, target_kept q h)
 
--- one more, where the first is the same
+-- counts of two lists by two tests are still equal with one element more, on which the tests agree
 counted_one : (f g : Setup → Bool) (p : Setup) (ps qs : List Setup) → f p ≡ g p → count_by f ps ≡ count_by g qs
     → count_by f (p ∷ ps) ≡ count_by g (p ∷ qs)
 counted_one f g p ps qs e h =
     rw (sum_by-cons (λ x. cond (f x) 1 0) p ps, sum_by-cons (λ x. cond (g x) 1 0) p qs, e, h)
 
+-- the count of positions that are the same as `q`, among those of the game from `p` on; by induction on the moves
 counted : (q : Setup) → q.variant ≡ Normal → (p : Setup) → p.variant ≡ Normal → (ms : List Move)
     → count_by (λ x. is_same_position x q) (positions_of p ms) ≡ count_by (λ x. normal_same x q) (normal_line p ms)
 counted q h p e [] =
@@ -73,6 +75,7 @@ outcome_kept s e = rw (verdict_kept s.start e s.moves)
 
 -- ---- the text
 
+-- the initial position is one of normal chess
 initial_is_normal : initial_setup.variant ≡ Normal
 unfolding initial_setup initial_setup_of
 initial_is_normal = refl

@@ -1,4 +1,6 @@
--- In a game of normal chess the rows are those of normal chess, but for `variant` and `protover`.
+-- In a game of normal chess each row of the table of commands, but for `variant` and `protover`, is that of the table
+-- for normal chess alone (normal_rows). A lemma for each row says so, by the lemmas of NormalGames on what the row
+-- shows or asks of the game.
 use Rattle.std.proofs.Common.{◌≡◌, ℕ, true, List, [], ◌∷◌, codes, Option, None, Some, Result, Ok, Err, refl, ap, ◌∙◌, IfOk, flat_map}
 use Rattle.chess_base.specs.{declared.fen_fault.FenFault.FenFault, declared.man.Move.Move, declared.man.Variant.TheVariants.Normal, declared.setup.Setup.Setup, Coordinates.coordinate, MoveList.moves}
 use Rattle.chess_fen.specs.{Reading.fen_reading_as, Writing.fen}
@@ -24,6 +26,7 @@ judged_kept s e = rw (verdict_kept s.start e s.moves)
 
 -- ---- setboard
 
+-- `setboard` where the FEN, if it was read, is of a position of normal chess
 set_by : (s : State) (r : Result Setup FenFault) → IfOk r (λ p. p.variant ≡ Normal)
     → setboard_row s r ≡ normal_setboard_row s r
 set_by s (Ok start) normal = judged_kept (from_start start) normal
@@ -69,6 +72,7 @@ fen_shown : (s : State) → s.start.variant ≡ Normal → fen (current s) ≡ n
 fen_shown s e =
     fen_kept (current s) (variant-position_after s.start s.moves ∙ e) ∙ ap normal_fen (last_kept s.start e s.moves)
 
+-- in normal chess the moves shown are the moves' coordinates, as `e1g1` for castling
 listed : (p : Setup) (ms : List Move) → p.variant ≡ Normal
     → flat_map (λ m. 32 ∷ shown_move p m) ms ≡ flat_map (λ m. 32 ∷ coordinate m) ms
 listed p [] e = refl

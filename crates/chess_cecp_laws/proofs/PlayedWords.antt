@@ -1,4 +1,6 @@
--- The words of a game that was read: each denotes a move where a move may be played, and these are the game's moves.
+-- The move texts of a game that pgn_read reads without a fault: a list of words, each of which denotes the game's move
+-- at its index, read where the game has no verdict yet and has room (game_words). It follows the definitions of reading
+-- downwards: a token, the tokens of the moves, the tags before them, the whole text.
 use Rattle.std.proofs.Common.{◌≡◌, ℕ, Bool, true, false, cond, List, [], ◌∷◌, ◌++◌, length, drop, Option, Some, None, is_some, Result, Ok, Err, refl, sym, subst, ◌∙◌, inl, inr, ◌⊎◌, append_assoc, append-nil, ◌||◌, ◌+◌, ◌-◌, nat_lt, slice_get}
 use Rattle.std.specs.{List.list_all, List.filter_map, Option.option_map_or, Result.result_err}
 use Rattle.chess_base.specs.{declared.man.Move.Move, declared.man.Variant.Variant, declared.setup.Setup.Setup, Initial.initial_setup_of}
@@ -48,6 +50,8 @@ record IsPlayed (limit : ℕ) (s : State) (m : Move) : Type 0 where
   room : nat_lt (length s.moves) limit ≡ true
   denotes : reading (current s) word ≡ reads.Move m
 
+-- what the row of a word of a move says if it goes on to `next`: the game had no verdict, it had room for a move, and
+-- `x`, the row by what the word denotes, is that
 open_row : (over : Option Verdict) (room : Bool) (left : ℕ) (x : Row) (next : State)
     → cond (is_some over) (Fails AfterEnd left) (cond room x (Fails TooLong left)) ≡ Goes_on next
     → (over ≡ None) × (room ≡ true) × (x ≡ Goes_on next)
@@ -59,6 +63,7 @@ open_row None true left x next e = (refl, refl, e)
 abbrev After : ℕ → State → State → Type 0
 After limit s next = (next ≡ s) ⊎ ((m : Move) × IsPlayed limit s m × (next ≡ played s m))
 
+-- a word in the place of a move, with which reading goes on: it denotes a move, and the next game has that move more
 word_plays : (limit : ℕ) (s : State) (left : ℕ) (word : List ℕ) (next : State) (r : Reading)
     → reading (current s) word ≡ r → move_row true limit s left r ≡ Goes_on next → After limit s next
 word_plays limit s left word next reads.NotAMove is e = absurd (cc)
@@ -75,6 +80,7 @@ word_plays limit s left word next reads.NoSuch is e =
 same_game : (s next : State) → Goes_on s ≡ Goes_on next → next ≡ s
 same_game s next e = cc
 
+-- a token with which reading goes on: it is skipped, or it is a word whose move is played
 token_goes_on : (limit total : ℕ) (s : State) (t : ℕ × Token) (next : State) → row true limit total s t ≡ Goes_on next
     → After limit s next
 token_goes_on limit total s (left, Skip) next e = inl (same_game s next e)
@@ -97,6 +103,8 @@ token_goes_on limit total s (left, Bad) next e = absurd (cc)
 
 -- ---- the moves
 
+-- reading the tokens `ts` after the tags, from the game `s` on, ended a game: its moves after those of `s` have such
+-- words. By induction on the tokens, by the row of each (token_goes_on)
 moves_words : (limit total : ℕ) (termination : Option Termination) (s : State) (ts : List (ℕ × Token))
     → IsEnd (moves_read true limit total termination s ts).answer
     → Words limit s (moves_read true limit total termination s ts).state
@@ -131,6 +139,7 @@ moves_words limit total termination s (t ∷ ts) h =
         record { words = []; moves = []; are = tt; all = append-nil s.moves; start = refl }
     by_row (Fails kind left) e later k = absurd k
 
+-- the same where the tags have been read: only a word or a skipped token there can lead to the end of a game
 tags_words : (limit total : ℕ) (s : State) (tags ts : List (ℕ × Token))
     → IsEnd (read_after_tags true limit total s tags ts).answer
     → Words limit s (read_after_tags true limit total s tags ts).state
@@ -147,12 +156,14 @@ tags_words limit total s tags ((left, Bad) ∷ ts) h = absurd h
 
 -- ---- the game
 
+-- the same where reading may have met the fault of a FEN: then it ends no game
 by_fault : (limit : ℕ) (s : State) (fault : Option PgnFault) (read : GameRead)
     → (IsEnd read.answer → Words limit s read.state) → IsEnd (option_map_or (with_fault s) fault read).answer
     → Words limit s (option_map_or (with_fault s) fault read).state
 by_fault limit s (Some f) read later h = absurd h
 by_fault limit s None read later h = later h
 
+-- the same where the text may have no game at all: then `Ok None` ends no game either
 by_game : (limit : ℕ) (p s : State) (none : Bool) (read : GameRead)
     → (IsEnd read.answer → Words limit p read.state)
     → IsEnd (cond none (record { state = s; answer = Ok None }) read).answer
@@ -160,11 +171,13 @@ by_game : (limit : ℕ) (p s : State) (none : Bool) (read : GameRead)
 by_game limit p s true read later h = absurd h
 by_game limit p s false read later h = later h
 
+-- words for the moves from the start `p` on are words for all moves of the game `r`, which starts there
 from_words : (limit : ℕ) (p : Setup) (r : State) (w : Words limit (from_start p) r)
     → AreRead limit (from_start r.start) w.words r.moves
 from_words limit p r w = subst (λ q. AreRead limit (from_start q) w.words r.moves) (sym w.start)
     (subst (λ ms. AreRead limit (from_start p) w.words ms) w.all w.are)
 
+-- for a text that is read as a game: its words, one for each of the game's moves
 pub game_words : (limit : ℕ) (text : List ℕ) (at : ℕ) (end : PgnEnd)
     → (pgn_read true limit text at).answer ≡ Ok (Some end)
     → (words : List (List ℕ)) × AreRead limit (from_start (pgn_read true limit text at).state.start) words

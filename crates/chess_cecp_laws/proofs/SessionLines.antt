@@ -1,4 +1,6 @@
--- What every session answers to some lines: by computation, and by the words that no command has.
+-- What every session answers to some lines, whatever its game is. A line whose first word is none of the known ones,
+-- and which has no move's shape, is an unknown command (other_words_are_unknown); the lines of specs/SessionLines are
+-- answered by computing their rows (session_lines_are_answered); and an input is cut into lines (lines_are_cut).
 use Prim.Native.String.{String as Text}
 use Rattle.std.proofs.Common.{◌≡◌, ◌∙◌, ℕ, Bool, true, false, ◌||◌, List, [], ◌∷◌, ◌++◌, length, map, Option, None, Some, refl, sym, ap, option_map, bytes_eq, codes, if◌then◌else◌, nat_le, unwrap_or}
 use Rattle.std.specs.{Fmt.digits, List.AllByRecursion, List.find, List.list_any}
@@ -42,9 +44,11 @@ responds_by session line command fits is = rw (fits, is) refl
 abbrev names : List (List ℕ)
 names = map (λ c. c.0) (commands [])
 
+-- the names don't depend on the argument
 same_names : (argument : List ℕ) → map (λ c. c.0) (commands argument) ≡ names
 same_names argument = refl
 
+-- a word that is no name of these commands finds none of them
 none_found : (word : List ℕ) (cs : List (List ℕ × Command)) → list_any (bytes_eq word) (map (λ c. c.0) cs) ≡ false
     → find (λ c. bytes_eq word c.0) cs ≡ None
 none_found word [] e = refl
@@ -57,6 +61,7 @@ by_kind : (word : List ℕ) → list_any (bytes_eq word) known_words
     ≡ (bytes_eq word [] || list_any (bytes_eq word) (ignored_commands ++ names))
 by_kind word = refl
 
+-- the value of `named_command` for a word that is not empty, not ignored and not found
 none_named : (empty ignored : Bool) (found : Option (List ℕ × Command)) → empty ≡ false → ignored ≡ false
     → found ≡ None → (if empty || ignored then Some Silent else option_map (λ c. c.1) found) ≡ None
 none_named false false None e f g = refl
@@ -64,6 +69,7 @@ none_named false false (Some c) e f g = absurd (cc)
 none_named false true found e f g = absurd (cc)
 none_named true ignored found e f g = absurd (cc)
 
+-- a word that is none of the known ones names no command
 pub no_name : (word argument : List ℕ) → list_any (bytes_eq word) known_words ≡ false
     → named_command word argument ≡ None
 unfolding named_command is_ignored
@@ -79,6 +85,7 @@ no_name word argument e =
     none_named (bytes_eq word []) (list_any (bytes_eq word) ignored_commands)
     (find (λ c. bytes_eq word c.0) (commands argument)) empty ignored none
 
+-- the value of `command_of` for a text that names no command and has no move's shape
 neither : (named : Option Command) (shaped : Bool) → named ≡ None → shaped ≡ false
     → unwrap_or named (if shaped then BareMove else Unknown) ≡ Unknown
 neither None false e f = refl
@@ -103,11 +110,13 @@ other_words_are_unknown session line fits other shapeless =
 
 -- ---- lines worked out
 
+-- the response to a line with this text, by its command
 pub responds : (session : SessionSeen) (line : Text) (command : Command) → command_of (codes line) ≡ command
     → response_to session line ≡ by_command session (codes line) command
 responds session line command is =
     responds_by session (record { text = codes line; too_long = false; ended = true }) command refl is
 
+-- a line is answered by `answer`, and changes nothing, if the row of its command says so
 pub answered : (session : SessionSeen) (line answer : Text) (command : Command) → command_of (codes line) ≡ command
     → (by_command session (codes line) command).text ≡ codes answer
     → (by_command session (codes line) command).state ≡ session
@@ -119,9 +128,12 @@ answered session line answer command is text state goes_on =
       goes_on = ap (λ (r : Response SessionSeen). r.ends) e ∙ goes_on;
     }
 
+-- a line whose command has no effect is ignored
 silent : (session : SessionSeen) (line : Text) → command_of (codes line) ≡ Silent → IsIgnored session line
 silent session line is = answered session line "" Silent is refl refl refl
 
+-- each of the lines for engines, such as `xboard` or `level 40 5 0`, is ignored: nested pairs, a proof for each line of
+-- the list
 ignored : (session : SessionSeen) → AllByRecursion (IsIgnored session) lines_for_engines
 unfolding command_of named_command is_ignored
 ignored session = (
@@ -286,7 +298,7 @@ too_long : (session : SessionSeen)
 unfolding session_response
 too_long session = refl
 
--- there is nothing to take back
+-- a game without moves: `undo` and `remove` are refused
 none_back : (name : List ℕ) (s : State) → s.moves ≡ []
     → (take_back_row 1 name s ≡ answers s (codes "Error (command not legal now): ") name)
     × (take_back_row 2 name s ≡ answers s (codes "Error (command not legal now): ") name)

@@ -1,4 +1,5 @@
--- A position that was shown is set.
+-- `setboard` of the FEN that `showfen` wrote begins a game at the position shown. A FEN begins with no space or tab, so
+-- it is the whole argument of `setboard`; and that it is read back as the same position is a law of chess_fen_laws.
 use Rattle.std.proofs.Common.{◌≡◌, ◌∙◌, ◌≤◌, ℕ, Bool, true, false, eqb, List, [], ◌∷◌, ◌++◌, length, length-append, drop, take, Option, None, Some, Ok, refl, sym, ap, subst, arith, codes}
 use Rattle.std.proofs.{Math.Seq.take-append_seam, lemmas.Bool.Decides.nat_tests}
 use Rattle.chess_base.specs.{Letters.letter, Letters.letter_by, Sound.IsSound, declared.man.Colour.Colour, declared.man.Colour.TheVariants.White, declared.man.Colour.TheVariants.Black, declared.man.Kind.Kind, declared.man.Man.Man, declared.setup.Setup.Setup}
@@ -14,11 +15,12 @@ use Rattle.chess_cecp_laws.specs.SetBoard.{SetboardTakesShownFens}
 
 -- ---- a FEN begins with no space or tab
 
--- the first byte, if there is one, comes after the space
+-- a text is empty, or its first byte is above 32, the code of the space; so it is no space and no tab
 abbrev Begins : List ℕ → Type 0
 Begins [] = Unit {0}
 Begins (c ∷ cs) = 33 ≤ c
 
+-- the letters of all men are above it
 by_letter : (c : Colour) (k : Kind) → 33 ≤ letter_by c k
 by_letter White King = omega arith
 by_letter White Queen = omega arith
@@ -36,6 +38,8 @@ by_letter Black Pawn = omega arith
 letter_high : (man : Man) → 33 ≤ letter man
 letter_high man = by_letter man.colour man.kind
 
+-- the squares of a rank as a FEN writes them; `in_run`: a run of empty squares is being counted, so its digit comes
+-- later
 squares_begin : (in_run : Bool) (row : List (Option Man)) → Begins (squares_text in_run row)
 squares_begin true [] = tt
 squares_begin false [] = tt
@@ -47,10 +51,11 @@ squares_begin false (None ∷ row) = omega arith
 rank_begins : (row : List (Option Man)) → Begins (fen_rank row)
 rank_begins row = squares_begin false row
 
--- it has a first byte, which comes after the space
+-- a text has a first byte, which is above 32
 abbrev Starts : List ℕ → Type 0
 Starts text = (c : ℕ) × (cs : List ℕ) × (text ≡ c ∷ cs) × (33 ≤ c)
 
+-- a text that begins so, and then such a byte: `Starts` holds, even if the first text is empty
 starts_by : (x rest : List ℕ) (c : ℕ) → Begins x → 33 ≤ c → Starts (x ++ c ∷ rest)
 starts_by [] rest c h k = (c, rest, refl, k)
 starts_by (b ∷ bs) rest c h k = (b, bs ++ c ∷ rest, refl, h)
@@ -58,6 +63,7 @@ starts_by (b ∷ bs) rest c h k = (b, bs ++ c ∷ rest, refl, h)
 starts_more : (x rest : List ℕ) → Starts x → Starts (x ++ rest)
 starts_more x rest (c, cs, is, high) = (c, cs ++ rest, ap (λ t. t ++ rest) is, high)
 
+-- a FEN begins with the eighth rank (squares 56 to 63) and a `/` (47)
 placement_starts : (men : List (Option Man)) → Starts (placement_text men)
 unfolding placement_text
 placement_starts men =
@@ -66,6 +72,7 @@ placement_starts men =
 fen_starts : (p : Setup) → Starts (fen p)
 fen_starts p = starts_more (placement_text p.men) _ (placement_starts p.men)
 
+-- so nothing is trimmed at the FEN's front
 kept : (text : List ℕ) → Starts text → without_front_blanks text ≡ text
 kept text (c, cs, is, high) =
     let space : eqb c 32 ≡ false = grind (arith, nat_tests, high) in
@@ -99,7 +106,7 @@ responds_by seen line text command fits same is = rw (fits, same, is) refl
 
 -- ---- the law
 
--- texts that are the same with a line end after them
+-- two texts are equal if they are with a line feed (10) after them
 same_text : (a b : List ℕ) → a ++ 10 ∷ [] ≡ b ++ 10 ∷ [] → a ≡ b
 same_text a b e =
     let m = length-append a (10 ∷ []) in
@@ -108,7 +115,7 @@ same_text a b e =
     sym (take-append_seam a (10 ∷ [])) ∙ ap (take (length a)) e
     ∙ ap (λ k. take k (b ++ 10 ∷ [])) long ∙ take-append_seam b (10 ∷ [])
 
--- what was written is the FEN of the position
+-- the answer to `showfen` is `# fen `, a text and a line feed: that text is the position's FEN
 fen_shown : (p : Setup) (text : List ℕ) → codes "# fen " ++ (fen p ++ 10 ∷ []) ≡ codes "# fen " ++ text ++ 10 ∷ []
     → fen p ≡ text
 fen_shown p text e = same_text (fen p) text (ap (drop 6) e)

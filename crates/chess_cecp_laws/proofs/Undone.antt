@@ -1,4 +1,5 @@
--- A move that was accepted is taken back.
+-- `undo` after a move that was accepted gives back the session as it was. A move is accepted only in a game without a
+-- declared result, and it only appends to the moves; `undo` drops the last move and clears what is declared.
 use Rattle.std.proofs.Common.{◌≡◌, ◌∙◌, ◌-◌, ◌⊎◌, ℕ, suc, Bool, true, false, List, [], ◌∷◌, ◌++◌, length, take, nat_le, Option, None, Some, refl, sym, ap, subst, inl, inr, arith, length-append, codes, if◌then◌else◌, is_some}
 use Rattle.std.proofs.lemmas.Bool.{or_parts}
 use Rattle.byte_devices.specs.Bytes.{new_line}
@@ -11,12 +12,12 @@ use Rattle.chess_cecp.specs.{Commands.command_of, Held.SessionSeen, Serving.Resp
 use Rattle.chess_cecp.specs.Session.{IsRefusal, answers, move_row, reading_row, row, session_response, take_back_row}
 use Rattle.chess_cecp_laws.specs.Undo.{UndoTakesAMoveBack}
 
--- the response to `undo` leaves the state `s`, without an answer
+-- the response `r` has no text and leaves the game `s`
 record Undone (s : State) (r : Response State) : Type 0 where
   pub text : r.text ≡ []
   pub state : r.state ≡ s
 
--- the last move is taken back
+-- the moves with `m` after them, but without the last one, are the moves
 without_last : (moves : List Move) (m : Move) → take (length (moves ++ m ∷ []) - 1) (moves ++ m ∷ []) ≡ moves
 without_last [] m = refl
 without_last (x ∷ moves) m =
@@ -24,7 +25,7 @@ without_last (x ∷ moves) m =
     let n : length (x ∷ (moves ++ m ∷ [])) - 1 ≡ suc (length (moves ++ m ∷ []) - 1) = omega (arith, longer) in
     ap (λ (k : ℕ). take k (x ∷ (moves ++ m ∷ []))) n ∙ ap (λ (ms : List Move). x ∷ ms) (without_last moves m)
 
--- a game in which nothing is declared comes back
+-- so a game in which nothing is declared comes back
 comes_back : (s : State) (m : Move) → s.declared ≡ None → taken_back (played s m) 1 ≡ s
 comes_back s m none =
     ap (λ (ms : List Move). (let g : State = record { start = s.start; moves = ms; declared = None } in g))
@@ -43,6 +44,7 @@ undone_after s m none = at (nat_le 1 (length (s.moves ++ m ∷ []))) refl some
     at true e on = rw e (record { text = refl; state = comes_back s m none })
     at false e on = absurd (let f : false ≡ true = on in cc)
 
+-- a game that is not over has no declared result
 not_declared : (s : State) → is_over s ≡ false → s.declared ≡ None
 not_declared s e = none s.declared (or_parts (is_some (verdict_now s)) (is_some s.declared) e).1
   where
@@ -50,7 +52,8 @@ not_declared s e = none s.declared (or_parts (is_some (verdict_now s)) (is_some 
     none None h = refl
     none (Some d) h = absurd (let f : true ≡ false = h in cc)
 
--- a move's text that is not refused is a move that `undo` takes back
+-- a move's text whose answer is no refusal has been played, so `undo` gives the game back: each other case of
+-- `move_row` answers a refusal
 move_undone : (limit : ℕ) (s : State) (text : List ℕ) → (IsRefusal (move_row limit s text).text → ⊥)
     → Undone s (take_back_row 1 (codes "undo") (move_row limit s text).state)
 move_undone limit s text accepted = at (is_over s) (nat_le limit (length s.moves)) (reading (current s) text) refl accepted

@@ -1,5 +1,6 @@
--- What laws on a match's output need of its games: the tags of each are texts of tags, its moves are legal, its outcome
--- is the one that was reported (`IsGame`), and what was written is their texts and the score (`Wrote`).
+-- What laws on a match's output need of its games: each has tags whose texts a tag may have (tag_texts), legal moves
+-- (is_line), and the outcome that was reported (IsGame); and the output is the text of these games and the score
+-- (Wrote).
 use Rattle.std.proofs.Common.{◌≡◌, ℕ, ◌≤◌, ◌+◌, true, List, [], ◌∷◌, ◌++◌, length, length-append, map, take, None, Some, Option, Ok, Err, Result, sym, ap, subst, inl, inr, arith, is_ok, codes, decimal}
 use Rattle.std.specs.List.{AllByRecursion, enumerate_from}
 use Rattle.std.proofs.{lemmas.Bool.Decides.nat_tests, lemmas.List.length-map, lemmas.List.length-take}
@@ -17,16 +18,19 @@ use Rattle.match_pgn_laws.specs.Scores.{HasScore}
 
 -- ---- tags
 
+-- each byte of a text as tags show it is printable ASCII
 each_shown : (text : List ℕ) → AllByRecursion (λ c. (32 ≤ c) × (c ≤ 126)) (map shown_byte text)
 each_shown [] = tt
 each_shown (c ∷ cs) = ((grind (arith, nat_tests), grind (arith, nat_tests)), each_shown cs)
 
+-- a text cut for a tag, to 60 bytes of printable ASCII, may be a tag's text
 cut_is_tag : (text : List ℕ) → IsTagText (cut_tag text)
 cut_is_tag text = record {
   few = omega (arith, length-map (take 60 text) shown_byte, length-take 60 text);
   printable = each_shown (take 60 text);
 }
 
+-- so all tags of a game of a match are such texts
 pub tag_texts : (plan : GamesPlan) (number : ℕ) (end : MatchEnd) → AreTagTexts (tags_of plan number end)
 tag_texts plan number end = record {
   event = cut_is_tag (codes "CECP match");
@@ -54,6 +58,7 @@ pub record IsGame (plan : GamesPlan) (number : ℕ) (played : GameRecord) : Type
   pub moves : played.after.game.state.moves ≡ final.played
   pub outcome : played.end.outcome ≡ outcome_now played.after.game.state
 
+-- a game that was played by the plan is such a game
 pub is_game : OutcomesAreOfTheGame → (plan : GamesPlan) (number : ℕ) (played : GameRecord)
     → IsOfPlan plan number played → IsGame plan number played
 is_game outcomes plan number played (limit, spared, (H, reason, notes, by)) =
@@ -66,6 +71,7 @@ is_game outcomes plan number played (limit, spared, (H, reason, notes, by)) =
       outcome = outcomes H reason _ played.end played.before played.after by;
     }
 
+-- its moves are legal, each in its position, as those of every match are (the law `GamesAreLines`)
 pub is_line : GamesAreLines → (plan : GamesPlan) (number : ℕ) (played : GameRecord)
     → (g : IsGame plan number played) → IsLine played.after.game.state.start played.after.game.state.moves
 is_line lines plan number played g =
@@ -74,6 +80,7 @@ is_line lines plan number played g =
     (lines plan.start (of_colour (setup_of plan number).levels) plan.patience plan.draws MOST_MOVES g.acts g.final
     g.is_match))
 
+-- its start is sound, if the plan's is
 pub is_sound : (plan : GamesPlan) (number : ℕ) (played : GameRecord) → IsGame plan number played
     → IsSound plan.start → IsSound played.after.game.state.start
 is_sound plan number played g sound = subst IsSound (sym g.start) sound
@@ -91,6 +98,7 @@ pub record Wrote (plan : GamesPlan) (result : Result (Unit {0}) GamesFault) (d d
   pub all : is_ok result ≡ true → length games ≡ plan.games
   pub written : OutputTook d.output d'.output (all_of (game_texts plan games ++ score_line games))
 
+-- games without a fault, and with a last game more that may have one, were all played by the plan
 of_faultless : (plan : GamesPlan) (n : ℕ) (games : List GameRecord)
     → AllByRecursion (λ g. IsOfPlan plan g.0 g.1 × (g.1.end.fault ≡ None)) (enumerate_from n games)
     → AreOfPlan plan n games
@@ -105,6 +113,7 @@ with_last plan n number [] last h of is =
 with_last plan n number (g ∷ before) last h of is =
     (h.0, with_last plan (n + 1) number before last h.1 of (omega (arith, is)))
 
+-- so it is for all games of a match, whether or not one of them ended it by a fault
 of_all : (plan : GamesPlan) (games : List GameRecord) (fault : Option (ℕ × Colour × MatchFault))
     → AreAllGames plan games fault → AreOfPlan plan 1 games
 of_all plan games None (h, many) = of_faultless plan 1 games h
@@ -114,6 +123,7 @@ of_all plan games (Some (number, side, fault)) (before, last, is, h, of, found, 
     subst (AreOfPlan plan 1) (sym is)
     (with_last plan 1 number before last (of_faultless plan 1 before h) of (omega (arith, longer, long, counted)))
 
+-- a match that was played to its score wrote what `Wrote` says: without a fault, or with that of its last game
 scored_by : (plan : GamesPlan) (result : Result (Unit {0}) GamesFault) (coming : ℕ → Option ℕ)
     (passes : List GamesStep → Type 0) (d d' : Outputs) → HasScore result
     → PlaysBy plan result coming passes d d' → Wrote plan result d d'

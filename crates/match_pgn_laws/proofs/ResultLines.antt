@@ -1,4 +1,6 @@
--- Which lines of a game's text begin with `[Result `: the line of its tag, and no other.
+-- The only line of a game's text that begins with `[Result ` is that of its tag Result (game_found): the other tags
+-- have other names, and the lines of moves have no `[` at all. All lines are cut right, since no tag or move has a line
+-- feed in it.
 use Rattle.std.proofs.Common.{◌≡◌, ◌∙◌, ℕ, ◌≤◌, Bool, true, false, ◌&&◌, ◌||◌, cond, eqb, List, [], ◌∷◌, ◌++◌, length, take, refl, sym, ap, subst, append_assoc, append-nil, arith, bytes_eq, codes, decimal, not, nat_le}
 use Rattle.std.specs.List.{AllByRecursion, filter, list_all, onto_first, slice_split}
 use Rattle.std.specs.Str.Parse.{AllDigits}
@@ -29,6 +31,7 @@ in_line c = not (eqb c 10)
 abbrev is_result : List ℕ → Bool
 is_result line = bytes_eq (take 8 line) (codes "[Result ")
 
+-- cutting a text at its line feeds (10) gives the first line, if that has none in it, and then the lines of the rest
 split_line : (line rest : List ℕ) → list_all in_line line ≡ true
     → slice_split (λ c. eqb c 10) (line ++ 10 ∷ rest) ≡ line ∷ slice_split (λ c. eqb c 10) rest
 split_line [] rest h = refl
@@ -46,6 +49,7 @@ split_line (c ∷ cs) rest h =
 abbrev AreLines : List (List ℕ) → Type 0
 AreLines lines = AllByRecursion (λ line. list_all in_line line ≡ true) lines
 
+-- so it gives these lines, and then those of the rest; and of these the ones with `[Result ` (lines_found)
 lines_split : (lines : List (List ℕ)) (rest : List ℕ) → AreLines lines
     → slice_split (λ c. eqb c 10) (ended [] lines ++ rest) ≡ lines ++ slice_split (λ c. eqb c 10) rest
 lines_split [] rest h = refl
@@ -62,12 +66,14 @@ lines_found lines rest h =
 
 -- ---- moves: no `\n`, and no `[`
 
+-- a byte that is neither a line feed (10) nor `[` (91), and texts of such bytes
 abbrev is_inner : ℕ → Bool
 is_inner c = not (eqb c 10) && not (eqb c 91)
 
 abbrev AreInner : List (List ℕ) → Type 0
 AreInner texts = AllByRecursion (λ text. list_all is_inner text ≡ true) texts
 
+-- if all bytes of two texts pass a test, so do all of both together; and the same of two lists
 joined : (p : ℕ → Bool) (xs ys : List ℕ) → list_all p xs ≡ true → list_all p ys ≡ true → list_all p (xs ++ ys) ≡ true
 joined p xs ys h k = list_all-append p xs ys ∙ and_from (list_all p xs) (list_all p ys) h k
 
@@ -79,6 +85,7 @@ all_joined P (x ∷ xs) ys h k = (h.0, all_joined P xs ys h.1 k)
 inner_is_in_line : (c : ℕ) → is_inner c ≡ true → in_line c ≡ true
 inner_is_in_line c h = (and_parts (in_line c) (not (eqb c 91)) h).0
 
+-- texts of such bytes are lines, none begins with `[Result ` (no_result), and so none is found (none_found)
 inner_lines : (lines : List (List ℕ)) → AreInner lines → AreLines lines
 inner_lines [] h = tt
 inner_lines (line ∷ lines) h = (list_all-weaker is_inner in_line inner_is_in_line line h.0, inner_lines lines h.1)
@@ -97,7 +104,7 @@ none_found : (lines : List (List ℕ)) → AreInner lines → filter is_result l
 none_found [] h = refl
 none_found (line ∷ lines) h = rw (no_result line h.0) (none_found lines h.1)
 
--- tokens that are put in lines
+-- tokens that are put in lines: the lines have such bytes only, if the tokens do
 inner_from : (line : List ℕ) (ts : List (List ℕ)) → list_all is_inner line ≡ true → AreInner ts
     → AreInner (lines_from line ts)
 inner_from line [] h all = (h, tt)
@@ -116,6 +123,7 @@ inner_begun (t ∷ ts) h = inner_from t ts h.0 h.1
 
 -- ---- the tokens of moves
 
+-- digits are such bytes, and so are numbers, the bytes of SAN, and outcomes; so all tokens of a game are (inner_game)
 inner_digits : (text : List ℕ) → AllDigits 10 text → list_all is_inner text ≡ true
 inner_digits [] h = refl
 inner_digits (c ∷ cs) h =
@@ -164,6 +172,7 @@ inner_game s sound line =
 
 -- ---- tags
 
+-- a tag's text with `\` before its quotes has no line feed, if the text has none
 escaped_in_line : (text : List ℕ) → list_all in_line text ≡ true → list_all in_line (escaped text) ≡ true
 escaped_in_line [] h = refl
 escaped_in_line (c ∷ cs) h =
@@ -182,6 +191,7 @@ tag_in_line name text h k =
     (joined in_line (codes "[" ++ name ++ codes " \"") (escaped text)
     (joined in_line (codes "[" ++ name) (codes " \"") h refl) (escaped_in_line text k)) refl
 
+-- printable ASCII has no line feed, nor has a FEN, an outcome or the text of a termination
 printable_in_line : (text : List ℕ) → AllByRecursion (λ c. (32 ≤ c) × (c ≤ 126)) text → list_all in_line text ≡ true
 printable_in_line [] all = refl
 printable_in_line (c ∷ cs) all =
@@ -212,6 +222,7 @@ termination_in_line ending.RulesInfraction = refl
 termination_in_line ending.TimeForfeit = refl
 termination_in_line ending.Unterminated = refl
 
+-- so no line of a tag has one in it: each tag in turn, those of FEN, SetUp and Variant only if they are written
 tags_in_line : (t : Tags) (s : State) → AreTagTexts t → IsSound s.start → AreLines (tag_lines t s)
 tags_in_line t s h sound = (
   tag_in_line (codes "Event") t.event refl (printable_in_line t.event h.event.printable),
@@ -266,6 +277,7 @@ tags_in_line t s h sound = (
 abbrev pub result_tag : Outcome → List ℕ
 result_tag o = tag_line (codes "Result") (outcome_text o)
 
+-- of the lines of tags only that of Result begins with `[Result `, whichever tags are written
 tag_found : (t : Tags) (s : State) → filter is_result (tag_lines t s) ≡ result_tag (outcome_now s) ∷ []
 tag_found t s = by_tests (is_fischerandom s.start.variant || not (is_initial s.start)) (is_fischerandom s.start.variant)
   where
@@ -287,6 +299,7 @@ tag_found t s = by_tests (is_fischerandom s.start.variant || not (is_initial s.s
 
 -- ---- a game
 
+-- the lines of a game's text, and of what follows it, that begin with `[Result `: the game's own one first
 pub game_found : (t : Tags) (s : State) (rest : List ℕ) → AreTagTexts t → IsSound s.start → IsLine s.start s.moves
     → result_lines (pgn [] t s ++ rest) ≡ result_tag (outcome_now s) ∷ result_lines rest
 unfolding pgn

@@ -1,4 +1,6 @@
--- The score is the sum of the lines `[Result ..]` above it.
+-- The score line of a match is the sum of the lines `[Result ..]` above it: these lines are the games' outcomes in
+-- order (tags_found), and counting games by their outcome and the side of the first engine is counting such lines by
+-- turns (score_is).
 use Rattle.std.proofs.Common.{◌≡◌, ◌∙◌, ℕ, ◌+◌, ◌%◌, Bool, List, [], ◌∷◌, ◌++◌, length, map, cond, refl, sym, ap, subst, arith, bytes_eq, codes, decimal, flat_map, ◌==◌}
 use Rattle.std.specs.List.{count_by, enumerate_from}
 use Rattle.std.proofs.{lemmas.List.length-map, lemmas.List.Sums.sum_by-cons}
@@ -20,6 +22,8 @@ use Rattle.match_pgn_laws.proofs.ResultLines.{game_found, result_tag}
 abbrev pub tag_of : GameRecord → List ℕ
 tag_of played = result_tag played.end.outcome
 
+-- of the text of all games, the lines that begin with `[Result ` are the lines of the outcomes reported; by induction
+-- on the games
 pub tags_found : OutcomesAreOfTheGame → GamesAreLines → (plan : GamesPlan) (n : ℕ) (games : List GameRecord)
     → IsSound plan.start → AreOfPlan plan n games
     → result_lines (flat_map (λ g. game_text plan g.0 g.1) (enumerate_from n games)) ≡ map tag_of games
@@ -35,6 +39,7 @@ tags_found outcomes lines plan n (g ∷ games) sound h =
 
 -- ---- counts
 
+-- two outcomes have the same line just if they are the same
 same_tag : (o w : Outcome) → bytes_eq (result_tag o) (result_tag w) ≡ same_outcome o w
 same_tag WhiteWins WhiteWins = refl
 same_tag WhiteWins BlackWins = refl
@@ -53,7 +58,8 @@ same_tag Unfinished BlackWins = refl
 same_tag Unfinished Draw = refl
 same_tag Unfinished Unfinished = refl
 
--- games whose number is odd and even by turns
+-- how many games, numbered from `n` on, have the outcome that is wanted for their number, which is another for odd and
+-- even numbers: the games whose lines are the wanted ones by turns
 counted : (wanted : ℕ → Outcome) → ((k : ℕ) → wanted (k + 1 + 1) ≡ wanted k) → (n : ℕ) (games : List GameRecord)
     → count_by (λ g. same_outcome g.1.end.outcome (wanted g.0)) (enumerate_from n games)
     ≡ games_with (result_tag (wanted n)) (result_tag (wanted (n + 1))) (map tag_of games)
@@ -68,6 +74,7 @@ counted wanted turns n (g ∷ games) =
     + games_with (result_tag (wanted (n + 1))) (result_tag (wanted n)) (map tag_of games))
     (sym (same_tag g.end.outcome (wanted n)))
 
+-- the first engine's side returns after two games
 first_turns : (k : ℕ) → first_side (k + 1 + 1) ≡ first_side k
 first_turns k = let same : (k + 1 + 1) % 2 ≡ k % 2 = omega arith in
     ap (λ r. cond (r == 1) White Black) same
@@ -78,11 +85,13 @@ line_of first second drawn unfinished =
     codes "score first " ++ decimal first ++ codes " second " ++ decimal second
     ++ codes " drawn " ++ decimal drawn ++ codes " unfinished " ++ decimal unfinished ++ new_line ∷ []
 
+-- the line of a score depends only on its four numbers
 same_line : (a b c d a' b' c' d' : ℕ) → a ≡ a' → b ≡ b' → c ≡ c' → d ≡ d' → line_of a b c d ≡ line_of a' b' c' d'
 same_line a b c d a' b' c' d' first second drawn unfinished =
     ap (λ n. line_of n b c d) first ∙ ap (λ n. line_of a' n c d) second ∙ ap (λ n. line_of a' b' n d) drawn
     ∙ ap (λ n. line_of a' b' c' n) unfinished
 
+-- each of the four counts of the score (won by the first engine, by the second, drawn, unfinished) is such a count
 pub score_is : (games : List GameRecord) → score_line games ≡ sum_of (map tag_of games)
 score_is games = same_line _ _ _ _ _ _ _ _
     (counted (λ n. win_of (first_side n)) (λ k. ap win_of (first_turns k)) 1 games)

@@ -1,4 +1,6 @@
--- The games that a match writes are verified without a fault.
+-- What a match writes passes `verify` without a fault: its games are playable (writable), and the text of playable
+-- games is verified without a fault, by a law of pgn_verifier_laws. So the reports have the results of the games
+-- (same_results).
 use Rattle.std.proofs.Common.{◌≡◌, ◌∙◌, ℕ, ◌+◌, ◌≤◌, ◌<◌, List, [], ◌∷◌, ◌++◌, length, map, take, None, false, refl, sym, ap, subst, codes, flat_map}
 use Rattle.std.specs.List.{enumerate_from}
 use Rattle.byte_devices.specs.Transfers.{OutputTook, all_of}
@@ -16,7 +18,8 @@ use Rattle.match_pgn_laws.proofs.{ResultLines.result_tag, Summed.score_is, Summe
 
 -- ---- a game
 
--- the game of a match is one that can be played
+-- the game of a match can be played: from a sound start by legal moves, not too many, and with no verdict before the
+-- last
 playable : GamesAreLines → InEachMatch EndsAtVerdicts → (plan : GamesPlan) (number : ℕ)
     (played : GameRecord) → IsGame plan number played → IsSound plan.start
     → IsPlayable (record { limit = MOST_MOVES; state = played.after.game.state })
@@ -39,6 +42,7 @@ tagged plan n games =
     map (λ g. (let t : TaggedGame = record { tags = tags_of plan g.0 g.1.end; state = g.1.after.game.state } in t))
     (enumerate_from n games)
 
+-- so all games can be written as PGN, with their tags
 writable : GamesAreLines → InEachMatch EndsAtVerdicts → OutcomesAreOfTheGame → (plan : GamesPlan) (n : ℕ)
     (games : List GameRecord) → IsSound plan.start → AreOfPlan plan n games
     → AreWritable (tagged plan n games)
@@ -49,6 +53,7 @@ writable lines ends outcomes plan n (g ∷ games) sound h = (
   writable lines ends outcomes plan (n + 1) games sound h.1,
 )
 
+-- their text is that of the match
 same_text : (plan : GamesPlan) (n : ℕ) (games : List GameRecord)
     → written_text (tagged plan n games) ≡ flat_map (λ g. game_text plan g.0 g.1) (enumerate_from n games)
 same_text plan n [] = refl
@@ -61,6 +66,7 @@ tag_is BlackWins = refl
 tag_is Draw = refl
 tag_is Unfinished = refl
 
+-- the results in their reports are the outcomes that the match reported
 same_results : OutcomesAreOfTheGame → (plan : GamesPlan) (n : ℕ) (games : List GameRecord)
     → AreOfPlan plan n games
     → map result_reported (map report_of (tagged plan n games)) ≡ map tag_of games

@@ -1,4 +1,6 @@
--- A stub says the remarks after its move one by one, up to the first argument that is no remark.
+-- The loops over a stub's remarks, which are the arguments `offer` and `claim` after its move. One loop says them one
+-- by one, up to the first other argument (SoFar, its invariant); one looks for that argument (after_more, after_other,
+-- after_end).
 use Rattle.std.proofs.Common.{◌≡◌, ◌∙◌, ◌<◌, ◌≤◌, ◌+◌, ℕ, suc, Bor, Bool, true, false, List, [], ◌∷◌, ◌++◌, length, drop, get_or, is_some, option_map, Option, Some, None, unwrap_or, Result, IsErr, if◌then◌else◌, refl, sym, ap, append_assoc, append-nil, subst, arith, bytes_eq, codes, cond, flat_map, take}
 use Rattle.std.proofs.lemmas.List.{drop_more, at_drop_all}
 use Rattle.byte_devices.specs.Devices.{OutputState, Took, CutShort, Puts}
@@ -9,15 +11,16 @@ use Rattle.stub_engine.specs.Stub.{Arguments, after_remarks, is_remark, playing,
 
 -- ---- arguments
 
--- what is said for one
+-- the line that is sent for an argument; nothing for one that is no remark
 abbrev said_of : Bor (List ℕ) → List ℕ
 said_of argument = unwrap_or (remark argument.now) []
 
+-- without arguments there are no remarks
 remarks_none : remarks [] ≡ []
 unfolding remarks
 remarks_none = refl
 
--- a line before others, if there is one
+-- a line before others; without that line there are none
 abbrev before_others : Option (List ℕ) → List ℕ → List ℕ
 before_others None others = []
 before_others (Some text) others = text ++ others
@@ -37,6 +40,7 @@ remarks_by argument arguments (Some text) e =
     ∙ ap (λ k. flat_map said_of (take k (argument ∷ arguments))) (one_suc (prefix_len is_remark arguments))
     ∙ ap (λ o. unwrap_or o [] ++ flat_map said_of (take (prefix_len is_remark arguments) arguments)) e
 
+-- the remarks at the front of a list: the first argument's line, if it is one, and then those at the front of the rest
 remarks_one : (argument : Bor (List ℕ)) (arguments : Arguments)
     → remarks (argument ∷ arguments) ≡ before_others (remark argument.now) (remarks arguments)
 remarks_one argument arguments = remarks_by argument arguments (remark argument.now) refl
@@ -54,6 +58,8 @@ after_by argument arguments true e =
 after_by argument arguments false e =
     ap (λ b. drop (cond b (1 + prefix_len is_remark arguments) 0) (argument ∷ arguments)) e
 
+-- what is left after the remarks of a list: the list itself if its first argument is none, or else what is left of the
+-- rest
 after_one : (argument : Bor (List ℕ)) (arguments : Arguments)
     → after_remarks (argument ∷ arguments) ≡ (if is_some (remark argument.now) then after_remarks arguments
     else argument ∷ arguments)
@@ -61,7 +67,8 @@ after_one argument arguments = after_by argument arguments (is_remark argument) 
 
 -- ---- so far
 
--- the remarks up to an index were said
+-- the invariant: the lines `text` were sent, and with the remarks from the index `at` on they are all remarks from
+-- `from` on
 pub record SoFar (arguments : Arguments) (from at : ℕ) (w w' : OutputState) (text : List ℕ) : Type 0 where
   pub took : Took w w' text
   pub rest : text ++ remarks (drop at arguments) ≡ remarks (drop from arguments)
@@ -69,14 +76,16 @@ pub record SoFar (arguments : Arguments) (from at : ℕ) (w w' : OutputState) (t
 pub start : (arguments : Arguments) (from : ℕ) (w : OutputState) → SoFar arguments from from w w []
 start arguments from w = record { took = took_none w; rest = refl }
 
--- an argument that is a remark
+-- the argument at `at` is a remark, whose line is `text`
 module _ (arguments : Arguments) (at : ℕ) (d : Bor (List ℕ)) (text : List ℕ) (lt : at < length arguments)
     (is : remark (get_or arguments at d).now ≡ Some text) where
+  -- the remarks from `at` on begin with its line
   said_here : remarks (drop at arguments) ≡ text ++ remarks (drop (at + 1) arguments)
   said_here =
       ap remarks (drop_more arguments at d lt) ∙ remarks_one (get_or arguments at d) (drop (at + 1) arguments)
       ∙ ap (λ o. before_others o (remarks (drop (at + 1) arguments))) is
 
+  -- once its line was sent, the invariant holds for the next index
   pub more : (from : ℕ) (w w' w'' : OutputState) (before : List ℕ) → SoFar arguments from at w w' before
       → Took w' w'' text → SoFar arguments from (at + 1) w w'' (before ++ text)
   more from w w' w'' before s h = record {
@@ -85,6 +94,7 @@ module _ (arguments : Arguments) (at : ℕ) (d : Bor (List ℕ)) (text : List �
         ∙ s.rest;
   }
 
+  -- sending its line failed: of all remarks a beginning was sent
   pub broken : {E : Type 0} (from : ℕ) (w w' w'' : OutputState) (before : List ℕ) (r : Result (Unit {0}) E)
       → SoFar arguments from at w w' before → CutShort w' w'' text → IsErr r
       → Puts w w'' r (remarks (drop from arguments))
@@ -95,7 +105,7 @@ module _ (arguments : Arguments) (at : ℕ) (d : Bor (List ℕ)) (text : List �
       (breaks_longer w' w'' text (remarks (drop (at + 1) arguments)) h)))
       failed
 
--- an argument that is none, or no argument
+-- no remark is at `at`: all were sent, if another argument is there (at_other) or none (at_end)
 no_more : (arguments : Arguments) (from at : ℕ) (w w' : OutputState) (before : List ℕ)
     → SoFar arguments from at w w' before → remarks (drop at arguments) ≡ [] → Took w w' (remarks (drop from arguments))
 no_more arguments from at w w' before s none =
@@ -122,6 +132,8 @@ pub is_said : (o : Option (Bor (List ℕ))) (r : Option (List ℕ)) (b : Bool) �
 is_said None r b e h = sym (ap is_some e) ∙ h
 is_said (Some t) r b e h = sym (ap is_some e) ∙ h
 
+-- what is left from `at` on is what is left from the next index on, if a remark is at `at`; otherwise the arguments
+-- from `at` on
 pub after_more : (arguments : Arguments) (at : ℕ) (d : Bor (List ℕ)) → at < length arguments
     → is_some (remark (get_or arguments at d).now) ≡ true
     → after_remarks (drop at arguments) ≡ after_remarks (drop (at + 1) arguments)
@@ -144,7 +156,7 @@ after_end arguments at past =
 
 -- ---- a turn
 
--- the state after a turn, by its arguments
+-- the stub's state after a turn plays, with the arguments that are left, whether the turn was `end` (`b`) or not
 turned : (b : Bool) (a t left : Arguments) (x y : List ℕ)
     → left ≡ (if b then record (says (playing a) x) { ends = true } else says (playing t) y).state.arguments
     → playing left ≡ (if b then record (says (playing a) x) { ends = true } else says (playing t) y).state

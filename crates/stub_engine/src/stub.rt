@@ -163,6 +163,7 @@ fn after_turn(arguments: &[&str], at: usize) -> usize
 pub struct Stub<'a> {
     arguments: &'a [&'a str],
     at: usize,
+    // Whether it replies to its opponent's moves: after `go`, until `force` or `new`.
     plays: bool,
 }
 

@@ -11,6 +11,7 @@ use chess_game::{Game, MOST_MOVES, Outcome};
 use pgn_verifier::{LENIENT, STRICT_FAULTS, Verified, VerifyOptions, verify_collection};
 use std::alloc::{AllocError, Global};
 
+// What the record of a game may have as its outcome where the board has none.
 const OUTCOMES: [&[u8]; 4] = [b"1-0", b"0-1", b"1/2-1/2", b"*"];
 
 /// The outcome of a game as its record has it: the board's, or any if the board has none.

@@ -39,9 +39,11 @@ use std::alloc::{AllocError, Global};
 use std::process::ExitCode;
 use std::{env, fs, io};
 
+// How the program is called.
 const USAGE: &str =
     "usage: workloads\n       workloads JOB SIZE SEED, with JOB one of collections, puzzles, boards, matches, sessions, awkward, relay\n       workloads lines DEPTH [FEN], with DEPTH from 0 to 255; no FEN is the initial position\n       workloads games FILE";
 
+// The jobs whose results are digested; those that time themselves are called by other names.
 const JOBS: [&str; 6] = [
     "collections",
     "puzzles",

@@ -216,6 +216,7 @@ fn play(
     digest.add_bytes(black.writer.writer().bytes.as_slice());
 }
 
+// The forms in which the two engines of each game talk, one match for each.
 const TALKS: [Talk; 3] = [Talk::Squares, Talk::San, Talk::Thinking];
 
 /// Walks through so many games, every fifth one a long one, and plays each as three matches: between engines that write

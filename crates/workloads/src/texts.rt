@@ -58,6 +58,7 @@ fn add_number_tag(
     add(text, b"\"]\n")
 }
 
+// The tags of a game: sites, names of players (a number follows each), and codes of openings.
 const SITES: [&[u8]; 4] = [
     b"Hall of the club, table 4",
     b"Reykjavik ISL",
@@ -201,6 +202,8 @@ pub fn add_clocks(
     add(text, b"\n\n")
 }
 
+// What an annotator writes after a half-move: comments in both forms, some with commands in them or over two lines, and
+// glyphs.
 const REMARKS: [&[u8]; 5] = [
     b"{Better was the other knight.}",
     b"{An old line, which came into fashion once more\nafter the match of 1972; White has the centre.}",

@@ -1,4 +1,5 @@
--- A match's levels, start and date are read in turn.
+-- For laws of arguments: levels, start and date of a match are read in this order, and the first fault is that of all.
+-- So they can be replaced one by one by what each of them was read as (read_as).
 use Rattle.std.proofs.Common.{◌≡◌, ◌∙◌, Bool, ap, codes, Result, Ok, Err, if◌then◌else◌, unwrap_or}
 use Rattle.std.specs.Result.{result_map_both}
 use Rattle.chess_base.specs.{declared.fen_fault.FenFault.FenFault, declared.setup.Setup.Setup}

@@ -1,4 +1,5 @@
--- For tables of bytes: they are held against definitions at each of the 256 bytes, by computing.
+-- For tables of bytes, such as one with a class for each of the 256 bytes: that a table agrees with a definition is
+-- computed for all bytes at once (agree_below), and then holds for each (class_by_test).
 use Rattle.std.proofs.Common.{◌≡◌, ℕ, zero, suc, ◌<◌, Bool, true, false, ◌&&◌, nat_eq, get_or, List, refl, arith, inl, inr}
 use Rattle.std.specs.Bool.{beq}
 use Rattle.std.proofs.lemmas.Bool.{cases_eq}

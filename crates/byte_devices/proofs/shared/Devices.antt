@@ -1,4 +1,6 @@
--- For crates that read or write in steps: what holds after one text more, of the definitions in specs/Devices.
+-- For crates that read or write in steps: what one step more makes of the facts of specs/Devices. If a text was taken
+-- (`Took`), or cut short by a failure (`CutShort`), after another one, the same is said of both texts together; names
+-- that end in _more say so.
 use Rattle.std.proofs.Common.{◌≡◌, ℕ, zero, suc, ◌+◌, ◌^◌, ◌<◌, min, nat_eq, false, List, [], ◌++◌, length, take, drop, Option, None, Some, Result, Ok, Err, IsErr, refl, sym, ap, ◌∙◌, append_assoc, append-nil, arith, ◌-◌, get_or, add-one, ◌∷◌, flat_map, take-add, take-suc, take-append-drop, length-append}
 use Rattle.std.specs.Io.KnownBytes.{Keeps, Appends, Consumes}
 use Rattle.std.proofs.{lemmas.List.Concat.flat_map-append, lemmas.Grind.common_steps}
@@ -38,7 +40,7 @@ consumes_kept (Some s) (Some t) h = sym h
 min_more : (n j k top : ℕ) → min (min (n + j) top + k) top ≡ min (n + (j + k)) top
 min_more n j k top = grind (arith, common_steps)
 
--- a count by a sum, where there is something to count
+-- the sum of a count and a number above 0, which stops at 2 ^ 64 - 1
 pub add_some : (n k : ℕ) → 0 < k → saturating_add n k ≡ min (n + k) (2 ^ 64 - 1)
 add_some n k h = let e : nat_eq k 0 ≡ false = grind arith in rw e refl
 
@@ -99,7 +101,7 @@ pub puts_more : {A E : Type 0} (a b c : OutputState) (r : Result A E) (x y : Lis
 puts_more a b c (Ok v) x y h k = took_more a b c x y h k
 puts_more a b c (Err e) x y h k = breaks_more a b c x y h k
 
--- at the exit of a `?`
+-- where `?` returns an error, the text was cut short
 pub puts_exit : {A E : Type 0} (a b : OutputState) (r : Result A E) (x : List ℕ) → CutShort a b x → IsErr r
     → Puts a b r x
 puts_exit a b (Ok v) x h k = cc
@@ -109,13 +111,13 @@ puts_exit a b (Err e) x h k = h
 pub rest_is : (at : ℕ) (xs : List ℕ) → take (length xs - at) (drop at xs) ≡ drop at xs
 rest_is at xs = grind (arith, common_steps)
 
--- one write more
+-- the first `at` bytes of a text were taken, and then a write took `n` of the others: so the first `at + n` were
 pub wrote_more : (a b c : OutputState) (at n : ℕ) (text : List ℕ) → Took a b (take at text)
     → Took b c (take n (take (length text - at) (drop at text))) → Took a c (take (at + n) text)
 wrote_more a b c at n text h k =
     rw (take-add at n text) (took_more a b c (take at text) (take n (drop at text)) h (rw (rest_is at text) at k))
 
--- a write fails
+-- the first `at` bytes were taken, and then a write failed: the text was cut short
 pub wrote_part : (a b c : OutputState) (at : ℕ) (text : List ℕ) → Took a b (take at text) → TookThenFailed b c []
     → CutShort a c text
 wrote_part a b c at text h k = (
@@ -139,7 +141,7 @@ pub flush_on : {A E : Type 0} (a b c : OutputState) (r : Result A E) (x : List �
 flush_on a b c (Ok v) x h k = sent_on a b c x h k
 flush_on a b c (Err e) x h k = (x ++ [], ([], append_assoc x [] [] ∙ append-nil x), failed_more a b c x [] h k)
 
--- at the exit of a `?`
+-- where `?` returns an error, the text that was to be sent was cut short
 pub sends_exit : {A E : Type 0} (a b : OutputState) (r : Result A E) (x : List ℕ) → CutShort a b x → IsErr r
     → Sends a b r x
 sends_exit a b (Ok v) x h k = cc
@@ -156,13 +158,13 @@ flat_more f xs i d h =
     ap (flat_map f) (rw add-one (take-suc xs i d h)) ∙ flat_map-append f (take i xs) (get_or xs i d ∷ [])
     ∙ ap (λ v. flat_map f (take i xs) ++ v) (flat_one f (get_or xs i d))
 
--- texts of the elements of a list, one more of them
+-- the texts of the first `i` elements of a list were taken, and then the next one's: so those of the first `i + 1` were
 pub parts_more : {X : Type 0} (a b c : OutputState) (f : X → List ℕ) (xs : List X) (i : ℕ) (d : X) → i < length xs
     → Took a b (flat_map f (take i xs)) → Took b c (f (get_or xs i d)) → Took a c (flat_map f (take (i + 1) xs))
 parts_more a b c f xs i d h s t =
     rw (flat_more f xs i d h) (took_more a b c (flat_map f (take i xs)) (f (get_or xs i d)) s t)
 
--- one of them broke off
+-- one of them was cut short: so was the text of all
 pub parts_break : {X : Type 0} (a b c : OutputState) (f : X → List ℕ) (xs : List X) (i : ℕ) (d : X) → i < length xs
     → Took a b (flat_map f (take i xs)) → CutShort b c (f (get_or xs i d)) → CutShort a c (flat_map f xs)
 parts_break a b c f xs i d h s t =

@@ -1,4 +1,6 @@
--- For laws of whole runs: what passed at the devices, put together from what the calls did.
+-- For laws of whole runs: what a run read and wrote, as `FromInput` and `ToOutput` say it, put together from its calls
+-- one after another. An output that took the text for some items, such as lines that were answered, takes the text for
+-- one item more (took_one_more), or fails in it (took_some_more).
 use mathlib.Core.Bool.{or-true}
 use Rattle.std.proofs.Common.{◌≡◌, ℕ, ◌-◌, ◌||◌, Bool, true, false, List, [], ◌∷◌, ◌++◌, length, take, if◌then◌else◌, suc, refl, sym, ap, subst, ◌∙◌, append_assoc, append-nil, arith, nat_lt}
 use Rattle.std.proofs.lemmas.Bool.Decides.{nat_tests}
@@ -15,7 +17,8 @@ saturating_increment_if rises n = if rises then saturating_increment n else n
 
 -- ---- the input
 
--- what came from an input whose state is then `r'`, without a silence
+-- what came from an input in a run without silences: the bytes `text`, and whether the end was reported and a read
+-- failed. `r'` is its state after the run, which knows how many bytes the last read gave
 abbrev pub came : InputState → List ℕ → Bool → Bool → FromInput
 came r' text ended failed =
     record { text = text; early = take (length text - r'.last_len) text; ended = ended; failed = failed; silences = 0 }
@@ -108,7 +111,7 @@ some_of_both [] ys = refl
 some_of_both (x ∷ xs) ys =
     ap (λ (b : Bool). b || nat_lt 0 (length ys)) (above_0 (length xs)) ∙ sym (above_0 (length (xs ++ ys)))
 
--- where there is an item, a flush succeeded
+-- with an item in the list there was a flush, so the text for these items is all flushed, whatever the other items are
 pub some_for : {A : Type 0} (items : List A) (item : A) (more : List A) (text : List ℕ)
     → all_of text ≡ all_for (items ++ item ∷ more) text
 some_for [] item more text = ap (λ (b : Bool). all_flushed b text) (sym (above_0 (length more)))

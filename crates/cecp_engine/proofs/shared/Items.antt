@@ -1,4 +1,6 @@
--- For matches: the items of a `feature` line, one after the other.
+-- For matches: the items of a `feature` line, such as `ping=1`, one after another. An item is cut from a text as code
+-- cuts it (item_parts), it leaves less than the text (item_shorter), so the items of a text are its first one and those
+-- of the rest (items_of-step), and a loop over them keeps SoFar.
 use Rattle.std.proofs.Common.{◌≡◌, ℕ, zero, suc, ◌+◌, ◌-◌, ◌≤◌, ◌<◌, Bool, true, false, List, [], ◌∷◌, ◌++◌, length, take, drop, get_or, refl, ap, sym, ◌∙◌, Option, None, Some, arith, length-append, length-drop, append_assoc, append-nil, bytes_eq, length-take-le, take-append-drop, take_all, if◌then◌else◌, ◌==◌, ◌&&◌, ◌||◌, not, nat_lt, option_and_then}
 use Rattle.std.proofs.{lemmas.Bool.Decides.nat_tests, lemmas.List.Sums.prefix_len-le-length}
 use Rattle.std.specs.Option.{option_map_or}
@@ -251,7 +253,8 @@ same_by : (f g : List ℕ → List Item) (o : Option (Item × List ℕ)) → ((p
 same_by f g None h = refl
 same_by f g (Some p) h = ap (λ (is : List Item). if ends_handshake p.0 then p.0 ∷ [] else p.0 ∷ is) (h p refl)
 
--- as many leaves as a text has bytes are enough
+-- the count `n` that `first_items` goes by is only a bound: any two that are at least the text's length give the same
+-- items
 enough : (n k : ℕ) (text : List ℕ) → length text ≤ n → length text ≤ k → first_items n text ≡ first_items k text
 enough zero zero text a b = refl
 enough zero (suc k) text a b = sym (first_items-by k text ∙ ap (items_by (first_items k)) (none_left text a))
@@ -262,7 +265,7 @@ enough (suc n) (suc k) text a b =
     (λ p e. let h = item_shorter text p e in enough n k p.1 (omega arith) (omega arith))
     ∙ sym (first_items-by k text)
 
--- the items of a text: those of what follows the first one
+-- the items of a text are its first item and those of what follows it, as `items_by` says
 pub items_of-step : (text : List ℕ) → items_of text ≡ items_by items_of (item_of text)
 unfolding items_of
 items_of-step text = at (length text) refl
@@ -274,11 +277,10 @@ items_of-step text = at (length text) refl
         ∙ same_by (first_items n) (λ t. first_items (length t) t) (item_of text)
         (λ p h. let s = item_shorter text p h in enough n (length p.1) p.1 (omega arith) (omega arith))
 
--- ---- what an engine takes
-
 -- ---- a loop over items
 
--- so far these were read of a text, and this is left
+-- the invariant of a loop over the items of `text`: the items `read` were read, none of which ended the handshake, and
+-- `rest` is left. So all items are those and the items of `rest`, and the handshake ends in `text` if it does in `rest`
 pub record SoFar (text rest : List ℕ) (read : List Item) : Type 0 where
   pub items : items_of text ≡ read ++ items_of rest
   pub going : list_any ends_handshake (items_of text) ≡ list_any ends_handshake (items_of rest)

@@ -8,6 +8,7 @@ use Rattle.clap.proofs.ValueTestLemmas.{accepts-Accepts}
 use Rattle.arbiter_cli.specs.Plans.{number_of}
 use Rattle.arbiter_cli.proofs.request.games_of.Goals as goal
 
+-- a number that is read with 1 as its default
 read_or : (o : Option Text) → unwrap_or (option_map number_of o) 1 ≡ option_map_or number_of o 1
 read_or None = refl
 read_or (Some t) = refl

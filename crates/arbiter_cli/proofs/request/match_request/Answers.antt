@@ -6,6 +6,7 @@ use Rattle.clap.proofs.WalkLemmas.{first_value-rows}
 use Rattle.arbiter_cli.proofs.FoundTexts.{text_of}
 use Rattle.arbiter_cli.proofs.request.match_request.Goals as goal
 
+-- an option that was found can't be missing
 gone : (o : Option Text) → o ≡ None → is_some o ≡ true → ⊥
 gone o e s = true≢false (sym s ∙ ap is_some e)
 

@@ -8,6 +8,7 @@ use Rattle.arbiter_cli.specs.Plans.{number_of}
 use Rattle.arbiter_cli.proofs.FoundTexts.{text_of}
 use Rattle.arbiter_cli.proofs.request.number_in.Goals as goal
 
+-- a number up to 65,535 fits into 16 bits
 within : (n most : ℕ) → n ≤ most → most ≤ 65535 → n < 2 ^ 16
 within n most le limit = omega arith
 

@@ -1,11 +1,12 @@
--- The arguments that `clap` finds are all values in the row of `arguments` (raw_values-rows), or none where there is no
--- row.
+-- The arguments that `clap` finds are all values in the row of the stub's arguments, `words` (raw_values-rows), or none
+-- where there is no row.
 use Rattle.std.proofs.Common.{rules, ◌≡◌, ◌∙◌, ap, List, [], Option, Some, None, map, option_map, unwrap_or, sym, Bor, codes, IfOk}
 use Rattle.std.proofs.lemmas.Result.{IfOk-weaker}
 use Rattle.clap.specs.Words.{Text, found_of, matched_of, raw_values}
 use Rattle.clap.proofs.WalkLemmas.{raw_values-rows}
 use Rattle.arbiter_cli.proofs.request.stub_arguments.Goals as goal
 
+-- the texts behind references
 abbrev texts_of : Option (Bor (List (Bor Text))) → Option (List Text)
 texts_of = option_map (λ s. map (λ v. v.now) s.now)
 

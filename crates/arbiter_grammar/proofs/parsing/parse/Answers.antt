@@ -7,16 +7,19 @@ use Rattle.arbiter_grammar.specs.Grammar.{IsComplete, IsParsed, IsParsedBy, Opti
 use Rattle.arbiter_grammar.proofs.Required.{required_there}
 use Rattle.arbiter_grammar.proofs.parsing.parse.Goals as goal
 
+-- the grammar uses only plain flags, options and positionals, and no rule on another argument; so what `clap` promises
+-- of such grammars holds
 simple : (names : OptionNames) → is_simple (arbiter_app names) ≡ true
 simple names = refl
 
 free : (names : OptionNames) → is_simple_and_free (arbiter_app names) ≡ true
 free names = refl
 
+-- a text behind a reference, wherever it is
 abbrev lent : Text → Bor Text
 lent t = record { ref_ptr = (0, 0); now = t }
 
--- names, for where there was no memory for a grammar
+-- any names, for where there was no memory for a grammar
 abbrev some_names : OptionNames
 some_names = record {
   variants = record { ref_ptr = (0, 0); now = lent (codes "normal") ∷ lent (codes "fischerandom") ∷ [] };
@@ -25,6 +28,8 @@ some_names = record {
   draws_are = refl;
 }
 
+-- the result of a parse by the grammar: without a fault, and with the matches of the definitions; or an error of a kind
+-- that the definitions list
 parsed_by : (names : OptionNames) (a : App) (words : List Text) → a ≡ arbiter_app names → (r : Result ArgMatches Error)
     → IfOk r (HasMatchesOf a words) → (is_simple_and_free a ≡ true → FailsBy (fault_of a words) r)
     → IsParsedBy names words r
@@ -48,6 +53,7 @@ complete_by names words (Ok m) p = subst (λ (o : Option (Text × List Row)). If
     (required_there names words p.0)
 complete_by names words (Err e) p = tt
 
+-- an error has no matches that could be incomplete
 nothing_complete : (r : Result ArgMatches Error) → IsErr r → IfOk r (λ m. IfSome (subcommand_rows_of m) IsComplete)
 nothing_complete (Ok m) is = cc
 nothing_complete (Err e) is = tt

@@ -1,3 +1,4 @@
+-- Each clause is a record of examples that are computed (WorkedOptions).
 use Rattle.arbiter_laws.proofs.WorkedOptions.{dates_are_read, levels_are_read, options_mean, starts_are_asked}
 use Rattle.arbiter_laws.proofs.arguments.options_are_worked_out.Goals as goal
 

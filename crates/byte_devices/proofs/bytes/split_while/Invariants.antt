@@ -1,5 +1,5 @@
--- The loop's invariant: all bytes before `end` pass the test, so with those that pass after it they are all that pass
--- at the front.
+-- The loop's invariant: all bytes before `end` pass the test, so the bytes that pass at the text's front are these and
+-- those that pass from `end` on. The measure: the bytes from `end` on.
 use Rattle.std.proofs.Common.{◌≡◌, ◌+◌, ◌-◌, ◌<◌, ◌≤◌, ℕ, Bool, length, drop}
 use Rattle.std.specs.List.{prefix_len}
 use Rattle.byte_devices.proofs.bytes.split_while.Given as goal

@@ -1,4 +1,5 @@
--- A lane's top bit joins the three tests (Blocks.tops, Blocks.mask_of).
+-- The comparison gives each of the 16 bytes a lane: 255 if it is one of the three bytes, else 0. The mask has the
+-- lanes' top bits, which are those of the test `is_any` (Blocks.tops, Blocks.mask_of).
 use Rattle.std.proofs.Common.{eqb, take, drop, arith}
 use Rattle.std.proofs.lemmas.Simd.{length-chunk, zip2_of_maps, zip2_splat}
 use Rattle.byte_devices.proofs.Blocks.{is_any, tops, mask_of}

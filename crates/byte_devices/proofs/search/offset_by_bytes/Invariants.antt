@@ -1,4 +1,5 @@
--- The loop's invariant: none of the three bytes is between `from` and `offset`.
+-- The loop's invariant: none of the three bytes is between `from` and `offset`, so the first one from `from` on is the
+-- first from `offset` on. The measure: the bytes from `offset` on.
 use Rattle.std.proofs.Common.{◌≡◌, ◌≤◌, ◌+◌, ◌-◌, length, drop}
 use Rattle.std.specs.List.{position_or_len}
 use Rattle.byte_devices.proofs.Blocks.{is_any}

@@ -1,5 +1,5 @@
--- So far the text up to this place was taken: a write takes a piece more (wrote_more of Devices), and where one
--- fails, a beginning of the text was taken (wrote_part).
+-- The invariant is kept: a write takes some more bytes of the text (wrote_more of Devices). Where one fails, only a
+-- beginning of the text was taken (wrote_part).
 use Rattle.std.proofs.{Common.arith, lemmas.Grind.common_steps}
 use Rattle.byte_devices.proofs.shared.Devices.{wrote_more, wrote_part, puts_exit}
 use Rattle.byte_devices.proofs.traits.put.Goals as goal

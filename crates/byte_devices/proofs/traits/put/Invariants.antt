@@ -1,4 +1,5 @@
--- The loop's invariant: the writer took the first `at` bytes of the text.
+-- The loop's invariant: the writer took the first `at` bytes of the text. The measure: the bytes from `at` on, which
+-- each write makes fewer.
 use Rattle.std.proofs.Common.{length, ◌-◌, ◌≤◌, take}
 use Rattle.byte_devices.specs.Devices.{Took}
 use Rattle.byte_devices.proofs.traits.put.Given as goal

@@ -1,5 +1,5 @@
--- So far the texts before this one were taken (parts_more of Devices); where one breaks off, a beginning of them all
--- was taken (parts_break).
+-- The invariant is kept by one text more (parts_more of Devices). Where one breaks off, only a beginning of all texts
+-- together was taken (parts_break).
 use Rattle.std.proofs.Common.{List, ℕ, Bor}
 use Rattle.byte_devices.proofs.shared.Devices.{parts_more, parts_break, puts_exit}
 use Rattle.byte_devices.proofs.traits.put_parts.Goals as goal

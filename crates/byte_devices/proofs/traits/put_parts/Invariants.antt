@@ -1,4 +1,4 @@
--- The loop's invariant: the writer took all texts before this one.
+-- The loop's invariant: the writer took all of the texts before the one at `part-index`.
 use Rattle.std.proofs.Common.{take}
 use Rattle.byte_devices.specs.Devices.{Took, joined}
 use Rattle.byte_devices.proofs.traits.put_parts.Given as goal

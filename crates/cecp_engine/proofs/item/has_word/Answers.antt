@@ -1,5 +1,5 @@
--- At first nothing was cut (cut_at_once). Then either the byte is one more of the piece, or the piece ends here and
--- isn't the word.
+-- At first no piece has begun (cut_at_once). Then the byte at `at` either belongs to the piece (over_byte), or it ends
+-- a piece that isn't the word (over_mark).
 use Rattle.std.proofs.Common.{sym, ◌∙◌, arith}
 use Rattle.cecp_engine.proofs.Pieces.{cut_at_once, over_byte, over_mark}
 use Rattle.cecp_engine.proofs.item.has_word.Goals.{then-is_comma_or_blank+else-eq, else-is_comma_or_blank}

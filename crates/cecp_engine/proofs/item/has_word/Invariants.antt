@@ -1,5 +1,6 @@
--- The loop's invariant: whether the word is in the text depends only on the bytes from `from` on, where the piece
--- begins that is being looked through; `at` is in that piece or at its end.
+-- The loop's invariant: the piece that is being read goes from `from` to `at`, and none before it is the word; so
+-- whether the text has the word is what has_word_after says of this piece and the bytes from `at` on. The measure:
+-- these bytes.
 use Rattle.std.proofs.Common.{length, drop, take, ◌-◌, ◌≡◌, ◌≤◌, bytes_eq}
 use Rattle.std.specs.List.{list_any, slice_split}
 use Rattle.cecp_engine.proofs.Pieces.{is_comma_or_blank, has_word_after}

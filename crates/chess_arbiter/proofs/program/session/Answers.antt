@@ -1,4 +1,5 @@
--- Without memory nothing was read or written; else the session ran from its opening on.
+-- If memory ran out, nothing was read or written. Otherwise the session ran from the state in which it was opened
+-- (server_ran of Serving). The status is 1 if anything failed (failed_status).
 use Rattle.std.proofs.Common.{Ok, Err, inl, inr, refl}
 use Rattle.chess_cecp.specs.{Held.opened_session, Session.session_response}
 use Rattle.pgn_writer.specs.Tags.{default_tags}

@@ -1,4 +1,4 @@
--- The exit status is that of what `verify_as` found, or of its fault.
+-- The exit status is that of what `verify_as` found (a fault in a game or none), or 1 if it failed itself.
 use Rattle.std.proofs.Common.{Ok, Err}
 use Rattle.chess_arbiter.proofs.program.verified.Goals as goal
 

@@ -1,4 +1,5 @@
--- Without memory nothing was written; else the text was sent, all of it or a beginning.
+-- If memory ran out, nothing was written. Otherwise the text was sent: all of it, or a beginning if a write failed. The
+-- status is 0 only if all was sent.
 use Rattle.std.proofs.Common.{inl, inr, refl}
 use Rattle.byte_devices.specs.Transfers.{nothing}
 use Rattle.byte_devices.proofs.shared.Transfers.{broke, took_all, took_some}

@@ -1,4 +1,5 @@
--- The loop's invariant: the lines so far were answered, and with none of them the server ended.
+-- The loop's invariant (SoFar): the lines so far were answered, and the server ended with none of them. The measure is
+-- `work`, which counts the reads that may still come and the bytes held; each line returned makes it smaller.
 use Rattle.std.proofs.Common.{List, ℕ}
 use Rattle.text_lines.specs.{Lines.LineSeen, Next.work}
 use Rattle.chess_cecp.proofs.RunLemmas.{SoFar}

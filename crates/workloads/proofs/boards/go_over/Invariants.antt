@@ -1,4 +1,5 @@
--- The loop's invariant: the board is at its first position.
+-- The loop's invariant: the board is at the position that it had first, since each move is taken back; so each move of
+-- the list is legal there.
 use Rattle.std.proofs.Common.{◌≡◌}
 use Rattle.workloads.proofs.boards.go_over.Given as goal
 

@@ -1,4 +1,5 @@
--- The loop's invariant: `at` is in the text; it rises with each game, so the loop ends.
+-- The loop's invariant: `at`, the offset of the next game, is in the text. The measure: the bytes from `at` on, of
+-- which each game takes some.
 use Rattle.std.proofs.Common.{◌≤◌, ◌-◌, length}
 use Rattle.workloads.proofs.games.read_games.Given as goal
 

@@ -1,4 +1,5 @@
--- Each call of `count_lines` by itself has a smaller depth; in its loop the board is at its first position.
+-- The measure of the recursion: the depth. The loop's invariant: the board is at the position that it had first, since
+-- each move is taken back.
 use Rattle.std.proofs.Common.{◌≡◌}
 use Rattle.workloads.proofs.lines.+count_lines.Given as goal
 
