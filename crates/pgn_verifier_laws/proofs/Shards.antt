@@ -39,6 +39,7 @@ escape_first (c ∷ cs) h = by_test (eqb c 37) refl
     by_test true e = ap (λ d. bytes_eq (take 1 (front_of (d ∷ cs))) (codes "%")) (eqb-true c 37 e)
     by_test false e = let no : false ≡ true = sym (ap (λ b. b && true) e) ∙ h in absurd (cc)
 
+-- of three tests one still holds if the first is replaced by one that it implies
 weaker : (in_front in_line comment white : Bool) → (in_line ≡ true → in_front ≡ true)
     → (in_line || comment || white) ≡ true → (in_front || comment || white) ≡ true
 weaker true in_line comment white implies h = refl
