@@ -140,12 +140,12 @@ writes_own : (S : Colour) (failed : Bool) (lines : List SentLine) (w w' : Output
     → SendsIf failed w w' (bytes_of lines) → WritesAt S (sending failed (record { to = S; lines = lines })) w w'
 writes_own S failed lines w w' h1 = grind arith
 
--- it leaves the input of the other engine as it is
+-- sending a block to S leaves the input of the other engine as it is
 writes_other : (S : Colour) (failed : Bool) (lines : List SentLine) (w w' : OutputState) → w' ≡ w
     → WritesAt (other S) (sending failed (record { to = S; lines = lines })) w w'
 writes_other S failed lines w w' h1 = grind arith
 
--- it reads no engine's output
+-- sending a block reads no engine's output
 reads_nothing : (S X : Colour) (failed : Bool) (lines : List SentLine) (r r' : InputState) (h : Held) → r' ≡ r
     → OutputAt X (sending failed (record { to = S; lines = lines })) r r' h h
 reads_nothing S X true lines r r' h e = (e, refl)
@@ -254,7 +254,7 @@ read_moves engines engines' held held' coming witness names S until result next 
     (other_read S (engines (other S)).input (engines' (other S)).input (held (other S)) (held' (other S)) result
     (ap (λ d. d.input) others) kept) (λ X w. read_writes S X result w) same others
 
--- the call `read_line_until`: the same, or no line had come in time
+-- the call `read_line_until`: after the look a line was read, or an end or a failure came, or no line had come in time
 pub until_moves : {E : Type 0} (engines engines' : Colour → Devices) (held held' : Colour → Held)
     (coming : ℕ → Option ℕ) (witness : Noted) (names : List ℕ) (S : Colour) (until : Option ℕ)
     (result : Result (Option Bool) E) (line : LineSeen)
@@ -312,7 +312,7 @@ reads_watched rules reason m S (Happens (FailsToRead c) ∷ H) r r' h h' (v, k, 
 reads_watched rules reason m S (Happens (FailsToWrite c) ∷ H) r r' h h' (v, k, o, p) =
     (v, k, o, reads_watched rules reason (effect rules m (FailsToWrite c)).after S H v r' k h' p)
 
--- what they did to its input, its acts did
+-- what the steps of a match did to the input of an engine, its acts did
 pub writes_watched : (rules : Rules) (reason : Reason) (m : Match) (S : Colour) (H : List Act) (w w' : OutputState)
     → WritesOf S (acts_in (watched rules reason m H)) w w' → WritesOf S H w w'
 writes_watched rules reason m S [] w w' p = p

@@ -8,6 +8,7 @@ some_of : {P Q : ℕ → Type 0} (o : Option ℕ) → ((t : ℕ) → P t → Q t
 some_of None f h = h
 some_of (Some t) f h = f t h
 
+-- without a reading no moment was shown
 pub asked_none : (coming : ℕ → Option ℕ) → ClockReadings coming coming []
 asked_none coming = record { known = λ n h. absurd (omega (arith, h)); rest = λ n. ap coming (sym (zero-add n)) }
 
@@ -17,6 +18,7 @@ first_shown : (coming : ℕ → Option ℕ) (moment n : ℕ) → IfSome (coming 
 first_shown coming moment zero h few = some_of (coming 0) (λ t e. ap Some e) h
 first_shown coming moment (suc n) h few = absurd (omega (arith, few))
 
+-- one reading showed one moment, the known one if it was known
 pub asked_one : (coming coming' : ℕ → Option ℕ) (moment : ℕ) → IfSome (coming 0) (λ t. moment ≡ t)
     → ((n : ℕ) → coming' n ≡ coming (n + 1)) → ClockReadings coming coming' (moment ∷ [])
 asked_one coming coming' moment h rest = record {
@@ -36,7 +38,7 @@ shown_at (x ∷ xs) ys c c' (suc n) a b e h =
     shown_at xs ys (λ k. c (suc k)) c' n (λ k f. a (suc k) (omega (arith, f))) b
     (λ k. let s : length (x ∷ xs) + k ≡ suc (length xs + k) = omega arith in e k ∙ ap c s) (omega (arith, h))
 
--- readings, and then others
+-- the readings `xs` and then `ys` are the readings `xs ++ ys`
 pub asked_more : (c c' c'' : ℕ → Option ℕ) (xs ys : List ℕ) → ClockReadings c c' xs → ClockReadings c' c'' ys
     → ClockReadings c c'' (xs ++ ys)
 asked_more c c' c'' xs ys a b = record {

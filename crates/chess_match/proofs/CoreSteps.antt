@@ -28,7 +28,7 @@ pub clocks_moves : (r : Rules) (core : MatchState) (played : List Move) (m : Mat
 clocks_moves r core played m s White = ap (λ (c : ClocksSeen). c.white.moves) s.clocks
 clocks_moves r core played m s Black = ap (λ (c : ClocksSeen). c.black.moves) s.clocks
 
--- it has as much time left as the match says
+-- the core's clock of S has as much time left as that of the match
 pub clocks_left : (r : Rules) (core : MatchState) (played : List Move) (m : Match) → Represents r core played m
     → (S : Colour) → remaining core.clocks S ≡ clock r m S
 clocks_left r core played m s White = ap (λ (c : ClocksSeen). remaining c White) s.clocks
@@ -95,7 +95,7 @@ open_goes r core played S m s = record {
   gives = λ X. refl;
 }
 
--- the same for a side X that is S
+-- opening the turn of S is opening the turn of X, if X is S
 pub first_opens : (r : Rules) (core : MatchState) (played : List Move) (given : Actions) (m : Match) (S X : Colour)
     → S ≡ X → Goes r core played given nothing_said (begins_turn r S m)
     → Goes r core played given nothing_said (begins_turn r X m)
@@ -231,7 +231,7 @@ pub row_goes : (r : Rules) (core : MatchState) (played : List Move) (given : Act
 row_goes r core played given items kind moment m p e h =
     subst (λ (q : Phase). Goes r core played given items (line_row r q kind moment m)) (sym e) h
 
--- the same of a silence's row
+-- what was shown of a silence's row in the phase `p` holds of the match's own phase, which is `p`
 pub silence_goes : (r : Rules) (core : MatchState) (played : List Move) (given : Actions) (items : Colour → List Item)
     (S : Colour) (moment : ℕ) (m : Match) (p : Phase) → m.phase ≡ p
     → Goes r core played given items (silence_row r p S moment m)

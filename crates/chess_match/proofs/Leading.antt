@@ -40,7 +40,7 @@ leads_on r m m' m'' due due' due'' K J f g stays p q H final reason h e =
       λ S. a.3 S ∙ ap (λ (x : Bool). f S || x) (b.3 S) ∙ or_more (f S) (g S) (is_broken H S),
     )
 
--- the same with `g` for `f`, where both say the same of each side
+-- steps lead somewhere with the failed writes `g`, if they do with `f`, and both say the same of each side
 pub leads_as : (r : Rules) (m m' : Match) (due due' : List Block) (K : List Step) (f g : Colour → Bool)
     → ((S : Colour) → f S ≡ g S) → Leads r m due K m' due' f → Leads r m due K m' due' g
 leads_as r m m' due due' K f g e p H final reason h ends =

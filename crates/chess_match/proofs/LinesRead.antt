@@ -12,7 +12,7 @@ use Rattle.chess_match.specs.Events.{Line, Silent, OutputEnds, FailsToRead}
 own : (S : Colour) (P Q : Type 0) → P → MatchBool (same_colour S S) P Q
 own S P Q p = subst (λ (x : Bool). MatchBool x P Q) (sym (same_colour-self S)) p
 
--- for the other side the second case holds
+-- a test whether a side is S, for the other side: the second case holds
 others : (S : Colour) (P Q : Type 0) → Q → MatchBool (same_colour S (other S)) P Q
 others S P Q q = subst (λ (x : Bool). MatchBool x P Q) (sym (same_colour-other S (other S) (same_colour-self (other S)))) q
 
@@ -39,7 +39,7 @@ own_read S r r' h h' (Ok (Some line)) (more, b, w, got) = by_whether line.ended 
         subst (λ (x : Bool). OutputAt S (if x then Happens (Line S (text_read line) 0) else Happens (OutputEnds S)) r r' h h') (sym e)
         (own S _ _ (more, b, inl (line, g)))
 
--- the other output is left as it was, which the act says too
+-- `read_line` for S left the output of the other engine as it was, which the act of the read says too
 pub other_read : {E : Type 0} (S : Colour) (r r' : InputState) (h h' : Held) (result : Result (Option LineSeen) E)
     → r' ≡ r → h' ≡ h → OutputAt (other S) (act_read S result) r r' h h'
 other_read S r r' h h' (Err x) same kept = others S _ _ (same, kept)
@@ -55,7 +55,7 @@ pub own_silent : (E : Type 0) (S : Colour) (r r' : InputState) (h h' : Held) (li
     → NextLineUntil {E = E} ENGINE_LINE_LEN r r' h h' (Ok None) line → OutputAt S (Happens (Silent S 0)) r r' h h'
 own_silent E S r r' h h' line (more, b, w, got) = own S _ _ (more, b, got)
 
--- the other output was left as it was
+-- `read_line_until` for S left the output of the other engine as it was
 pub other_silent : (S : Colour) (r r' : InputState) (h h' : Held) → r' ≡ r → h' ≡ h
     → OutputAt (other S) (Happens (Silent S 0)) r r' h h'
 other_silent S r r' h h' same kept = others S _ _ (same, kept)

@@ -56,7 +56,7 @@ pub plays_anew : (g h : game.Seen) (setup : run_setup.Setup)
 plays_anew g h setup e = subst (λ (x : game.Seen). Plays x (rules_in setup g)) (sym e)
     (of_colour setup.levels, setup.patience, setup.draws, refl, refl)
 
--- so is any game with that start and limit, in which no result is declared
+-- a game with the setup's start and the limit, in which no result is declared, is played by the setup's rules
 pub plays_on : (g h : game.Seen) (setup : run_setup.Setup) → h.state.start ≡ setup.start → h.limit ≡ g.limit
     → h.state.declared ≡ None → Plays h (rules_in setup g)
 plays_on g h setup s l d = (

@@ -64,7 +64,7 @@ all_lines : (r r' : InputState) (given : List ℕ) (texts : List (Option (List �
     → engine_lines given ≡ texts
 all_lines r r' given texts s = ap (λ ls. map text_read ls) s.lines.2 ∙ s.lines.1
 
--- the output ended
+-- an output that ended: all that came of it was read
 read_to_end : (r r' : InputState) (given : List ℕ) (texts : List (Option (List ℕ))) (last : Option Bool)
     → OutputEnded r r' given texts × (r'.end_count ≡ saturating_increment r.end_count) × (r'.failure_count ≡ r.failure_count)
     × IsAtEnd r'.known_bytes → ReadTo texts true false last r r' given
@@ -78,7 +78,7 @@ read_to_end r r' given texts last (s, ends, failures, at_end) = record {
   all_if_silent = λ h. all_lines r r' given texts s;
 }
 
--- a read failed
+-- an output of which a read failed: all that came of it was read
 read_to_fault : (r r' : InputState) (given : List ℕ) (texts : List (Option (List ℕ))) (last : Option Bool)
     → OutputEnded r r' given texts × (r'.end_count ≡ r.end_count) × (r'.failure_count ≡ saturating_increment r.failure_count)
     → ReadTo texts false true last r r' given
@@ -97,7 +97,7 @@ still : (r v v' : InputState) (h k : Held) (given : List ℕ) (texts : List (Opt
     → OutputSoFar r v h given texts → OutputSoFar r v' k given texts
 still r v v' h k given texts (same, kept) s = rw (same, kept) s
 
--- it also leaves what is held of it
+-- if what is held stays the same, there is still no whole line in it
 still_none : (last : Option Bool) (h k : Held) → k ≡ h → NoneHeld last h → NoneHeld last k
 still_none last h k kept none e = ap (λ (x : Held). lines_held ENGINE_LINE_LEN false x []) kept ∙ none e
 
@@ -107,7 +107,7 @@ silent_none : (v v' : InputState) (h k : Held) (more : List ℕ) → GotSilence 
 silent_none v v' h k more got e =
     sym (got.lines false []) ∙ ap (λ (l : List ℕ). lines_held ENGINE_LINE_LEN false h l) (append-nil more) ∙ got.whole
 
--- the same with each part in other words
+-- what was read (`ReadTo`), with each part replaced by an equal one
 as_read : (r v v' : InputState) (given : List ℕ) (texts texts' : List (Option (List ℕ))) (a a' b b' : Bool)
     (last last' : Option Bool) → texts' ≡ texts → a' ≡ a → b' ≡ b → last' ≡ last → v' ≡ v
     → ReadTo texts a b last r v given → ReadTo texts' a' b' last' r v' given
@@ -129,7 +129,7 @@ no_look S (Happens (Silent c n) ∷ H) u = absurd cc
 no_look S (Happens (OutputEnds c) ∷ H) u = absurd cc
 no_look S (Happens (FailsToRead c) ∷ H) u = absurd cc
 
--- so the last look found what it found before
+-- acts without a look leave what the last look found
 no_look_more : (last : Option Bool) (found more : List Bool) → more ≡ []
     → last_or last (found ++ more) ≡ last_or last found
 no_look_more last found more e = ap (λ (l : List Bool). last_or last (found ++ l)) e

@@ -35,7 +35,7 @@ over_fine r m reason s mild = (
 on_fine : (r : Rules) (m : Match) → is_over m.phase ≡ false → IsSane r m → Fine r m
 on_fine r m on s = (s, λ why e S. let no : true ≡ false = sym (ap is_over e) ∙ on in absurd cc)
 
--- so is one that enters a phase with lines counted from 0; a turn only if the board has no verdict
+-- a sane match is fine when it enters a phase with lines counted from 0; a turn only if the board has no verdict
 entered_fine : (r : Rules) (m : Match) (p : Phase) → is_over p ≡ false
     → (in_turn p ≡ true → verdict r.start m.played ≡ None) → IsSane r m → Fine r (record m { phase = p; count = 0 })
 entered_fine r m p on none s =
@@ -102,13 +102,13 @@ module _ (r : Rules) (S : Colour) (kind : LineKind) (m : Match) (on : is_over m.
     passes = λ p none. entered_fine r m (Opening (other S)) refl (λ h. s.undecided (ap in_turn p)) s;
   }
 
--- a line
+-- a line leaves a sane match fine
 line_fine : (r : Rules) (S : Colour) (kind : LineKind) (moment : ℕ) (m : Match) → awaits_line m.phase S ≡ true
     → IsSane r m → Fine r (line_row r m.phase kind moment m).after
 line_fine r S kind moment m aw s = line_cases r S kind moment m (λ e. Fine r e.after) aw
     (λ since. line_fits r S kind (record m { since = since }) (on_when_read m.phase S aw) (sane_since r m since s) moment)
 
--- a silence
+-- a silence leaves a sane match fine
 silence_fine : (r : Rules) (S : Colour) (moment : ℕ) (m : Match) → awaits_line m.phase S ≡ true → IsSane r m
     → Fine r (effect r m (Silent S moment)).after
 silence_fine r S moment m aw s = silence_cases r S moment m (λ e. Fine r e.after) (record {

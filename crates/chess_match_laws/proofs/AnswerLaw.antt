@@ -35,7 +35,7 @@ named : (known : Bool) (name : List ℕ)
 named true name = refl
 named false name = refl
 
--- so the answers to items name these items
+-- the answers to items name these items, in order
 all_named : (items : List Item) → flat_map name_answered (answers_to items) ≡ map (λ (i : Item). i.name) items
 all_named [] = refl
 all_named (i ∷ items) =

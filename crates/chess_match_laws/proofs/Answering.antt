@@ -466,7 +466,7 @@ module _ (r : Rules) (S : Colour) where
           ∙ h.waits [] K k (ap (λ (x : Colour). Happens (Silent x k) ∷ K) own))
       by_side false e = others_silence r S c k m m.phase e fine.0
 
-  -- so the match is fine at its end
+  -- a match in which S answers is fine at its end
   clean_at_end : (H : List Act) (final : Match) → IsMatch r H final → AnswersFrom r S beginning.after H
       → Fine r S final
   clean_at_end H final g answers =

@@ -51,7 +51,7 @@ failed_blocks_are_last r before after b final g = none_given b.to after
     (unsent_after b.to before after b (same_colour-self b.to)
     (all_sends_end r (before ++ SendFails b ∷ after) final b.to g))
 
--- so at most one block for S fails
+-- if nothing is sent to S after a failed block, at most one block for S fails
 one_broken : (S : Colour) (H : List Act) → sends_end S H ≡ true → length (broken_blocks S H) ≤ 1
 one_broken S [] h = omega arith
 one_broken S (Sends b ∷ H) h = one_broken S H h

@@ -22,7 +22,7 @@ module _ (r : Rules) (S : Colour) (m : Match) (claim : DrawClaim)
       (offer_row r S (since_then since))).after.phase) holds
 
   module _ (moment : ℕ) where
-    -- so does the line before a move, if it comes in time
+    -- before a move, in time, `1/2-1/2` ends the match by this claim
     timely : (opened : ℕ) → moment - opened ≤ clock r m S
         → (line_row r (BeforeMove S opened) ClaimsDraw moment m).after.phase ≡ Over (Claimed claim)
     timely opened time =

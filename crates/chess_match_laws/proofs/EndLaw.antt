@@ -21,7 +21,7 @@ in_game _ = false
 abbrev Undecided : Rules → List Move → Type 0
 Undecided r ms = (verdict r.start ms ≡ None) × (draw_by_itself r ms ≡ None)
 
--- so it was before each of these moves
+-- before each of these moves there was no verdict, and no draw that needs no claim
 abbrev WasUndecided : Rules → List Move → Type 0
 WasUndecided r ms = (k : ℕ) → k < length ms → Undecided r (take k ms)
 

@@ -170,7 +170,7 @@ module _ {A : Type 0} (f : SentLine → List A) (says : (text : List ℕ) → f 
         h',
       )
 
-  -- the same, where what is sent is written in another way
+  -- an event does the same if what is sent is written in another way
   instead : (m n : Match) (rest Z Z' : List A) → Z' ≡ Z → Goes all Rest m rest Z n → Goes all Rest m rest Z' n
   instead m n rest Z Z' e g = subst (λ (z : List A). Goes all Rest m rest z n) (sym e) g
 

@@ -39,7 +39,7 @@ at_most_one : (b : Bool) → one_if b ≤ 1
 at_most_one true = omega arith
 at_most_one false = omega arith
 
--- so a match has at most as many lines as the law says
+-- a match that meets the invariant has had at most as many lines as the law says
 few_over : (r : Rules) (k : ℕ) (m : Match) → Few r k m → k ≤ 22000 + 10002 * (r.limit + 1)
 few_over r k m w = grind (arith, at_most_one (m.seat White).offers, at_most_one (m.seat Black).offers)
 

@@ -226,7 +226,7 @@ module _ (r : Rules) (S : Colour) where
           ap (λ (b : Bool). length (list_if b (t ∷ []))) own in
           let all : m.count + 1 ≤ k + length (list_if (same_colour C S) (t ∷ [])) = omega (arith, so_far, one) in all)
 
-  -- so it holds at each moment
+  -- `CountIn` holds at each moment of a match
   counted_at : (H K : List Act) (final : Match) → IsMatch r (H ++ K) final
       → let m = match_after r beginning.after H in CountIn S m.phase m.count (length (lines_read S H))
   counted_at H K final g =

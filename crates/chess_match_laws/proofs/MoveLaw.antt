@@ -65,7 +65,7 @@ all_texts r O m = others_moves r O (m.seat O).items m.played
 abbrev Owed : Rules → Colour → Match → List (List ℕ) → Type 0
 Owed r O m rest = OwedIn O (last_text r O m) m.phase rest
 
--- the same in the phase `p`, which is the match's
+-- what `Owed` says, in the phase `p`, which is the match's
 owed_in : (r : Rules) (O : Colour) (m : Match) (p : Phase) (rest : List (List ℕ)) → m.phase ≡ p → Owed r O m rest
     → OwedIn O (last_text r O m) p rest
 owed_in r O m p rest e h = subst (λ (q : Phase). OwedIn O (last_text r O m) q rest) e h
@@ -250,7 +250,7 @@ line_written r O S t x m aw =
       passes = λ p none. refl;
     })
 
--- nor does a silence
+-- a silence ends no match by a failed write
 pub silent_written : (r : Rules) (O S : Colour) (x : ℕ) (m : Match) → awaits_line m.phase S ≡ true
     → ended_by_write_to O (effect r m (Silent S x)).after.phase ≡ false
 silent_written r O S x m aw = silence_cases r S x m (λ e. ended_by_write_to O e.after.phase ≡ false) (record {
@@ -274,7 +274,7 @@ written_so_far r O H K final g = by_points r
       read_fails = λ m n S H aw q only same p w h. p refl h;
     }) H K final (λ m due q g w h. w) g refl
 
--- in a whole match, too
+-- if each block for O was sent in a whole match, no write to O ended it
 pub written : (r : Rules) (O : Colour) (H : List Act) (final : Match) → IsMatch r H final → is_broken H O ≡ false
     → ended_by_write_to O final.phase ≡ false
 written r O H final g unbroken =
@@ -324,7 +324,7 @@ abbrev IsSettled : Rules → Colour → List Act → Match → Type 0
 IsSettled r S K final = (m : Match) (due : List Block) → IsMatchFrom r m due K final
     → (due ≡ []) × (is_over m.phase ≡ false) × (is_owed_move m.phase S ≡ false)
 
--- so S was sent all moves in the acts before
+-- where nothing is due and nothing is owed, S was sent all moves in the acts before
 all_sent_before : (r : Rules) (S : Colour) (H K : List Act) (final : Match) → IsSettled r S K final
     → IsMatch r (H ++ K) final → IsSentAllMoves r S H (match_after r beginning.after H)
 all_sent_before r S H K final settled g =

@@ -130,7 +130,7 @@ module _ (r : Rules) (reason : Reason) (final : Match) (over : final.phase ≡ O
       (λ (x : Reason). AreWritten x (blocks_from White (effect r m (FailsToWrite b.to)).to)) is
       (failed_written r m b.to))))
 
-  -- one after the end is neither
+  -- a failed write after the end is neither noted nor an event
   late : (m : Match) (b : Block) (H : List Act) → is_over m.phase ≡ true → is_write_fault_of reason b.to ≡ false
       → events_in (notes_given reason H) ≡ events_of r m H
       → events_in (list_if (is_write_fault_of reason b.to) (Happened (FailsToWrite b.to) ∷ []) ++ notes_given reason H)

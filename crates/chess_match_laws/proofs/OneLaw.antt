@@ -69,12 +69,12 @@ drop_exact a b xs e = rw e (drop-append_seam a b)
 abbrev Shown : {A : Type 0} → List A → (ℕ → A) → Type 0
 Shown shown given = (n : ℕ) → n < length shown → slice_get shown n ≡ Some (given n)
 
--- those after the first
+-- if a first value was shown, those after it are the first of the values given after it
 later : {A : Type 0} (x : A) (shown : List A) (given : ℕ → A) → Shown (x ∷ shown) given
     → Shown shown (λ n. given (suc n))
 later x shown given h1 n h2 = grind arith
 
--- the first
+-- the first value shown is the first one given
 first_shown : {A : Type 0} (x : A) (shown : List A) (given : ℕ → A) → Shown (x ∷ shown) given
     → Some x ≡ Some (given 0)
 first_shown x shown given h = h 0 (omega arith)
@@ -174,7 +174,7 @@ breaks_at w n b H (whole, broke, end) = at (same_colour b.to b.to) (same_colour-
     at true e broke end = broke (some_broken b.lines (broken_blocks b.to H)) ∙ ap Some (silent_weight w b.to H end)
     at false e broke end = absurd cc
 
--- and after it neither side's limit changes
+-- after a block failed, each side can be sent as much as before
 breaks_failed : (w : Block → ℕ) (S : Colour) (n : Option ℕ) (b : Block) (H : List Act)
     → Breaks w S n (SendFails b ∷ H) → Breaks w S n H
 breaks_failed w S n b H (whole, broke, end) = at (same_colour b.to S) whole broke end
@@ -363,7 +363,7 @@ module _ (w : Block → ℕ) where
       let e = o.1 S (or_left (same_colour S S) (has_ended S H) (same_colour-self S)) in
       (e.0 ∙ unread_none S H u, e.1)
 
-  -- so has one of which a read failed
+  -- an engine of which a read failed has no line left
   failed_none : (s : Streams) (S : Colour) (H : List Act) → unread H ≡ true
       → Held w s (Happens (FailsToRead S) ∷ H) → (s.lines S ≡ []) × (s.fails S ≡ true)
   failed_none s S H u o =
@@ -477,7 +477,7 @@ module _ (w : Block → ℕ) where
           (failed_none s c J (none_read r _ final _ J x.2 refl) (subst (λ (L : List Act). Held w s L) x.0 q)).0
       at (Some (FailsToWrite c)) J x = absurd x
 
-  -- it is a silence
+  -- the first act is a silence
   one_silent : (r : Rules) (m : Match) (S : Colour) (n : ℕ) (H : List Act) → awaits_line m.phase S ≡ true
       → One r (effect r m (Silent S n)).after (blocks_from White (effect r m (Silent S n)).to) H
       → One r m [] (Happens (Silent S n) ∷ H)
@@ -504,7 +504,7 @@ module _ (w : Block → ℕ) where
       at (Some (Opened c k)) J x = awaits_or_opens m.phase S c aw x.1
       at (Some (FailsToWrite c)) J x = absurd x
 
-  -- it is the moment of an opening
+  -- the first act is the moment of an opening
   one_opens : (r : Rules) (m : Match) (S : Colour) (n : ℕ) (H : List Act) → m.phase ≡ Opening S
       → One r (effect r m (Opened S n)).after [] H → One r m [] (Happens (Opened S n) ∷ H)
   one_opens r m S n H opening p s K final g o q = let (e, J, x) = next r m final K g in at e J x
@@ -526,7 +526,7 @@ module _ (w : Block → ℕ) where
       at (Some (FailsToRead c)) J x = awaits_or_opens m.phase c S x.1 opening
       at (Some (FailsToWrite c)) J x = absurd x
 
-  -- it is the end of an output
+  -- the first act is the end of an output
   one_ends : (r : Rules) (m : Match) (S : Colour) (H : List Act) → awaits_line m.phase S ≡ true → unread H ≡ true
       → One r (effect r m (OutputEnds S)).after (blocks_from White (effect r m (OutputEnds S)).to) H
       → One r m [] (Happens (OutputEnds S) ∷ H)
@@ -551,7 +551,7 @@ module _ (w : Block → ℕ) where
       at (Some (Opened c k)) J x = awaits_or_opens m.phase S c aw x.1
       at (Some (FailsToWrite c)) J x = absurd x
 
-  -- it is a failed read
+  -- the first act is a failed read
   one_fails : (r : Rules) (m : Match) (S : Colour) (H : List Act) → awaits_line m.phase S ≡ true → unread H ≡ true
       → One r (effect r m (FailsToRead S)).after (blocks_from White (effect r m (FailsToRead S)).to) H
       → One r m [] (Happens (FailsToRead S) ∷ H)

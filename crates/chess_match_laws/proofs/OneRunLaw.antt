@@ -175,7 +175,7 @@ due_lines first to = at (to first) (to (other first))
     at [] y = one y
     at (l ∷ ls) y = (line_bytes l ls, one y)
 
--- so each block that is sent weighs something
+-- each block that a match sends weighs something, as it has bytes
 all_weigh : (r : Rules) (H : List Act) (final : Match) → IsMatch r H final → Weigh size H
 all_weigh r H final g = by_cases r final (λ m due H. HaveLines due → Weigh size H) (record {
   sends = λ m end b due H p have. (have.0, p have.1);

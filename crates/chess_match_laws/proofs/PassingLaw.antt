@@ -99,7 +99,7 @@ moved_few Black Black move used m k h = one_move (m.seat Black).used used k (m.s
 moved_few White Black move used m k h = h
 moved_few Black White move used m k h = h
 
--- and it keeps what `Passed` says
+-- a move of C keeps what `Passed` says
 moved_passed : (C S : Colour) (opened : ℕ) (move : Move) (used : ℕ) (m : Match) (X : List (List ℕ))
     → Passed (BeforeMove C opened) (m.seat (other S)).offers (takes_draw S m) X
     → Passed (AfterMove C) ((moved C move used m).seat (other S)).offers (takes_draw S (moved C move used m)) X
@@ -268,7 +268,7 @@ module _ (r : Rules) (S : Colour) where
           subst (SentIn (Over reason) (length (m.seat S).used) (m.seat (other S)).offers (takes_draw S m)) same
           (record { few = omega (arith, few, l); passed = tt })
 
--- it holds at the beginning
+-- the invariant holds at the beginning
 begun : (S : Colour) → SentTo S beginning.after (flat_map draw_text (beginning.to S))
 begun White = record { few = omega arith; passed = refl }
 begun Black = record { few = omega arith; passed = refl }

@@ -20,7 +20,7 @@ pings-snoc n (suc k) =
     ap (λ ls. (codes "ping " ++ decimal n) ∷ ls) (pings-snoc (n + 1) k
     ∙ ap (λ j. pings (n + 1) k ++ (codes "ping " ++ decimal j) ∷ []) same)
 
--- so many lines
+-- `pings n k` are `k` lines
 pub long : (n k : ℕ) → length (pings n k) ≡ k
 long n zero = refl
 long n (suc k) = ap suc (long (n + 1) k)

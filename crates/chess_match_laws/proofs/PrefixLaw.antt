@@ -134,7 +134,7 @@ keeps p t s X Z none same so_far =
     subst (λ (u : Bool). PrefixedIn p u (X ++ Z)) same
     (subst (λ (Y : List Bool). PrefixedIn p t Y) (sym (ap (λ (z : List Bool). X ++ z) none ∙ append-nil X)) so_far)
 
--- the same items ask for the same
+-- engines with the same items ask alike for `usermove`
 asked_by : (items more : List Item) → items ≡ more → takes (codes "usermove") items ≡ takes (codes "usermove") more
 asked_by items more e = ap (λ (is : List Item). takes (codes "usermove") is) e
 
@@ -205,7 +205,7 @@ module _ (r : Rules) (S : Colour) where
     opened = λ m C k X e so_far. subst (λ (q : Phase). PrefixedIn q (asked S m) X) e so_far;
   }
 
--- it holds at the beginning
+-- the invariant holds at the beginning
 begun : (S : Colour) → SentTo S beginning.after (flat_map prefix_of (beginning.to S))
 begun White = refl
 begun Black = refl

@@ -30,7 +30,7 @@ Says d t m m' = (lines : Streamed) (S : Colour) → (is_over m'.phase ≡ true �
     → (m.seat S).items ++ said_ahead m.phase S (with_line d t lines S)
     ≡ (m'.seat S).items ++ said_ahead m'.phase S (lines S)
 
--- none, once the handshakes are done
+-- once the handshakes are done no items are ahead
 none_ahead : (p : Phase) (S : Colour) (ls : List (Option (List ℕ))) → handshakes_done p ≡ true → said_ahead p S ls ≡ []
 none_ahead p S ls h1 = grind arith
 

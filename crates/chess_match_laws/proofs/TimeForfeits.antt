@@ -122,7 +122,7 @@ late_line : (r : Rules) (S side : Colour) (opened moment : ℕ) (kind : LineKind
 late_line r S side opened moment kind m e late =
     subst (λ (x : Colour). line_row r (BeforeMove x opened) kind moment m ≡ flag_row r S m) (sym e) (rw late refl)
 
--- a silence, in the same way
+-- in a turn of which the time is over, a silence is the end on time of this side
 late_silence : (r : Rules) (S c side : Colour) (opened moment : ℕ) (m : Match) → c ≡ S
     → nat_lt (clock r m S) (moment - opened) ≡ true
     → silence_row r (BeforeMove side opened) c moment m ≡ flag_row r S m
@@ -204,7 +204,7 @@ module _ (r : Rules) (S : Colour) (final : Match) where
   ends_by m (b ∷ due) (Happens e) after g h = absurd g
   ends_by m due act after g h = both_not (shows_fallen r m m.phase S act) (none_shown m m.phase act refl) h
 
-  -- so a side that oversteps its time loses, or draws, on time
+  -- a side that oversteps its time loses, or draws, on time
   overstepped : (H : List Act) → IsMatch r H final → OverstepsTime r H S → EndsOnTime r S final
   overstepped H g (before, act, after, e, shown) = by_acts r
       (λ m due K n. shows_fallen r n n.phase S act ≡ true → EndsOnTime r S final) (record {
@@ -255,7 +255,7 @@ module _ (r : Rules) (reason : Reason) (is : is_forfeit reason ≡ true) where
       at true e = cc
       at false e = cc
 
-  -- this act shows the flag fallen
+  -- the event `e` shows the flag of S fallen
   now : (m n : Match) (S : Colour) (e : Event) (H : List Act) → effect r m e ≡ flag_row r S m
       → Stays (effect r m e).after H n → shows_fallen r m m.phase S (Happens e) ≡ true → n.phase ≡ Over reason
       → Overstepped r m (Happens e ∷ H) reason
@@ -266,7 +266,7 @@ module _ (r : Rules) (reason : Reason) (is : is_forfeit reason ≡ true) where
         ([], Happens e, H, refl, (stays over).1, shown),
       )
 
-  -- a later one does
+  -- a later act than the first shows it
   later : (m m' : Match) (a : Act) (H : List Act)
       → ((before : List Act) → match_after r m (a ∷ before) ≡ match_after r m' before)
       → Overstepped r m' H reason → Overstepped r m (a ∷ H) reason
@@ -283,7 +283,7 @@ module _ (r : Rules) (reason : Reason) (is : is_forfeit reason ≡ true) where
     ),
   )
 
-  -- a line
+  -- a line shows the flag fallen, or a later act does
   line_shows : (m n : Match) (c : Colour) (t : Option (List ℕ)) (k : ℕ) (H : List Act) → awaits_line m.phase c ≡ true
       → Stays (effect r m (Line c t k)).after H n → Shows (effect r m (Line c t k)).after H n
       → Shows m (Happens (Line c t k) ∷ H) n
@@ -299,7 +299,7 @@ module _ (r : Rules) (reason : Reason) (is : is_forfeit reason ≡ true) where
           (p (line_timely r (line_kind t) k m m.phase on (ap (λ (x : Phase). is_late r m x k) e ∙ timely)) o)
       at q e true late = absurd cc
 
-  -- a silence
+  -- a silence shows the flag fallen, or a later act does
   silence_shows : (m n : Match) (c : Colour) (k : ℕ) (H : List Act) → awaits_line m.phase c ≡ true
       → Stays (effect r m (Silent c k)).after H n → Shows (effect r m (Silent c k)).after H n
       → Shows m (Happens (Silent c k) ∷ H) n
@@ -316,7 +316,7 @@ module _ (r : Rules) (reason : Reason) (is : is_forfeit reason ≡ true) where
           (p (silence_timely r c k m m.phase aw on (ap (λ (x : Phase). is_late r m x k) e ∙ timely)) o)
       at q e true late = absurd cc
 
-  -- of a whole match
+  -- in a whole match that ended on time some act shows it
   shown : (H : List Act) (final : Match) → IsMatch r H final → final.phase ≡ Over reason
       → Overstepped r beginning.after H reason
   shown H final g over =

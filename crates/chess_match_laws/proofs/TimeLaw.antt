@@ -105,7 +105,7 @@ AllOf own r S m = AllIn own r S m.phase (takes_time m S) (m.seat (whose own S)).
 abbrev RestIs : Bool → Rules → Colour → Match → List ℕ → Type 0
 RestIs own r S m rest = RestIn own r S m.phase (takes_time m S) (m.seat (whose own S)).used rest
 
--- the same in the phase `p`, which is the match's
+-- what `RestIs` says, in the phase `p`, which is the match's
 rest_in : (own : Bool) (r : Rules) (S : Colour) (m : Match) (p : Phase) (rest : List ℕ) → m.phase ≡ p
     → RestIs own r S m rest → RestIn own r S p (takes_time m S) (m.seat (whose own S)).used rest
 rest_in own r S m p rest e h =

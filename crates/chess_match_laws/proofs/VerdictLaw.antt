@@ -16,7 +16,7 @@ abbrev outcome_at : Option Verdict → Reason → Outcome
 outcome_at v reason =
     option_map_or (λ d. d.outcome) (option_or (option_map verdict_result v) (declared_at v reason)) Unfinished
 
--- it is the outcome of the reason that is reported
+-- the outcome of the reason that is reported is that of the game
 outcome_is : (v : Option Verdict) (reason : Reason)
     → outcome_by_reason (reported_reason v reason) ≡ outcome_at v reason
 outcome_is None reason = refl

@@ -82,7 +82,7 @@ playing S move used m = let n = moved S move used m in sends_to S (ping (ping_nu
 pub said_used : (S C : Colour) (kind : LineKind) (m : Match) → ((said_by S kind m).seat C).used ≡ (m.seat C).used
 said_used S C kind m = grind arith
 
--- so does an offer
+-- an offer leaves the times of both sides
 pub offered_used : (S C : Colour) (m : Match) → ((offering S m).after.seat C).used ≡ (m.seat C).used
 offered_used S C m = grind arith
 

@@ -86,8 +86,8 @@ module _ (r : Rules) (P : Match → List Block → List Act → Match → Type 0
 
 -- ---- a whole match
 
--- the same of all acts to the end: what holds at a match's end and before each act, if after it, holds of the rest of
--- any match
+-- what holds at a match's end, and before each kind of act if it holds after it, holds of the rest of a match from any
+-- place on
 pub by_cases : (r : Rules) (final : Match) (P : Match → List Block → List Act → Type 0)
     → Acts r (λ m due H end. P m due H) → (is_over final.phase ≡ true → P final [] []) → (m : Match) (due : List Block)
     (H : List Act) → IsMatchFrom r m due H final → P m due H
