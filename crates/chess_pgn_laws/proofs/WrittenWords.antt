@@ -1,4 +1,4 @@
--- Words as they are written in a game (numbers, SAN): each is one token where a byte of no word follows (word_token),
+-- Words as they are written in a game, numbers and SAN: each is one token where a byte of no word follows (word_token),
 -- and is of its own kind.
 use Rattle.std.proofs.Common.{◌≡◌, ℕ, ◌<◌, ◌≤◌, Bool, true, false, ◌&&◌, ◌||◌, eqb, List, [], ◌∷◌, ◌++◌, length, drop, refl, ap, ◌∙◌, inl, inr, arith, decimal, nat_le}
 use Rattle.std.proofs.{lemmas.Bool.and_parts, lemmas.Bool.and_from, lemmas.Bool.or_cases, lemmas.Bool.Decides.nat_tests, lemmas.Fmt.decimal_is_IsNumeral, lemmas.Str.Parse.digit_from_value}

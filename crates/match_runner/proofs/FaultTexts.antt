@@ -1,4 +1,4 @@
--- The report of an engine's fault is a text (UTF-8), since each of its bytes is ASCII: by computation for each fault
+-- The report of an engine's fault is UTF-8, so a text, since each of its bytes is ASCII: by computation for each fault
 -- and side.
 use Rattle.std.proofs.Common.{◌≡◌, ◌<◌, ℕ, true, List, refl, subst, sym, IsUtf8, ltb-true}
 use Rattle.std.specs.{Char.is_ascii, List.list_all}
