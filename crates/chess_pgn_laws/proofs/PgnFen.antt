@@ -7,7 +7,7 @@ use Rattle.chess_fen.proofs.shared.Plain.{IsPlain, Plain, fen_plain}
 use Rattle.chess_fen.specs.Writing.{fen}
 use Rattle.chess_pgn_laws.proofs.PgnTags.{is_bare}
 
--- a byte that is no control byte, quote or backslash
+-- a byte of ASCII from the space on, other than a quote or a backslash
 byte_bare : (c : ℕ) → IsPlain 32 c → is_bare c ≡ true
 byte_bare c p =
     let least : 32 ≤ c = p.0 in

@@ -1,5 +1,5 @@
 -- Small texts worked out: how `tokens_from` splits them, what is read of a small game, and how its tokens are laid out.
--- Where the board is asked (legal moves, verdicts), the answer is computed once and put in.
+-- Where the board is asked for a verdict or a move, a lemma takes the answer as a premise.
 use Rattle.std.proofs.Common.{◌≡◌, ℕ, suc, Bool, true, false, cond, List, [], ◌∷◌, ◌++◌, length, Option, None, Some, refl, sym, ap, ◌∙◌, append_assoc, arith, length-append, codes, is_some, nat_lt}
 use Rattle.std.proofs.lemmas.List.Concat.{flat_map-append}
 use Rattle.std.specs.Option.{option_or}
@@ -44,7 +44,8 @@ move_plays limit s left m r is open_yet room =
     (cond (nat_lt (length s.moves) limit) (Goes_on (played s m)) (Fails TooLong left))) open_yet
     ∙ ap (λ t. cond t (Goes_on (played s m)) (Fails TooLong left)) room
 
--- the example `[Event "a"]`, line feed, `1. e4 *`, with its tokens, by how many bytes are left from each on
+-- the example: a game from the initial position, the text `[Event "a"]`, line feed, `1. e4 *`, and its tokens, each
+-- with how many bytes are left from its first on
 abbrev start : State
 start = from_start (initial_setup_of Normal)
 

@@ -361,7 +361,7 @@ module _ (plan : GamesPlan) (c c' c'' : ℕ → Option ℕ) (p p' p'' : GamesFut
       ∙ ap (λ v. score_after (first_side (1 + length games)) g.end.outcome v) s.counted
       ∙ score_more games g (omega (arith, n, few))
 
-  -- a game without a fault keeps the state of the match: `number` and the list of games go up by one
+  -- a game without a fault keeps the state of the match: `number` and the list of games grow by one
   pub one_more : (g : GameRecord) → number ≤ plan.games → number ≤ 65535 → IsOfPlan plan number g → g.end.fault ≡ None
       → Sent w' w'' (game_text plan number g) → Logged l' l'' (game_log plan number g)
       → StepsPass p' p'' (steps_by Writes plan number g) → BeginsAt c' g → c'' ≡ g.after.coming

@@ -70,7 +70,7 @@ others_stay (h ∷ games) zero g (suc k) apart = refl
 others_stay (h ∷ games) (suc i) g zero apart = refl
 others_stay (h ∷ games) (suc i) g (suc k) apart = others_stay games i g k (λ e. apart (ap suc e))
 
--- its commands stay
+-- if the game at index i keeps its commands, so do all starts
 pub started_stay : (games : List MemoryGame) (i : ℕ) (g d : MemoryGame)
     → g.commands ≡ (get_or games i d).commands → started_for (set games i g) ≡ started_for games
 started_stay [] i g d e = refl

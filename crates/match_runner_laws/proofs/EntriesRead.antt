@@ -1,6 +1,6 @@
--- The lines of a log are read back from its text: a line is cut at the first byte after its number, after its mark and
--- engine, and at its `\n`, each in only one way (line_cut, logs_have_one_reading). The log of notes is the text of
--- their lines (log_is).
+-- The lines of a log are read back from its text: a line is cut at the space after its moment, after its mark and its
+-- engine's name, and at its `\n`, each in only one way (line_cut, logs_have_one_reading). The log of notes is the text
+-- of their lines (log_is).
 use Rattle.std.proofs.Common.{◌≡◌, ◌∙◌, ℕ, Bool, true, false, List, [], ◌∷◌, ◌++◌, map, refl, sym, ap, append_assoc, append-nil, Some, None, arith, rules, ◌==◌, codes, decimal, flat_map, if◌then◌else◌}
 use Rattle.std.proofs.{lemmas.Bool.and_parts, lemmas.Bool.Decides.nat_tests, lemmas.List.append_cancel_left, lemmas.List.Concat.flat_map-append, lemmas.Fmt.decimal_injective, lemmas.Fmt.digits_decimal, lemmas.Str.Parse.IsNumeralModel, lemmas.Str.Parse.numerals_by_value}
 use Rattle.std.specs.{Fmt.digits, Str.Parse.digits_value, List.AllByRecursion, List.list_all}

@@ -196,7 +196,7 @@ module _ (r : Rules) (S : Colour) (k : ℕ) (m : Match) (on : is_over m.phase �
   unless_over_again None (Some claim) n done redone h = over_again r (over_by.Claimed claim) k n (refl, λ c. refl)
   unless_over_again None None n done redone h = h
 
-  -- a line before this side's move; only a move that is legal changes the game
+  -- a line before this side's move, by its kind; `used`: the time that a move took, which is 0 when it is played again
   before : (used : ℕ) (kind : LineKind) → Again r (before_move r S used kind m) (before_move r S 0 kind (anew k m))
   before used (Moves t) = test_again (nat_le r.limit (length m.played)) _ _ _ _
       (over_again r over_by.GameTooLong k m (refl, λ c. refl))

@@ -1,6 +1,6 @@
 -- What a log shows of a match is enough to play it again: from the events that it shows, in a match where no move takes
 -- time (`again` of PlayedAgain), follow the moves, what engines said, and the reason for the end (Goes, match_goes). Of
--- a match that ended because a flag fell the last event is left out, since the flag itself is not shown.
+-- a match that ended because a flag fell the last event is left out, since no flag falls where no time is used.
 use Rattle.std.proofs.Common.{◌≡◌, ◌⊎◌, ℕ, Bool, true, false, List, [], ◌∷◌, ◌++◌, map, refl, ap, sym, ◌∙◌, subst, append_assoc, inl, inr, arith, if◌then◌else◌, fold}
 use Rattle.std.specs.List.{AllByRecursion}
 use Rattle.std.proofs.{lemmas.Bool.and_parts, lemmas.List.map-append}

@@ -191,7 +191,7 @@ record IsPlain (kind : FaultKind) (text : List ℕ) (start begin at : ℕ) : Typ
   pub word : (if is_at_begin kind then [] else (wrong_part kind text begin at).1)
       ≡ (if is_at_begin kind then [] else (wrong_part kind text at at).1)
 
--- by cases of the kind of fault: place and word are those at the fault, unless it is told only at a game's beginning
+-- by cases of the kind of fault: where its game begins (`begin`) makes no difference to place and word
 is_plain : (kind : FaultKind) (text : List ℕ) (start begin at : ℕ) → IsPlain kind text start begin at
 is_plain (Pgn pgn.BadTag) text start begin at = record { place = refl; word = refl }
 is_plain (Pgn (pgn.BadFen fault)) text start begin at = record { place = refl; word = refl }

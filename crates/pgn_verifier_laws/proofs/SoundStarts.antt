@@ -157,7 +157,7 @@ six_sound v placement side castling target halfmove fullmove q h = at (placement
         (if is_castling_field v castling then Ok (rights_in v men castling) else Err faults.Castling)
         (target_of target) (short_number 6 halfmove) (short_number 6 fullmove) q (board_long placement men e) k
 
--- from six fields, or fewer where counters are left out
+-- only six fields are read, so by six_sound
 fields_sound : (v : Variant) (fields : List (List ℕ)) (q : Setup) → reading_in v fields ≡ Ok q → IsSound q
 fields_sound v (a ∷ b ∷ c ∷ d ∷ e ∷ f ∷ []) q h = six_sound v a b c d e f q h
 fields_sound v [] q h = absurd (cc)

@@ -1,4 +1,4 @@
--- Knights, kings and pawns reach the squares of the tables.
+-- Knights, kings and pawns attack from each square just those that the tables list, by computation.
 use Rattle.std.proofs.Common.{refl}
 use Rattle.chess_base.specs.Attacks.{could_capture}
 use Rattle.rules_laws.specs.Reach.{TablesHold}

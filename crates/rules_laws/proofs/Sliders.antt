@@ -1,4 +1,4 @@
--- Rook, bishop and queen reach the squares of the diagrams.
+-- Rook, bishop and queen attack just the squares that the diagrams mark, by computation.
 use Rattle.std.proofs.Common.{refl}
 use Rattle.chess_base.specs.{Attacks.is_clear, Attacks.could_capture, Squares.each_square, Squares.squares, Squares.is_between}
 use Rattle.rules_laws.specs.Sliders.{DiagramsHold}

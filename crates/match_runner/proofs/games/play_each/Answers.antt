@@ -1,5 +1,7 @@
--- The games so far were played without a fault, written and logged, and the score counts them (GamesWritten.SoFar): a
--- game more keeps that (GamesWritten.one_more), and one with a fault is the last (GamesWritten.with_fault).
+-- The invariant (GamesWritten.SoFar): the games so far were played without a fault, written and logged, and the score
+-- counts them. A game without a fault keeps it (GamesWritten.one_more). The loop ends with a game that has a fault
+-- (GamesWritten.with_fault), one that could not be started or written (GamesWritten.broke_off), or the last of the plan
+-- (GamesWritten.all_played).
 use Rattle.std.proofs.Common.{◌≡◌, ◌∙◌, ◌≤◌, ◌<◌, ◌+◌, ◌++◌, ◌∷◌, [], Ok, None, Some, subst, sym, ap, arith, rules}
 use Rattle.chess_match.specs.declared.run.MatchEnd.{MatchEnd}
 use Rattle.match_runner.specs.{Games.first_side, ties.Playing.HasPlayed, ties.Playing.score_after, Log.log_seen, declared.score.Score.Score}

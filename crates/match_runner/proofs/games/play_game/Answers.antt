@@ -1,5 +1,6 @@
--- The steps of a game, one after another (GamesWritten.was_written, was_not_written); or its engines could not be
--- started (GamesWritten.was_not_started). The match leaves the game its limit (GamesWritten.limit_kept).
+-- A game was started, played, written (or that failed) and finished: its steps passed in this order
+-- (GamesWritten.was_written, was_not_written); or its engines could not be started (GamesWritten.was_not_started). The
+-- limit of its half-moves stays (GamesWritten.limit_kept).
 use Rattle.std.proofs.Common.{◌≡◌, ◌∙◌, ap, refl, subst}
 use Rattle.chess_game.specs.Game.{Seen}
 use Rattle.chess_match.specs.{Played.PlayedNoting, Played.World, declared.run.Setup.Setup}

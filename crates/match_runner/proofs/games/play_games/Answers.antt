@@ -1,4 +1,5 @@
--- What the match does with the host of processes, without the steps there (GamesWritten.plays_games).
+-- What `play_games_with` claims of the host of processes gives what is claimed here of the output and the log, once the
+-- host's steps are left out (GamesWritten.plays_games).
 use Rattle.match_runner.proofs.GamesWritten.{plays_games}
 use Rattle.match_runner.proofs.games.play_games.Goals as goal
 
