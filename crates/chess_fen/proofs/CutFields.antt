@@ -49,7 +49,7 @@ pub record IsCut {A : Type 0} (p : A → Bool) (xs : List A) : Type 0 where
   pub rest : drop (position_or_len p xs) xs ≡ at ∷ tail
   pub split : slice_split p xs ≡ before_first p xs ∷ slice_split p tail
 
--- each list is one or the other
+-- each list is left whole (`IsWhole`) or cut (`IsCut`) at elements that pass the test
 pub cut : {A : Type 0} (p : A → Bool) (xs : List A) → IsWhole p xs ⊎ IsCut p xs
 cut p [] = inl (record { rest = refl; front = refl; split = refl })
 cut {A} p (x ∷ xs) = by_test (p x) refl (cut p xs)

@@ -23,14 +23,14 @@ record AreCounters (more : List (List ℕ)) (h f : List ℕ) : Type 0 where
   denoted : (n m : ℕ) → DenotesCounters more n m
       → (k : ℕ) × (short_number 6 h ≡ Some n) × (short_number 6 f ≡ Some k) × (m ≡ max k 1)
 
--- without the two fields the counters' texts are 0 and 1
+-- without the two last fields the counters' texts are 0 and 1
 left_out : AreCounters [] (codes "0") (codes "1")
 left_out = record { read = read; denoted = λ n m s. (1, ap Some (sym s.0), refl, s.1) }
   where
     read : (n k : ℕ) → Some 0 ≡ Some n → Some 1 ≡ Some k → DenotesCounters [] n (max k 1)
     read n k p q = let a : n ≡ 0 = cc in let b : k ≡ 1 = cc in (a, ap (λ j. max j 1) b)
 
--- with the two fields they are the counters' texts
+-- with the two last fields they are the counters' texts
 given : (h f : List ℕ) → AreCounters (h ∷ f ∷ []) h f
 given h f = record { read = λ n k p q. (p, (k, q, refl)); denoted = λ n m s. (s.1.0, s.0, s.1.1, s.1.2) }
 
@@ -93,12 +93,13 @@ outcome v a b c d h f more counters =
 
 -- ---- the text
 
--- the same of a text: a position is denoted by it, a fault is a wrong number of fields or that of a field
+-- what is to be shown of reading a text's fields: a position is denoted by the text, a fault is a wrong number of
+-- fields or that of a field
 abbrev pub TextOutcome : Variant → List ℕ → Result Setup FenFault → Type 0
 TextOutcome v text (Ok p) = DenotesText v text (third (fields_of text)) p
 TextOutcome v text (Err f) = HasWrongFieldCount text f ⊎ IsMalformed v text f
 
--- from four or six fields to the text that has them
+-- what was shown of four or six fields (`Outcome`) holds of the text that has them (`TextOutcome`)
 of_fields : (v : Variant) (text : List ℕ) (a b c d : List ℕ) (more : List (List ℕ))
     → fields_of text ≡ a ∷ b ∷ c ∷ d ∷ more → (length more ≡ 0) ⊎ (length more ≡ 2) → (r : Result Setup FenFault)
     → Outcome v a b c d more r → TextOutcome v text r
@@ -111,7 +112,7 @@ fieldless : (v : Variant) (text : List ℕ) (n : ℕ) → length (fields_of text
     → TextOutcome v text (Err faults.Fields)
 fieldless v text n e four six = inl (refl, (λ h. four (sym e ∙ h)), (λ h. six (sym e ∙ h)))
 
--- by the number of fields
+-- reading a text's fields is as `TextOutcome` says, by the number of fields
 text_outcome_by : (v : Variant) (text : List ℕ) (fields : List (List ℕ)) → fields_of text ≡ fields
     → TextOutcome v text (denoted_in v fields)
 text_outcome_by v text [] e = fieldless v text 0 (ap length e) (λ h. omega (arith, h)) (λ h. omega (arith, h))
@@ -217,7 +218,8 @@ abbrev ReadingOutcome : Variant → List ℕ → Result Setup FenFault → Type 
 ReadingOutcome v text (Ok p) = DenotesFenAs v text p
 ReadingOutcome v text (Err f) = IsFaultAs v text f
 
--- it is so; after the fields are read, the first condition that fails is the fault
+-- the reading of a text is as `ReadingOutcome` says: the fields give a position or a fault, and for a position the
+-- first condition that fails is the fault
 reading_outcome : (v : Variant) (text : List ℕ) → ReadingOutcome v text (fen_reading_as v text)
 reading_outcome v text =
     subst (ReadingOutcome v text) (sym (reading-steps v (fields_of text)))
@@ -300,7 +302,7 @@ misread v a b c d h f more faults.Pawns n s = absurd s
 misread v a b c d h f more faults.Men n s = absurd s
 misread v a b c d h f more faults.Check n s = absurd s
 
--- the same for a list of four or six fields
+-- a true fault of a field is what reading a list of four or six fields finds
 misread_in : (v : Variant) (a b c d : List ℕ) (more : List (List ℕ)) (f : FenFault)
     → (length more ≡ 0) ⊎ (length more ≡ 2) → IsFieldFault v a b c d more f
     → denoted_in v (a ∷ b ∷ c ∷ d ∷ more) ≡ Err f

@@ -30,7 +30,7 @@ DigitBytes ds = AllByRecursion (λ c. (48 ≤ c) × (c ≤ 57)) ds
 says_bytes : IsDigitsTest DigitBytes
 says_bytes = record { empty = tt; parts = λ c cs p. (search rules, p.1); more = λ c cs d p. (search rules, p) }
 
--- so it holds for each numeral
+-- each numeral of base 10 has digits only
 own_bytes : IsNumeralModel DigitBytes (digits_value 10)
 own_bytes = numerals_by_value _ says_bytes
 
@@ -80,7 +80,7 @@ rows_plain (suc n) men =
       rows_plain n men,
     )
 
--- with slashes between them they are plain from 45 on
+-- the whole placement, with slashes between its ranks, is plain from 45 on, so it has no space
 placement_plain : (men : List (Option Man)) → Plain 45 (placement_text men)
 unfolding placement_text
 placement_plain men = Plain-join 47 45 (map fen_rank (ranks_down 8 men)) (low 45 47 (omega arith) (omega arith)

@@ -9,7 +9,7 @@ use Rattle.chess_fen.specs.Texts.{fields_of}
 abbrev pub IsPlain : ℕ → ℕ → Type 0
 IsPlain k b = (k ≤ b) × (b < 128) × (b ≢ 34) × (b ≢ 92)
 
--- each byte of the text is so
+-- each byte of the text is plain from k on
 abbrev pub Plain : ℕ → List ℕ → Type 0
 Plain k text = AllByRecursion (IsPlain k) text
 
@@ -45,7 +45,7 @@ split_whole c (x ∷ xs) p =
     let other : eqb x c ≡ false = grind (arith, nat_tests) in
     rw (other, split_whole c xs p.1) refl
 
--- such a text with c after it is cut there first
+-- a text whose bytes are all above c, with c and more after it, is cut first at that c
 split_first : (c : ℕ) (text rest : List ℕ) → Plain (suc c) text → slice_split (λ b. eqb b c) (text ++ c ∷ rest)
     ≡ text ∷ slice_split (λ b. eqb b c) rest
 split_first c [] rest p = let same : eqb c c ≡ true = grind (arith, nat_tests) in rw same refl

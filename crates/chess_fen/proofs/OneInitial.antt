@@ -5,7 +5,8 @@ use Rattle.chess_base.specs.{declared.man.CastlingSide.TheVariants.KingSide, dec
 use Rattle.chess_fen.specs.{shared.RightTexts.or_dash, shared.RightTexts.right_text, Reading.fen_reading_as, Texts.fields_of, Writing.rights_text, Writing.fen, Writing.is_initial}
 use Rattle.chess_fen.proofs.{RightLetters.rights_are, DenotedFen.reading-denoted, RoundTrip.fen_fields, WrittenFen.fen-denoted}
 
--- the rights of Chess960 are not written as those of the initial position of normal chess, KQkq
+-- in Chess960 the castling field is never KQkq (75, 81, 107, 113): a right's letter is one of A to H or a to h, so the
+-- first byte would differ
 other_letters : (a b c d : Option ℕ) → or_dash (((right_text Fischerandom White KingSide a
     ++ right_text Fischerandom White QueenSide b) ++ right_text Fischerandom Black KingSide c)
     ++ right_text Fischerandom Black QueenSide d) ≡ 75 ∷ 81 ∷ 107 ∷ 113 ∷ [] → ⊥
@@ -41,7 +42,7 @@ normal p sound initial same = by_variant p.variant refl
 read_back : (p : Setup) → IsSound p → fen_reading_as p.variant (fen p) ≡ Ok p
 read_back p sound = reading-denoted p.variant (fen p) p (fen-denoted p sound) sound
 
--- it is the initial position, since reading its FEN gives it back, and gives the initial position too
+-- a position with the initial position's FEN is the initial position, since reading that FEN gives both
 only : (p : Setup) → IsSound p → IsSound initial_setup → is_initial p ≡ true → p ≡ initial_setup
 only p sound initial e =
     let same : fen p ≡ fen initial_setup = (bytes_eq-Decides (fen p) (fen initial_setup)).0 e in

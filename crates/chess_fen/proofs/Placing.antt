@@ -173,7 +173,8 @@ placing-parts left row above (c ∷ cs) = by_space (λ left row above. placing-p
     by_space on true t = rw t (last_part left row above)
     by_space on false t = by_stroke on (eqb c 47) t refl
 
--- so reading from the start gives the board that the definition reads of the first field
+-- reading a placement byte by byte from its start gives the board that the definition reads of the text before the
+-- first space
 pub placing-read : (text : List ℕ) → placing 7 [] [] text ≡ placement_of (before_first (λ b. eqb b 32) text)
 placing-read text = placing-parts 7 [] [] text ∙ by_list (parted text) (some_parts text)
   where

@@ -22,7 +22,7 @@ not_last : (left : ℕ) (row above : List (Option Man)) → eqb (length row) 8 �
 not_last zero row above e = rw e refl
 not_last (suc left) row above e = refl
 
--- the next two say that nothing is read: at a slash after such a rank, and at any byte that adds nothing
+-- at a slash nothing is read if the test b fails, which asks whether the rank has eight squares
 not_lower : (left : ℕ) (b : Bool) (f : ℕ → Option (List (Option Man))) → b ≡ false
     → at_lower left (λ lower. cond b (f lower) None) ≡ None
 not_lower zero b f e = refl
@@ -33,6 +33,8 @@ pub all_none : (a b : Bool) (x y z : Option (List (Option Man))) → x ≡ None 
     → cond a x (cond b y z) ≡ None
 all_none a b x y z ex ey ez = grind (arith, ex, ey, ez)
 
+-- where the rank hasn't eight squares, and reading on with the squares of the next byte gives no board, there is no
+-- board
 stuck : (left : ℕ) (row above : List (Option Man)) (c : ℕ) (cs : List ℕ) → eqb (length row) 8 ≡ false
     → option_and_then (λ squares. placing left (row ++ squares) above cs) (squares_of c) ≡ None
     → placing left row above (c ∷ cs) ≡ None

@@ -57,7 +57,7 @@ by_rooks (None ∷ []) = refl
 by_rooks (Some s ∷ p ∷ os) = stays os
 by_rooks (None ∷ p ∷ os) = stays os
 
--- so the reader's right is that of the definition, or `nowhere` where this is named wrongly
+-- the reader's right is the right that the definition finds, or has its rook on `nowhere` where this is named wrongly
 right_is : (men : Men) (letters : List ℕ) (c : Colour) (w : CastlingSide)
     → right_by_letters Fischerandom men letters c w ≡ sentinel (option_in Fischerandom men letters c w)
 right_is men letters c w =
@@ -112,7 +112,7 @@ module _ (men : Men) (colour : Colour) (target : Option ℕ) (halfmove fullmove 
       (first_failing (take 4 (conditions (setup_with v rights))
       ++ ((faults.Castling, well) ∷ drop 4 (conditions (setup_with v rights)))))
 
-  -- what the reader says of these rights: the position if it is sound, otherwise its fault
+  -- what the reader says of these rights: the position if it is sound, otherwise the first fault
   abbrev read : Variant → Rights → Result Setup FenFault
   read v rights = unless_fault (setup_with v rights) (setup_fault (setup_with v rights))
 
@@ -126,7 +126,7 @@ module _ (men : Men) (colour : Colour) (target : Option ℕ) (halfmove fullmove 
       ∙ ap (λ b. unless_fault (setup_with v t) (first_failing (take 4 (conditions (setup_with v t))
       ++ ((faults.Castling, b) ∷ drop 5 (conditions (setup_with v t)))))) (sym e)
 
-  -- whether a right has king and rook placed for it, as one that isn't there has
+  -- a right is absent, or king and rook stand as castling by it needs
   abbrev placed : Colour → CastlingSide → Option ℕ → Bool
   placed c w right = option_map_or (are_placed_for_castling Fischerandom men c w) right true
 
@@ -137,7 +137,8 @@ module _ (men : Men) (colour : Colour) (target : Option ℕ) (halfmove fullmove 
   unfolding rights_are_sound right_is_sound
   one_nowhere a b c d e = grind (arith, e)
 
-  -- both say the same, whichever of the four is the first that is named wrongly
+  -- the definition's condition and the reader's rights give the same position or fault, whichever of the four rights is
+  -- the first that is named wrongly
   named_alike : (a b c d : Option (Option ℕ))
       → said Fischerandom (rights_of_four (flat a) (flat b) (flat c) (flat d)) (four_some a b c d)
       ≡ read Fischerandom (rights_of_four (sentinel a) (sentinel b) (sentinel c) (sentinel d))
@@ -158,7 +159,7 @@ module _ (men : Men) (colour : Colour) (target : Option ℕ) (halfmove fullmove 
       (one_nowhere a b c (Some nowhere) (inr (inr (inr (no_rook men Black QueenSide)))))
   named_alike (Some a) (Some b) (Some c) (Some d) = refl
 
-  -- the same for the letters of a castling field, by variant
+  -- for rights by the letters of a castling field, as options, definition and reader give the same position or fault
   by_options : (v : Variant) (letters : List ℕ)
       → said v (rights_by_options v men letters) (options_are_well v men letters)
       ≡ read v (rights_by (right_by_letters v men letters))
@@ -175,7 +176,7 @@ module _ (men : Men) (colour : Colour) (target : Option ℕ) (halfmove fullmove 
         right_is men letters Black QueenSide,
       ) refl
 
-  -- the same with the rights as the definition has them
+  -- for rights by the letters of a castling field, as the definition has them, definition and reader give the same
   alike : (v : Variant) (letters : List ℕ)
       → said v (rights_in v men letters) (names_rights_well v men letters)
       ≡ read v (rights_by (right_by_letters v men letters))
@@ -216,7 +217,7 @@ fields_are v a b c d h f =
         ap (unless_fault p) (first_failing-conditions_if (names_rights_well v men c) p)
         ∙ alike men colour target halfmove (max fullmove 1) v c
 
--- so does reading a text
+-- reading a text by the definition, and by the reader, gives the same
 fens_are : (v : Variant) (text : List ℕ) → fen_reading_as v text ≡ (setup_in v (fields_of text) >>= if_sound)
 fens_are v text = reading-steps v (fields_of text) ∙ by_fields (fields_of text)
   where
@@ -241,14 +242,14 @@ judged setup (Ok p) sound value fault = ap Ok value
     ∙ sym (ap (unless_fault setup) (no_fault_from_IsSound setup (sound.0 refl)))
 judged setup (Err f) sound value fault = ap (unless_fault setup) fault
 
--- what the reader makes of the position that it read is what the definition reads
+-- the judgement of the position that the reader read is the definition's reading of the text
 pub judged-read : (v : Variant) (text : List ℕ) (setup : Setup) (r : Result Setup FenFault)
     → Ok setup ≡ setup_in v (fields_of text) → (IsOk r ↔ IsSound setup) → IfOk r (λ p. p ≡ setup)
     → IfErr r (λ f. Some f ≡ setup_fault setup) → r ≡ fen_reading_as v text
 judged-read v text setup r is sound value fault =
     judged setup r sound value fault ∙ ap (λ o. o >>= if_sound) is ∙ sym (fens_are v text)
 
--- so is a fault that it found in the fields
+-- a fault that the reader found in the fields is what the definition reads
 pub refused-read : (v : Variant) (text : List ℕ) (f : FenFault) → Err f ≡ setup_in v (fields_of text)
     → Err f ≡ fen_reading_as v text
 refused-read v text f is = ap (λ o. o >>= if_sound) is ∙ sym (fens_are v text)

@@ -50,22 +50,24 @@ pub no_side_letter : (c d : Colour) (w : CastlingSide) (f : ℕ) → f < 8
     → eqb (first_letter c + f) (side_letter d w) ≡ false
 no_side_letter c d w f h = grind (arith, nat_tests)
 
--- it is that of a file for its own colour, and not for the other
+-- a letter that is written for a right of colour c is that of a file for c
 pub own_file : (c : Colour) (f : ℕ) → f < 8 → names_file c (first_letter c + f) ≡ true
 own_file c f h = grind (arith, nat_tests)
 
+-- a letter that is written for a right of colour c is no file's for the other colour
 other_file : (c : Colour) (f : ℕ) → f < 8 → names_file (other c) (first_letter c + f) ≡ false
 other_file c f h = grind (arith, nat_tests)
 
--- the file's letter gives the square back
+-- the letter of a square's file gives back the square on the first rank
 pub file_back : (c : Colour) (s : ℕ) → rank s ≡ first_rank c
     → home_square c ((first_letter c + file s) - first_letter c) ≡ s
 file_back c s e = omega arith
 
--- a square on one side of the king is not on the other
+-- a square on side w of the king is so by the test of the letters, `is_towards`
 towards_own : (w : CastlingSide) (k s : ℕ) → is_to_side w k s ≡ true → is_towards w (Some k) s ≡ true
 towards_own w k s e = grind (arith, nat_tests, e)
 
+-- a square on side w of the king is not on the other side by that test
 towards_other : (w : CastlingSide) (k s : ℕ) → is_to_side w k s ≡ true → is_towards (other_side w) (Some k) s ≡ false
 towards_other w k s e = grind (arith, nat_tests, e)
 
@@ -81,7 +83,7 @@ names_own men c w s b =
     let t : is_towards w (king_square men c) s ≡ true = rw b.at (towards_own w b.king s b.side) in
     rw (no_side_letter c c w (file s) (file_in s), own_file c (file s) (file_in s), file_back c s b.rook_rank, t) refl
 
--- it doesn't name the colour's other right
+-- the letter that is written for a right doesn't name the same colour's right on the other side
 names_other_side : (men : Men) (c : Colour) (w : CastlingSide) (s : ℕ) → Beside men c w s
     → names_right men c (other_side w) (first_letter c + file s) ≡ false
 names_other_side men c w s b =
@@ -93,13 +95,13 @@ names_other_side men c w s b =
       t,
     ) refl
 
--- nor a right of the other colour
+-- the letter that is written for a right doesn't name a right of the other colour
 names_other_colour : (men : Men) (c : Colour) (w : CastlingSide) (s : ℕ)
     → names_right men (other c) w (first_letter c + file s) ≡ false
 names_other_colour men c w s = rw (no_side_letter c (other c) w (file s) (file_in s), other_file c (file s) (file_in s))
     refl
 
--- it gives the rook's square
+-- the letter that is written for a right gives the square of the right's rook
 pub rook_own : (men : Men) (c : Colour) (w : CastlingSide) (s : ℕ) → rank s ≡ first_rank c
     → rook_by men c w (first_letter c + file s) ≡ Some s
 rook_own men c w s home = rw (no_side_letter c c w (file s) (file_in s), file_back c s home) refl
@@ -110,14 +112,14 @@ rook_own men c w s home = rw (no_side_letter c c w (file s) (file_in s), file_ba
 abbrev pub Stand : Variant → Men → Rights → Type 0
 Stand v men r = (c : Colour) (w : CastlingSide) → right_is_sound_at v men c w (right_of r c w) ≡ true
 
--- of the text of a right (a letter, or none), each letter names the right
+-- all of the text of an available right, one letter or none, names the right
 own_text : (men : Men) (c : Colour) (w : CastlingSide) (o : Option ℕ) → right_is_sound_at Fischerandom men c w o ≡ true
     → filter (names_right men c w) (right_text Fischerandom c w o) ≡ right_text Fischerandom c w o
 own_text men c w None e = refl
 own_text men c w (Some s) e =
     ap (λ b. cond b ((first_letter c + file s) ∷ []) []) (names_own men c w s (beside men c w s e))
 
--- none names the other side's right
+-- nothing of the text of an available right names the same colour's right on the other side
 side_text : (men : Men) (c : Colour) (w : CastlingSide) (o : Option ℕ)
     → right_is_sound_at Fischerandom men c w o ≡ true
     → filter (names_right men c (other_side w)) (right_text Fischerandom c w o) ≡ []
@@ -125,7 +127,7 @@ side_text men c w None e = refl
 side_text men c w (Some s) e =
     ap (λ b. cond b ((first_letter c + file s) ∷ []) []) (names_other_side men c w s (beside men c w s e))
 
--- none names a right of the other colour
+-- nothing of the text of a right names a right of the other colour
 colour_text : (men : Men) (c : Colour) (w u : CastlingSide) (o : Option ℕ)
     → filter (names_right men (other c) u) (right_text Fischerandom c w o) ≡ []
 colour_text men c w u None = refl
@@ -137,16 +139,19 @@ after-dash : (men : Men) (c : Colour) (w : CastlingSide) (xs : List ℕ)
 after-dash men c w [] = grind arith
 after-dash men c w (x ∷ xs) = refl
 
--- the text of White's right on the king's side, below the three others
+-- the text of White's right on the king's side; B, C and D are those of the three others
 abbrev A : Rights → List ℕ
 A r = right_text Fischerandom White KingSide r.white.king_side
 
+-- the text of White's right on the queen's side
 abbrev B : Rights → List ℕ
 B r = right_text Fischerandom White QueenSide r.white.queen_side
 
+-- the text of Black's right on the king's side
 abbrev C : Rights → List ℕ
 C r = right_text Fischerandom Black KingSide r.black.king_side
 
+-- the text of Black's right on the queen's side
 abbrev D : Rights → List ℕ
 D r = right_text Fischerandom Black QueenSide r.black.queen_side
 
@@ -161,7 +166,7 @@ in_turn men r c w =
     ∙ ap (λ xs. xs ++ filter names (D r))
     (filter-append names (A r ++ B r) (C r) ∙ ap (λ xs. xs ++ filter names (C r)) (filter-append names (A r) (B r)))
 
--- of the whole field only its own letter names an available right
+-- of the castling field that is written, only a right's own letter names it
 own_letters : (men : Men) (r : Rights) (c : Colour) (w : CastlingSide) → Stand Fischerandom men r
     → filter (names_right men c w) (rights_text Fischerandom r) ≡ right_text Fischerandom c w (right_of r c w)
 own_letters men r White KingSide s =
@@ -200,14 +205,14 @@ own_letters men r Black QueenSide s =
       own_text men Black QueenSide r.black.queen_side (s Black QueenSide),
     ) refl
 
--- and this letter gives its rook
+-- the text of an available right gives the right back: its rook, or that it is absent
 one_right : (men : Men) (c : Colour) (w : CastlingSide) (o : Option ℕ) → right_is_sound_at Fischerandom men c w o ≡ true
     → option_by (map (rook_by men c w) (right_text Fischerandom c w o)) ≡ Some o
 one_right men c w None e = refl
 one_right men c w (Some s) e =
     ap (λ rook. option_by (rook ∷ [])) (rook_own men c w s (beside men c w s e).rook_rank)
 
--- so the field gives each right back
+-- the castling field that is written gives back each right
 pub right_back : (men : Men) (r : Rights) (c : Colour) (w : CastlingSide) → Stand Fischerandom men r
     → option_in Fischerandom men (rights_text Fischerandom r) c w ≡ Some (right_of r c w)
 right_back men r c w s =
@@ -240,7 +245,7 @@ record Placed (men : Men) (c : Colour) (w : CastlingSide) (n : ℕ) : Type 0 whe
   high : n < first_letter c + 8
   side : is_to_side w (first_letter c + file king) n ≡ true
 
--- the letter of an available right is so
+-- the letter of an available right is one of its colour's files, on the right's side of the king
 placed : (men : Men) (c : Colour) (w : CastlingSide) (s : ℕ) → Beside men c w s
     → Placed men c w (first_letter c + file s)
 placed men c w s b = record {
@@ -259,12 +264,14 @@ times-cons c x xs = sum_by-cons (λ b. cond (eqb b c) 1 0) x xs
 Occurs : Men → Colour → CastlingSide → ℕ → ℕ → Type 0
 Occurs men c w n t = (t ≡ 0) ⊎ ((t ≡ 1) × Placed men c w n)
 
+-- how often n occurs in the one letter l of a right: once if it is l (b), otherwise not at all
 occurs_by : (men : Men) (c : Colour) (w : CastlingSide) (l n : ℕ) → Placed men c w l → (b : Bool) → eqb l n ≡ b
     → Occurs men c w n (cond b 1 0 + 0)
 unfolding Occurs
 occurs_by men c w l n p true e = let at = eqb-true l n e in inr (refl, rw (← at) p)
 occurs_by men c w l n p false e = inl refl
 
+-- how often n occurs in the text of an available right
 occurrence : (men : Men) (c : Colour) (w : CastlingSide) (o : Option ℕ) (n : ℕ)
     → right_is_sound_at Fischerandom men c w o ≡ true → Occurs men c w n (times n (right_text Fischerandom c w o))
 unfolding Occurs
@@ -286,6 +293,7 @@ not_both men c n p q =
 Once : Colour → ℕ → ℕ → Type 0
 Once c n t = (t ≡ 0) ⊎ ((t ≡ 1) × (first_letter c ≤ n) × (n < first_letter c + 8))
 
+-- the letters of a colour's two rights: n is at most one of them
 of_colour : (men : Men) (c : Colour) (n t u : ℕ) → Occurs men c KingSide n t → Occurs men c QueenSide n u
     → Once c n (t + u)
 unfolding Occurs Once

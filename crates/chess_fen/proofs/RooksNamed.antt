@@ -20,7 +20,7 @@ abbrev pub option_in : Variant → Men → List ℕ → Colour → CastlingSide 
 option_in Normal men letters c w = Some (then_some (occurs (side_letter c w) letters) (home_square c (rook_file w)))
 option_in Fischerandom men letters c w = option_by (map (rook_by men c w) (filter (names_right men c w) letters))
 
--- none of the four rights is named wrongly
+-- each of the four rights is named rightly, or absent
 abbrev pub options_are_well : Variant → Men → List ℕ → Bool
 options_are_well v men letters = list_all (λ r. is_some (option_in v men letters r.0 r.1)) all_rights
 

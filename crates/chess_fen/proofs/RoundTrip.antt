@@ -79,7 +79,7 @@ on_corner men c w None e = refl
 on_corner men c w (Some s) e =
     let at : s ≡ home_square c (rook_file w) = grind (arith, nat_tests, e) in ap Some (sym at)
 
--- so in normal chess each right is read back
+-- in normal chess the castling field that is written gives back each right
 right_read : (men : Men) (r : Rights) → Stand Normal men r → (c : Colour) (w : CastlingSide)
     → right_named (rights_text Normal r) (side_letter c w) (home_square c (rook_file w)) ≡ right_of r c w
 right_read men r s c w = ap (λ b. then_some b (home_square c (rook_file w)))
@@ -91,7 +91,7 @@ record ReadBack (v : Variant) (men : Men) (r : Rights) : Type 0 where
   castling : is_castling_field v (rights_text v r) ≡ true
   rights : (c : Colour) (w : CastlingSide) → option_in v men (rights_text v r) c w ≡ Some (right_of r c w)
 
--- it is so in both variants
+-- in both variants the castling field of available rights is read back
 are_read : (v : Variant) (men : Men) (r : Rights) → Stand v men r → ReadBack v men r
 are_read Normal men r s =
     record {
@@ -109,7 +109,7 @@ read_back p h = are_read p.variant p.men p.rights (λ c w. right_is_sound_of p h
 
 -- ---- ranks
 
--- a run of empty squares in front of others
+-- the digit for n empty squares, in front of a text of other squares, denotes these squares in front
 run_denotes : (n : ℕ) (text : List ℕ) (squares : List (Option Man)) → n ≤ 8 → DenotesSquares text squares
     → DenotesSquares (run_text n ++ text) (replicate n None ++ squares)
 run_denotes zero text squares h s = s

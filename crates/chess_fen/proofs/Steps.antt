@@ -34,7 +34,8 @@ steps_to end v rights men side target halfmove fullmove = do
 abbrev rights_if : Variant → List ℕ → Bool → Men → Result Rights FenFault
 rights_if v castling fits men = cond fits (Ok (rights_in v men castling)) (Err faults.Castling)
 
--- the same, up to the position itself: its rights are those of the field `castling`
+-- the position of these fields' values, sound or not, with the rights that the field `castling` names; or the fault of
+-- the first field without a value
 abbrev pub steps : Variant → List ℕ → Option Men → Option Colour → Bool → Option (Option ℕ) → Option ℕ → Option ℕ
     → Result Setup FenFault
 steps v castling men side fits target halfmove fullmove =

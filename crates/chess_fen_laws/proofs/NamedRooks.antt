@@ -29,7 +29,7 @@ squares_left c w (suc k) = square_left c w k ∷ squares_left c w k
 abbrev first_rook : Men → Colour → List ℕ → Option ℕ
 first_rook men c squares = find (λ s. is_man c Rook (man_at men s)) squares
 
--- it is on the first rank
+-- each square that the search meets is on the first rank
 home_rank : (c : Colour) (w : CastlingSide) (k : ℕ) → k < 8 → rank (square_left c w k) ≡ first_rank c
 home_rank c w k h = grind (arith, h)
 
@@ -41,7 +41,7 @@ files_left QueenSide t = 7 - t % 8
 left_few : (w : CastlingSide) (t : ℕ) → files_left w t < 8
 left_few w t = grind arith
 
--- it is the square that the search meets there
+-- a square of the first rank is the one that the search meets when so many files are left
 from_left : (c : Colour) (w : CastlingSide) (t : ℕ) → rank t ≡ first_rank c → square_left c w (files_left w t) ≡ t
 from_left c w t h = grind (arith, h)
 
@@ -50,7 +50,7 @@ further : (c : Colour) (w : CastlingSide) (k t : ℕ) → k < 8 → rank t ≡ f
     → is_to_side w (square_left c w k) t ≡ true → k < files_left w t
 further c w k t l h e = grind (arith, nat_tests, l, h, e)
 
--- and one that is further in has fewer
+-- a square on the first rank that is further in than file k has fewer files left
 nearer : (c : Colour) (w : CastlingSide) (k s : ℕ) → k < 8 → rank s ≡ first_rank c → files_left w s < k
     → is_to_side w s (square_left c w k) ≡ true
 nearer c w k s l h e = grind (arith, nat_tests, l, h, e)
@@ -189,7 +189,8 @@ some_by men c w l s false at named e =
     in
     inr (subst (λ t. l ≡ first_letter c + file t) whole (file_of c l f))
 
--- the converse for a right whose rook is on s
+-- a letter that names the rook on s, as `NamesRook` says, passes `names_right` and gives s, for a right with its rook
+-- there
 names_it : (men : Men) (c : Colour) (w : CastlingSide) (l s : ℕ) → Beside men c w s → NamesRook men c w l s
     → (names_right men c w l ≡ true) × (rook_by men c w l ≡ Some s)
 names_it men c w l s b (inl h) =
@@ -218,7 +219,7 @@ all_none men c w (x ∷ xs) e = by_test (names_right men c w x) refl e (all_none
     by_test true t h later = absurd cc
     by_test false t h later = (none_says men c w x t, later h)
 
--- and conversely
+-- if each letter names no right on that side, none passes `names_right`
 none_left : (men : Men) (c : Colour) (w : CastlingSide) (ls : List ℕ) → AllByRecursion (NamesNone men c w) ls
     → filter (names_right men c w) ls ≡ []
 none_left men c w [] h = refl
@@ -232,7 +233,7 @@ One men c w l ls =
     (before : List ℕ) × (after : List ℕ) × (ls ≡ before ++ l ∷ after) × (names_right men c w l ≡ true)
     × AllByRecursion (NamesNone men c w) before × AllByRecursion (NamesNone men c w) after
 
--- if l is the only letter that passes, it is so
+-- if l is the only letter that passes `names_right`, it is the only one that names the right (`One`)
 one_of : (men : Men) (c : Colour) (w : CastlingSide) (l : ℕ) (ls : List ℕ)
     → filter (names_right men c w) ls ≡ l ∷ [] → One men c w l ls
 one_of men c w l [] e = absurd cc
@@ -258,7 +259,7 @@ no_letters men c w [] e = refl
 no_letters men c w (x ∷ []) e = grind (arith, e)
 no_letters men c w (x ∷ y ∷ ls) e = grind (arith, e)
 
--- if they say that its rook is on s, there is just one, and it gives s
+-- if the letters that name a right say that its rook is on s, they are just one letter, and it gives s
 one_letter : (men : Men) (c : Colour) (w : CastlingSide) (s : ℕ) (ls : List ℕ)
     → right_by (map (rook_by men c w) ls) ≡ At s → (l : ℕ) × (ls ≡ l ∷ []) × (rook_by men c w l ≡ Some s)
 one_letter men c w s [] e = absurd cc

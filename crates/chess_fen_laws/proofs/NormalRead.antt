@@ -24,7 +24,7 @@ stand_kept p e =
       kept.stands Black QueenSide,
     ) refl
 
--- so the first fault of a position is the same
+-- the first fault of a position of normal chess is the same by both definitions
 fault_kept : (p : Setup) → p.variant ≡ Normal → setup_fault p ≡ normal_fault p
 unfolding setup_fault normal_fault
 fault_kept p e =
@@ -54,7 +54,7 @@ normal_setup men colour target halfmove fullmove rights = record {
   fullmove = max fullmove 1;
 }
 
--- the fields and then the conditions, by what each field denotes
+-- reading by both definitions, from what each field denotes: the fields in turn, and then the conditions
 steps_kept : (c : List ℕ) (men : Option Men) (side : Option Colour) (fits : Bool) (target : Option (Option ℕ))
     (halfmove fullmove : Option ℕ)
     → (steps Normal c men side fits target halfmove fullmove >>= if_fit c)
@@ -75,7 +75,7 @@ steps_kept c (Some men) (Some colour) true (Some target) (Some halfmove) (Some f
     ∙ ap (λ (b : Bool). unless_fault p (first_failing (conditions_if b p))) (wells_as_options Normal men c)
     ∙ ap (unless_fault p) (fault_kept p refl)
 
--- the same for six fields
+-- six fields are read the same by both definitions
 fields_kept : (a b c d h f : List ℕ)
     → (denoted_by Normal a b c d h f >>= if_fit c) ≡ (normal_setup_by a b c d h f >>= normal_sound)
 unfolding may_name_right

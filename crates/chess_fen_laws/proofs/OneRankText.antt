@@ -26,6 +26,7 @@ run_is : (n : ℕ) → 0 < n → run_text n ≡ (48 + n) ∷ []
 run_is zero h = absurd (omega (arith, h))
 run_is (suc n) h = refl
 
+-- a run of at most eight empty squares is written as a digit
 digit_is : (n : ℕ) → n ≤ 8 → is_digit (48 + n) ≡ true
 digit_is n h = grind (arith, nat_tests)
 
@@ -84,12 +85,12 @@ letter_apart : (man : Man) (text : List ℕ) → digits_apart text ≡ true → 
 letter_apart man [] h = refl
 letter_apart man (d ∷ rest) h = rw (no_digit man, h) refl
 
--- nor does any byte in front of a letter
+-- any byte in front of a letter puts no two digits side by side
 before_letter : (c : ℕ) (man : Man) (text : List ℕ) → digits_apart (letter man ∷ text) ≡ true
     → digits_apart (c ∷ letter man ∷ text) ≡ true
 before_letter c man text h = rw (no_digit man, h) (grind arith)
 
--- so the text that is written has none side by side
+-- the text that is written for squares has no two digits side by side
 apart_row : (n : ℕ) (row : List (Option Man)) → digits_apart (row_text n row) ≡ true
 apart_row zero [] = refl
 apart_row (suc n) [] = refl

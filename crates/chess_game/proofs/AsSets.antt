@@ -66,7 +66,7 @@ man_back p s o h =
     (λ i. reported (h.white i) (h.kings i) (h.queens i) (h.rooks i) (h.bishops i) (h.knights i) (h.pawns i))
     ∙ reported_is o
 
--- so all pieces that the sets say are those that they were made of
+-- sets of pieces say the pieces that they were made of, on all squares
 pub men_back : (p : PackedMen) (men : Men) → length men ≡ 64 → ArePacked p men → men_in p ≡ men
 unfolding men_in
 men_back p men all h =

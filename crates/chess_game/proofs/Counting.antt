@@ -13,7 +13,7 @@ one_if b = cond b 1 0
 abbrev pub seen : Setup → List PlayedMove → Setup → ℕ
 seen p xs q = one_if (is_same_position p q) + count_by (λ x. is_same_position x.reached.position q) xs
 
--- this is the number among the positions of the line
+-- how many positions of the line are the same as q: as many as `seen` counts over the played moves
 pub seen-line : (p : Setup) (xs : List PlayedMove) (q : Setup) → Follows p xs
     → count_by (λ r. is_same_position r q) (positions_of p (moves_of xs)) ≡ seen p xs q
 seen-line p [] q f = sum_by-cons (λ r. one_if (is_same_position r q)) p []
@@ -27,7 +27,7 @@ seen-line p (x ∷ xs) q f =
     ∙ ap (λ n. one_if (is_same_position p q) + n)
     (later ∙ sym (sum_by-cons (λ y. one_if (is_same_position y.reached.position q)) x xs))
 
--- for the last position q it is the definition's count
+-- for q, the last position, `seen` is the definition's count
 pub counted : (p : Setup) (xs : List PlayedMove) (q : Setup) → Follows p xs → q ≡ position_after p (moves_of xs)
     → seen p xs q ≡ repetition_count p (moves_of xs)
 unfolding repetition_count

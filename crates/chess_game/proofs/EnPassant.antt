@@ -24,7 +24,7 @@ is_target p s t at there = rw (at, there) (at_itself t)
 target_rank : (p : Setup) (t : ℕ) → IsSound p → p.target ≡ Some t → rank t ≡ crossed_rank (other p.side)
 target_rank p t sound at = (at_target p t sound.target (is_target p t t at refl)).0
 
--- that is no last rank, so anything follows if it is said to be
+-- the rank of a target is no last rank: so a case that says it is gives anything
 not_last : (c : Colour) (t : ℕ) → rank t ≡ crossed_rank (other c) → (rank t == first_rank (other c)) ≡ true
     → (A : Type 0) → A
 not_last White t e h A = let last = eqb-true (rank t) 7 h in absurd (omega (arith, e, last))
@@ -35,7 +35,7 @@ pawn_captures : (p : Setup) (m : Move) → is_en_passant p m ≡ true → is_man
 unfolding is_en_passant
 pawn_captures p m h = grind (arith, h)
 
--- it ends on the target
+-- a capture en passant ends on the target
 on_target : (p : Setup) (m : Move) (t : ℕ) → p.target ≡ Some t → is_en_passant p m ≡ true → m.to ≡ t
 unfolding is_en_passant
 on_target p m t at h = let there = rw at at h in grind (arith, nat_tests, there)
@@ -100,8 +100,8 @@ squares_any : (f : ℕ → Bool) → list_any f squares ≡ some_square f
 unfolding some_square
 squares_any f = refl
 
--- so some pawn may legally go to the target t (the set w of such squares isn't empty) exactly if some legal move
--- captures en passant
+-- whether a pawn may legally go to the target t (whether the set w of their squares has any) says whether some legal
+-- move captures en passant
 pub some_start : (p : Setup) (t w : ℕ) → IsSound p → p.target ≡ Some t → HasLegalStarts p Pawn t w
     → not (not (some_square (λ k. contains w k))) ≡ list_any (λ m. is_en_passant p m) (moves p)
 some_start p t w sound at starts =

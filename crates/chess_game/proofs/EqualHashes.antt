@@ -13,7 +13,7 @@ use Rattle.chess_game.specs.{ties.PlayedMoves.Hashing, ties.PlayedMoves.HasHash,
 man_of_equal : (x y : Man) → x.colour ≡ y.colour → x.kind ≡ y.kind → x ≡ y
 man_of_equal x y colours kinds = (λ i. record { colour = colours i; kind = kinds i })
 
--- contents that pass the test are equal; so are boards, squares and rights below
+-- two squares' contents that pass the test are equal
 pub places_equal : (o r : Option Man) → same_man o r ≡ true → o ≡ r
 places_equal None None e = refl
 places_equal None (Some y) e = cc
@@ -23,6 +23,7 @@ places_equal (Some x) (Some y) e =
     ap (λ (z : Man). Some z)
     (man_of_equal x y (same_colour-true x.colour y.colour both.0) (same_kind-true x.kind y.kind both.1))
 
+-- boards that pass the test are equal, square by square
 men_equal : (men others : Men) → length men ≡ 64 → length others ≡ 64 → same_men men others ≡ true → men ≡ others
 unfolding same_men
 men_equal men others all also e =

@@ -59,21 +59,21 @@ heads_more table start xs m len heads b h = by_test (is_in start xs b m) refl
 
 -- ---- one played move more or fewer
 
--- one more played move (y) changes nothing in what is said of the first n positions: the latest in a bucket,
+-- one more played move y doesn't change which of the first n positions is the latest in a bucket
 latest_before : (start : Hashed) (xs : List PlayedMove) (y : PlayedMove) (b n : ℕ) → n ≤ suc (length xs)
     → latest_below (is_in start (xs ++ y ∷ []) b) n ≡ latest_below (is_in start xs b) n
 latest_before start xs y b n h =
     latest_alike (is_in start (xs ++ y ∷ []) b) (is_in start xs b) n
     (λ k l. ap (λ v. bucket v == b) (known_before start xs y k (omega (arith, l, h))))
 
--- nor how many of them are the same as q
+-- one more played move y doesn't change how many of the first n positions are the same as q
 count_before : (start : Hashed) (xs : List PlayedMove) (y : PlayedMove) (q : Setup) (n : ℕ) → n ≤ suc (length xs)
     → count_below (is_same_at start (xs ++ y ∷ []) q) n ≡ count_below (is_same_at start xs q) n
 count_before start xs y q n h =
     count_alike (is_same_at start (xs ++ y ∷ []) q) (is_same_at start xs q) n
     (λ k l. ap (λ v. is_same_position v.position q) (known_before start xs y k (omega (arith, l, h))))
 
--- so an earlier move's entry stays right when y is added
+-- the entry of played move k, or of the one to come next, stays right when y is added
 entry_later : (start : Hashed) (xs : List PlayedMove) (y : PlayedMove) (k : ℕ) (x : PlayedMove) → k ≤ length xs
     → HasEntry start xs k x → HasEntry start (xs ++ y ∷ []) k x
 entry_later start xs y k x h entry = record {
@@ -81,7 +81,7 @@ entry_later start xs y k x h entry = record {
   count = entry.count ∙ ap suc (sym (count_before start xs y x.reached.position (suc k) (omega arith)));
 }
 
--- and when y is taken away
+-- the entry of played move k, or of the last one, stays right when y is taken away
 entry_before : (start : Hashed) (xs : List PlayedMove) (y : PlayedMove) (k : ℕ) (x : PlayedMove) → k ≤ length xs
     → HasEntry start (xs ++ y ∷ []) k x → HasEntry start xs k x
 entry_before start xs y k x h entry = record {
@@ -108,7 +108,7 @@ entries_more start xs y entries entry k d h = by_test (k == length xs) refl
         subst (HasEntry start (xs ++ y ∷ []) k) (sym (get_or_append_left xs (y ∷ []) d k low))
         (entry_later start xs y k (get_or xs k d) (omega (arith, low)) (entries k d low))
 
--- and without y the others keep theirs
+-- without the last played move the others keep their entries
 entries_fewer : (start : Hashed) (xs : List PlayedMove) (y : PlayedMove) → HaveEntries start (xs ++ y ∷ [])
     → HaveEntries start xs
 entries_fewer start xs y entries k d h =

@@ -16,7 +16,7 @@ pub record IsAt (p : Setup) (xs : List PlayedMove) (k : ℕ) (x : PlayedMove) : 
   pub known : IsKnown x.reached
   pub reached : x.reached.position ≡ position_after p (take (k + 1) (moves_of xs))
 
--- each played move is so
+-- each played move of a game reached the position after the moves up to it
 pub at_place : (p : Setup) (xs : List PlayedMove) (k : ℕ) (d : PlayedMove) → Follows p xs → k < length xs
     → IsAt p xs k (get_or xs k d)
 at_place p [] k d f h = absurd (omega arith)
@@ -35,7 +35,7 @@ pub record IsAtEnd (p : Setup) (xs : List PlayedMove) (x : PlayedMove) : Type 0 
   pub known : IsKnown x.reached
   pub reached : x.reached.position ≡ position_after p (moves_of xs)
 
--- the last one is so
+-- the last played move reached the position after all moves
 pub at_end : (p : Setup) (xs : List PlayedMove) (d : PlayedMove) → Follows p xs → 0 < length xs
     → IsAtEnd p xs (get_or xs (length xs - 1) d)
 at_end p xs d f h =
@@ -48,12 +48,12 @@ at_end p xs d f h =
           ∙ ap (position_after p) (take-length (moves_of xs));
     }
 
--- the moves that are kept are a line
+-- the played moves that follow from a start are a line: each is legal where it is made
 pub kept_line : (p : Setup) (xs : List PlayedMove) → Follows p xs → IsLine p (moves_of xs)
 kept_line p [] f = tt
 kept_line p (x ∷ xs) f = (f.0.legal, subst (λ v. IsLine v (moves_of xs)) f.0.left (kept_line x.reached.position xs f.2))
 
--- one more move, which was made in the last position, follows too
+-- one more move, made in the last position, follows from the start with the others
 pub follows_more : (p : Setup) (xs : List PlayedMove) (x : PlayedMove) → Follows p xs
     → WasPlayed (position_after p (moves_of xs)) x x.reached.position → IsKnown x.reached → Follows p (xs ++ x ∷ [])
 follows_more p [] x f made known = (made, known, tt)
@@ -66,14 +66,14 @@ follows_more p (y ∷ ys) x f made known =
           (subst (λ v. WasPlayed v x x.reached.position) at made) known,
     )
 
--- its position is then the last
+-- the position that one more move reached is the one after all moves
 pub last-more : (p : Setup) (xs : List PlayedMove) (x : PlayedMove)
     → WasPlayed (position_after p (moves_of xs)) x x.reached.position
     → x.reached.position ≡ position_after p (moves_of (xs ++ x ∷ []))
 last-more p [] x made = made.left
 last-more p (y ∷ ys) x made = last-more (after p y.made) ys x made
 
--- after a move was made and added as x: the moves follow, and the board is at their end
+-- after a move was made and added as x: the played moves follow from the start, and the board is at their end
 pub record Added (p : Setup) (xs : List PlayedMove) (x : PlayedMove) (board : Setup) : Type 0 where
   pub follows : Follows p (xs ++ x ∷ [])
   pub at_end : board ≡ position_after p (moves_of (xs ++ x ∷ []))
@@ -99,7 +99,7 @@ added p xs x s before after f at captured made reached known =
     (subst (WasPlayed before x) (sym reached) (kept_as before after x s captured made)) in
     record { follows = follows_more p xs x f here known; at_end = sym reached ∙ last-more p xs x here }
 
--- a move that the board made, said of the end of the line of moves
+-- a move that the board made, said of the end of the line: it was made in the position after the played moves
 pub made_at_end : (p : Setup) (xs ys : List PlayedMove) (m : Move) (s : Saved) (before after q : Setup) → ys ≡ xs
     → before ≡ position_after p (moves_of xs) → WasMade before m s after → q ≡ after
     → WasMade (position_after p (moves_of ys)) m s q
@@ -107,18 +107,18 @@ made_at_end p xs ys m s before after q list at made reached =
     subst (λ (zs : List PlayedMove). WasMade (position_after p (moves_of zs)) m s q) (sym list)
     (subst (λ v. WasMade v m s q) at (subst (WasMade before m s) (sym reached) made))
 
--- the first n moves follow too
+-- the first n moves follow from the start
 pub follows_take : (p : Setup) (xs : List PlayedMove) (n : ℕ) → Follows p xs → Follows p (take n xs)
 follows_take p xs zero f = tt
 follows_take p [] (suc n) f = tt
 follows_take p (x ∷ xs) (suc n) f = (f.0, f.1, follows_take x.reached.position xs n f.2)
 
--- the moves without the last follow too
+-- the moves without the last follow from the start
 follows_fewer : (p : Setup) (xs : List PlayedMove) (x : PlayedMove) → Follows p (xs ++ x ∷ []) → Follows p xs
 follows_fewer p [] x f = tt
 follows_fewer p (y ∷ ys) x f = (f.0, f.1, follows_fewer y.reached.position ys x f.2)
 
--- the last move was played at the end of the others
+-- the last played move was made in the position after the others, and gave the position after all
 made-last : (p : Setup) (xs : List PlayedMove) (x : PlayedMove) → Follows p (xs ++ x ∷ [])
     → WasPlayed (position_after p (moves_of xs)) x (position_after p (moves_of (xs ++ x ∷ [])))
 made-last p [] x f = subst (WasPlayed p x) f.0.left f.0
@@ -151,7 +151,7 @@ all_more : (f : Hashing) (xs : List PlayedMove) (x : PlayedMove) → AllHave f x
 all_more f [] x all here = (here, tt)
 all_more f (y ∷ ys) x all here = (all.0, all_more f ys x all.1 here)
 
--- with one more move that has its hash all have theirs, and with one fewer
+-- if the new move's position has its hash, all positions of the game have theirs
 pub hashes_more : (f : Hashing) (start : Hashed) (xs : List PlayedMove) (x : PlayedMove) → HaveHashes f start xs
     → HasHash f x.reached
     → HaveHashes f start (xs ++ x ∷ [])
@@ -161,6 +161,7 @@ all_fewer : (f : Hashing) (xs : List PlayedMove) (x : PlayedMove) → AllHave f 
 all_fewer f [] x all = tt
 all_fewer f (y ∷ ys) x all = (all.0, all_fewer f ys x all.1)
 
+-- without the last move, the other positions have their hashes
 pub hashes_fewer : (f : Hashing) (start : Hashed) (xs ys : List PlayedMove) (x : PlayedMove) → HaveHashes f start xs
     → xs ≡ ys ++ x ∷ []
     → HaveHashes f start ys

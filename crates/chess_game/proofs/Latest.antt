@@ -3,7 +3,7 @@
 use Rattle.std.proofs.Common.{◌≡◌, ◌∙◌, ℕ, zero, suc, ◌+◌, ◌<◌, ◌≤◌, Bool, true, false, cond, if◌then◌else◌, refl, sym, ap, subst, arith, true≢false}
 use Rattle.chess_game.specs.ties.Buckets.{latest_below, count_below}
 
--- the result is n at most
+-- the result of `latest_below` for n is at most n
 pub latest_low : (t : ℕ → Bool) (n : ℕ) → latest_below t n ≤ n
 unfolding latest_below
 latest_low t zero = omega arith
@@ -13,7 +13,7 @@ latest_low t (suc n) = by_test (t n) (latest_low t n)
     by_test true h = omega arith
     by_test false h = omega arith
 
--- if the result is k + 1, k passes
+-- if the result is k + 1, the number k passes
 pub latest_passes : (t : ℕ → Bool) (n k : ℕ) → latest_below t n ≡ suc k → t k ≡ true
 unfolding latest_below
 latest_passes t zero k e = absurd (omega (arith, e))
@@ -51,6 +51,7 @@ count_low t (suc n) = by_test (t n) (count_low t n)
     by_test true h = omega arith
     by_test false h = omega arith
 
+-- tests that agree below n have the same count
 pub count_alike : (s t : ℕ → Bool) (n : ℕ) → ((k : ℕ) → k < n → s k ≡ t k) → count_below s n ≡ count_below t n
 unfolding count_below
 count_alike s t zero h = refl
@@ -75,7 +76,7 @@ unfolding count_below
 count_none t zero h = refl
 count_none t (suc n) h = count_fails t n (h n (omega arith)) ∙ count_none t n (λ k l. h k (omega arith))
 
--- counting from 1 on, with 0 apart
+-- how many of the numbers 0 to n pass: 1 or 0 for the number 0, and those after it
 pub count_first : (t : ℕ → Bool) (n : ℕ) → count_below t (suc n) ≡ cond (t 0) 1 0 + count_below (λ k. t (suc k)) n
 unfolding count_below
 count_first t zero = omega arith

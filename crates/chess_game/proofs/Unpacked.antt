@@ -117,7 +117,7 @@ more_put p kind men left rest i s old all here inside taken h =
       | inr apart ↦ off_it k low apart ∙ h.same k low
     ]
 
--- the same with the colour as the code reads it
+-- the loop's step with the colour that the code reads: the piece is put on square s, so that `rest` is left
 pub put_more : (p : PackedMen) (kind : Kind) (c : Colour) (men : Men) (left rest i s : ℕ) (old : Men) (all : ℕ)
     → c ≡ colour_in p s → i ≡ s → s < 64 → members left ≡ s ∷ members rest → PutsOn p kind men left old all
     → PutsOn p kind (set men i (Some (record { colour = c; kind = kind }))) rest old all
@@ -150,7 +150,7 @@ by_kinds : (c : Colour) (king queen rook bishop knight pawn : Bool)
     else None)
 by_kinds c king queen rook bishop knight pawn = grind arith
 
--- so putting the kinds from pawns to kings, each over the last, gives what the sets say
+-- putting the kinds from pawns to kings, each over the last, gives on each square what the sets say
 pub kinds_put : (p : PackedMen) (k : ℕ)
     → put_at p p.kings King k (put_at p p.queens Queen k (put_at p p.rooks Rook k (put_at p p.bishops Bishop k
     (put_at p p.knights Knight k (put_at p p.pawns Pawn k None)))))

@@ -58,7 +58,7 @@ along start xs now at n s h is rest =
           ∙ ap (count_below (is_same_at start xs now.position)) (sym is);
     }
 
--- it holds at the head of the bucket
+-- the walk's invariant holds at the head of the bucket
 pub walk_begins : (start : Hashed) (xs : List PlayedMove) (now : Hashed) (head : ℕ) → IsSought start xs now
     → head ≡ latest_below (is_in start xs (bucket now)) (suc (length xs)) → IsAlong start xs now head
 walk_begins start xs now head s is = along start xs now head (suc (length xs)) s (omega arith) is refl
@@ -81,7 +81,7 @@ is_place start xs now at x entries a some is =
       low = omega (arith, some, few);
     }
 
--- if the position there isn't the same, the invariant holds at its link
+-- if the position that the walk is at isn't the same as `now`, the invariant holds at its link
 pub walk_goes_on : (start : Hashed) (xs : List PlayedMove) (now : Hashed) (at : ℕ) (x : PlayedMove)
     → IsSought start xs now → HaveEntries start xs → IsAlong start xs now at → 1 < at → x ≡ get_or xs (at - 2) x
     → is_same_position x.reached.position now.position ≡ false
@@ -99,7 +99,7 @@ walk_goes_on start xs now at x s entries a some is other =
     (a.rest ∙ ap (count_below (is_same_at start xs now.position)) p.next
     ∙ count_fails (is_same_at start xs now.position) (suc (at - 2)) off)
 
--- the link is smaller, so the walk ends: `at` is its measure
+-- a link is smaller than the place it is kept at: so `at` is the walk's measure
 pub walk_smaller : (start : Hashed) (xs : List PlayedMove) (now : Hashed) (at : ℕ) (x : PlayedMove)
     → HaveEntries start xs → IsAlong start xs now at → 1 < at → x ≡ get_or xs (at - 2) x → x.entry.earlier < at
 walk_smaller start xs now at x entries a some is =
@@ -108,7 +108,8 @@ walk_smaller start xs now at x entries a some is =
     let low = latest_low (is_in start xs (bucket x.reached)) (suc (at - 2)) in
     omega (arith, link, low, some)
 
--- if it is the same, it keeps the number of those up to it, and there are none after it
+-- if the position that the walk is at is the same as `now`, it keeps the number of those up to it, and there are none
+-- after it
 pub walk_found : (start : Hashed) (xs : List PlayedMove) (now : Hashed) (at : ℕ) (x : PlayedMove)
     → IsSought start xs now → HaveEntries start xs → IsAlong start xs now at → 1 < at → x ≡ get_or xs (at - 2) x
     → is_same_position x.reached.position now.position ≡ true

@@ -7,7 +7,7 @@ use lib.Count.{ones_step}
 use Rattle.chess_moves.specs.Sets.{contains, members}
 use Rattle.chess_moves.proofs.{shared.Members.of_range, SetBits.bit_cases}
 
--- whether a passes, and how many of xs do
+-- how many of a and xs pass the test q: 1 or 0 for a, and those of xs
 one_more : (q : ℕ → Bool) (a : ℕ) (xs : List ℕ) → length (filter q (a ∷ xs)) ≡ cond (q a) 1 0 + length (filter q xs)
 one_more q a xs = elim (cases_Bool (q a)) [ inl kept ↦ rw kept (omega arith) | inr left ↦ rw left (omega arith) ]
 

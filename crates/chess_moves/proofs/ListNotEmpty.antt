@@ -13,7 +13,7 @@ use Rattle.chess_moves.proofs.shared.AnyMove.{any-flat_map, any-square}
 abbrev Fits : Option Kind → Type 0
 Fits o = (last : Bool) × (promotion_fits last o ≡ true)
 
--- none fits a move that ends elsewhere than on a last rank
+-- naming no promotion (`None`) fits a move that ends elsewhere than on a last rank
 unpromoted : (o : Option Kind) → o ≡ None → Fits o
 unpromoted o e = (false, rw e refl)
 

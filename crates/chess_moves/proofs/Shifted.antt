@@ -24,7 +24,7 @@ moved_low w d k l =
     let e : w * 2 ^ d ≡ w * 2 ^ d + 0 = omega arith in
     ap (λ x. bit_at x k) e ∙ bit_at_cat_low w d 0 k l ∙ bit_at-zero k
 
--- and bit k of it is bit k - d of the number
+-- bit k of a number shifted up by d is its bit k - d, if k is d or more
 moved_high : (w d k : ℕ) → d ≤ k → bit_at (w * 2 ^ d) k ≡ bit_at w (k - d)
 moved_high w d k l =
     let e : w * 2 ^ d ≡ w * 2 ^ d + 0 = omega arith in
@@ -45,12 +45,12 @@ on_first_file : (k : ℕ) → k < 64 → contains 72340172838076673 k ≡ (k % 8
 unfolding contains
 on_first_file k l = agree_below_at (λ j. contains 72340172838076673 j) (λ j. j % 8 == 0) 64 k refl l
 
--- the word 0xFF has those of rank 1
+-- the word 0xFF has the squares of rank 1
 on_first_rank : (k : ℕ) → k < 64 → contains 255 k ≡ (k / 8 == 0)
 unfolding contains
 on_first_rank k l = agree_below_at (λ j. contains 255 j) (λ j. j / 8 == 0) 64 k refl l
 
--- shifted up by n squares it has those of file n
+-- the word of file a, shifted up by n squares, has the squares of file n
 pub on_file : (n k : ℕ) → n < 8 → k < 64 → (nat_le n k && contains 72340172838076673 (k - n)) ≡ (file k == n)
 on_file n k low high =
     elim (cases_lt k n) [
@@ -64,7 +64,7 @@ on_file n k low high =
           ])
     ]
 
--- shifted up by 8 n squares it has those of rank n
+-- the word of rank 1, shifted up by 8 n squares, has the squares of rank n
 pub on_rank : (n k : ℕ) → n < 8 → k < 64 → (nat_le (8 * n) k && contains 255 (k - 8 * n)) ≡ (rank k == n)
 on_rank n k low high =
     elim (cases_lt k (8 * n)) [

@@ -52,7 +52,7 @@ reading_kept p e text =
 abbrev is_rival_as : Described → Move → Option Described → Bool
 is_rival_as d m o = (m.to == d.to) && not (m.from == d.from) && passes (λ (x : Described). same_kind x.man d.man) o
 
--- a move is a rival of d by both
+-- a move is a rival of d by both definitions or by neither
 rival_kept : (p : Setup) → p.variant ≡ Normal → (d : Described) (m : Move)
     → is_rival_as d m (described p m) ≡ is_rival_as d m (normal_described p m)
 rival_kept p e d m = ap (is_rival_as d m) (described_kept p e m)
@@ -70,7 +70,7 @@ mark_kept p e =
     ap (λ (ms : List Move). list_if (is_in_check p.men p.side) (if length ms == 0 then codes "#" else codes "+"))
     (moves_kept p e)
 
--- the mark for check or mate, after the move
+-- the mark for check or mate after the move is the same by both definitions
 mark_after : (p : Setup) → p.variant ≡ Normal → (m : Move)
     → check_mark (after p m) ≡ normal_check_mark (normal_after p m)
 mark_after p e m = mark_kept (after p m) (variant-after p m ∙ e) ∙ ap normal_check_mark ((rules_kept p e).after m)
@@ -79,7 +79,7 @@ mark_after p e m = mark_kept (after p m) (variant-after p m ∙ e) ∙ ap normal
 abbrev bare_san : List ℕ → Described → List ℕ
 bare_san rivals d = option_map_or castling_text d.castles (piece_text rivals d)
 
--- the SAN by the move's description (o)
+-- the SAN is the same by both definitions, by the move's description (o)
 san_by : (p : Setup) → p.variant ≡ Normal → (m : Move) (o : Option Described)
     → optional (λ d. bare_san (rival_starts p (moves p) d) d ++ check_mark (after p m)) o
     ≡ optional (λ d. bare_san (normal_rival_starts p d) d ++ normal_check_mark (normal_after p m)) o

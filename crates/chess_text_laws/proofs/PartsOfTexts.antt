@@ -21,7 +21,7 @@ either_side text e =
       | inr h ↦ (QueenSide, h)
     ]
 
--- a text that passes the reader's test `has_form` is such a text
+-- a text that passes the reader's test `has_form` names castling or is the text of parts that can be a move's
 is_formed_so : (text : List ℕ) → has_form text ≡ true → IsShaped text
 unfolding has_form
 is_formed_so text e =
@@ -33,7 +33,7 @@ is_formed_so text e =
           inr (of.0, is.0, is.1, of.2)
     ]
 
--- and such a text has a move's shape
+-- a text that names castling or is the text of parts that can be a move's has a move's shape
 shaped_so : (text : List ℕ) → IsShaped text → shape text ≡ true
 shaped_so text (inl h) = shape_is text ∙ castling_has text h.0 h.1
 shaped_so text (inr h) = shape_parts text h.0 h.2 h.1 h.3

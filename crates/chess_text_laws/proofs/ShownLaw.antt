@@ -11,7 +11,8 @@ use Rattle.chess_text.proofs.shared.Denoting.{read_alone, coordinate_alone, coor
 by_squares : (p : Setup) (m : Move) → IsTrue (is_legal p m) → Law p m (coordinate m)
 by_squares p m legal = record { has_shape = coordinate_shape p m legal; alone = coordinate_alone p m legal }
 
--- the same of the shown text, by variant and by the side to which the move castles (o)
+-- the shown text has a move's shape and denotes the move alone, by variant and by the side to which the move castles
+-- (o)
 law_by : (p : Setup) (m : Move) → IsSound p → IsTrue (is_legal p m) → (v : Variant) (o : Option CastlingSide)
     → castling p m ≡ o
     → Law p m (if is_fischerandom v then option_map_or castling_text o (coordinate m) else coordinate m)

@@ -1,4 +1,5 @@
--- The loop's invariant: the text of the ranks that are left completes what was put; there is room for it.
+-- The loop's invariant: what was appended, followed by the text of the ranks that are left, is the whole placement; 9
+-- bytes for each rank that is left fit into the 71 and one more, since the last rank has no slash.
 use Rattle.std.proofs.Common.{◌≡◌, ◌+◌, ◌*◌, ◌≤◌, ◌++◌}
 use Rattle.arrayvec.specs.ArrayVec.{array_vec_len}
 use Rattle.chess_fen.specs.{Writing.placement_text, ties.Loops.ranks_text}

@@ -1,4 +1,5 @@
--- Read with no empty squares before it, the text of what is left is the rank's (row_is of WrittenRanks).
+-- Before the first square nothing is appended, and with no empty squares before it the text of all squares is the
+-- rank's (row_is of WrittenRanks).
 use Rattle.std.proofs.Common.{◌++◌, ap, arith}
 use Rattle.chess_fen.proofs.WrittenRanks.{row_is}
 use Rattle.chess_fen.proofs.writing.write_rank.Goals as goal

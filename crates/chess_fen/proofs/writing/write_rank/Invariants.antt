@@ -1,5 +1,5 @@
--- The loop's invariant: the text of the squares that are left, after a run of `empty` squares, completes what was put;
--- there is room for it.
+-- The loop's invariant: what was appended, followed by the text of the squares that are left after a run of `empty`
+-- squares not yet written, is the whole rank's; each square so far took one byte at most.
 use Rattle.std.proofs.Common.{◌≡◌, ◌+◌, ◌≤◌, ◌++◌, drop}
 use Rattle.arrayvec.specs.ArrayVec.{array_vec_len}
 use Rattle.chess_fen.specs.{Writing.fen_rank, shared.Rows.row_text}
