@@ -84,7 +84,7 @@ end_is text from begin end after is = is ∙ ap (first_end (length text)) (sym a
 abbrev EndsFrom : ℕ → ℕ → Option ℕ → Type 0
 EndsFrom low total end = IfSome end (λ e. (low ≤ e) × (e ≤ total))
 
--- `EndsFrom` stays true for a lower bound
+-- `EndsFrom` stays true if `low` is made smaller
 raised : (low high total : ℕ) (end : Option ℕ) → low ≤ high → EndsFrom high total end → EndsFrom low total end
 raised low high total None h k = tt
 raised low high total (Some e) h k = let there = k.0 in (omega (arith, h, there), k.1)

@@ -363,7 +363,7 @@ tags_stop (t ∷ ts) = by_test (may_precede_tags t.1) refl (tags_stop ts)
 rest_is : (p : ℕ × Token → Bool) (xs : List (ℕ × Token)) → take_while p xs ++ drop (length (take_while p xs)) xs ≡ xs
 rest_is p xs = ap (λ n. take_while p xs ++ drop n xs) (length-prefix_len p xs) ∙ take-append-drop (prefix_len p xs) xs
 
--- what the last tag Termination names, in two ways to say it
+-- what a last tag Termination names, in the two forms in which the definitions have it
 none_before : (o : Option (List ℕ × ℕ)) → option_map_or (λ (tag : List ℕ × ℕ). termination_named tag.0) o None
     ≡ option_and_then (λ (tag : List ℕ × ℕ). termination_named tag.0) o
 none_before None = refl

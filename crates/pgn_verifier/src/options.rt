@@ -26,7 +26,8 @@ pub const LENIENT: Strictness = Strictness {
     board: false,
 };
 
-/// Also an unknown variant, and a termination marker that differs from the tag `Result` or from the board's verdict.
+/// What [`LENIENT`] looks for, an unknown variant, and a termination marker that differs from the tag `Result` or from
+/// the board's verdict.
 pub const STRICT_FAULTS: Strictness = Strictness {
     draws_of_2014: true,
     variations: false,
