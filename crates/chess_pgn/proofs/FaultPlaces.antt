@@ -1,5 +1,6 @@
--- A fault's offset is in the text, and not before the offset where reading began; a game ends in the text, and each
--- half-move takes at least a byte.
+-- Where faults and ends are, for the laws `faults_have_offsets` and `half_moves_have_bytes`: a fault's offset is in the
+-- text and not before the offset where reading began; a game ends in the text, and has a byte for each half-move. By
+-- induction on the tokens, each of which has a byte and plays at most one half-move.
 use Rattle.std.proofs.Common.{ℕ, zero, suc, ◌+◌, ◌-◌, ◌≤◌, ◌<◌, Bool, eqb, List, [], ◌∷◌, length, drop, Option, Some, None, IfSome, Result, Ok, Err, IfOk, IfErr, sym, subst, arith, length-append, length-drop}
 use Rattle.chess_pgn.specs.{declared.read.PgnEnd.PgnEnd, declared.read.PgnFault.PgnFault, GameRead.GameRead, GameRead.tagged_variant, GameRead.pgn_read, laws.Offsets.FaultsHaveOffsets, laws.Offsets.HalfMovesHaveBytes}
 use Rattle.pgn_tokens.specs.LastTags.{tag_section}
@@ -10,17 +11,20 @@ use Rattle.chess_pgn.proofs.GamesByTags.{reads_alike}
 use Rattle.pgn_tokens.proofs.{shared.Bytes.pick, shared.Tokens.not_before, shared.Tokens.within, shared.Tokens.shorter}
 use Rattle.chess_pgn.proofs.StepKinds.{StepIs, passes, stays, plays, starts, stops, finishes, step_is}
 
--- what was read from an offset on, with `done` half-moves before it and `moves` in the end: a fault is from there to
--- the offset `last`, and so is an end, which leaves a byte for each half-move and one more
+-- what was read from the offset `first` on, by a game that had `done` half-moves there and has `moves` in the end. A
+-- fault is from there to the offset `last`; an end is at most at `last`, and after `first` there are more bytes up to
+-- it than half-moves
 abbrev InPlace : ℕ → ℕ → ℕ → ℕ → Result (Option PgnEnd) PgnFault → Type 0
 InPlace first last done moves (Ok None) = Unit {0}
 InPlace first last done moves (Ok (Some e)) = (moves + first < done + e.offset) × (e.offset ≤ last)
 InPlace first last done moves (Err f) = (first ≤ f.offset) × (f.offset ≤ last)
 
+-- a step plays at most one half-move, or stops with an end or a fault that is in its place
 abbrev StepInPlace : ℕ → ℕ → ℕ → Step → Type 0
 StepInPlace first last done (On h) = length h.state.moves ≤ done + 1
 StepInPlace first last done (Stop r) = InPlace first last done (length r.state.moves) r.answer
 
+-- any step of reading does so (StepIs of StepKinds)
 step_in_place : (left last : ℕ) (g : SoFar) {s : Step} → left ≤ last → StepIs g left last s
     → StepInPlace (last - left) last (length g.state.moves) s
 step_in_place left last g few passes = omega arith
@@ -30,13 +34,15 @@ step_in_place left last g few (starts p) = omega arith
 step_in_place left last g few (stops kind offset low high) = (low, high)
 step_in_place left last g few (finishes o len some high) = (omega (arith, some), omega (arith, few, high))
 
--- `more` bytes later, with at most so many half-moves more
+-- what is in place from a later offset on, `from`, is so from `first` on, if at least as many bytes as half-moves are
+-- between
 further : (first from last done most moves more : ℕ) (r : Result (Option PgnEnd) PgnFault) → first + more ≤ from
     → most ≤ done + more → InPlace from last most moves r → InPlace first last done moves r
 further first from last done most moves more (Ok None) h k f = tt
 further first from last done most moves more (Ok (Some e)) h k f = let low = f.0 in (omega (arith, h, k, low), f.1)
 further first from last done most moves more (Err x) h k f = let low = f.0 in (omega (arith, h, low), f.1)
 
+-- the step of a token, and then what is read from the next one on
 gone_on : (first from last done : ℕ) (s : Step) (later : SoFar → GameRead) → first + 1 ≤ from
     → StepInPlace first last done s
     → ((h : SoFar) → InPlace from last (length h.state.moves) (length (later h).state.moves) (later h).answer)
@@ -45,11 +51,13 @@ gone_on first from last done (On g) later h k f = further first from last done (
     (length (later g).state.moves) 1 (later g).answer h k (f g)
 gone_on first from last done (Stop r) later h k f = k
 
+-- at the text's end
 ended_in_place : (total first done : ℕ) (g : SoFar) → first ≤ total
     → InPlace first total done (length g.state.moves) (at_text_end total g).answer
 ended_in_place total first done g h =
     pick (InPlace first total done (length g.state.moves)) g.is_met _ _ (λ _. (h, omega arith)) (λ _. tt)
 
+-- a game read from any token on; by induction on the tokens
 game_in_place : (draws : Bool) (limit total n : ℕ) (begins : Bool) (g : SoFar) (xs : List ℕ) → length xs ≤ total
     → InPlace (total - length xs) total (length g.state.moves)
     (length (game_of draws limit total g (tokens_of n begins xs)).state.moves)
@@ -71,6 +79,7 @@ game_in_place draws limit total (suc n) begins g (c ∷ rest) h =
     (step_is draws limit total g (suc (length rest)) t.0 (within begins c rest)))
     (λ u. game_in_place draws limit total n (eqb c 10) u t.1 few)
 
+-- a game read from the offset `at` on
 in_place : (draws : Bool) (limit : ℕ) (text : List ℕ) (at : ℕ) → at ≤ length text
     → let r = tokens_read draws limit (length text) (tokens_from text (after_byte_order_mark text at)) in
     InPlace at (length text) 0 (length r.state.moves) r.answer

@@ -1,4 +1,6 @@
--- Where a game ends, token by token: what is left gives the whole.
+-- For the loop of `end_after_tags`, which looks for the first token that ends a game: by its invariant (Seeks) the
+-- first end from here on is the first one of all. Then: a game's end is in the text, after the offset where the game
+-- begins (end_in_text), as `game_end` promises.
 use Rattle.std.proofs.Common.{◌≡◌, ◌≤◌, ◌<◌, ℕ, zero, suc, ◌+◌, ◌-◌, Bool, true, false, cond, List, [], ◌∷◌, length, take, drop, Option, Some, None, IfSome, refl, sym, ap, subst, ◌∙◌, one-add, arith, rules, option_map, length-drop, slice_get, ◌==◌}
 use Rattle.std.specs.List.{cons_option, filter_map, prefix_len}
 use Rattle.byte_devices.specs.Bytes.{after_byte_order_mark}
@@ -17,15 +19,16 @@ outcome_has_bytes (c ∷ word) o h = search rules
 
 -- ---- the end
 
--- the first end among tokens
+-- where the first of these tokens that ends a game does so; `None` if none does. The number is the text's length
 abbrev pub first_end : ℕ → List (ℕ × Token) → Option ℕ
 first_end total tokens = slice_get (filter_map (ends_at total) tokens) 0
 
--- from `here` on the first end is that of the tokens from `begin` on
+-- the loop at the offset `here`, begun at `begin`: the first end of a game is the same from either
 pub record Seeks (text : List ℕ) (begin here : ℕ) : Type 0 where
   pub offset : here ≤ length text
   pub whole : first_end (length text) (tokens_from text here) ≡ first_end (length text) (tokens_from text begin)
 
+-- a round of the loop, at the first token from `here` on
 module _ (text : List ℕ) (begin here : ℕ) (r : Seeks text begin here) where
   module _ (t : Token) (rest : List (ℕ × Token)) (is : tokens_from text here ≡ (length text - here, t) ∷ rest) where
     here_on : first_end (length text) (tokens_from text begin)
@@ -69,7 +72,7 @@ module _ (text : List ℕ) (begin here : ℕ) (r : Seeks text begin here) where
       by_fault fault.UnclosedVariation = refl
       by_fault fault.BadByte = refl
 
--- the tokens after the tags
+-- the first end among the tokens after a game's tags is the game's end
 pub end_is : (text : List ℕ) (from begin : ℕ) (end : Option ℕ) → IsAfterTags text from begin
     → end ≡ first_end (length text) (tokens_from text begin)
     → end ≡ game_end (length text) (tokens_from text from)
@@ -77,18 +80,22 @@ end_is text from begin end after is = is ∙ ap (first_end (length text)) (sym a
 
 -- ---- in the text
 
+-- the end, if there is one, is from `low` to `total`
 abbrev EndsFrom : ℕ → ℕ → Option ℕ → Type 0
 EndsFrom low total end = IfSome end (λ e. (low ≤ e) × (e ≤ total))
 
+-- `EndsFrom` stays true if `low` is made smaller
 raised : (low high total : ℕ) (end : Option ℕ) → low ≤ high → EndsFrom high total end → EndsFrom low total end
 raised low high total None h k = tt
 raised low high total (Some e) h k = let there = k.0 in (omega (arith, h, there), k.1)
 
+-- of two ends in these bounds the first is
 first_of : (low total : ℕ) (end : Option ℕ) (later : List ℕ) → EndsFrom low total end
     → EndsFrom low total (slice_get later 0) → EndsFrom low total (slice_get (cons_option end later) 0)
 first_of low total None later h k = k
 first_of low total (Some e) later h k = h
 
+-- a token ends a game at its own offset (a tag) or after its word, so not before its offset, and in the text
 token_ends : (total left : ℕ) (t : Token) → left ≤ total → IsWithin left t
     → EndsFrom (total - left) total (ends_at total (left, t))
 token_ends total left Skip h w = tt
@@ -121,6 +128,7 @@ begun_ends total left (Unclosed_comment n) h w ends = tt
 begun_ends total left Unclosed_variation h w ends = tt
 begun_ends total left Bad h w ends = tt
 
+-- the first end among a text's tokens is in the text; by induction on the tokens
 tokens_end : (total most : ℕ) (b : Bool) (rest : List ℕ) → length rest ≤ total
     → EndsFrom (total - length rest) total (first_end total (tokens_of most b rest))
 unfolding tokens_of
@@ -136,6 +144,7 @@ tokens_end total (suc most) b (c ∷ rest) h =
     (raised (total - suc (length rest)) (total - length t.1) total (first_end total later) (omega (arith, few))
     (tokens_end total most (c == 10) t.1 (omega (arith, h, few))))
 
+-- one token more in front of a game's, by whether it may come among tags
 by_tags : (low total left : ℕ) (t : Token) (later : List (ℕ × Token)) (may : Bool) → may_precede_tags t ≡ may
     → EndsFrom low total (first_end total (after_tags later))
     → (may_precede_tags t ≡ false → EndsFrom low total (first_end total ((left, t) ∷ later)))
@@ -145,6 +154,7 @@ by_tags low total left t later true e more ends =
 by_tags low total left t later false e more ends =
     subst (λ ts. EndsFrom low total (first_end total ts)) (sym (tags_end (left, t) later e)) (ends e)
 
+-- the first end after a game's tags is after the game's first byte
 game_ends : (total most : ℕ) (b : Bool) (rest : List ℕ) → length rest ≤ total
     → EndsFrom (total - length rest + 1) total (first_end total (after_tags (tokens_of most b rest)))
 unfolding tokens_of

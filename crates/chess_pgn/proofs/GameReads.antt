@@ -1,4 +1,6 @@
--- Reading a game, token by token: what was read so far, read on from there, is what is read from its first token.
+-- For the loops of read.rt, which read a game token by token. Their invariants say: what was read so far, and then read
+-- on from here, is what is read of the whole game (Reads and, with the next token known to be no move to play,
+-- ReadsWords; ReadsNormal while tags are read; GoesOn while words are played). Each step keeps this.
 use Rattle.std.proofs.Common.{◌≡◌, ℕ, ◌-◌, ◌≤◌, ◌<◌, Bool, true, false, cond, List, ◌∷◌, arith, length, get_or, take, drop, Some, None, is_some, Result, Ok, Err, refl, sym, ap, subst, ◌∙◌, Option, IsNone, OnErr, codes}
 use Rattle.chess_base.specs.{declared.man.Variant.Variant, declared.man.Variant.TheVariants.Normal, declared.setup.Setup.Setup, Initial.initial_setup, Initial.initial_setup_of}
 use Rattle.chess_game.specs.Game.{State, Seen, from_start, with_state as left_at}
@@ -16,10 +18,12 @@ use Rattle.chess_pgn.proofs.TagScans.{variant_or, variant_said, variant_from, va
 
 -- ---- nothing is declared before the game's end, and nothing after a fault
 
+-- after a step with which reading continues, no result is declared
 abbrev Undeclared : Step → Type 0
 Undeclared (On g) = g.state.declared ≡ None
 Undeclared (Stop read) = OnErr read.answer (read.state.declared ≡ None)
 
+-- no step but a game's end declares a result
 keeps : (limit total : ℕ) (g : SoFar) (left : ℕ) (t : Token) → IsWithin left t → g.state.declared ≡ None
     → Undeclared (step true limit total g left t)
 keeps limit total g left t within h = by_kind (step_is true limit total g left t within)
@@ -44,8 +48,10 @@ bare_at_fault limit total g left t s fault r within h is =
     on_error (Ok end) p = tt
     on_error (Err f) p = p
 
--- ---- the loop: what is left gives the whole
+-- ---- the loop of `read_pgn`
 
+-- at the offset `here` with the game and the progress read so far: reading on from there gives what is read from `from`
+-- on (`whole`), and nothing is declared yet
 pub record Reads (limit : ℕ) (text : List ℕ) (from : ℕ) (game : Seen) (progress : Progress) (here : ℕ) : Type 0 where
   pub forward : from ≤ here
   pub offset : here ≤ length text
@@ -55,6 +61,7 @@ pub record Reads (limit : ℕ) (text : List ℕ) (from : ℕ) (game : Seen) (pro
       ≡ pgn_read true limit text
       from
 
+-- after `begin_game` this holds
 pub read_from : (limit : ℕ) (game : Seen) (p : Progress) (text : List ℕ) (from begin here : ℕ)
     → IsReadOn limit text begin game p here → game.limit ≡ limit → begin ≡ after_byte_order_mark text from
     → from ≤ begin → Reads limit text from game p here
@@ -71,6 +78,8 @@ read_from limit game p text from begin here r same is onward = record {
 nothing_met : Progress
 nothing_met = record { is_met = false; is_begun = false; termination = None }
 
+-- a game that begins anew in the variant that its tags name, with nothing read: reading on from the first token is
+-- reading the game
 pub first : (old game : Seen) (start : Setup) (v : Variant) (p : Progress) (text : List ℕ) (here : ℕ)
     → game ≡ left_at old (from_start start) → start ≡ initial_setup_of v → (there : ℕ)
     → v ≡ tagged_variant (tag_section (tokens_from text there))
@@ -90,15 +99,19 @@ first old game start v p text here restarted initial there variant same none h =
           ∙ ap (λ u. game_of true old.limit (length text) (nothing_read u) (tokens_from text here)) (variant ∙ same);
     }
 
--- ---- the loop over tags: what is left gives the whole
+-- ---- the variant that tags name
 
+-- with `v` the variant named by the tags from `from` up to `here`: the tags from `here` on, or else `v`, give the
+-- variant that all of the game's tags name
 pub record Says (text : List ℕ) (from : ℕ) (v : Variant) (here : ℕ) : Type 0 where
   pub offset : here ≤ length text
   pub whole : variant_from v (tokens_from text here) ≡ tagged_variant (tag_section (tokens_from text from))
 
+-- before any tag it is normal chess
 pub says_begun : (text : List ℕ) (from : ℕ) → from ≤ length text → Says text from Normal from
 says_begun text from h = record { offset = h; whole = variants_are (tokens_from text from) }
 
+-- a token more, after which the variant is what its tag `Variant` names, if it is one
 pub said_more : (text : List ℕ) (from : ℕ) (v u : Variant) (here onward : ℕ) (t : Token) → Says text from v here
     → tokens_from text here ≡ (length text - here, t) ∷ tokens_from text onward → onward ≤ length text
     → true ≡ may_precede_tags t → u ≡ variant_said v t → Says text from u onward
@@ -109,7 +122,7 @@ said_more text from v u here onward t r is h may said = record {
       ∙ ap (variant_from v) (sym is) ∙ r.whole;
 }
 
--- the same, and the next token is no move that the game plays
+-- as Reads, and the next token is no move that the game plays (`left`), since `play_words` has played those
 pub record ReadsWords (limit : ℕ) (text : List ℕ) (from : ℕ) (game : Seen) (progress : Progress) (here : ℕ)
     : Type 0 where
   pub forward : from ≤ here
@@ -121,7 +134,7 @@ pub record ReadsWords (limit : ℕ) (text : List ℕ) (from : ℕ) (game : Seen)
       from
   pub left : StopsAt game (tokens_from text here)
 
--- a token: what its step gives is gone on with
+-- at a token: what its step gives, read on from there, is what is read of the whole game
 stepped : (limit : ℕ) (text : List ℕ) (from : ℕ) (game : Seen) (p : Progress) (here : ℕ) (t : Token)
     (ts : List (ℕ × Token)) (after : Step) → ReadsWords limit text from game p here
     → tokens_from text here ≡ (length text - here, t) ∷ ts
@@ -134,6 +147,7 @@ stepped limit text from game p here t ts after r is step_is =
     ∙ ap (game_of true limit (length text) (so_far game.state p)) (sym is)
     ∙ r.whole
 
+-- a token with which reading continues: Reads holds after it
 pub more : (limit : ℕ) (text : List ℕ) (from : ℕ) (game new : Seen) (p q : Progress) (here onward : ℕ) (t : Token)
     → ReadsWords limit text from game p here
     → tokens_from text here ≡ (length text - here, t) ∷ tokens_from text onward
@@ -152,6 +166,8 @@ more limit text from game new p q here onward t r is later h same step_is = reco
 
 -- ---- the tags of a game of normal chess
 
+-- as Reads, for the tags of a game that so far is of normal chess: reading on is the same as reading from `from` in
+-- normal chess, and no tag so far names another variant (`says`)
 pub record ReadsNormal (limit : ℕ) (text : List ℕ) (from : ℕ) (game : Seen) (progress : Progress) (here : ℕ)
     : Type 0 where
   pub forward : from ≤ here
@@ -161,6 +177,7 @@ pub record ReadsNormal (limit : ℕ) (text : List ℕ) (from : ℕ) (game : Seen
   pub whole : game_of true limit (length text) (so_far game.state progress) (tokens_from text here)
       ≡ game_of true limit (length text) (nothing_read Normal) (tokens_from text from)
 
+-- it holds before the first tag
 pub first_normal : (old game : Seen) (start : Setup) (p : Progress) (text : List ℕ) (here : ℕ)
     → game ≡ left_at old (from_start start) → start ≡ initial_setup
     → p ≡ record { is_met = false; is_begun = false; termination = None } → here ≤ length text
@@ -185,7 +202,7 @@ pub same_variant : (limit : ℕ) (text : List ℕ) (from : ℕ) (game : Seen) (p
     → tagged_variant (tag_section (tokens_from text here)) ≡ tagged_variant (tag_section (tokens_from text from))
 same_variant limit text from game p here r = sym (variants_are (tokens_from text here)) ∙ r.says.whole
 
--- one more tag, or what is passed over
+-- it holds after one more tag that names no other variant, or another token among the tags
 pub more_normal : (limit : ℕ) (text : List ℕ) (from : ℕ) (game new : Seen) (p q : Progress) (here onward : ℕ)
     (t : Token) (found : Option (List ℕ × ℕ)) → ReadsNormal limit text from game p here
     → tokens_from text here ≡ (length text - here, t) ∷ tokens_from text onward → here < onward
@@ -206,7 +223,7 @@ more_normal limit text from game new p q here onward t found r is later h may na
       ∙ ap (game_of true limit (length text) (so_far game.state p)) (sym is) ∙ r.whole;
 }
 
--- what is skipped after a tag
+-- and after what is skipped then
 pub normal_on : (limit : ℕ) (text : List ℕ) (from : ℕ) (game : Seen) (p : Progress) (here there : ℕ)
     → ReadsNormal limit text from game p here → SkipsTo text here there → here ≤ there → there ≤ length text
     → ReadsNormal limit text from game p there
@@ -218,15 +235,16 @@ normal_on limit text from game p here there r skips onward within = record {
   whole = sym (skips_alike text here there skips limit (so_far game.state p)) ∙ r.whole;
 }
 
--- ---- comments, at which nothing counts
+-- ---- comments and white space, which change nothing (ReadsAlike: the same is read from before as from after them)
 
+-- a comment with its `}` is a token that is skipped; 123 is `{`
 comment_token : (begins : Bool) (c : ℕ) (rest onward : List ℕ) → c ≡ 123 → after_brace rest ≡ Some onward
     → (Skip, onward) ≡ token_at begins c rest
 unfolding token_at
 comment_token true c rest onward brace closed = rw (brace, closed) refl
 comment_token false c rest onward brace closed = rw (brace, closed) refl
 
--- a closed comment, with its text as code meets it
+-- so it is the next token at its offset; `xs` is the text from there on
 pub commented : (text : List ℕ) (at : ℕ) (xs onward : List ℕ) → at ≤ length text
     → xs ≡ take (length text - at) (drop at text) → 1 ≤ length xs → get_or xs 0 0 ≡ 123
     → after_brace (take (length xs - 1) (drop 1 xs)) ≡ Some onward → NextToken text at Skip onward
@@ -234,15 +252,17 @@ commented text at xs onward h is some brace closed =
     next_token text at (begins_line text at) xs h refl is some Skip onward
     (comment_token (begins_line text at) (get_or xs 0 0) (take (length xs - 1) (drop 1 xs)) onward brace closed)
 
+-- a skipped token changes nothing
 pub skipped_alike : (text : List ℕ) (at onward : ℕ)
     → tokens_from text at ≡ (length text - at, Skip) ∷ tokens_from text onward → ReadsAlike text at onward
 skipped_alike text at onward is = λ limit g. ap (game_of true limit (length text) g) is
 
+-- nor do several, one after another
 pub alike_on : (text : List ℕ) (a b c d : ℕ) → ReadsAlike text a b → ReadsAlike text b c → ReadsAlike text c d
     → ReadsAlike text a d
 alike_on text a b c d first second third = λ limit g. first limit g ∙ second limit g ∙ third limit g
 
--- reading goes on after them
+-- so Reads holds also after them
 pub alike : (limit : ℕ) (text : List ℕ) (from : ℕ) (game : Seen) (p : Progress) (here there : ℕ)
     → Reads limit text from game p here → ReadsAlike text here there → here ≤ there → there ≤ length text
     → Reads limit text from game p there
@@ -254,15 +274,16 @@ alike limit text from game p here there r same onward within = record {
   whole = sym (same limit (so_far game.state p)) ∙ r.whole;
 }
 
--- ---- numbers and moves one after another
+-- ---- the loop of `play_words` over numbers and moves
 
+-- a word that was taken is applied to the game as its step says, and a number or move has begun the game
 was_taken : (taken : Bool) (old new : Seen) (step_of : SoFar → ℕ → Step) → taken ≡ true
     → IsTaken taken old new step_of → (p : Progress) (offset : ℕ) → On (so_far new.state (begun p))
     ≡ step_of (so_far old.state p) offset
 was_taken true old new step_of is h = h
 was_taken false old new step_of is h = cc
 
--- one more word, and what is skipped after it
+-- a round: one more word is taken, and what comes after it is skipped
 pub one_more : (text : List ℕ) (from : ℕ) (old game new : Seen) (before p q : Progress) (here onward there : ℕ)
     (word : List ℕ) (taken : Bool) → GoesOn text from old before here game p
     → tokens_from text here ≡ (length text - here, Word word) ∷ tokens_from text onward → here < onward
@@ -291,7 +312,8 @@ one_more text from old game new before p q here onward there word taken g is lat
           ∙ g.whole;
     }
 
--- reading goes on after them
+-- after the loop: reading on from where it ended, with its moves played, is reading on from before; and the token there
+-- was not taken
 pub further : (limit : ℕ) (text : List ℕ) (from : ℕ) (game new : Seen) (p q : Progress) (here there : ℕ)
     → Reads limit text from game p here → GoesOn text here game p there new q → StopsAt new (tokens_from text there)
     → ReadsWords limit text from new q there

@@ -1,4 +1,6 @@
--- What is read of a game by its tags and moves is what is read token by token.
+-- What is read of a game is defined by its tags (the variant, the last `FEN`, `Termination`) and then its moves
+-- (`pgn_read`). Reading token by token, with a step for each, gives the same (reads_alike), and the code reads so. So
+-- what was read is also what any split of the text into tokens says (as_said).
 use Rattle.std.proofs.Common.{◌≡◌, ℕ, suc, ◌+◌, ◌-◌, Bool, true, false, cond, List, [], ◌∷◌, ◌++◌, length, take, drop, Option, Some, None, Result, Ok, Err, refl, sym, ap, ◌∙◌, arith, bytes_eq, take-append-drop, append-nil, ◌&&◌, ◌||◌, nat_lt, is_some, codes, map, slice_get, option_and_then}
 use Rattle.std.specs.List.{list_all, list_any, prefix_len, take_while, filter_map, cons_option, last_or}
 use Rattle.std.specs.Option.{option_map_or, unwrap_or}
@@ -29,9 +31,11 @@ use Rattle.pgn_tokens.proofs.{shared.Bytes.run_passes, shared.Tokens.split_read}
 abbrev so_far : Bool → Bool → Option Termination → State → SoFar
 so_far met begun t s = record { state = s; is_met = met; is_begun = begun; termination = t }
 
+-- what reading has found so far: here of a game whose numbers or moves have begun
 abbrev started : Option Termination → State → SoFar
 started t s = so_far true true t s
 
+-- a word's step, read on from there (`later`), gives the same as its row of the table, read on from there (`next`)
 module _ (draws : Bool) (limit total : ℕ) (termination : Option Termination) (met begun : Bool) (s : State)
     (later : SoFar → GameRead) (next : State → GameRead)
     (same : (r : State) → later (started termination r) ≡ next r) where
@@ -81,6 +85,7 @@ module _ (draws : Bool) (limit total : ℕ) (termination : Option Termination) (
 
 -- ---- after the tags
 
+-- after the tags both read the same, token by token
 moves_are : (draws : Bool) (limit total : ℕ) (termination : Option Termination) (s : State) (ts : List (ℕ × Token))
     → game_of draws limit total (started termination s) ts ≡ moves_read draws limit total termination s ts
 moves_are draws limit total termination s [] = refl
@@ -158,13 +163,16 @@ one_is_tag ((left, Unclosed_comment brace) ∷ ts) all some = absurd (cc)
 one_is_tag ((left, Unclosed_variation) ∷ ts) all some = absurd (cc)
 one_is_tag ((left, Bad) ∷ ts) all some = absurd (cc)
 
+-- what reading has found so far of a game of which only tags were read (`met`: at least one), and which starts at p
 abbrev opened : Bool → Option Termination → Setup → SoFar
 opened met termination p = so_far met false termination (from_start p)
 
+-- no tags come first in these tokens: there are none, or the first can't be among tags
 abbrev Stops : List (ℕ × Token) → Type 0
 Stops [] = Unit {0}
 Stops (t ∷ ts) = may_precede_tags t.1 ≡ false
 
+-- the first token after the tags: from there on both read the same
 first_token : (draws : Bool) (limit total : ℕ) (met : Bool) (termination : Option Termination) (s : State)
     (ts : List (ℕ × Token))
     (left : ℕ) (t : Token) → may_precede_tags t ≡ false
@@ -183,6 +191,7 @@ first_token draws limit total met termination s ts left (Unclosed_comment brace)
 first_token draws limit total met termination s ts left Unclosed_variation h = refl
 first_token draws limit total met termination s ts left Bad h = refl
 
+-- so they do where the tags end
 tags_end : (draws : Bool) (limit total : ℕ) (met : Bool) (termination : Option Termination) (p : Setup)
     (rest : List (ℕ × Token))
     → Stops rest → game_of draws limit total (opened met termination p) rest
@@ -201,6 +210,7 @@ last_value f None [] d = refl
 last_value f (Some a) [] d = refl
 last_value f o (x ∷ xs) d = last_value f (Some x) xs d ∙ sym (last_value f (Some x) xs (option_map_or f o d))
 
+-- the last of these values, or else the one before (`o`), or else `d`
 last_unwrapped : {A : Type 0} (o : Option A) (xs : List A) (d : A)
     → unwrap_or (last_or o xs) d ≡ unwrap_or (last_or None xs) (unwrap_or o d)
 last_unwrapped None [] d = refl
@@ -217,16 +227,20 @@ abbrev with_place : ℕ → ℕ → Result Setup FenFault → Result Setup PgnFa
 with_place total at_string r =
     result_map_both (λ start. start) (λ fault. record { kind = BadFen fault; offset = total - at_string }) r
 
+-- how each tag `FEN` among these tags was read, in this variant
 abbrev pub fens : ℕ → Variant → List (ℕ × Token) → List (Result Setup PgnFault)
 fens total v tags = map (fen_read total v) (tags_named (codes "FEN") tags)
 
--- what is said of these tags and of the tokens after them, where `before` is known before them
+-- what the definition says of a game by its tags: the fault of the first bad FEN among `fs`, or what is read after the
+-- tags in the game that starts at the last FEN's position. `p` is the start without a FEN
 abbrev said : Bool → ℕ → ℕ → Option Termination → Setup → List (Result Setup PgnFault) → Bool → List (ℕ × Token)
     → GameRead
 said draws limit total termination p fs met rest =
     option_map_or (with_fault (from_start (last_start p fs))) (slice_get (filter_map result_err fs) 0)
     (after_tags_by draws limit total termination (from_start (last_start p fs)) met rest)
 
+-- reading tags and then `rest` token by token gives what these say together, if `before` and `p` are what tags before
+-- them have said
 abbrev Whole : Bool → ℕ → ℕ → Variant → Bool → Option Termination → Setup → List (ℕ × Token) → List (ℕ × Token) → Type 0
 Whole draws limit total v met before p tags rest =
     game_of draws limit total (opened met before p) (tags ++ rest)
@@ -329,6 +343,7 @@ module _ (draws : Bool) (limit total : ℕ) (v : Variant) (rest : List (ℕ × T
 
 -- ---- where the tags end in a list of tokens
 
+-- what comes after all tokens that may be among tags begins with no such token
 tags_stop : (xs : List (ℕ × Token))
     → Stops (drop (length (take_while (λ (t : ℕ × Token). may_precede_tags t.1) xs)) xs)
 tags_stop [] = tt
@@ -344,9 +359,11 @@ tags_stop (t ∷ ts) = by_test (may_precede_tags t.1) refl (tags_stop ts)
         rw next more
     by_test false e more = e
 
+-- the first elements that pass a test, and the others, are the list
 rest_is : (p : ℕ × Token → Bool) (xs : List (ℕ × Token)) → take_while p xs ++ drop (length (take_while p xs)) xs ≡ xs
 rest_is p xs = ap (λ n. take_while p xs ++ drop n xs) (length-prefix_len p xs) ∙ take-append-drop (prefix_len p xs) xs
 
+-- what a last tag Termination names, in the two forms in which the definitions have it
 none_before : (o : Option (List ℕ × ℕ)) → option_map_or (λ (tag : List ℕ × ℕ). termination_named tag.0) o None
     ≡ option_and_then (λ (tag : List ℕ × ℕ). termination_named tag.0) o
 none_before None = refl
@@ -395,7 +412,7 @@ no_start v name (t ∷ ts) h =
     by_token Unclosed_variation k more = absurd (cc)
     by_token Bad k more = absurd (cc)
 
--- what tags and moves say of tokens is what is read of them token by token
+-- what the tags and then the moves say of some tokens is what is read of them token by token
 pub tokens_are : (draws : Bool) (limit total : ℕ) (ts : List (ℕ × Token))
     → read_of_split draws limit total ts ≡ tokens_read draws limit total ts
 tokens_are draws limit total ts = by_nothing (list_all (λ (t : ℕ × Token). says_nothing t.1) ts) refl
@@ -448,14 +465,14 @@ unfolding pgn_read
 reads_alike draws limit text at =
     tokens_are draws limit (length text) (tokens_from text (after_byte_order_mark text at))
 
--- what the split of the text says is that and nothing else
+-- anything that a split of the text says of the game is what is read of it, as a text has only one split
 pub only_read : (draws : Bool) (limit : ℕ) (text : List ℕ) (at : ℕ) (r : GameRead) → IsRead draws limit text at r
     → r ≡ pgn_read draws limit text at
 unfolding pgn_read
 only_read draws limit text at r h =
     h.is ∙ ap (read_of_split draws limit (length text)) (split_read text h.split)
 
--- what was read is what the split of the text says
+-- so a result and a game that were read are what any such reading says; for the clause `said` of `read_pgn`
 pub as_said : (draws : Bool) (limit : ℕ) (text : List ℕ) (at : ℕ) (old new : Seen)
     (result : Result (Option PgnEnd) PgnFault)
     → result ≡ (pgn_read draws limit text at).answer → new ≡ left_at old (pgn_read draws limit text at).state

@@ -1,4 +1,5 @@
--- What is left once all numbers and moves were taken that could be: no move that the game plays.
+-- `play_words` plays the moves at an offset until the next word is no move that the game plays. Here: then the next
+-- token, whatever it is, is no such move (left_at), as the steps of `read_pgn` and their contracts ask for (`IsLeft`).
 use Rattle.std.proofs.Common.{◌≡◌, ℕ, ◌<◌, ◌≤◌, ◌-◌, Bool, true, false, List, [], ◌∷◌, ◌++◌, length, take, drop, refl, sym, ap, subst, ◌∙◌, arith}
 use Rattle.std.specs.List.{list_all, take_while}
 use Rattle.std.proofs.{lemmas.Bool.and_parts, lemmas.List.take_rest}
@@ -11,18 +12,21 @@ use Rattle.pgn_tokens.specs.shared.Kinds.{Kind, Blank, Line, Comment, Nag, Varia
 use Rattle.chess_pgn.proofs.PgnWords.{are_marks, marks_by_kind}
 use Rattle.pgn_tokens.proofs.shared.Tokens.{no_token, token_more, begins_word, TokenSays, known, faulty, is_fault, token_says}
 
+-- a word that may be a move isn't empty
 pub move_has_bytes : (word : List ℕ) → Move ≡ word_kind word → 0 < length word
 move_has_bytes [] h = cc
 move_has_bytes (c ∷ word) h = omega arith
 
 -- ---- a token after which more tags may come
 
+-- marks such as `!?` are no move
 marks_left : (game : Seen) (word : List ℕ) (kind : WordKind) → are_marks kind ≡ true → IsNoMove game word kind
 marks_left game word (End o) h = tt
 marks_left game word Number h = tt
 marks_left game word Marks h = tt
 marks_left game word Move h = absurd (cc)
 
+-- so a token after which tags may come is no move
 pub tags_left : (game : Seen) (t : Token) → may_precede_tags t ≡ true → IsLeft game t
 tags_left game Skip h = tt
 tags_left game (Tag name text string) h = tt
@@ -34,6 +38,7 @@ tags_left game Bad h = tt
 
 -- ---- the token after the words that were taken
 
+-- what can't be read is no move
 fault_left : (game : Seen) (t : Token) → is_fault t ≡ true → IsLeft game t
 fault_left game Skip h = tt
 fault_left game (Tag name text string) h = tt
@@ -68,6 +73,7 @@ other_left game b c rest begins = by_says (token_at b c rest) (token_says b c re
     by_says t (known kind front r same long) = by_kind kind front r same long.is
     by_says t (faulty fault is_one h) = fault_left game fault is_one
 
+-- if the word at the text's front is no move that the game plays, the first token is none
 first_left : (game : Seen) (b : Bool) (c : ℕ) (rest : List ℕ)
     → IsLeft game (Word (take_while is_word_byte (c ∷ rest))) → IsLeft game (token_at b c rest).0
 first_left game b c rest left = by_test (is_word_byte c) refl

@@ -1,4 +1,6 @@
--- Lines of moves (a game's own, or those of a variation), token by token: what is left gives the whole.
+-- For the loop of `read_line`, which reads a line of moves (a game's own, or a variation's) and calls itself for the
+-- variations in it. By its invariant (LineReads) the first fault from here on, in the position reached, is the line's
+-- first fault. Last: each fault is in the text (fault_within).
 use Rattle.std.proofs.Common.{◌≡◌, ℕ, zero, suc, ◌+◌, ◌-◌, ◌≤◌, Bool, true, false, cond, List, [], ◌∷◌, length, Option, Some, None, IfSome, IfErr, Result, Ok, Err, refl, sym, ap, subst, ◌∙◌, inl, inr, arith}
 use Rattle.std.specs.{Option.option_map_or, Option.option_or, Result.result_err}
 use Rattle.chess_base.specs.{declared.man.Move.Move, declared.setup.Setup.Setup, Moves.after}
@@ -13,14 +15,16 @@ use Rattle.pgn_tokens.specs.declared.token.Token.TheVariants as seen
 use Rattle.chess_pgn.specs.ties.LineSteps.{EndsLine, IsUnread, inside, opening, played}
 use Rattle.chess_pgn.proofs.LineKinds.{line_by_kind}
 
--- a line was read up to `here`, where its position is `p`, and `before` the one before its last move: what is read from
--- there on is what is read of the whole line. `tags`: whether tags are passed over in it
+-- the line was read from `at` up to `here`, where its position is `p`, and `before` is the position before its last
+-- move, from which a variation begins: the first fault from here on is that of the whole line. `tags`: whether tags are
+-- passed over in it; `depth`: how many more variations may be open
 pub record LineReads (tags : Bool) (depth : ℕ) (text : List ℕ) (start : Setup) (at : ℕ) (before : Option Setup)
     (p : Setup) (here : ℕ) : Type 0 where
   pub offset : here ≤ length text
   pub whole : line_fault tags text (inside depth text) before p (tokens_from text here)
       ≡ line_fault tags text (inside depth text) None start (tokens_from text at)
 
+-- this holds at the line's first token
 pub begun : (tags : Bool) (depth : ℕ) (text : List ℕ) (start p : Setup) (at : ℕ) → at ≤ length text → p ≡ start
     → LineReads tags depth text start at None p at
 begun tags depth text start p at h is = record {
@@ -30,13 +34,14 @@ begun tags depth text start p at h is = record {
 
 -- ---- one token
 
+-- how a variation begins: with this position and depth, or not, with this fault
 abbrev opened : Setup × ℕ → Result (Setup × ℕ) PgnFault
 opened r = Ok r
 
 abbrev not_begun : PgnFault → Result (Setup × ℕ) PgnFault
 not_begun fault = Err fault
 
--- two variations that begin alike
+-- two variations that begin alike have the same position and depth
 opened_alike : (r other : Setup × ℕ) → opened r ≡ opened other → r ≡ other
 opened_alike r other e = cc
 
@@ -51,6 +56,7 @@ by_kind tags text inner before p token more at opens closes = cond opens
     (line_fault tags text inner before p more))
     (cond closes None (after_token at before p (token_move tags p token) (λ c q. line_fault tags text inner c q more)))
 
+-- the first fault from a token on, by its kind
 of_token : (tags : Bool) (text : List ℕ) (inner : Setup → ℕ → Option PgnFault) (before : Option Setup) (p : Setup)
     (token : Token) (more : List (ℕ × Token)) (at : ℕ) (opens closes : Bool) → at ≤ length text
     → is_variation text at token ≡ opens → is_end text at token ≡ closes
@@ -63,6 +69,7 @@ of_token tags text inner before p token more at opens closes h is ends =
     ∙ ap (λ b. by_kind tags text inner before p token more at b (is_end text at token)) is
     ∙ ap (by_kind tags text inner before p token more at opens) ends
 
+-- a round of the loop, at the token `token`, after which reading goes on at `tail`
 module _ (tags : Bool) (depth : ℕ) (text : List ℕ) (start : Setup) (at : ℕ) (before : Option Setup) (p : Setup)
     (here tail : ℕ) (token : Token) (r : LineReads tags depth text start at before p here) (k : tail ≤ length text)
     (is : tokens_from text here ≡ (length text - here, token) ∷ tokens_from text tail) where
@@ -193,7 +200,7 @@ unread_is tags text at p (Unclosed_comment left) h = (refl, refl)
 unread_is tags text at p Unclosed_variation h = (refl, refl)
 unread_is tags text at p Bad h = (refl, refl)
 
--- the line ends
+-- the line ends at its `)` or at the text's end, without a fault
 pub ended : (tags : Bool) (depth : ℕ) (text : List ℕ) (start : Setup) (at : ℕ) (before : Option Setup) (p : Setup)
     (here : ℕ)
     → LineReads tags depth text start at before p here → EndsLine text here
@@ -204,7 +211,7 @@ ended tags depth text start at before p here r (inr (token, is, h, closes)) =
     sym (of_token tags text (inside depth text) before p token [] here false true r.offset
     (unread_is tags text here p token h).0 closes) ∙ ap (line_fault tags text (inside depth text) before p) (sym is) ∙ r.whole
 
--- what can't be read, and is no `)`
+-- a token that can't be read, and is no `)`, is the line's fault
 pub unread : (tags : Bool) (depth : ℕ) (text : List ℕ) (start : Setup) (at : ℕ) (before : Option Setup) (p : Setup)
     (here : ℕ) (fault : PgnFault) → LineReads tags depth text start at before p here
     → fault ≡ record { kind = BadToken; offset = here }
@@ -220,14 +227,17 @@ unread tags depth text start at before p here fault r bad (token, is, h, opens) 
 
 -- ---- faults are in the text
 
+-- the fault, if there is one, is at most at this offset
 abbrev pub InText : ℕ → Option PgnFault → Type 0
 InText len fault = IfSome fault (λ f. f.offset ≤ len)
 
+-- the first of two faults is in the text if both are
 first_within : (len : ℕ) (first second : Option PgnFault) → InText len first → InText len second
     → InText len (option_or first second)
 first_within len (Some fault) second h k = h
 first_within len None second h k = k
 
+-- the first fault of a line is in the text if those of its variations are; by induction on the tokens
 line_within : (tags : Bool) (text : List ℕ) (inner : Setup → ℕ → Option PgnFault)
     → ((p : Setup) (from : ℕ) → from ≤ length text → InText (length text) (inner p from))
     → (tokens : List (ℕ × Token)) (before : Option Setup) (p : Setup)
@@ -258,6 +268,7 @@ line_within tags text inner h ((n, token) ∷ more) before p =
     by_kinds rest false true = tt
     by_kinds rest false false = by_move rest (token_move tags p token)
 
+-- the first fault of a variation is in the text; by induction on how many more may be open
 variation_within : (depth : ℕ) (text : List ℕ) (p : Setup) (from : ℕ) → from ≤ length text
     → InText (length text) (inside depth text p from)
 unfolding variation_fault
@@ -266,6 +277,7 @@ variation_within (suc depth) text p from h =
     line_within false text (inside depth text) (λ q i k. variation_within depth text q i k)
     (tokens_from text (from + 1)) None p
 
+-- so is that of a game's own line
 pub fault_within : (tags : Bool) (depth : ℕ) (text : List ℕ) (start : Setup) (at : ℕ)
     → InText (length text) (line_fault tags text (inside depth text) None start (tokens_from text at))
 fault_within tags depth text start at =

@@ -1,4 +1,5 @@
--- Which words of a line are passed over, by their kinds.
+-- In a line of moves, outcomes, numbers and marks such as `!?` are passed over. The code decides this by a word's kind,
+-- the definition by three tests; both agree (passed_by_kind).
 use Rattle.std.proofs.Common.{◌≡◌, ℕ, Bool, true, false, List, Option, Some, None, refl, ◌||◌, is_some, if◌then◌else◌}
 use Rattle.std.specs.{List.list_all, Option.option_map_or}
 use Rattle.byte_devices.specs.Bytes.{is_digit}

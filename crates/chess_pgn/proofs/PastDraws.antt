@@ -1,4 +1,7 @@
--- Games that go on after one of the two draws of 2014: what is read of them where these draws end no game.
+-- For `read_past_draws`: what is read of a game if fivefold repetition and 75 moves (the draws of 2014) end none.
+-- Without a move after such a draw it is what `read_pgn` read (read_alike). Otherwise the moves are read again from
+-- where the tags end, and the game begins anew in the position after each move: only the position then decides whether
+-- a verdict ends it (anew_alike).
 use Rattle.std.proofs.Common.{◌≡◌, ◌<◌, ◌≤◌, ℕ, suc, ◌+◌, ◌-◌, ◌==◌, nat_le, nat_lt, Bool, true, false, cond, ◌||◌, List, [], ◌∷◌, ◌++◌, length, drop, map, slice_get, codes, Option, Some, None, is_some, is_none, option_and_then, Result, Ok, Err, refl, sym, ap, subst, ◌∙◌, arith, length-append, if◌then◌else◌}
 use Rattle.std.specs.List.{cons_option, filter_map, list_all}
 use Rattle.std.specs.Option.{option_map_or, unwrap_or}
@@ -31,13 +34,15 @@ use Rattle.chess_pgn.proofs.{GamesByTags.fens, GamesByTags.termination_in, RowsR
 
 -- ---- the verdict without the two draws
 
+-- neither of the two draws is left
 gone : (a b : Bool)
     → option_and_then not_of_2014 (cond a (Some FivefoldRepetition) (cond b (Some SeventyFiveMoves) None)) ≡ None
 gone true b = refl
 gone false true = refl
 gone false false = refl
 
--- which of them holds makes no difference
+-- whether fivefold repetition holds makes no difference to the verdict that is left; a mate or stalemate (`over`) and
+-- bare kings or the like (`bare`) come first
 without : (over bare a b c : Bool) (v : Verdict)
     → option_and_then not_of_2014 (cond over (Some v) (cond bare (Some InsufficientMaterial)
     (cond a (Some FivefoldRepetition) (cond b (Some SeventyFiveMoves) None))))
@@ -47,7 +52,7 @@ without true bare a b c v = refl
 without false true a b c v = refl
 without false false a b c v = gone a b ∙ sym (gone c b)
 
--- so only the position counts
+-- so what ends a game, but for the two draws, is the same if the game begins anew in its current position
 pub anew_alike : (s : State) → ending false (from_start (current s)) ≡ ending false s
 unfolding verdict
 anew_alike s =
@@ -63,6 +68,8 @@ still_open false s e = ap (option_and_then not_of_2014) e
 
 -- ---- a game in which no move comes after one of the two draws
 
+-- one token: if reading it and the rest (`later`) meets no move after one of the two draws, it is the same whether
+-- these draws end a game (true) or not (false)
 module _ (limit total : ℕ) (termination : Option Termination) (s : State) (later : Bool → State → GameRead) where
   abbrev Same : Row → Row → Type 0
   Same with_draws without_draws = stops_past_draw (after_row termination s with_draws (later true)) ≡ false
@@ -118,6 +125,7 @@ module _ (limit total : ℕ) (termination : Option Termination) (s : State) (lat
   token_alike left Unclosed_variation goes = λ h. refl
   token_alike left Bad goes = λ h. refl
 
+-- all tokens after the tags; by induction
 moves_alike : (limit total : ℕ) (termination : Option Termination) (s : State) (ts : List (ℕ × Token))
     → stops_past_draw (moves_read true limit total termination s ts) ≡ false
     → moves_read false limit total termination s ts ≡ moves_read true limit total termination s ts
@@ -152,6 +160,7 @@ abbrev by_parts : State → Bool → Option PgnFault → GameRead → GameRead
 by_parts s is_empty bad after =
     cond is_empty (record { state = s; answer = Ok None }) (option_map_or (with_fault s) bad after)
 
+-- a whole game, by its tokens
 split_alike : (limit total : ℕ) (tokens : List (ℕ × Token))
     → stops_past_draw (read_of_split true limit total tokens) ≡ false
     → read_of_split false limit total tokens ≡ read_of_split true limit total tokens
@@ -176,15 +185,16 @@ split_alike limit total tokens =
     by_cases false (Some f) h = refl
     by_cases false None h = after_tags_alike limit total s tags rest h
 
+-- a game of a text
 pub read_alike : (limit : ℕ) (text : List ℕ) (at : ℕ) → stops_past_draw (pgn_read true limit text at) ≡ false
     → pgn_read false limit text at ≡ pgn_read true limit text at
 unfolding pgn_read
 read_alike limit text at h =
     split_alike limit (length text) (tokens_from text (after_byte_order_mark text at)) h
 
--- ---- one in which some does: it has no fault in its tags
+-- ---- a game in which some move comes after one of the two draws: it has no fault in its tags
 
--- the start stays
+-- reading moves keeps the game's start
 start_kept : (draws : Bool) (limit total : ℕ) (termination : Option Termination) (s : State) (ts : List (ℕ × Token))
     → (moves_read draws limit total termination s ts).state.start ≡ s.start
 start_kept draws limit total termination s [] = refl
@@ -232,7 +242,7 @@ start_kept draws limit total termination s (t ∷ ts) =
     by_token left Unclosed_variation k = refl
     by_token left Bad k = refl
 
--- the first bad FEN is no such fault
+-- a bad FEN is no fault of a move after a draw
 first_bad : (total : ℕ) (v : Variant) (s : State) (xs : List (List ℕ × ℕ)) (f : PgnFault)
     → slice_get (filter_map result_err (map (fen_read total v) xs)) 0 ≡ Some f → is_past_draw f.kind s ≡ false
 first_bad total v s [] f e = absurd (cc)
@@ -251,7 +261,8 @@ first_bad total v s (x ∷ xs) f e =
     by_reading (Err fault) later k =
         sym (ap (λ (o : Option PgnFault). option_map_or (λ (g : PgnFault). is_past_draw g.kind s) o false) k)
 
--- its moves, read so that the two draws end no game, from its start on
+-- if reading after the tags stopped at such a move, then without the two draws what is read is its moves from the start
+-- on
 after_tags_again : (limit total : ℕ) (s : State) (tags rest : List (ℕ × Token))
     → stops_past_draw (read_after_tags true limit total s tags rest) ≡ true
     → (read_after_tags false limit total s tags rest ≡ moves_read false limit total (termination_in tags) s rest)
@@ -271,6 +282,8 @@ after_tags_again limit total s tags ((left, Unclosed_variation) ∷ rest) h =
 after_tags_again limit total s tags ((left, Bad) ∷ rest) h =
     (refl, start_kept true limit total (termination_in tags) s ((left, Bad) ∷ rest))
 
+-- the same for a whole game: its moves are read from where its tags end, with the start and the tag Termination as
+-- before
 split_again : (limit total : ℕ) (tokens : List (ℕ × Token))
     → stops_past_draw (read_of_split true limit total tokens) ≡ true
     → read_of_split false limit total tokens ≡ moves_read false limit total (termination_in (tag_section tokens))
@@ -304,7 +317,8 @@ split_again limit total tokens h =
         absurd (false≢true (sym (first_bad total v s (tags_named (codes "FEN") tags) f e) ∙ k))
     by_cases false None e k = after_tags_again limit total s tags rest k
 
--- where reading stopped so, the moves are to be read again from there on where the tags end
+-- where reading stopped at such a move, reading the moves again from where the tags end (`begin`) gives what is read
+-- without the two draws, if it succeeds (anew_read) and if it fails (anew_failed)
 module _ (text : List ℕ) (at begin : ℕ) (start : Setup) (termination : Option Termination)
     (h : stops_past_draw (pgn_read true MOST_MOVES text at) ≡ true)
     (begins : start ≡ (pgn_read true MOST_MOVES text at).state.start)
@@ -364,6 +378,7 @@ IsRow s x (Ok (does.Move p)) = (next : State) × (x ≡ Goes_on next) × (p ≡ 
 IsRow s x (Ok (does.End o end)) = x ≡ Ends o end
 IsRow s x (Err fault) = x ≡ Fails fault.kind fault.offset
 
+-- the effect that the code finds for a token, in the game begun anew, is the token's row in the game `s`
 module _ (total left : ℕ) (s : State) where
   move_row_is : (at : ℕ) (v : Option Verdict) (room : Bool) (m : Played)
       → IsRow s (cond (is_some v) (Fails AfterEnd at) (cond room (Goes_on (played s m)) (Fails TooLong at)))
@@ -420,10 +435,10 @@ module _ (total left : ℕ) (s : State) where
   token_row Unclosed_variation = refl
   token_row Bad = refl
 
--- ---- the loop: what is left gives the whole
+-- ---- the loop of `read_moves`
 
--- the game `game` began anew at the position of a game of so many half-moves, and what is read of that from `here` on
--- is `all`
+-- at the offset `here`, after `plies` half-moves: `s` is the game as it would be with its moves, `game` is begun anew
+-- in the position of `s`, and what is read of `s` from here on is `all`, what is read of the whole game
 pub record Again (text : List ℕ) (termination : Option Termination) (all : GameRead) (game : Seen) (plies here : ℕ)
     : Type 0 where
   pub offset : here ≤ length text
@@ -433,6 +448,7 @@ pub record Again (text : List ℕ) (termination : Option Termination) (all : Gam
   pub count : plies ≡ length s.moves
   pub gives : moves_read false MOST_MOVES (length text) termination s (tokens_from text here) ≡ all
 
+-- this holds before the first token after the tags
 pub first : (text : List ℕ) (termination : Option Termination) (start : Setup) (old game : Seen) (at : ℕ)
     → at ≤ length text → game ≡ left_at old (from_start start)
     → Again text termination
@@ -446,6 +462,7 @@ first text termination start old game at h restarted = record {
   gives = refl;
 }
 
+-- a round of the loop, at the first token from `here` on
 module _ (text : List ℕ) (termination : Option Termination) (all : GameRead) (game : Seen) (plies here : ℕ)
     (r : Again text termination all game plies here)
   where
@@ -562,7 +579,7 @@ read_of_most text at result old new most answer game = (
   ap (λ (g : Seen). g.state) game ∙ ap (λ n. (pgn_read true n text at).state) most,
 )
 
--- a game without a move after one of the two draws
+-- if it didn't, answer and game are those that are read without these draws
 pub alike_answer : (text : List ℕ) (at : ℕ) (result : Result (Option PgnEnd) PgnFault) (g : State)
     → result ≡ (pgn_read true MOST_MOVES text at).answer → g ≡ (pgn_read true MOST_MOVES text at).state
     → is_at_past_draw g result ≡ false
@@ -574,12 +591,12 @@ alike_answer text at result g answer state h =
     let same = read_alike MOST_MOVES text at no in
     (answer ∙ ap (λ (r : GameRead). r.answer) (sym same), state ∙ ap (λ (r : GameRead). r.state) (sym same))
 
--- it stands for itself
+-- a game that was read so stands for itself
 pub stands_alike : (text : List ℕ) (at : ℕ) (g : State) → g ≡ (pgn_read false MOST_MOVES text at).state
     → Stands false g (pgn_read false MOST_MOVES text at).state
 stands_alike text at g e = record { position = ap current e; ends = ap (ending false) e }
 
--- one with a move after one of the two draws
+-- the code's test of the fault and the game says whether reading stopped at a move after one of the two draws
 pub is_past : (r : GameRead) (fault : PgnFault) (g : State) (b : Bool) → r.answer ≡ Err fault → g ≡ r.state
     → b ≡ is_past_draw fault.kind g → stops_past_draw r ≡ b
 is_past r fault g b answer state test =

@@ -1,4 +1,6 @@
--- The kinds of words of a game's text.
+-- The kind of a word (an outcome, number, marks or move) is decided by its text; tests that the code makes first give
+-- the same kind: all digits are a number (number_kind), marks are marks (marks_by_kind), and a word that begins with
+-- `A` or a greater byte may be a move (begins_as_move_kind).
 use Rattle.std.proofs.Common.{◌≡◌, ℕ, ◌≤◌, Bool, true, false, cond, ◌&&◌, ◌||◌, eqb, List, [], ◌∷◌, length, Option, None, refl, sym, ap, ◌-◌, ◌∙◌, inl, inr, arith, bytes_eq, nat_le, not, if◌then◌else◌, Some}
 use Rattle.std.proofs.{lemmas.Bool.and_parts, lemmas.Bool.or_cases, lemmas.Bool.Decides.nat_tests, lemmas.Slice.Eq.bytes_eq-Decides}
 use Rattle.std.specs.{List.list_all, Option.option_map_or}
@@ -10,6 +12,7 @@ use Rattle.chess_pgn.specs.declared.word_kind.WordKind.TheVariants.{End, Number,
 use Rattle.byte_devices.specs.Bytes.{is_digit}
 use Rattle.pgn_writer.specs.Outcomes.{outcome_of}
 
+-- a word's kind, if this is the outcome that it names
 abbrev kind_by : List ℕ → Option Outcome → WordKind
 kind_by word o = option_map_or End o
     (if list_all is_digit word then Number
@@ -23,6 +26,7 @@ other_text p text word fails passes = by_test (bytes_eq text word) refl
     by_test true e = let same : p text ≡ p word = ap p ((bytes_eq-Decides text word).0 e) in absurd (cc)
     by_test false e = refl
 
+-- if no outcome's text passes a test and the word does, it names no outcome
 no_outcome : (p : List ℕ → Bool) (word : List ℕ) → ((o : Outcome) → p (outcome_text o) ≡ false) → p word ≡ true
     → outcome_of word ≡ None
 no_outcome p word none h =
@@ -32,6 +36,7 @@ no_outcome p word none h =
     let d = other_text p (outcome_text Unfinished) word (none Unfinished) h in
     rw (a, b, c, d) refl
 
+-- no outcome's text is all digits, or marks (no_marks)
 no_digits : (o : Outcome) → list_all is_digit (outcome_text o) ≡ false
 no_digits WhiteWins = refl
 no_digits BlackWins = refl

@@ -1,4 +1,5 @@
--- What is read after a game's tags is what each token does, row by row.
+-- The definition of what is read after a game's tags (`moves_read`) is the same as a table with a row for what each
+-- token does (`row`): the first token's row, and then what is read from the next token on (moves_by_row).
 use Rattle.std.proofs.Common.{◌≡◌, ℕ, ◌+◌, ◌-◌, Bool, true, false, cond, List, ◌∷◌, length, Option, Some, None, is_some, Ok, refl, ◌||◌, nat_lt}
 use Rattle.std.specs.{List.list_all, Option.option_map_or, Option.unwrap_or}
 use Rattle.byte_devices.specs.Bytes.{is_digit}
@@ -16,6 +17,7 @@ use Rattle.chess_pgn.specs.Words.{word_gives}
 use Rattle.pgn_tokens.specs.Tokens.{Token, Skip, Tag, Word, Bad_tag, Unclosed_comment, Unclosed_variation, Bad}
 use Rattle.chess_pgn.specs.shared.Rows.{Goes_on, Ends, Fails, move_row, row, after_row}
 
+-- the first token, from which `left` bytes are left, by its kind; `later` reads the tokens after it
 module _ (draws : Bool) (limit total : ℕ) (termination : Option Termination) (s : State) (later : State → GameRead)
     (left : ℕ) where
   abbrev faulty : PgnFaultKind → GameRead

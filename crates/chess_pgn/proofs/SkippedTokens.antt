@@ -1,4 +1,5 @@
--- Tokens that are skipped, at which nothing counts: from before them the same is read as from after them.
+-- Skipped tokens, such as white space and dots, change nothing: the same game is read from before them as from after
+-- them (skips_alike), and the same variant is named (skips_say).
 use Rattle.std.proofs.Common.{◌≡◌, ℕ, ◌+◌, true, List, [], ◌∷◌, ◌++◌, map, length, refl, ap, ◌∙◌}
 use Rattle.chess_base.specs.declared.man.Variant.{Variant}
 use Rattle.chess_pgn.specs.{laws.TokenByToken.SoFar, laws.TokenByToken.game_of, ties.GameSteps.ReadsAlike}

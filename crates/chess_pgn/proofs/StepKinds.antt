@@ -1,4 +1,5 @@
--- What a step of reading may do, and where it stops.
+-- The kinds of steps that reading a token may take (StepIs), so that other proofs go through these and not through all
+-- tokens: each step is one of them (step_is). And a property of a word's step, by the word's kind (word_cases).
 use Rattle.std.proofs.Common.{◌≡◌, ℕ, ◌+◌, ◌-◌, ◌≤◌, ◌<◌, Bool, true, false, List, [], ◌∷◌, length, Option, Result, Ok, Err, refl, sym, subst, arith, rules, bytes_eq, codes, is_some, nat_lt, if◌then◌else◌}
 use Rattle.chess_base.specs.{declared.fen_fault.FenFault.FenFault, declared.man.Move.Move as Played, declared.setup.Setup.Setup}
 use Rattle.chess_fen.specs.Reading.{fen_reading_as}
@@ -35,6 +36,7 @@ pub outcome_mark_has_bytes : (word : List ℕ) (o : Outcome) → End o ≡ word_
 outcome_mark_has_bytes [] o h = cc
 outcome_mark_has_bytes (c ∷ word) o h = search rules
 
+-- each step is of one of these kinds, by what the token is
 module _ (draws : Bool) (limit left total : ℕ) (g : SoFar) where
   full_is : (offset : ℕ) (next : Step) → total - left ≤ offset → offset ≤ total → StepIs g left total next
       → StepIs g left total (unless_full draws limit g offset next)

@@ -1,4 +1,5 @@
--- The variant that tags name, token by token, is the one that the definitions give.
+-- The variant that a game's tags name, found token by token with the variant so far in hand (`variant_from`), is that
+-- of the last tag `Variant`, as the definition has it (variants_are).
 use Rattle.std.proofs.Common.{◌≡◌, ℕ, Bool, true, false, cond, List, [], ◌∷◌, Option, Some, None, refl, sym, ap, ◌∙◌, if◌then◌else◌, codes}
 use Rattle.std.specs.Option.{option_map_or, option_or}
 use Rattle.chess_base.specs.{declared.man.Variant.Variant, declared.man.Variant.TheVariants.Normal}
@@ -20,11 +21,13 @@ abbrev pub variant_from : Variant → List (ℕ × Token) → Variant
 variant_from v [] = v
 variant_from v (t ∷ ts) = if may_precede_tags t.1 then variant_from (variant_said v t.1) ts else v
 
+-- a tag `Variant` more takes the place of the one before
 said_or : (found before : Option (List ℕ × ℕ))
     → variant_or (variant_or Normal before) found ≡ variant_or Normal (option_or found before)
 said_or None before = refl
 said_or (Some tag) before = refl
 
+-- the variant found token by token is that of the last tag `Variant`, or else of the one before
 variant_from_is : (before : Option (List ℕ × ℕ)) (ts : List (ℕ × Token))
     → variant_from (variant_or Normal before) ts ≡ variant_or Normal (last_from (codes "Variant") before ts)
 variant_from_is before [] = refl

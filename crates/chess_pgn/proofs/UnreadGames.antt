@@ -24,6 +24,7 @@ use Rattle.chess_pgn.proofs.{GameEnds.first_end, GamesByTags.reads_alike, StepKi
 
 -- ---- answers
 
+-- the answer with this fault; and that without one
 abbrev faulty : PgnFault → Result (Option PgnEnd) PgnFault
 faulty f = Err f
 
@@ -66,6 +67,8 @@ stayed total n t ts false none may h =
     ap (first_end total) (tags_end (n, t) ts may)
     ∙ ap (λ o. slice_get (cons_option o (filter_map (ends_at total) ts)) 0) none ∙ h
 
+-- if reading the game stopped at what can't be read, no token before ends the game: by induction on the split of the
+-- text, from its end
 module _ (draws : Bool) (limit : ℕ) (text : List ℕ) where
   abbrev HasNoEnd : Bool → List (ℕ × Token) → Type 0
   HasNoEnd begun tokens = first_end (length text) (left_over begun tokens) ≡ None

@@ -1,7 +1,7 @@
 //! Reads a game's tags, moves and termination marker: the token `1-0`, `0-1`, `1/2-1/2` or `*` that ends a game's text
 //! (PGN standard of 1994, section 8.2.6). "Termination" alone means the tag of this name, but in the text of `BadToken`
-//! it means the marker.
-//! Small functions that the loops over tokens call for most tokens are inlined, for the reason at the head of pgn_tokens' token.rt.
+//! it means the marker. Small functions that the loops over tokens call for most tokens are inlined, for the reason at
+//! the head of pgn_tokens' token.rt.
 //!
 //! Contracts here compare results with the definitions of TokenByToken, such as `word_step`. `so_far` and `step_seen`
 //! give the code's values in the form of these definitions.
@@ -331,8 +331,8 @@ fn variant_of(tag: Option<Tag<'_>>) -> Variant
 }
 
 // The variant of the game whose text begins at the offset `at`, as its last tag `Variant` names it; normal chess if it
-// has no such tag. The game's tags end before its first number, move or
-// termination marker, or before what can't be read.
+// has no such tag. The game's tags end before its first number, move or termination marker, or before what can't be
+// read.
 fn tagged_variant(text: &[u8], at: usize) -> Variant
     requires { at ≤ length text.now }
     ensures { result ≡ tagged_variant (tag_section (tokens_from text.now at)) }

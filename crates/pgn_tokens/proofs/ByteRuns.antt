@@ -1,10 +1,12 @@
--- A run of bytes goes up to the first that fails its test, and the bytes of a comment up to the first `}`.
+-- The longest front of a text whose bytes all pass a test (a run), such as the letters of a word: splitting it off, and
+-- why it is the longest. Then the rest of a text from its first `\n` on, and after its first `}`.
 use Rattle.std.proofs.Common.{◌≡◌, ℕ, suc, ◌+◌, Bool, true, false, cond, not, eqb, List, [], ◌∷◌, ◌++◌, take, drop, Option, Some, None, refl, sym, ap, subst, ◌∙◌, arith}
 use Rattle.std.specs.List.{list_all, prefix_len}
 use Rattle.std.proofs.{lemmas.Bool.and_parts, lemmas.Bool.eqb-true, lemmas.Bool.Decides.nat_tests}
 use Rattle.pgn_tokens.specs.{Tokens.after_brace, Tokens.line_end, Split.lacks, shared.Kinds.IsLongest}
 use Rattle.pgn_tokens.proofs.Skipped.{line_end-more}
 
+-- two bytes differ if only one of them passes a test
 pub differs : (p : ℕ → Bool) (c k : ℕ) → p c ≡ true → p k ≡ false → eqb c k ≡ false
 differs p c k h other = by_test (eqb c k) refl
   where
@@ -19,6 +21,8 @@ pick P false x y f g = g refl
 
 -- ---- the bytes that pass a test
 
+-- if all of `front` passes and the first byte of `rest` doesn't (or `rest` is empty), the run of both is `front`:
+-- dropping it leaves `rest`
 pub run_drop : (p : ℕ → Bool) (front rest : List ℕ) → list_all p front ≡ true → prefix_len p rest ≡ 0
     → drop (prefix_len p (front ++ rest)) (front ++ rest) ≡ rest
 run_drop p [] rest h e = rw e refl
@@ -27,6 +31,7 @@ run_drop p (c ∷ front) rest h e =
     let next : 1 + prefix_len p (front ++ rest) ≡ suc (prefix_len p (front ++ rest)) = omega arith in
     rw (both.0, next) (run_drop p front rest both.1 e)
 
+-- and taking it gives `front`
 pub run_take : (p : ℕ → Bool) (front rest : List ℕ) → list_all p front ≡ true → prefix_len p rest ≡ 0
     → take (prefix_len p (front ++ rest)) (front ++ rest) ≡ front
 run_take p [] rest h e = rw e refl
@@ -35,6 +40,7 @@ run_take p (c ∷ front) rest h e =
     let next : 1 + prefix_len p (front ++ rest) ≡ suc (prefix_len p (front ++ rest)) = omega arith in
     rw (both.0, next) (ap (λ xs. c ∷ xs) (run_take p front rest both.1 e))
 
+-- all bytes of a run pass
 pub run_passes : {A : Type 0} (p : A → Bool) (xs : List A) → list_all p (take (prefix_len p xs) xs) ≡ true
 run_passes p [] = refl
 run_passes {A} p (c ∷ rest) = by_test (p c) refl (run_passes p rest)
@@ -46,6 +52,7 @@ run_passes {A} p (c ∷ rest) = by_test (p c) refl (run_passes p rest)
         rw (next, e) more
     by_test false e more = refl
 
+-- the byte after a run doesn't pass
 pub run_stops : (p : ℕ → Bool) (xs : List ℕ) → prefix_len p (drop (prefix_len p xs) xs) ≡ 0
 run_stops p [] = refl
 run_stops p (c ∷ rest) = by_test (p c) refl (run_stops p rest)
@@ -59,6 +66,7 @@ run_stops p (c ∷ rest) = by_test (p c) refl (run_stops p rest)
 
 -- ---- a run is the longest where the next byte doesn't pass
 
+-- `front` is the longest beginning with P if P lets only bytes that pass follow it, and the next byte doesn't pass
 pub longest_run : (P : List ℕ → Type 0) (p : ℕ → Bool) (front rest : List ℕ)
     → ((d : ℕ) (ds : List ℕ) → P (front ++ d ∷ ds) → p d ≡ true) → prefix_len p rest ≡ 0 → P front
     → IsLongest P front rest
@@ -73,6 +81,8 @@ longest_run P p front rest passes e is = record { is = is; longest = by_more }
         ap (λ t. cond t (1 + prefix_len p (ds ++ others)) 0) (sym yes) ∙ first in
         absurd (omega (arith, some))
 
+-- the other way round: if `front` is the longest with P, and any byte that passes could follow, then the next byte
+-- doesn't pass
 pub stops_run : (P : List ℕ → Type 0) (p : ℕ → Bool) (front rest : List ℕ) → IsLongest P front rest
     → ((d : ℕ) → p d ≡ true → P (front ++ d ∷ [])) → prefix_len p rest ≡ 0
 stops_run P p front [] h next = refl
@@ -106,6 +116,7 @@ line_says (c ∷ text) = by_test (eqb c 10) refl (line_says text)
 
 -- ---- to a closing brace
 
+-- after the first `}` (byte 125) comes the rest; without one there is none
 pub brace_found : (inside rest : List ℕ) → lacks 125 inside ≡ true → after_brace (inside ++ 125 ∷ rest) ≡ Some rest
 brace_found [] rest h = refl
 brace_found (c ∷ inside) rest h =
@@ -120,12 +131,13 @@ brace_missing (c ∷ text) h =
     let other : eqb c 125 ≡ false = differs (λ k. not (eqb k 125)) c 125 both.0 refl in
     rw other (brace_missing text both.1)
 
--- what is before the first `}`
+-- the text has a `}`: `inside` is what comes before the first one, and `rest` what follows it
 pub record Braced (text rest : List ℕ) : Type 0 where
   pub inside : List ℕ
   pub lacks_brace : lacks 125 inside ≡ true
   pub is : text ≡ inside ++ 125 ∷ rest
 
+-- what `after_brace` answers is right: the rest after the first `}`, or `None` if there is none
 abbrev pub BraceSays : List ℕ → Option (List ℕ) → Type 0
 BraceSays text None = lacks 125 text ≡ true
 BraceSays text (Some rest) = Braced text rest

@@ -1,4 +1,6 @@
--- What a token takes of a text: a front that ends with a byte other than 10, unless the token is one byte 10.
+-- The last byte of a token is a byte 10 (`\n`) only if the token is that one byte, so that a line begins after a token
+-- exactly if it is a `\n`. Here: what is left after a token that doesn't begin with byte 10 comes after a byte other
+-- than 10 (token_left), and a byte 10 is a token of its own (token_ten).
 use Rattle.std.proofs.Common.{◌≡◌, ℕ, Bool, true, false, not, eqb, List, [], ◌∷◌, ◌++◌, refl, sym, ap, ◌∙◌, inl, inr, ◌⊎◌, append_assoc}
 use Rattle.std.specs.List.{list_all}
 use Rattle.std.proofs.lemmas.Bool.{and_parts}
@@ -15,7 +17,7 @@ pub record Cut (text rest : List ℕ) : Type 0 where
   pub is : text ≡ front ++ last ∷ rest
   pub no_end : eqb last 10 ≡ false
 
--- nothing is left, or such a rest
+-- nothing is left, or the rest after a byte other than 10
 abbrev pub Left : List ℕ → List ℕ → Type 0
 Left text rest = (rest ≡ []) ⊎ Cut text rest
 
@@ -62,7 +64,7 @@ token_ends b Asterisk c front is e = record { front = []; last = 42; is = is; no
 token_ends b Symbol c front h e =
     run_ends is_word_byte refl c front e (and_parts (is_word_byte c) (list_all is_word_byte front) h.1).1
 
--- a token that does not begin with byte 10
+-- after a token that does not begin with byte 10
 pub token_left : (begins : Bool) (c : ℕ) (rest : List ℕ) → eqb c 10 ≡ false → Left (c ∷ rest) (token_at begins c rest).1
 token_left begins c rest e = by_says (token_at begins c rest) (token_says begins c rest)
   where
@@ -82,7 +84,7 @@ token_left begins c rest e = by_says (token_at begins c rest) (token_says begins
     by_says t (known kind front r same long) = by_front kind front r same long.is
     by_says t (faulty fault is_one h) = inl refl
 
--- one that does is white space
+-- a token that begins with byte 10 is white space, just that byte
 pub token_ten : (begins : Bool) (rest : List ℕ) → (token_at begins 10 rest).1 ≡ rest
 unfolding token_at
 token_ten true rest = refl

@@ -1,4 +1,6 @@
--- White space and `%` lines are skipped byte by byte as the definition skips them by lines.
+-- A gap is the white space and `%` lines between two parts of a tag. The definition skips it line by line
+-- (`after_gap`), the code byte by byte (`gap_left`, with flags for the state); both leave the same (gap_same). By
+-- induction on the text, for all three states at once (GapIs).
 use Rattle.std.proofs.Common.{◌≡◌, ℕ, suc, ◌+◌, ◌-◌, ◌≤◌, Bool, true, false, not, cond, eqb, List, [], ◌∷◌, length, get_or, take, drop, Some, refl, sym, ap, ◌∙◌, arith}
 use Rattle.std.specs.List.{list_all, join_with_byte, onto_first, prefix_len, take_while}
 use Rattle.std.proofs.{lemmas.Bool.Decides.nat_tests, lemmas.List.take_rest, lemmas.List.Splits.join_with_byte-slice_split}
@@ -7,7 +9,7 @@ use Rattle.pgn_tokens.specs.Tokens.{is_white_space, after_white_space, is_gap_li
 use Rattle.pgn_tokens.specs.shared.Gaps.{gap_left}
 use Rattle.pgn_tokens.proofs.ByteRuns.{differs}
 
--- the bytes of the first line
+-- the bytes of a text before its first `\n`
 abbrev first_line : List ℕ → List ℕ
 first_line text = take_while (λ c. not (eqb c 10)) text
 
@@ -20,7 +22,7 @@ drop-onto : (c : ℕ) (lines : List (List ℕ)) → drop 1 (onto_first c lines) 
 drop-onto c [] = refl
 drop-onto c (line ∷ lines) = refl
 
--- the parts are the first line and the others
+-- the lines of a text are the first and the others
 parts-first : (text : List ℕ) → parts text ≡ first_line text ∷ drop 1 (parts text)
 parts-first [] = refl
 parts-first (c ∷ rest) = by_test (eqb c 10) refl (parts-first rest)
@@ -72,12 +74,14 @@ same_line c rest percent = by_test (eqb c 10) refl
         ap after_gap_lines (first_more c rest e) ∙ by_line (c ∷ first_line rest) (drop 1 (parts rest))
         ∙ rw (percent, text) (first_gap c rest e)
 
--- what is left of a text after the gap: inside a line, at a line's front, and inside a `%` line
+-- byte by byte the gap leaves what it leaves by lines, from each state: inside a line, at a line's front, and inside a
+-- `%` line
 record GapIs (text : List ℕ) : Type 0 where
   pub inside : gap_left false false text ≡ after_gap text
   pub at_front : gap_left false true text ≡ after_gap_lines (parts text)
   pub in_line : (b : Bool) → gap_left true b text ≡ after_gap_lines (drop 1 (parts text))
 
+-- if this holds for `rest`, it holds for one byte more, inside a line; and so from the other two states below
 inside_more : (c : ℕ) (rest : List ℕ) → GapIs rest → gap_left false false (c ∷ rest) ≡ after_gap (c ∷ rest)
 inside_more c rest h = by_blank (is_white_space c) refl
   where

@@ -1,14 +1,16 @@
--- The plain bytes with which a tag's string begins, which are passed at once.
+-- `split_string` passes the first bytes of a tag's string all at once, up to the first quote, backslash or `\n`. These
+-- plain bytes, put before the string that the rest gives, are the whole string (plain_first).
 use Rattle.std.proofs.Common.{◌≡◌, ℕ, suc, ◌+◌, Bool, true, false, not, cond, eqb, ◌||◌, List, [], ◌∷◌, take, drop, Option, refl, sym, ap, ◌∙◌, arith, ◌==◌}
 use Rattle.std.specs.List.{position_or_len}
 use Rattle.std.proofs.lemmas.Bool.{or_parts}
 use Rattle.pgn_tokens.specs.Tokens.{onto, string_at}
 use Rattle.pgn_tokens.proofs.Strings.{string_after, onto-nil, onto-append, string_other}
 
--- whether a byte is no plain one: a quote, a backslash or byte 10
+-- whether a byte is not plain: a quote, a backslash or byte 10
 abbrev ends_plain : ℕ → Bool
 ends_plain = λ c. c == 34 || (c == 92 || c == 10)
 
+-- how many bytes a text has before the first that is not plain; all, if there is none
 abbrev plain_len : List ℕ → ℕ
 plain_len xs = position_or_len ends_plain xs
 

@@ -1,4 +1,5 @@
--- One step of skipping: white space, a `%` line up to its end, or a comment up to its `}`, if it has one.
+-- One step of what skips bytes: of `after_gap` a byte of white space, or a `%` line up to its end; of `after_brace` a
+-- comment up to its `}`, if it has one. The definition, from before the step, leaves what it leaves from after it.
 use Rattle.std.proofs.Common.{◌≡◌, ℕ, suc, ◌+◌, ◌-◌, ◌<◌, ◌≤◌, Bool, true, false, not, cond, eqb, List, [], ◌∷◌, length, get_or, take, drop, add-one, Option, Some, None, refl, sym, ap, ◌∙◌, arith, ◌==◌, drop-cons}
 use Rattle.std.specs.List.{position_or_len}
 use Rattle.std.proofs.{lemmas.Bool.Decides.nat_tests, lemmas.List.drop_all, lemmas.List.take_rest}
@@ -10,7 +11,7 @@ line_end-more c rest e =
     let next : 1 + position_or_len (λ b. eqb b 10) rest ≡ suc (position_or_len (λ b. eqb b 10) rest) = omega arith in
     rw (e, next) refl
 
--- a `%` line in a gap
+-- a `%` line in a gap is skipped up to its end, and the gap goes on there
 pub gap_line : (b : Bool) (text : List ℕ) → gap_left true b text ≡ gap_left false false (line_end text)
 gap_line b [] = refl
 gap_line b (c ∷ rest) = by_test (eqb c 10) refl (gap_line true rest)
@@ -23,7 +24,7 @@ gap_line b (c ∷ rest) = by_test (eqb c 10) refl (gap_line true rest)
     by_test false e more = ap (λ t. gap_left (not t) true rest) e ∙ more
         ∙ ap (gap_left false false) (sym (line_end-more c rest e))
 
--- one step of a gap, with its text as code meets it: a `%` line
+-- a round of `after_gap` at a `%` (byte 37) that begins a line: `xs` is the text before it, `next` the text after it
 pub gap_line_more : (xs next : List ℕ) → 1 ≤ length xs → get_or xs 0 0 ≡ 37
     → next ≡ line_end (take (length xs - 1) (drop 1 xs)) → gap_left false (eqb (get_or xs 0 0) 10) next
     ≡ gap_left false true xs
@@ -34,7 +35,7 @@ gap_line_more (c ∷ rest) next h e is =
     rw (line, more, is) (ap (λ t. gap_left false false (line_end t)) (take_rest (c ∷ rest) 1)
     ∙ sym (gap_line false rest))
 
--- white space
+-- a round of `after_gap` at a byte of white space
 pub gap_blank_more : (begins : Bool) (xs next : List ℕ) → 1 ≤ length xs → is_white_space (get_or xs 0 0) ≡ true
     → next ≡ take (length xs - 1) (drop 1 xs) → gap_left false (eqb (get_or xs 0 0) 10) next ≡ gap_left false begins
     xs
@@ -54,10 +55,12 @@ gap_blank_more begins (c ∷ rest) next h e is =
 abbrev brace_len : List ℕ → ℕ
 brace_len text = position_or_len (λ c. c == 125) text
 
+-- a text without its first byte, `None` if it is empty
 abbrev without_first : List ℕ → Option (List ℕ)
 without_first [] = None
 without_first (c ∷ rest) = Some rest
 
+-- the text after the first `}` is the text from that `}` on, without its first byte
 from_brace : (text : List ℕ) → after_brace text ≡ without_first (drop (brace_len text) text)
 from_brace [] = refl
 from_brace (c ∷ rest) = by_test (eqb c 125) refl (from_brace rest)
@@ -79,7 +82,7 @@ pub no_brace : (text : List ℕ) (len : ℕ) → len ≡ brace_len text → len 
 no_brace text len is all =
     sym (from_brace text ∙ ap without_first (drop_all (brace_len text) text (omega (arith, is, all))))
 
--- the text after the brace, as code meets it
+-- with a `}`, the text after it, as the code's slice has it
 pub brace_found : (text : List ℕ) (len : ℕ) → len ≡ brace_len text → len < length text
     → Some (take (length text - (len + 1)) (drop (len + 1) text)) ≡ after_brace text
 brace_found text len is within =

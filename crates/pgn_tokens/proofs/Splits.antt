@@ -1,4 +1,6 @@
--- The split of a text into tokens is the one by their kinds; so a text has one.
+-- A text's split into tokens (IsSplit, of specs/Split) is the same as its split by kinds (IsSplitByKinds), where each
+-- token comes with its kind. The latter is the one that is read (TokenSplits), so a text has exactly one split
+-- (split_read, read_split).
 use Rattle.std.proofs.Common.{◌≡◌, ℕ, ◌+◌, ◌-◌, ◌≤◌, Bool, true, List, [], ◌∷◌, ◌++◌, length, drop, Option, Some, None, refl, sym, ap, subst, ◌∙◌, inl, inr, append_assoc, length-append, arith}
 use Rattle.std.proofs.lemmas.List.{nil_from_length}
 use Rattle.pgn_tokens.specs.Tokens.{Token, Skip, Tag, Word, Bad_tag, Unclosed_comment, Unclosed_variation, Bad, after_brace, begins_line, tokens_from}
@@ -9,6 +11,7 @@ use Rattle.pgn_tokens.proofs.{ByteRuns.BraceSays, ByteRuns.brace_says, TokenKind
 
 -- ---- a token, and one of its kind
 
+-- a text of a kind is the token of that kind
 of_kind : (b : Bool) (left : ℕ) (kind : Kind) (front : List ℕ) → IsOf b kind front
     → IsToken b left front (token_of kind front left)
 of_kind b left Blank front (c, is, h) = subst (λ xs. IsToken b left xs Skip) (sym is) (blank h)
@@ -23,11 +26,13 @@ of_kind b left (Tag_pair name string closing) front (opening, o, s, close, is) =
 of_kind b left Asterisk front is = subst (λ xs. IsToken b left xs (Word xs)) (sym is) asterisk
 of_kind b left Symbol front h = word h.0 h.1
 
+-- `front` is a text of some kind, and `t` is the token of that kind
 record HasKind (b : Bool) (left : ℕ) (front : List ℕ) (t : Token) : Type 0 where
   kind : Kind
   is_of : IsOf b kind front
   is : t ≡ token_of kind front left
 
+-- a token has a kind
 kind_of : {b : Bool} {left : ℕ} {front : List ℕ} {t : Token} → IsToken b left front t → HasKind b left front t
 kind_of (blank {c} h) = record { kind = Blank; is_of = (c, refl, h); is = refl }
 kind_of (line {c} {text} skip lack) = record { kind = Line; is_of = (c, text, refl, skip, lack); is = refl }
@@ -44,6 +49,7 @@ kind_of (word {text} some all) = record { kind = Symbol; is_of = (some, all); is
 
 -- ---- faults
 
+-- a fault by one definition is a fault by the other, by the text's first byte
 fault_by_first : (text : List ℕ) (fault : Token) → IsFault text fault → IsFaultOf text fault
 fault_by_first text (Unclosed_comment n) (inl (body, is, lack, here)) =
     subst (λ m. IsFaultOf text (Unclosed_comment m)) (sym here)
@@ -58,6 +64,7 @@ fault_by_first text Skip h = absurd h
 fault_by_first text (Tag name string left) h = absurd h
 fault_by_first text (Word bytes) h = absurd h
 
+-- a text that begins with `{` (byte 123) and with no token has no `}`
 no_brace : (b : Bool) (text : List ℕ) → HasNoToken b (123 ∷ text) → (o : Option (List ℕ)) → BraceSays text o
     → lacks 125 text ≡ true
 no_brace b text none None lack = lack
@@ -66,6 +73,8 @@ no_brace b text none (Some r) found =
     (ap (λ xs. 123 ∷ xs) (found.is ∙ sym (append_assoc found.inside (125 ∷ []) r)))
     (found.inside, refl, found.lacks_brace))
 
+-- no comment inside a variation is open, so a text that begins with the variation's `(` (byte 40) has no unclosed
+-- comment
 none_inside : (inner : List ℕ) → ((n : ℕ) → HasOpenComment inner n → ⊥) → (n : ℕ)
     → HasUnclosedComment (40 ∷ inner) n → ⊥
 none_inside inner none n (inl (body, is, lack, here)) =
@@ -73,6 +82,7 @@ none_inside inner none n (inl (body, is, lack, here)) =
 none_inside inner none n (inr (others, is, h)) =
     let same : others ≡ inner = cc in none n (subst (λ xs. HasOpenComment xs n) same h)
 
+-- the other way round, for a text that begins with no token
 fault_of_kinds : {text : List ℕ} {fault : Token} → IsFaultOf text fault → (b : Bool) → HasNoToken b text
     → IsFault text fault
 fault_of_kinds (comment {text}) b none =
@@ -84,6 +94,7 @@ fault_of_kinds (other {c} {text} h) b none = (c, text, refl, h)
 
 -- ---- a whole text
 
+-- a split by kinds is a split
 by_tokens : (text : List ℕ) {at : ℕ} {tokens : List (ℕ × Token)} → IsSplitByKinds text at tokens
     → IsSplit text at tokens
 by_tokens text (kinds.ended e) = ended e
@@ -96,6 +107,7 @@ by_tokens text (kinds.stopped {at} {fault} none h) =
     stopped (λ front t (rest, same, is). let k = kind_of is in none k.kind front rest same k.is_of)
     (fault_by_first (drop at text) fault h)
 
+-- a split is a split by kinds
 by_kinds : (text : List ℕ) {at : ℕ} {tokens : List (ℕ × Token)} → IsSplit text at tokens
     → IsSplitByKinds text at tokens
 by_kinds text (ended e) = kinds.ended e

@@ -1,4 +1,5 @@
--- How a tag begins: gap, name, gap and quote, by the relations and by the reader.
+-- How a tag begins: `[`, a gap, the name, a gap and a quote (an opening). What the relation `OpensTag` says of a text
+-- is what the reader finds (opening_read), and what the reader finds is such an opening (opening_is).
 use Rattle.std.proofs.Common.{◌≡◌, ℕ, suc, ◌+◌, ◌<◌, Bool, true, false, cond, eqb, List, [], ◌∷◌, ◌++◌, length, take, drop, Option, Some, None, refl, sym, ap, subst, ◌∙◌, inl, inr, append_assoc, length-append, arith, is_some, unwrap_or, eqb-true, length-take-le, take-append-drop}
 use Rattle.std.specs.List.{list_all, prefix_len, take_while}
 use Rattle.std.proofs.{Math.Seq.drop-append_seam, lemmas.Bool.Decides.nat_tests, lemmas.List.Sums.prefix_len-le-length}
@@ -10,7 +11,7 @@ use Rattle.pgn_tokens.proofs.TagSplits.{opening_parts, GapLeaves, from_gap, gap_
 
 -- ---- from the relations to the reader
 
--- the name at the front of a text, if there is one
+-- the name and the text after it; `None` for an empty name
 abbrev name_or_none : List ℕ → List ℕ → Option (List ℕ × List ℕ)
 name_or_none text name = cond (eqb (length name) 0) None (Some (name, drop (length name) text))
 
@@ -20,6 +21,7 @@ is_name text n ns =
     let some : eqb (length (n ∷ ns)) 0 ≡ false = grind (arith, nat_tests) in
     ap (λ b. cond b None (Some (n ∷ ns, drop (length (n ∷ ns)) text))) some
 
+-- a name that a byte of no name follows is read as that name
 name_read : (name tail : List ℕ) → 0 < length name → list_all is_name_byte name ≡ true
     → prefix_len is_name_byte tail ≡ 0 → name_at (name ++ tail) ≡ Some (name, tail)
 name_read [] tail some named stop = absurd (omega (arith, some))
@@ -38,7 +40,7 @@ name_comes gap c rest h named =
     ∙ ap (λ n. is_some (name_or_none (c ∷ rest) (take n (c ∷ rest)))) next
     ∙ ap is_some (is_name (c ∷ rest) c (take (prefix_len is_name_byte rest) rest))
 
--- an opening: its name and its quote are read, and the rest is left
+-- `text` is an opening with this name and then `rest`: the reader finds the name and the quote, and leaves `rest`
 pub record OpeningRead (name text rest : List ℕ) : Type 0 where
   pub inside : List ℕ
   pub is : text ≡ 91 ∷ inside
@@ -65,6 +67,7 @@ opening_read {name} front rest =
 
 -- ---- from the reader to the relations
 
+-- a byte that was read is the text's first
 byte_is : (b : ℕ) (text rest : List ℕ) → after_byte b text ≡ Some rest → text ≡ b ∷ rest
 byte_is b [] rest h = let clash : None ≡ Some rest = h in absurd (cc)
 byte_is b (c ∷ more) rest h = by_test (eqb c b) refl h

@@ -1,4 +1,6 @@
--- A tag by its parts is the one of the definition.
+-- The definition of a tag (`tag_at`, in do-notation) reads the same as the one by its parts (`tag_by_parts`), which the
+-- code mirrors: name, opening quote, string, `]` (parts_are). The helpers below are the definition's steps from each
+-- part on.
 use Rattle.std.proofs.Common.{◌≡◌, ℕ, false, cond, eqb, List, [], ◌∷◌, length, drop, Option, Some, None, refl, ap, ◌∙◌, arith, length-take-le, option_and_then, unwrap_or}
 use Rattle.std.proofs.{lemmas.Bool.Decides.nat_tests, lemmas.List.Sums.prefix_len-le-length}
 use Rattle.std.specs.List.{prefix_len, take_while}
@@ -6,6 +8,7 @@ use Rattle.pgn_tokens.specs.Tokens.{Token, Tag, Bad_tag, after_gap, after_next, 
 use Rattle.byte_devices.specs.Bytes.{is_name_byte}
 use Rattle.pgn_tokens.specs.shared.TagParts.{closed, with_text, with_string, with_tag_name, tag_by_parts}
 
+-- the rest of `tag_at` once the string is found; then the same from the opening quote on, and from the name on
 abbrev after_string : List ℕ → ℕ → List ℕ × List ℕ → Option (Token × List ℕ)
 after_string name left inside =
     option_and_then (λ rest. Some (Tag name inside.0 left, rest)) (after_next 93 inside.1)
@@ -16,9 +19,12 @@ after_quote name string = option_and_then (after_string name (length string)) (s
 abbrev after_name : List ℕ × List ℕ → Option (Token × List ℕ)
 after_name name = option_and_then (after_quote name.0) (after_next 34 name.1)
 
+-- a bad tag, and no text after it, for `None`
 abbrev or_bad : Option (Token × List ℕ) → Token × List ℕ
 or_bad tag = unwrap_or tag (Bad_tag, [])
 
+-- what follows is the same in both, from the closing bracket on; then from the string, from the opening quote and from
+-- the name on
 by_bracket : (name text : List ℕ) (left : ℕ) (o : Option (List ℕ))
     → or_bad (option_and_then (λ rest. Some (Tag name text left, rest)) o) ≡ closed name left text o
 by_bracket name text left None = refl

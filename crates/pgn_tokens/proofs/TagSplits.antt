@@ -1,4 +1,5 @@
--- Gaps, strings and tags: the relation and the reader agree.
+-- Gaps, strings and tags: what the relations of specs/Split call one is read as that one (the lemmas .._read), and what
+-- the reader finds is one by the relation (gap_goes, string_leaves, tag_leaves).
 use Rattle.std.proofs.Common.{◌≡◌, ℕ, zero, suc, ◌+◌, ◌<◌, ◌≤◌, Bool, true, false, cond, eqb, List, [], ◌∷◌, ◌++◌, length, drop, Option, Some, None, IfSome, refl, sym, ap, subst, ◌∙◌, inl, inr, ◌⊎◌, arith, ◌&&◌, take-append-drop, append_assoc, length-append}
 use Rattle.std.specs.List.{list_all, list_any, prefix_len, take_while}
 use Rattle.std.proofs.lemmas.Bool.{and_parts, or_parts, or_cases, eqb-true}
@@ -12,16 +13,19 @@ use Rattle.pgn_tokens.proofs.ByteRuns.{differs, pick, run_drop, run_take, run_pa
 
 -- ---- gaps
 
+-- a byte other than white space and `%` ends a gap
 gap_ends : (b : Bool) (c : ℕ) (rest : List ℕ) → is_white_space c ≡ false → eqb c 37 ≡ false
     → gap_left false b (c ∷ rest) ≡ c ∷ rest
 gap_ends true c rest e k = rw (k, e) refl
 gap_ends false c rest e k = rw e refl
 
+-- a byte of white space is skipped
 gap_goes_on : (b : Bool) (c : ℕ) (rest : List ℕ) → is_white_space c ≡ true
     → gap_left false b (c ∷ rest) ≡ gap_left false (eqb c 10) rest
 gap_goes_on true c rest e = let k : eqb c 37 ≡ false = differs is_white_space c 37 e refl in rw (k, e) refl
 gap_goes_on false c rest e = rw e refl
 
+-- a gap before such a byte is skipped whole
 pub gap_read : {b : Bool} {gap : List ℕ} → IsGap b gap → (c : ℕ) (rest : List ℕ) → is_white_space c ≡ false
     → eqb c 37 ≡ false → gap_left false b (gap ++ c ∷ rest) ≡ c ∷ rest
 gap_read {b} nothing c rest e k = gap_ends b c rest e k
@@ -33,16 +37,18 @@ gap_read (line text {more} lack r) c rest e k =
     ∙ ap (gap_left false false) (line_end_is text (more ++ c ∷ rest) lack)
     ∙ gap_read r c rest e k
 
--- what comes before the rest, unless nothing is left
+-- `text` is a gap and then `rest`, unless nothing is left
 abbrev pub GapLeaves : Bool → List ℕ → List ℕ → Type 0
 GapLeaves b text rest = (rest ≡ []) ⊎ ((gap : List ℕ) × IsGap b gap × (text ≡ gap ++ rest))
 
+-- a part of a gap in front of one
 gap_more : (b after : Bool) (part text rest : List ℕ) → ((m : List ℕ) → IsGap after m → IsGap b (part ++ m))
     → GapLeaves after text rest → GapLeaves b (part ++ text) rest
 gap_more b after part text rest add (inl e) = inl e
 gap_more b after part text rest add (inr h) =
     inr (part ++ h.0, add h.0 h.1, ap (λ xs. part ++ xs) h.2 ∙ sym (append_assoc part h.0 rest))
 
+-- what `gap_left` leaves comes after a gap; by induction on the text's length, up to n
 gap_leaves : (n : ℕ) (b : Bool) (text : List ℕ) → length text ≤ n → GapLeaves b text (gap_left false b text)
 gap_leaves n b [] few = inl refl
 gap_leaves zero b (c ∷ rest) few = absurd (omega (arith, few))
@@ -86,6 +92,7 @@ gap_goes text = subst (GapLeaves false text) (gap_same text) (gap_leaves (length
 
 -- ---- strings
 
+-- a string before a quote (byte 34) is read, and what follows the quote is left
 pub string_read : {s : List ℕ} → IsString s → (rest : List ℕ) → string_at (s ++ 34 ∷ rest) ≡ Some (s, rest)
 string_read nothing rest = string_quote 34 rest refl
 string_read (kept {c} {more} line_ends r) rest =
@@ -100,6 +107,7 @@ string_read (char {c} {more} none r) rest =
     ∙ ap (λ t. onto (c ∷ []) (string_after t (more ++ 34 ∷ rest))) first.0
     ∙ ap (onto (c ∷ [])) (string_read r rest)
 
+-- what `string_at` finds is a string, with a quote after it
 abbrev pub StringLeaves : List ℕ → Option (List ℕ × List ℕ) → Type 0
 StringLeaves text o = IfSome o (λ (f : List ℕ × List ℕ). IsString f.0 × (text ≡ f.0 ++ 34 ∷ f.1))
 
@@ -153,17 +161,20 @@ name_no_blank c e =
     let f : eqb c 13 ≡ false = differs is_name_byte c 13 e refl in
     rw (a, b, d, f) refl
 
+-- a name ends before a gap and a quote
 pub name_stops : {b : Bool} {gap : List ℕ} → IsGap b gap → (rest : List ℕ)
     → prefix_len is_name_byte (gap ++ 34 ∷ rest) ≡ 0
 name_stops nothing rest = refl
 name_stops (blank {c} {more} h r) rest = rw (blank_no_name c h) refl
 name_stops (line text lack r) rest = refl
 
+-- after a gap, a byte that is no white space and no `%` is found
 pub next_read : {gap : List ℕ} → IsGap false gap → (c : ℕ) (rest : List ℕ) → is_white_space c ≡ false
     → eqb c 37 ≡ false → eqb c c ≡ true → after_next c (gap ++ c ∷ rest) ≡ Some rest
 next_read {gap} h c rest e k same =
     ap (after_byte c) (sym (gap_same (gap ++ c ∷ rest)) ∙ gap_read h c rest e k) ∙ rw same refl
 
+-- from the end of its name on, a tag is read with its parts
 named_read : (name middle string last_gap r : List ℕ) → 0 < length name → IsGap false middle → IsString string
     → IsGap false last_gap → with_tag_name name (middle ++ 34 ∷ (string ++ 34 ∷ (last_gap ++ 93 ∷ r)))
     ≡ (Tag name string (length (string ++ 34 ∷ (last_gap ++ 93 ∷ r))), r)
@@ -174,6 +185,7 @@ named_read (n ∷ ns) middle string last_gap r some h s k =
     ∙ ap (with_text (n ∷ ns) (length inside)) (string_read s (last_gap ++ 93 ∷ r))
     ∙ ap (closed (n ∷ ns) (length inside) string) (next_read k 93 r refl refl refl)
 
+-- after a gap comes the name
 pub from_gap : (gap name tail : List ℕ) → IsGap false gap → 0 < length name → list_all is_name_byte name ≡ true
     → after_gap (gap ++ (name ++ tail)) ≡ name ++ tail
 from_gap gap [] tail h some named = absurd (omega (arith, some))
@@ -181,6 +193,7 @@ from_gap gap (n ∷ ns) tail h some named =
     let first = (and_parts (is_name_byte n) (list_all is_name_byte ns) named).0 in
     sym (gap_same (gap ++ (n ∷ (ns ++ tail)))) ∙ gap_read h n (ns ++ tail) (name_no_blank n first) (differs is_name_byte n 37 first refl)
 
+-- a name that a byte of no name follows is the one that is split off
 by_inner : (inner name tail : List ℕ) → inner ≡ name ++ tail → list_all is_name_byte name ≡ true
     → prefix_len is_name_byte tail ≡ 0
     → with_tag_name (take_while is_name_byte inner) (drop (prefix_len is_name_byte inner) inner)
@@ -191,6 +204,7 @@ by_inner inner name tail is named stop =
     (run_take is_name_byte name tail named stop)
     ∙ ap (with_tag_name name) (run_drop is_name_byte name tail named stop)
 
+-- a tag whose parts are as the relations say is read with these parts, from after its `[` on
 pub parts_read : (gap name middle string last_gap r : List ℕ) → IsGap false gap → 0 < length name
     → list_all is_name_byte name ≡ true → IsGap false middle → IsString string → IsGap false last_gap
     → tag_by_parts (gap ++ (name ++ (middle ++ 34 ∷ (string ++ 34 ∷ (last_gap ++ 93 ∷ r)))))
@@ -201,6 +215,7 @@ parts_read gap name middle string last_gap r h some named h_after s k =
     (name_stops h_after (string ++ 34 ∷ (last_gap ++ 93 ∷ r)))
     ∙ named_read name middle string last_gap r some h_after s k
 
+-- the same text, with the tag's parts grouped from the left and from the right
 regroup : (gap name middle string last_gap r : List ℕ)
     → (gap ++ (name ++ (middle ++ 34 ∷ (string ++ 34 ∷ (last_gap ++ 93 ∷ []))))) ++ r
     ≡ gap ++ (name ++ (middle ++ 34 ∷ (string ++ 34 ∷ (last_gap ++ 93 ∷ r))))
@@ -227,6 +242,7 @@ pub record OpeningParts (name text : List ℕ) : Type 0 where
   pub some : 0 < length name
   pub named : list_all is_name_byte name ≡ true
 
+-- an opening has these parts
 pub opening_parts : {name text : List ℕ} → OpensTag name text → OpeningParts name text
 opening_parts (opens {before} {after} gap some named then_gap) = record {
   before = before;
@@ -247,6 +263,7 @@ tag_begins name string closing text (opening, front, s, close, is) =
       is ∙ ap (λ xs. xs ++ (string ++ closing)) o.is,
     )
 
+-- a text that is a tag by the relation is read as that tag. `u` is the text after its `[`, and `r` comes after the tag
 pub tag_read : (name string closing text u r : List ℕ) → IsTag name string closing text → text ≡ 91 ∷ u
     → tag_by_parts (u ++ r) ≡ (Tag name string (length (string ++ closing) + length r), r)
 tag_read name string closing text u r (opening, front, s, close, is) head =
@@ -265,11 +282,14 @@ tag_read name string closing text u r (opening, front, s, close, is) head =
 
 -- ---- tags, from the reader to the relation
 
+-- what is read of a text after a `[` (91): a bad tag, of which nothing is said here, or a tag by the relation and then
+-- the rest `r`
 pub data TagLeaves (text : List ℕ) : Token × List ℕ → Type 0 where
   bad : TagLeaves text (Bad_tag, [])
   good : (name string closing u r : List ℕ) → IsTag name string closing (91 ∷ u) → text ≡ u ++ r
       → TagLeaves text (Tag name string (length (string ++ closing) + length r), r)
 
+-- what is read as a tag is one by the relation
 pub tag_leaves : (text : List ℕ) → TagLeaves text (tag_by_parts text)
 tag_leaves text = by_gap (after_gap text) (gap_goes text)
   where

@@ -1,9 +1,10 @@
--- The tags that are left, token by token: those of a token, and those after it and what is skipped then.
+-- The tags that are left from an offset on (`tags_left`), as an iterator over a game's tags returns them: the tag of
+-- the next token, if it is one, and then those after it and after what is skipped (tags_more).
 use Rattle.std.proofs.Common.{◌≡◌, ◌≤◌, ℕ, suc, ◌+◌, ◌-◌, Bool, true, false, cond, List, [], ◌∷◌, ◌++◌, length, map, take, Option, Some, None, refl, sym, ap, ◌∙◌, arith, option_map}
 use Rattle.std.specs.List.{cons_option, filter_map, prefix_len}
 use Rattle.pgn_tokens.specs.{declared.tag_list.PgnTag.PgnTag, GameTags.tag_pair, GameTags.pair_of, GameTags.game_tags_of, LastTags.may_precede_tags, Tokens.Token, Tokens.Skip, Tokens.tokens_from, Seen.SkipsTo, ties.TagsLeft.tags_left}
 
--- one token more
+-- the tags from a token on: its own, if it is a tag, and those after it; none, if no tag may come after it
 tags_step : (total : ℕ) (t : ℕ × Token) (ts : List (ℕ × Token))
     → game_tags_of total (t ∷ ts)
     ≡ cond (may_precede_tags t.1) (cons_option (tag_pair total t.1) (game_tags_of total ts)) []
@@ -26,6 +27,7 @@ tags_on total [] ts = refl
 tags_on total (left ∷ lefts) ts =
     tags_step total (left, Skip) (map (λ left. (left, Skip)) lefts ++ ts) ∙ tags_on total lefts ts
 
+-- so they are the same from before and from after what is skipped
 pub tags_skipped : (text : List ℕ) (a b : ℕ) → SkipsTo text a b → tags_left text a ≡ tags_left text b
 tags_skipped text a b so = ap (game_tags_of (length text)) so.1 ∙ tags_on (length text) so.0 (tokens_from text b)
 
@@ -38,13 +40,14 @@ tags_more text at tail after t is may skips =
     ∙ ap (λ b. cond b (cons_option (tag_pair (length text) t) (tags_left text tail)) []) (sym may)
     ∙ ap (cons_option (tag_pair (length text) t)) (tags_skipped text tail after skips)
 
--- ---- as code meets it
+-- ---- the loop of `next_tag`
 
 -- reading on from `here` gives the tags from `from` on
 pub record Reads (text : List ℕ) (from here : ℕ) : Type 0 where
   pub offset : here ≤ length text
   pub whole : tags_left text here ≡ tags_left text from
 
+-- one round, at the token `t`: its tag is returned, or the loop goes on at `after`
 module _ (text : List ℕ) (from here tail after : ℕ) (t : Token) (found : Option PgnTag) (r : Reads text from here)
     (is : tokens_from text here ≡ (length text - here, t) ∷ tokens_from text tail) (may : true ≡ may_precede_tags t)
     (same : option_map pair_of found ≡ tag_pair (length text) t)

@@ -1,4 +1,6 @@
--- A token: the relation and the reader agree.
+-- A token: what the relation `IsOf` calls a token of some kind is read as the token of that kind, if it is the longest
+-- such beginning of the text (token_read); and what is read is such a token, or a fault where no token of any kind
+-- begins (token_says).
 use Rattle.std.proofs.Common.{◌≡◌, ℕ, suc, ◌+◌, ◌<◌, ◌≤◌, Bool, true, false, cond, not, eqb, List, [], ◌∷◌, ◌++◌, length, take, drop, Option, Some, None, refl, sym, ap, subst, ◌∙◌, inl, inr, arith, ◌&&◌, ◌||◌}
 use Rattle.std.specs.List.{list_all, list_any, prefix_len, take_while}
 use Rattle.std.proofs.lemmas.Bool.{and_parts, or_parts, or_cases, eqb-true}
@@ -13,12 +15,13 @@ use Rattle.pgn_tokens.proofs.ByteRuns.{differs, pick, run_drop, run_take, run_pa
 use Rattle.pgn_tokens.proofs.VariationInsides.{Leaves, closed, commented, unclosed, leaves, inside_read, open_read, open_comment}
 use Rattle.pgn_tokens.proofs.TagSplits.{tag_begins, tag_read, TagLeaves, bad, good, tag_leaves}
 
--- the first token of a text
+-- the first token of a text and what is left after it, if the flag says whether a line begins there; of an empty text a
+-- fault
 abbrev pub first : Bool → List ℕ → Token × List ℕ
 first b [] = (Bad, [])
 first b (c ∷ rest) = token_at b c rest
 
--- ---- by the first byte
+-- ---- what is read, by the first byte (36 is `$`, 123 `{`, 40 `(`, 91 `[`, 42 `*`)
 
 -- a byte that begins no `%` line begins the same token where a line begins and where none does
 pub no_percent : (begins : Bool) (c : ℕ) (rest : List ℕ) → eqb c 37 ≡ false
@@ -50,6 +53,8 @@ begins_word begins c rest h =
       h,
     ) refl
 
+-- each of these reads one kind of token: a skipped line, a `$` glyph, white space or a dot, a comment, a variation, a
+-- tag, and `*`
 line_at : (b : Bool) (c : ℕ) (rest : List ℕ) → skips_line b c ≡ true → token_at b c rest ≡ (Skip, line_end rest)
 unfolding token_at
 line_at b c rest h = elim (or_cases (b && eqb c 37) (eqb c 59) h) [
@@ -125,7 +130,7 @@ fixed b kind front r rests is = record {
       nil_from_length more (omega (arith, ap length same, length-append more others, ap length one));
 }
 
--- ---- kinds whose tokens go on
+-- ---- kinds whose tokens may be continued by more bytes: skipped lines, glyphs and words
 
 append_one : (p : ℕ → Bool) (xs ys : List ℕ) → list_all p xs ≡ true → list_all p ys ≡ true
     → list_all p (xs ++ ys) ≡ true
@@ -139,6 +144,7 @@ last_one p xs d ds h =
 one_of : (p : ℕ → Bool) (d : ℕ) → p d ≡ true → list_all p (d ∷ []) ≡ true
 one_of p d h = rw h refl
 
+-- after the longest token of such a kind comes no byte that could continue it (.._stops), so it is read (.._read)
 line_stops : (b : Bool) (front r : List ℕ) → IsLongest (IsOf b Line) front r → prefix_len (λ k. not (eqb k 10)) r ≡ 0
 line_stops b front r h = by_parts h.is
   where
@@ -198,6 +204,7 @@ word_read b (c ∷ front) r h =
 
 -- ---- all kinds
 
+-- the longest token of a kind at a text's front is read, and the rest is left
 pub token_read : (b : Bool) (kind : Kind) (front r : List ℕ) → IsLongest (IsOf b kind) front r
     → first b (front ++ r) ≡ (token_of kind front (length r), r)
 token_read b Blank front r h = blank_read b front r h.is
@@ -211,6 +218,7 @@ token_read b Symbol front r h = word_read b front r h
 
 -- ---- where more text follows
 
+-- a token has a byte
 pub token_some : (b : Bool) (kind : Kind) (front : List ℕ) → IsOf b kind front → 0 < length front
 token_some b Blank front (c, is, h) = omega (arith, ap length is)
 token_some b Line front (c, rest, is, skip, lack) = omega (arith, ap length is)
@@ -264,6 +272,7 @@ glyph_passes b (k ∷ front) h d ds (digits, is, all) =
     let same : digits ≡ front ++ d ∷ ds = cc in
     last_one is_digit front d ds (subst (λ xs. list_all is_digit xs ≡ true) same all)
 
+-- a byte that ends a run ends it whatever follows the text
 stops_still : (p : ℕ → Bool) (d : ℕ) (ds more : List ℕ) → prefix_len p (d ∷ ds) ≡ 0
     → prefix_len p (d ∷ (ds ++ more)) ≡ 0
 stops_still p d ds more = by_test (p d)
@@ -272,6 +281,8 @@ stops_still p d ds more = by_test (p d)
     by_test true h = absurd (omega (arith, h))
     by_test false h = refl
 
+-- the longest token of a kind that goes on, in a text that ends with byte 10, stays the longest if more text follows:
+-- no such token has a byte 10 last, so the text goes on after it, with a byte that can't continue it
 run_stays : (b : Bool) (kind : Kind) (p : ℕ → Bool) (front r text after : List ℕ) → IsOf b kind front
     → prefix_len p r ≡ 0 → ((f : List ℕ) → IsOf b kind (f ++ 10 ∷ []) → ⊥)
     → ((d : ℕ) (ds : List ℕ) → IsOf b kind (front ++ d ∷ ds) → p d ≡ true) → front ++ r ≡ text ++ 10 ∷ []
@@ -305,6 +316,7 @@ stays_longest b Symbol front r text after h same =
     run_stays b Symbol is_word_byte front r text after h.is (word_stops b front r h) (word_no_end b)
     (λ d ds k. last_one is_word_byte front d ds k.1) same
 
+-- whether a token is one that can't be read
 abbrev pub is_fault : Token → Bool
 is_fault Skip = false
 is_fault (Tag name string left) = false
@@ -339,6 +351,7 @@ run_left p (c ∷ front) rest h =
     let next : 1 + prefix_len p (front ++ rest) ≡ suc (prefix_len p (front ++ rest)) = omega arith in
     rw (both.0, next) (run_left p front rest both.1)
 
+-- the same for a token of any kind: what is read there is at least as long
 any_left : (b : Bool) (kind : Kind) (front r : List ℕ) → IsOf b kind front
     → length (first b (front ++ r)).1 ≤ length r
 any_left b Blank front r h = omega (arith, ap (λ t. length t.1) (blank_read b front r h))
@@ -373,6 +386,7 @@ longest_of_all b kind other front rest more after long same h =
     ap (λ xs. length (first b xs).1) (sym same) ∙ ap (λ t. length t.1) (token_read b kind front rest long) in
     omega (arith, few, left, ap length same, length-append front rest, length-append more after)
 
+-- where a fault is read, no token of any kind begins
 pub no_token_of : (b : Bool) (text : List ℕ) → is_fault (first b text).0 ≡ true → HasNoToken b text
 no_token_of b text fault kind front r is h =
     let fine : is_fault (first b text).0 ≡ false = ap (λ xs. is_fault (first b xs).0) is ∙ readable b kind front r h in
@@ -380,11 +394,14 @@ no_token_of b text fault kind front r is h =
 
 -- ---- from the reader to the relation
 
+-- what is read at a text's front: the longest token of some kind, and the rest after it; or a fault that is one by the
+-- relation
 pub data TokenSays (b : Bool) (text : List ℕ) : Token × List ℕ → Type 0 where
   known : (kind : Kind) (front rest : List ℕ) → text ≡ front ++ rest → IsLongest (IsOf b kind) front rest
       → TokenSays b text (token_of kind front (length rest), rest)
   faulty : (fault : Token) → is_fault fault ≡ true → IsFault text fault → TokenSays b text (fault, [])
 
+-- a comment that isn't closed, also one in a variation, is read as that fault
 pub comment_fault : (b : Bool) (text : List ℕ) (n : ℕ) → HasUnclosedComment text n
     → first b text ≡ (Unclosed_comment n, [])
 comment_fault b text n (inl (comment, is, lack, here)) =
@@ -393,6 +410,7 @@ comment_fault b text n (inl (comment, is, lack, here)) =
     ∙ ap (λ k. (Unclosed_comment k, [])) (sym (here ∙ ap length is))
 comment_fault b text n (inr (inner, is, h)) = ap (first b) is ∙ open_at b inner ∙ open_read h 0
 
+-- so it is, for each text that isn't empty
 pub token_says : (b : Bool) (c : ℕ) (rest : List ℕ) → TokenSays b (c ∷ rest) (token_at b c rest)
 unfolding token_at
 token_says b c rest = by_line (skips_line b c) refl

@@ -1,4 +1,5 @@
--- The offsets that a token gives are in the text.
+-- A token names places by how many bytes are left there: a tag's string, or the `{` of a comment that isn't closed.
+-- These are within the token and the text after it (within), and so in the text (token_within).
 use Rattle.std.proofs.Common.{◌≡◌, ℕ, suc, ◌-◌, ◌≤◌, Bool, List, [], ◌∷◌, ◌++◌, length, drop, refl, sym, ap, subst, ◌∙◌, inl, inr, arith, length-append, length-drop}
 use Rattle.pgn_tokens.specs.Tokens.{Token, Skip, Tag, Word, Bad_tag, Unclosed_comment, Unclosed_variation, Bad, token_at, begins_line, tokens_from}
 use Rattle.pgn_tokens.specs.{Split.HasOpenComment, Split.here, Split.deeper, shared.Places.IsWithin}
@@ -6,9 +7,11 @@ use Rattle.pgn_tokens.specs.shared.Kinds.{Kind, Blank, Line, Comment, Nag, Varia
 use Rattle.pgn_tokens.proofs.TokenKinds.{TokenSays, known, faulty, token_says}
 use Rattle.pgn_tokens.proofs.Walk.{no_token, token_more}
 
+-- the places named by a token that was read are among the last so many bytes
 abbrev Within : ℕ → Token × List ℕ → Type 0
 Within n t = IsWithin n t.0
 
+-- the `{` of an open comment is in the text
 open_within : {text : List ℕ} {to_end : ℕ} → HasOpenComment text to_end → to_end ≤ length text
 open_within (here {parts} text h lack) = omega (arith, length-append parts (123 ∷ text))
 open_within (deeper {parts} {inner} h k) = omega (arith, open_within k, length-append parts (40 ∷ inner))
@@ -47,7 +50,7 @@ within begins c rest = by_says (token_at begins c rest) (token_says begins c res
 same_first : (s t : ℕ × Token) (ss ts : List (ℕ × Token)) → s ∷ ss ≡ t ∷ ts → s ≡ t
 same_first s t ss ts e = cc
 
--- of a token that is in a text
+-- the first token from an offset on names no place before it
 pub token_within : (text : List ℕ) (at : ℕ) (token : Token) (ts : List (ℕ × Token)) → at ≤ length text
     → tokens_from text at ≡ (length text - at, token) ∷ ts → IsWithin (length text - at) token
 token_within text at token ts h is = by_rest (drop at text) refl

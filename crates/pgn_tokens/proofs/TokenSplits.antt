@@ -1,4 +1,6 @@
--- Tokens: the relation and the reader agree; a text has one split by kinds.
+-- A text has exactly one split by kinds (IsSplitByKinds): any such split is the list of tokens that is read
+-- (kinds_read), and this list is such a split (read_kinds). Also where no token begins there is one fault, the one that
+-- is read (fault_read).
 use Rattle.std.proofs.Common.{◌≡◌, ℕ, zero, suc, ◌+◌, ◌-◌, ◌<◌, ◌≤◌, Bool, true, false, cond, eqb, List, [], ◌∷◌, ◌++◌, length, drop, refl, sym, ap, subst, ◌∙◌, inl, inr, arith}
 use Rattle.std.specs.List.{list_any}
 use Rattle.std.proofs.{lemmas.Bool.or_parts, lemmas.List.length-append, lemmas.List.length-drop, lemmas.List.nil_from_length}
@@ -21,11 +23,14 @@ no_comment c rest brace opens n (inr (inner, is, h)) =
 abbrev fault_by : ℕ → Token
 fault_by c = cond (eqb c 40) Unclosed_variation (cond (eqb c 91) Bad_tag Bad)
 
+-- the fault of a text that begins with byte c: a comment that isn't closed, or if there is none, the fault that c
+-- decides (`fault_by`)
 data FaultSays (c : ℕ) (rest : List ℕ) : Token → Type 0 where
   of_comment : (n : ℕ) → HasUnclosedComment (c ∷ rest) n → FaultSays c rest (Unclosed_comment n)
   of_byte : (fault : Token) → fault ≡ fault_by c → ((n : ℕ) → HasUnclosedComment (c ∷ rest) n → ⊥)
       → FaultSays c rest fault
 
+-- a fault by the relation is such a fault
 fault_says : (c : ℕ) (rest : List ℕ) (fault : Token) → IsFault (c ∷ rest) fault → FaultSays c rest fault
 fault_says c rest (Unclosed_comment n) h = of_comment n h
 fault_says c rest Unclosed_variation ((r, is), none) =
@@ -66,6 +71,7 @@ fault_read b c rest fault none h = by_result (token_at b c rest) refl (token_say
 
 -- ---- a whole text
 
+-- an offset from which a byte is left is in the text
 inside_text : (text : List ℕ) (at c : ℕ) (rest : List ℕ) → drop at text ≡ c ∷ rest → at < length text
 inside_text text at c rest e = omega (arith, ap length e, length-drop at text)
 
@@ -114,7 +120,8 @@ kinds_read text (stopped {at} {fault} none h) = by_rest (drop at text) refl none
         ∙ ap (λ ts. (length text - at, fault) ∷ ts)
         (no_token text (length text - 0) (omega (arith, length-drop (length text - 0) text))))
 
--- what is read is a split of the text: one token, and those after it
+-- what is read is a split of the text: at its end; with one token more, if the rest's tokens are; and so for any text,
+-- by induction on the bytes left
 none_left : (text : List ℕ) (at : ℕ) → drop at text ≡ [] → IsSplitByKinds text at (tokens_from text at)
 none_left text at e = subst (IsSplitByKinds text at) (sym (no_token text at (omega (arith, ap length e)))) (ended e)
 

@@ -1,4 +1,6 @@
--- Variations: the relation and the reader agree.
+-- Variations: a text that may be inside one by the relation `IsInside` is read over up to its `)` (inside_read), and an
+-- unclosed comment in it is reported (open_read). The other way round, what is read closes the variations by the
+-- relation, or shows one that isn't closed (leaves). `suc d` counts the variations open.
 use Rattle.std.proofs.Common.{◌≡◌, ℕ, zero, suc, ◌≤◌, Bool, true, false, not, eqb, List, [], ◌∷◌, ◌++◌, length, Option, Some, None, refl, sym, ap, subst, ◌∙◌, inl, inr, ◌⊎◌, arith, append_assoc, length-append}
 use Rattle.std.specs.List.{list_any}
 use Rattle.std.proofs.{lemmas.Bool.or_parts, lemmas.Bool.Decides.nat_tests}
@@ -9,11 +11,13 @@ use Rattle.pgn_tokens.proofs.ByteRuns.{differs, run_drop, LineSays, unended, lin
 
 -- ---- one part
 
+-- whether a line begins before a byte matters only if it is `%` (byte 37)
 pub flag_free : (b : Bool) (d c : ℕ) (rest : List ℕ) → eqb c 37 ≡ false
     → variation_at None b (suc d) (c ∷ rest) ≡ variation_at None false (suc d) (c ∷ rest)
 flag_free true d c rest e = rw e refl
 flag_free false d c rest e = refl
 
+-- a byte that begins a skipped line is no byte that doesn't
 pub skip_differs : (b : Bool) (c k : ℕ) → skips_line b c ≡ true → skips_line true k ≡ false → eqb c k ≡ false
 skip_differs true c k h e = differs (skips_line true) c k h e
 skip_differs false c k h e = differs (skips_line false) c k h (or_parts (eqb k 37) (eqb k 59) e).1
@@ -27,6 +31,7 @@ skipped b d c rest h =
     let ends : eqb c 10 ≡ false = skip_differs b c 10 h refl in
     by_part b d c rest ∙ rw (h, opens, closes, ends) refl
 
+-- the first line ends at its `\n` (byte 10)
 pub line_end_is : (text more : List ℕ) → lacks 10 text ≡ true → line_end (text ++ 10 ∷ more) ≡ 10 ∷ more
 line_end_is text more h = run_drop (λ c. not (eqb c 10)) text (10 ∷ more) h refl
 
@@ -42,6 +47,7 @@ passed b d c rest h none =
 
 -- ---- from the relation to the reader
 
+-- the inside of a variation is read over; the byte after it, as it is no `%`, is read as within a line
 pub inside_read : {b : Bool} {text : List ℕ} → IsInside b text → (d c : ℕ) (rest : List ℕ) → eqb c 37 ≡ false
     → variation_at None b (suc d) (text ++ c ∷ rest) ≡ variation_at None false (suc d) (c ∷ rest)
 inside_read {b} nothing d c rest e = flag_free b d c rest e
@@ -67,6 +73,7 @@ inside_read (variation {b} {inner} {more} i r) d c rest e =
 inside_read (other {b} {c = k} {more} h none r) d c rest e =
     passed b d k (more ++ c ∷ rest) h none ∙ inside_read r d c rest e
 
+-- a comment that isn't closed is the fault read, however many variations are open
 pub open_read : {text : List ℕ} {n : ℕ} → HasOpenComment text n → (d : ℕ)
     → variation_at None false (suc d) text ≡ (Unclosed_comment n, [])
 open_read (here {parts} text h lack) d =
@@ -101,12 +108,15 @@ Opens zero b text = IsBegun b text
 Opens (suc d) b text = IsBegun b text ⊎ ((front : List ℕ) × (more : List ℕ) × IsInside b front
     × (text ≡ front ++ 41 ∷ more) × Opens d false more)
 
+-- what is read of a text inside `d` variations and one more: it closes them all; or a comment in it isn't closed; or
+-- one of the variations isn't, of which nothing more is said here
 pub data Leaves (d : ℕ) (b : Bool) (text : List ℕ) : Token × List ℕ → Type 0 where
   closed : {rest : List ℕ} → Closes d b text rest → Leaves d b text (Skip, rest)
   commented : (front rest : List ℕ) → text ≡ front ++ 123 ∷ rest → Opens d b front → lacks 125 rest ≡ true
       → Leaves d b text (Unclosed_comment (suc (length rest)), [])
   unclosed : Leaves d b text (Unclosed_variation, [])
 
+-- a part (such as a byte or a comment) in front of more of a variation's inside changes none of this
 module _ (b after : Bool) (part : List ℕ) (add : (m : List ℕ) → IsInside after m → IsInside b (part ++ m)) where
   begun_more : (text : List ℕ) → IsBegun after text → IsBegun b (part ++ text)
   begun_more text (inside h) = inside (add text h)
@@ -132,6 +142,7 @@ module _ (b after : Bool) (part : List ℕ) (add : (m : List ℕ) → IsInside a
       (ap (λ xs. part ++ xs) is ∙ sym (append_assoc part front (123 ∷ rest))) (opens_more d front h) lack
   leaves_more d text t unclosed = unclosed
 
+-- a `(` in front opens one variation more
 leaves_opened : (d : ℕ) (b : Bool) (text : List ℕ) (t : Token × List ℕ) → Leaves (suc d) false text t
     → Leaves d b (40 ∷ text) t
 leaves_opened d b text t (closed {rest} h) =
@@ -156,6 +167,7 @@ leaves_opened d b text t (commented front rest is h lack) = commented (40 ∷ fr
         d k.1 k.4)
 leaves_opened d b text t unclosed = unclosed
 
+-- a `)` in front closes one
 leaves_closed : (d : ℕ) (b : Bool) (text : List ℕ) (t : Token × List ℕ) → Leaves d false text t
     → Leaves (suc d) b (41 ∷ text) t
 leaves_closed d b text t (closed {rest} h) = closed ([], text, nothing, refl, h)
@@ -163,6 +175,7 @@ leaves_closed d b text t (commented front rest is h lack) =
     commented (41 ∷ front) rest (ap (λ xs. 41 ∷ xs) is) (inr ([], front, nothing, refl, h)) lack
 leaves_closed d b text t unclosed = unclosed
 
+-- what is read of a text inside variations is right by the relation; by induction on the text's length, up to n
 pub leaves : (n : ℕ) (b : Bool) (d : ℕ) (text : List ℕ) → length text ≤ n
     → Leaves d b text (variation_at None b (suc d) text)
 leaves n b d [] few = unclosed

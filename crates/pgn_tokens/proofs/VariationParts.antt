@@ -1,12 +1,13 @@
--- A variation is read part by part (a comment, a line or a byte) as the definition reads it; a byte opens at most one
--- more.
+-- For the loop of `after_variation`. It skips part by part, a part being a comment, a skipped line or a byte, where the
+-- definition goes byte by byte with a state; both read the same (part_is). A `(` opens one more variation, a `)` closes
+-- one, so `depth` grows by at most one for each byte (depth_few).
 use Rattle.std.proofs.Common.{◌≡◌, ℕ, zero, suc, ◌+◌, ◌-◌, ◌≤◌, Bool, true, false, cond, eqb, List, [], ◌∷◌, length, get_or, take, drop, Option, Some, None, refl, sym, ap, ◌∙◌, inl, inr, add-one, arith, ◌&&◌, ◌||◌}
 use Rattle.std.proofs.{lemmas.Bool.Decides.nat_tests, lemmas.Bool.and_parts, lemmas.Bool.or_cases, lemmas.List.take_rest}
 use Rattle.pgn_tokens.specs.Tokens.{Token, Unclosed_comment, Unclosed_variation, Skip, line_end, after_brace, variation_at}
 use Rattle.pgn_tokens.specs.ties.VariationParts.{after_part, one_fewer, depth_after}
 use Rattle.pgn_tokens.proofs.Skipped.{line_end-more}
 
--- a line in a variation
+-- inside a skipped line the definition goes on at the line's end
 in_line : (begins : Bool) (depth : ℕ) (text : List ℕ)
     → variation_at (Some (10, Unclosed_variation)) begins (suc depth) text
     ≡ variation_at None false (suc depth) (line_end text)
@@ -28,10 +29,12 @@ in_line begins depth (c ∷ rest) = by_test (eqb c 10) refl (in_line false depth
         ap (λ t. variation_at (cond t None (Some (10, Unclosed_variation))) t (suc depth) rest) e ∙ more
         ∙ ap (variation_at None false (suc depth)) (sym (line_end-more c rest e))
 
+-- where to go on after a comment: the text after its `}`, or the fault if there is none
 abbrev unless_open : ℕ → ℕ → Option (List ℕ) → Token × List ℕ
 unless_open left depth None = (Unclosed_comment left, [])
 unless_open left depth (Some rest) = variation_at None false (suc depth) rest
 
+-- inside a comment the definition goes on after its `}`
 in_brace : (left : ℕ) (begins : Bool) (depth : ℕ) (text : List ℕ)
     → variation_at (Some (125, Unclosed_comment left)) begins (suc depth) text
     ≡ unless_open left depth (after_brace text)
@@ -48,7 +51,8 @@ in_brace left begins depth (c ∷ rest) = by_test (eqb c 125) refl (in_brace lef
         ap (λ b. variation_at None b (suc depth) rest) ends
     by_test false e more = more
 
--- a part, and how many variations are open after it
+-- what is read after a part that leaves this text (`None`: its comment isn't closed), with so many variations open
+-- (`None`: the outermost one is closed)
 abbrev pub part_then : ℕ → Bool → Option (List ℕ) → Option ℕ → Token × List ℕ
 part_then left begins None inner = (Unclosed_comment left, [])
 part_then left begins (Some rest) None = (Skip, rest)
@@ -75,6 +79,7 @@ line_byte begins c k h a b = elim (or_cases (begins && eqb c 37) (eqb c 59) h) [
   | inr e ↦ grind (arith, nat_tests)
 ]
 
+-- the definition at a byte of a variation is the part that begins there, and what is read after it
 pub by_part : (begins : Bool) (depth c : ℕ) (rest : List ℕ) → variation_at None begins (suc depth) (c ∷ rest)
     ≡ part_then (suc (length rest)) (eqb c 10) (after_part begins c rest) (depth_after depth c)
 by_part begins depth c rest = by_line (begins && eqb c 37 || eqb c 59) refl
@@ -109,7 +114,7 @@ by_part begins depth c rest = by_line (begins && eqb c 37 || eqb c 59) refl
         (in_line false depth rest)
     by_line false e = by_opening_brace (eqb c 123) refl e
 
--- with its text as code meets it
+-- the same for a text given as the code has it, by its first byte and the others
 part_first : (begins : Bool) (depth : ℕ) (xs : List ℕ) → 1 ≤ length xs → variation_at None begins (suc depth) xs
     ≡ part_then (length xs) (eqb (get_or xs 0 0) 10)
     (after_part begins (get_or xs 0 0) (take (length xs - 1) (drop 1 xs))) (depth_after depth (get_or xs 0 0))
@@ -119,7 +124,7 @@ part_first begins depth (c ∷ rest) h =
     ∙ ap (λ text. part_then (suc (length rest)) (eqb c 10) (after_part begins c text) (depth_after depth c))
     (sym (take_rest (c ∷ rest) 1))
 
--- a comment in it has no end
+-- a comment in the variation has no end, so the fault is read
 pub part_unclosed : (begins : Bool) (depth : ℕ) (xs : List ℕ) → 1 ≤ length xs
     → None ≡ after_part begins (get_or xs 0 0) (take (length xs - 1) (drop 1 xs))
     → variation_at None begins (suc depth) xs ≡ (Unclosed_comment (length xs), [])

@@ -1,4 +1,6 @@
--- Whether a token is a variation is known after the tokens up to the last `(`.
+-- For the loop of `has_variation`, which reads tokens only up to the text's last `(`, since a variation begins with
+-- one. By its invariant (Sought) no token before the offset reached is a variation. Then one is found, or there is no
+-- `(` any more (none_from), or no token.
 use Rattle.std.proofs.Common.{◌≡◌, ℕ, zero, suc, ◌+◌, ◌-◌, ◌<◌, ◌≤◌, Bool, true, false, ◌||◌, eqb, List, [], ◌∷◌, length, get_or, drop, refl, sym, ap, ◌∙◌, arith}
 use Rattle.std.specs.List.{position_or_len}
 use Rattle.std.proofs.lemmas.List.{get_or-drop, length-drop}
@@ -10,7 +12,7 @@ use Rattle.pgn_tokens.proofs.Walk.{shorter}
 
 -- ---- the next `(`
 
--- before the first there is none
+-- before the place of the first `(` (byte 40) there is none
 pub none_before : (text : List ℕ) (at place : ℕ) → place ≡ at + position_or_len (λ c. eqb c 40) (drop at text)
     → HasNone text at place
 none_before text at place is n low high =
@@ -68,7 +70,7 @@ unfolding tokens_from
 none_from text at h none =
     none_among text at (length text) (begins_line text at) (drop at text) (omega (arith, h, length-drop at text)) none
 
--- by the first token
+-- whether there is a variation, by the first token and the others
 by_first : (text : List ℕ) (at : ℕ) (token : Token) (more : List (ℕ × Token)) → at ≤ length text
     → has_variation text ((length text - at, token) ∷ more)
     ≡ (is_variation text at token || has_variation text more)
@@ -84,6 +86,7 @@ pub record Sought (text : List ℕ) (at here place : ℕ) : Type 0 where
   pub whole : has_variation text (tokens_from text here) ≡ has_variation text (tokens_from text at)
   pub none : HasNone text here place
 
+-- how the search goes on or ends, when it has come to `here`
 module _ (text : List ℕ) (at here place : ℕ) (r : Sought text at here place) where
   -- no `(` is left
   pub none_left : length text ≤ place → false ≡ has_variation text (tokens_from text at)
@@ -104,6 +107,7 @@ module _ (text : List ℕ) (at here place : ℕ) (r : Sought text at here place)
 
   module _ (tail : ℕ) (token : Token)
       (is : tokens_from text here ≡ (length text - here, token) ∷ tokens_from text tail) where
+    -- the token at `here` is a variation, or one after it is, exactly if one from `at` on is
     by_next : (is_variation text here token || has_variation text (tokens_from text tail))
         ≡ has_variation text (tokens_from text at)
     by_next =

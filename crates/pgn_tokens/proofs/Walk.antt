@@ -1,4 +1,6 @@
--- Going from token to token: each takes at least a byte, so there is none where no bytes are left.
+-- Going from token to token. Each takes at least a byte (shorter), so a bound of as many tokens as bytes is never
+-- reached (enough). So the tokens from an offset on are the first token there and then those from the offset after it
+-- (token_more, next_token); a fault is the last.
 use Rattle.std.proofs.Common.{◌≡◌, ℕ, zero, suc, ◌-◌, ◌<◌, ◌≤◌, Bool, true, false, eqb, List, [], ◌∷◌, ◌++◌, length, get_or, take, drop, refl, sym, ap, subst, ◌∙◌, inl, inr, ◌⊎◌, append_assoc, arith}
 use Rattle.std.proofs.lemmas.Bool.Decides.{nat_tests}
 use Rattle.std.proofs.lemmas.List.{length-append, length-drop, take-append-drop, get_or_at, drop_at, take_rest}
@@ -13,9 +15,11 @@ record Tail (c : ℕ) (rest tail : List ℕ) : Type 0 where
   is : c ∷ rest ≡ front ++ last ∷ tail
   ends : eqb last 10 ≡ eqb c 10
 
+-- what is left after a token is nothing, or such a tail
 abbrev Rest : ℕ → List ℕ → List ℕ → Type 0
 Rest c rest tail = (tail ≡ []) ⊎ Tail c rest tail
 
+-- what is left after the token that is read
 token_rest : (begins : Bool) (c : ℕ) (rest : List ℕ) → Rest c rest (token_at begins c rest).1
 token_rest begins c rest = by_test (eqb c 10) refl
   where
@@ -39,7 +43,7 @@ shorter begins c rest = by_rest (token_rest begins c rest)
     by_rest (inl e) = omega (arith, ap length e)
     by_rest (inr k) = omega (arith, simp length-append at (ap length k.is))
 
--- more leave for tokens than there are bytes changes nothing
+-- the bound on the number of tokens makes no difference, if it is at least the number of bytes
 pub enough : (n m : ℕ) (begins : Bool) (text : List ℕ) → length text ≤ n → length text ≤ m
     → tokens_of n begins text ≡ tokens_of m begins text
 unfolding tokens_of
@@ -115,7 +119,7 @@ tokens_after text at c rest tail is (inr k) =
     ∙ ap (λ b. tokens_of (length text) b tail) (sym (offset.1 ∙ k.ends))
     ∙ ap (tokens_of (length text) (begins_line text (length text - length tail))) (sym offset.0)
 
--- one token more, with its text as code meets it
+-- the tokens from `at` on are the one there, and those from the offset after it on
 pub token_more : (text : List ℕ) (at c : ℕ) (rest : List ℕ) → drop at text ≡ c ∷ rest → at ≤ length text
     → tokens_from text at ≡ (length text - at, (token_at (begins_line text at) c rest).0) ∷ tokens_from text
     (length text - length (token_at (begins_line text at) c rest).1)
@@ -130,13 +134,16 @@ token_more text at c rest is h =
     ∙ ap (λ tokens. (length text - at, t.0) ∷ tokens)
     (tokens_after text at c rest t.1 is (token_rest (begins_line text at) c rest))
 
+-- that offset is after `at`
 pub token_nearer : (text : List ℕ) (at c : ℕ) (rest : List ℕ) → drop at text ≡ c ∷ rest → at ≤ length text
     → at < length text - length (token_at (begins_line text at) c rest).1
 token_nearer text at c rest is h =
     omega (arith, ap length is, length-drop at text, shorter (begins_line text at) c rest)
 
--- ---- as code meets it
+-- ---- the same for the text from the offset `at` on (`xs`) as the code has it, by its first byte and the others
 
+-- the next token at the offset `at` is `token`, and `tail` is the text after it: the tokens go on there, nearer to the
+-- text's end
 pub record NextToken (text : List ℕ) (at : ℕ) (token : Token) (tail : List ℕ) : Type 0 where
   pub tokens : tokens_from text at ≡ (length text - at, token) ∷ tokens_from text (length text - length tail)
   pub nearer : at < length text - length tail
@@ -161,6 +168,7 @@ next_token text at begins (c ∷ rest) h line is some token tail e =
           (omega (arith, ap length left, length-drop at text, shorter (begins_line text at) c rest));
     }
 
+-- what can't be read leaves no text, and is the last token
 pub last_token : (text : List ℕ) (at : ℕ) (begins : Bool) (xs : List ℕ) → at ≤ length text
     → begins ≡ begins_line text at → xs ≡ take (length text - at) (drop at text) → 1 ≤ length xs → (token : Token)
     → (token, []) ≡ token_at begins (get_or xs 0 0) (take (length xs - 1) (drop 1 xs))

@@ -1,5 +1,5 @@
-//! The tokens of a text of chess games (PGN standard of 1994, sections 5 to 8), and the tags of a game; no chess. A text
-//! is given whole, as bytes, and read from an offset on.
+//! The tokens of a text of chess games (PGN standard of 1994, sections 5 to 8), and the tags of a game; no chess. A
+//! text is given whole, as bytes, and read from an offset on.
 //!
 //! The names of a game's tags, one a line:
 //!

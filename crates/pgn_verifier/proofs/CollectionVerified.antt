@@ -1,5 +1,6 @@
--- The games of a collection, piece by piece: after each piece what was written and counted is that of the pieces so
--- far.
+-- For the loop of `verify_pieces`, which verifies a collection piece by piece (a piece is a part of the input that is
+-- read as a text of its own). By its invariant (SoFar) the reports on the pieces so far were written and counted. One
+-- more piece keeps this (written_on); a failed write, the last piece and a failed read end it.
 use Rattle.std.proofs.Common.{◌≡◌, ℕ, ◌+◌, ◌*◌, ◌≤◌, ◌<◌, ◌^◌, Bool, true, false, not, List, [], ◌∷◌, ◌++◌, length, map, take, Some, None, Ok, Err, refl, sym, ap, subst, ◌∙◌, append_assoc, append-nil, arith, ap₂, take-take, if◌then◌else◌, nat_le, sum_by, flat_map, take_while}
 use Rattle.std.specs.Option.{option_map_or}
 use Rattle.pgn_tokens.specs.Tokens.{is_white_space}
@@ -18,15 +19,18 @@ use Rattle.pgn_verifier.specs.ties.OnTheWay.{WritesCollection, Writes, PieceStan
 use Rattle.pgn_verifier.proofs.{Placed.piece_there, Verifying.collection_broke_off, Verifying.reading_stopped}
 use Rattle.pgn_verifier.proofs.LinesWritten.{took_after, broke_after, lines_after, wrote_none, counted_after, all_counted}
 
+-- the counts before the first report
 abbrev pub none : Tally
 none = record { games = 0; half_moves = 0; faults = 0 }
 
 -- ---- what is seen of pieces is enough
 
--- of a text of which more is cut off than is shown, the same is shown
+-- of a word only 40 bytes are shown, so it is shown the same if only the text's first 40 bytes are kept
 shown_beginning : (bytes : List ℕ) → shown (take 40 bytes) ≡ shown bytes
 shown_beginning bytes = ap (λ xs. shown_word (take_while (λ c. not (is_white_space c)) xs)) (take-take 40 40 bytes (omega arith))
 
+-- so the report on a piece is the same if of a piece that is too long only its beginning is kept; and so for several
+-- pieces, and for a collection
 seen_alike : (strict : Strictness) (piece : Piece)
     → placed_in strict piece ≡ reports_seen strict (piece_at piece.offset piece.bytes)
 seen_alike strict piece = by_test (nat_le (length piece.bytes) PIECE_LEN)
@@ -57,10 +61,13 @@ as_seen strict ended text = all_seen_alike strict (pieces ended 0 text)
 
 -- ---- the pieces up to here were reported
 
--- the line after these pieces
+-- the number of the line after these pieces
 abbrev line_after : List PieceSeen → ℕ
 line_after done = sum_by (λ (p : PieceSeen). p.line_ends) done + 1
 
+-- the loop after some pieces (`done`): `text` was read, the input went from `r` to `r'` and the output from `w` to
+-- `w'`. The pieces of all that may come are these and those still held (`due`); their reports were written (`took`) and
+-- counted (`is`). The others bound the counts, so that they don't overflow
 pub record SoFar (options : VerifyOptions) (r r' : InputState) (w w' : OutputState) (s : State)
     (tally : Tally) (line : ℕ)
     : Type 0 where
@@ -77,6 +84,7 @@ pub record SoFar (options : VerifyOptions) (r r' : InputState) (w w' : OutputSta
   pub lines : options.explain ≡ true → line ≡ line_after done
   pub few_lines : line ≤ s.offset + length s.part + 1
 
+-- this holds before the first piece
 pub begun : (options : VerifyOptions) (r : InputState) (w : OutputState) → SoFar options r r w w unread none 1
 begun options r w = record {
   text = [];
@@ -92,6 +100,8 @@ begun options r w = record {
   small = omega arith;
 }
 
+-- what may follow once `more` was read: put after `more`, it may follow what was read before. `b` and `b'` say whether
+-- the collection's end was read before and after
 follows_on : (b b' ended : Bool) (more rest : List ℕ) → (b ≡ true → (b' ≡ true) × (more ≡ []))
     → MayFollow b' ended rest → MayFollow b ended (more ++ rest)
 follows_on false b' ended more rest h f = tt
@@ -100,7 +110,7 @@ follows_on true b' ended more rest h f =
     let t = subst (λ c. MayFollow c ended rest) k.0 f in
     (t.0, ap (λ xs. xs ++ rest) k.1 ∙ t.1)
 
--- what has come of a collection once its next piece has
+-- a round of the loop: the next piece, `current s'`, has come
 module _ (options : VerifyOptions) (r r' r'' : InputState) (w w' : OutputState) (s s' : State)
     (tally : Tally) (line : ℕ)
     (so : SoFar options r r' w w' s tally line) where

@@ -1,4 +1,6 @@
--- The lines on a fault, by what its label says, are those of its report.
+-- The lines that `fault_lines` makes of a fault, from its label (the game's number, span and names, and what is left
+-- unread), are those of the definition's report on it (fault_lines_are). Each part of the label is what the definition
+-- names there.
 use Rattle.std.proofs.Common.{◌≡◌, ℕ, ◌+◌, ◌&&◌, Bool, true, false, List, [], ◌++◌, length, drop, Option, Some, None, refl, sym, ap, ap₂, ◌∙◌, append_assoc, append-nil, arith, codes, decimal, if◌then◌else◌, is_some, nat_lt, not, option_map, unwrap_or}
 use Rattle.chess_game.specs.Game.{State}
 use Rattle.chess_pgn.specs.GameRead.{ending}
@@ -14,7 +16,8 @@ use Rattle.pgn_verifier.proofs.{Judging.explained_alike, LinesWritten.placed_lin
 
 -- ---- the part that is wrong
 
--- the part is that of the definition: where it begins, and what is shown of it
+-- the part of the text that is wrong, by the fault's kind: the code's place of it, and what it shows of it, are the
+-- definition's
 record IsPart (kind : FaultKind) (text : List ℕ) (begin at : ℕ) : Type 0 where
   pub place : (if is_at_begin kind then begin else at + (part_on kind (drop at text)).0)
       ≡ (wrong_part kind text begin at).0
@@ -24,6 +27,7 @@ record IsPart (kind : FaultKind) (text : List ℕ) (begin at : ℕ) : Type 0 whe
 no_further : (at : ℕ) → at + 0 ≡ at
 no_further at = omega arith
 
+-- it is so for each kind of fault
 is_part : (kind : FaultKind) (text : List ℕ) (begin at : ℕ) → IsPart kind text begin at
 is_part (Pgn (BadFen fault)) text begin at = record { place = refl; word = refl }
 is_part (Pgn NoResult) text begin at = record { place = refl; word = append-nil (shown (drop begin text)) }
@@ -40,7 +44,7 @@ is_part UnknownVariant text begin at = record { place = no_further at; word = re
 is_part (ResultDiffers tag_len outcome) text begin at = record { place = no_further at; word = refl }
 is_part BoardSaysOtherwise text begin at = record { place = no_further at; word = refl }
 
--- the same in the input
+-- the same place, counted from the input's first byte
 in_input : (b : Bool) (start begin at n : ℕ)
     → (if b then start + begin else start + at + n) ≡ start + (if b then begin else at + n)
 in_input true start begin at n = refl
@@ -58,6 +62,8 @@ said_unread false start offset end = refl
 
 -- ---- the lines
 
+-- a fault of the game that is read from `at` on, with a label as the code makes it: each hypothesis says what one part
+-- of it is
 module _ (options : VerifyOptions) (place : TextStart) (text : List ℕ) (at : ℕ) (fault : GameFault) (g s : State)
     (alike : Stands options.strict.draws_of_2014 g s) (tally : Tally) (label : FaultLabel) (after : AfterFault)
     (next : after.next ≡ next_at place.goes_on text at)

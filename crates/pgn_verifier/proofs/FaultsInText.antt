@@ -1,4 +1,5 @@
--- The fault of a game whose end contradicts its tags or the board is in the text.
+-- The offsets of faults that are looked for at a game's end are in the text: of a tag `Result` that differs, of a board
+-- that says otherwise, and of variations. And a game without a variation has no fault in one.
 use Rattle.std.proofs.Common.{◌≡◌, ℕ, zero, suc, ◌<◌, ◌≤◌, ◌-◌, Bool, true, false, List, [], ◌∷◌, length, take, drop, Option, Some, None, Result, Ok, Err, IfErr, ap, sym, ◌∙◌, arith, if◌then◌else◌, IfSome}
 use Rattle.std.proofs.lemmas.List.{length-append, length-drop, nil_from_length, take-append-drop}
 use Rattle.byte_devices.specs.Bytes.{after_byte_order_mark}
@@ -12,24 +13,29 @@ use Rattle.pgn_verifier.specs.GameFaults.{result_differs, board_says_otherwise}
 use Rattle.pgn_verifier.specs.shared.Contradictions.{looked_for, variation_in}
 use Rattle.pgn_verifier.specs.declared.game_fault.GameFault.{GameFault}
 
+-- the fault, if there is one, is at most at the offset `len`
 abbrev pub InText : ℕ → Option GameFault → Type 0
 InText len fault = IfSome fault (λ f. f.offset ≤ len)
 
+-- what holds of both values holds of either
 pub either : (P : Option GameFault → Type 0) (t : Bool) (x y : Option GameFault) → P x → P y → P (if t then x else y)
 either P true x y p q = p
 either P false x y p q = q
 
+-- the fault of a tag `Result` is at the tag's text
 pub tag_within : (len : ℕ) (tag : Option ResultTag) (end : PgnEnd) → IfSome tag (λ t. t.offset ≤ len)
     → InText len (result_differs tag end)
 tag_within len None end h = tt
 tag_within len (Some tag) end h = either (InText len) (option_eq same_outcome tag.outcome (Some end.outcome)) None _ tt
     h
 
+-- the fault of a board with another outcome is at the game's end
 pub board_within : (len : ℕ) (verdict : Option Verdict) (end : PgnEnd) → end.offset ≤ len
     → InText len (board_says_otherwise verdict end)
 board_within len verdict end h = either (InText len) (contradicts_verdict verdict end.outcome) _ None
     (omega (arith, h)) tt
 
+-- the first of two faults is in the text if both are
 pub first_within : (len : ℕ) (first second : Option GameFault) → InText len first → InText len second
     → InText len (option_or first second)
 first_within len (Some fault) second h k = h
@@ -47,7 +53,7 @@ pub err_weaker : (len more : ℕ) (r : Result (Unit {0}) PgnFault) → len ≤ m
 err_weaker len more (Ok u) h k = tt
 err_weaker len more (Err fault) h k = omega (arith, h, k)
 
--- a beginning of a text has at most as many bytes as are taken, and as the text has
+-- the first n bytes of a text are at most n, and at most as many as the text has
 take_short : (n : ℕ) (text : List ℕ) → length (take n text) ≤ n
 take_short zero text = omega arith
 take_short (suc n) [] = omega arith

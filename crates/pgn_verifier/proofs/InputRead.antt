@@ -1,5 +1,6 @@
--- What was read of an input is what was read before and one piece more, until its end, too many bytes, or no memory for
--- more.
+-- For the loop of `read_all`: its text is all that was read so far (HasRead). A piece more keeps this (more_read); the
+-- loop ends at the input's end (all_read), at more than 16777216 bytes (too_long), or if there is no memory for a piece
+-- (no_room).
 use Rattle.std.proofs.Common.{◌≡◌, ◌≤◌, ◌<◌, ◌-◌, ◌==◌, nat_eq, length-append, ◌∙◌, ℕ, List, [], ◌++◌, length, take, false, if◌then◌else◌, refl, ap, subst, append-nil, arith, length-take-le}
 use Rattle.std.specs.Io.KnownBytes.{Consumes}
 use Rattle.byte_devices.specs.Devices.{InputState, GavePiece, saturating_increment}
@@ -23,6 +24,7 @@ all_read r r' r'' text buf n front few gave is =
       few,
     )
 
+-- a read that gave some bytes counts no end
 not_ended : (a b n : ℕ) (buf : List ℕ) → 0 < n → n ≤ length buf
     → a ≡ (if length (take n buf) == 0 then saturating_increment b else b)
     → a ≡ b
@@ -43,13 +45,13 @@ more_read r r' r'' text buf n front gave some within = record {
   at_end = λ e. absurd (cc);
 }
 
--- there was no memory for a piece more
+-- no memory for a piece: not all was read
 pub no_room : (r r' r'' : InputState) (text buf : List ℕ) (n : ℕ) → HasRead false r r' text
     → GavePiece r' r'' (take n buf) → 0 < n → n ≤ length buf → IsNotAll r r'' NoMemory
 no_room r r' r'' text buf n front gave some within =
     (text ++ take n buf, more_read r r' r'' text buf n front gave some within)
 
--- there are too many bytes
+-- the piece makes more bytes than may be read: not all was read
 pub too_long : (r r' r'' : InputState) (text buf : List ℕ) (n len : ℕ) → HasRead false r r' text
     → GavePiece r' r'' (take n buf) → len ≡ length text
     → length text ≤ 16777216 → 16777216 - len < n → n ≤ length buf → IsNotAll r r'' InputTooLong

@@ -1,4 +1,6 @@
--- What is reported of a game, where the draws of 2014 end it or not.
+-- What is reported of a game, its end or its fault. `judge_past_draws` reads a game as if the draws of 2014 ended none,
+-- and its answer is the definition's (none_judged, fault_judged, end_judged). The game that it leaves may be begun anew
+-- in the last position (Stands); a fault is explained alike by it (explained_alike).
 use Rattle.std.proofs.Common.{◌≡◌, ◌∙◌, ◌<◌, ◌≤◌, ◌+◌, ◌++◌, ℕ, Bool, false, List, [], length, Option, Some, None, IfErr, IfOk, IfSome, Result, Ok, Err, ap, codes, if◌then◌else◌, subst, sym}
 use Rattle.std.specs.Option.{option_map_or}
 use Rattle.byte_devices.specs.Bytes.{after_byte_order_mark}
@@ -14,7 +16,7 @@ use Rattle.pgn_verifier.specs.{Explanations.explanation, Explanations.has_positi
 pub stands_same : (draws : Bool) (g s : State) → g ≡ s → Stands draws g s
 stands_same draws g s e = record { position = ap current e; ends = ap (ending draws) e }
 
--- a fault is explained by the position and the verdict alone
+-- a fault is explained by the position and the verdict alone, so alike for games that agree in these (Stands)
 pub explained_alike : (draws : Bool) (g s : State) → Stands draws g s → (text : List ℕ) (kind : FaultKind)
     → explanation_of draws g text kind ≡ explanation_of draws s text kind
 explained_alike draws g s alike text kind =
@@ -24,6 +26,7 @@ explained_alike draws g s alike text kind =
 
 -- ---- a game that is read as if the draws of 2014 ended none
 
+-- the game that is read from `at` on without the draws of 2014 (`r`), and its tags
 module _ (strict : Strictness) (text : List ℕ) (at : ℕ) where
   abbrev r : GameRead
   r = read_at false text at

@@ -1,5 +1,5 @@
--- Line and column, counted on from a known offset in the input to a later one, are those of the later one, and they
--- stay within bounds.
+-- For `Place`, which counts lines and columns on from one offset of a text to a later one: the line and column found so
+-- are those of the later offset in the input (known_on), and they don't overflow.
 use Rattle.std.proofs.Common.{◌≡◌, ◌≤◌, ◌<◌, ℕ, ◌+◌, ◌-◌, eqb, Bool, true, false, not, cond, List, ◌++◌, length, take, drop, refl, sym, ap, ◌∙◌, append_assoc, length-drop, arith, take-add, if◌then◌else◌, reverse}
 use Rattle.std.specs.List.{prefix_len, suffix_len, sum_by}
 use Rattle.std.proofs.{lemmas.Bool.Decides.nat_tests, lemmas.List.Folds.prefix_len-append, lemmas.List.Sums.count_by-le-length, lemmas.List.Sums.prefix_len-le-length, lemmas.List.Sums.sum_by-append}
@@ -8,9 +8,11 @@ use Rattle.pgn_pieces.specs.Places.{breaks_line, line_ends, line_of, column_of}
 use Rattle.pgn_verifier.specs.{declared.place.Place.Place, declared.start.TextStart.TextStart, ties.Counting.Known, ties.Counting.column_on, ties.OnTheWay.StandsAt, ties.OnTheWay.PieceStandsAt}
 use Rattle.pgn_pieces.specs.{Stream.PieceSeen, laws.Places.IsInPlace}
 
+-- how many bytes a text has after its last `\n` or `\r`
 abbrev last_line_len : List ℕ → ℕ
 last_line_len text = suffix_len (λ c. not (breaks_line c)) text
 
+-- line ends of two texts add up
 line_ends_after : (xs ys : List ℕ) → line_ends (xs ++ ys) ≡ line_ends xs + line_ends ys
 line_ends_after = sum_by-append (λ c. if eqb c 10 then 1 else 0)
 
@@ -23,6 +25,7 @@ last_few xs =
     let few = prefix_len-le-length (λ c. not (breaks_line c)) (reverse xs) in
     let same = length-reverse xs in omega (arith, few, same)
 
+-- the last line of two texts is that of the second, or goes on from the first if the second ends no line
 last_line_after : (xs ys : List ℕ) → last_line_len (xs ++ ys)
     ≡ cond (eqb (last_line_len ys) (length ys)) (length ys + last_line_len xs) (last_line_len ys)
 last_line_after xs ys =
@@ -41,6 +44,7 @@ column_after xs ys =
     by_test true e = let same : last_line_len ys ≡ length ys = grind (arith, nat_tests, e) in omega (arith, same)
     by_test false e = refl
 
+-- a column grows by at most one for each byte, and is at least 1
 column_few : (column : ℕ) (ys : List ℕ) → last_line_len ys ≤ length ys → 0 < column
     → (column_on column ys ≤ column + length ys) × (0 < column_on column ys)
 column_few column ys h some = by_test (eqb (last_line_len ys) (length ys))
@@ -52,6 +56,7 @@ column_few column ys h some = by_test (eqb (last_line_len ys) (length ys))
 
 -- ---- from one offset of a text to the next
 
+-- from the offset `a` of a text to the later one `b`, where the text begins in the input at `start`
 module _ (start : TextStart) (input text : List ℕ) (a b : ℕ) (forward : a ≤ b) (within : b ≤ length text)
     (stands : StandsAt start input text)
   where
@@ -81,7 +86,7 @@ module _ (start : TextStart) (input text : List ℕ) (a b : ℕ) (forward : a �
     pub column_there : column_of input (start.offset + b) ≡ column_on (column_of input (start.offset + a)) between
     column_there = ap (λ xs. last_line_len xs + 1) bytes_between ∙ column_after (take (start.offset + a) input) between
 
--- where the text begins
+-- line and column are known where the text begins, as it begins a line
 pub known_at_start : (explain : Bool) (text : List ℕ) (start : TextStart)
     → Known explain text (record { start = start; offset = 0; line = start.line; column = 1 })
 known_at_start explain text start = record {
@@ -96,7 +101,7 @@ known_at_start explain text start = record {
       });
 }
 
--- and further on
+-- and so at each later offset, by the bytes between
 pub known_on : (explain : Bool) (text : List ℕ) (place : Place) (b line column : ℕ) → Known explain text place
     → place.offset ≤ b → b ≤ length text
     → line ≡ place.line + line_ends (take (b - place.offset) (drop place.offset text))
@@ -126,6 +131,7 @@ known_on explain text place b line column known forward within lines columns =
 
 -- ---- one place or another
 
+-- an offset in the input, by the code's branches and by the definition's
 pub either_moved : (b : Bool) (start x y z : ℕ)
     → start + (if b then x else y + z) ≡ (if b then start + x else start + y + z)
 either_moved true start x y z = refl

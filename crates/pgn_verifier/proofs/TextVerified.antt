@@ -1,4 +1,6 @@
--- The games of a text, one after another: after each game what was written and counted is that of the games so far.
+-- For the loop of `verify_text`, which verifies the games of a text one after another. By its invariant (SoFar) the
+-- reports on the games before the offset `at` were written and counted. A game, or a fault after which reading goes on,
+-- keeps this; no game left, any other fault and a failed write end the loop.
 use Rattle.std.proofs.Common.{◌≡◌, ℕ, zero, suc, ◌+◌, ◌≤◌, ◌<◌, Bool, List, [], ◌∷◌, ◌++◌, length, Option, Some, None, Result, Ok, Err, refl, sym, ap, subst, ◌∙◌, append_assoc, append-nil, arith, if◌then◌else◌}
 use Rattle.std.specs.Option.{option_map_or}
 use Rattle.byte_devices.specs.Devices.{OutputState, Took, CutShort}
@@ -13,7 +15,8 @@ use Rattle.pgn_verifier.proofs.LinesWritten.{placed_line, wrote_none, took_after
 
 -- ---- the reports that are left
 
--- what is left of a text has no more games than bytes
+-- the reports from `at` on are that on the game there, and those on the games after it. `n` bounds how many games there
+-- are: a text has no more games than bytes
 left : (goes_on : Bool) (strict : Strictness) (start n : ℕ) (text : List ℕ) (at : ℕ)
     (answer : Result (Option PgnEnd) GameFault) (s : State) → judged_at strict text at ≡ answer
     → s ≡ (read_at strict.draws_of_2014 text at).state
@@ -30,6 +33,9 @@ left goes_on strict start n text at answer s h k =
 
 -- ---- the games before an offset were reported
 
+-- the loop at the offset `at`, where the reports `done` are on the games before it: they were written (`took`) and
+-- counted (`is`), and the reports on the text are these and those from `at` on (`all`). `few` and `few_moves` bound the
+-- counts, since each game and each half-move has a byte
 pub record SoFar (options : VerifyOptions) (place : TextStart) (text : List ℕ) (before : Tally)
     (w w' : OutputState) (at : ℕ) (tally : Tally) (done : List Placed) : Type 0 where
   pub within : at ≤ length text
@@ -43,6 +49,7 @@ pub record SoFar (options : VerifyOptions) (place : TextStart) (text : List ℕ)
   pub all : placed_of place.goes_on options.strict place.offset text
       ≡ done ++ placed_from place.goes_on options.strict place.offset (suc n) text at
 
+-- this holds before the first game
 pub begun : (options : VerifyOptions) (place : TextStart) (text : List ℕ) (before : Tally) (w : OutputState)
     → SoFar options place text before w w 0 before []
 begun options place text before w = record {
@@ -56,10 +63,11 @@ begun options place text before w = record {
   all = ap (λ k. placed_from place.goes_on options.strict place.offset k text 0) (omega arith);
 }
 
--- the end of a line on the game from `at` to `end`
+-- the end of a line that shows the span of the game from `at` to `end`, if spans are asked for
 abbrev pub span_at : VerifyOptions → ℕ → List ℕ → ℕ → ℕ → List ℕ
 span_at options start text at end = span_from options (start + game_begin text at) (start + end)
 
+-- a round of the loop, at the game from `at` on
 module _ (options : VerifyOptions) (place : TextStart) (text : List ℕ) (before : Tally) (w w' w'' : OutputState)
     (at : ℕ) (tally : Tally) (done : List Placed) (s : SoFar options place text before w w' at tally done)
   where
@@ -87,6 +95,7 @@ module _ (options : VerifyOptions) (place : TextStart) (text : List ℕ) (before
     abbrev Stands : List ℕ → Type 0
     Stands input = StandsIf options.explain place input text
 
+    -- no game is left: all reports were written
     pub all_written : (E : Type 0) (input : List ℕ) → Stands input → judged_at options.strict text at ≡ Ok None
         → Writes {E = E} options input before w w' (Ok tally) reports
     all_written E input stands h =
@@ -120,6 +129,7 @@ module _ (options : VerifyOptions) (place : TextStart) (text : List ℕ) (before
           all = longer ∙ sym (append_assoc done (r ∷ []) (later (suc m) there));
         }
 
+    -- a game without a fault, whose line was written; the loop goes on at its end
     pub game_written : (end : PgnEnd) (g : State) → judged_at options.strict text at ≡ Ok (Some end)
         → g ≡ (read_at options.strict.draws_of_2014 text at).state
         → length g.moves + at ≤ end.offset → at < end.offset → end.offset ≤ length text
@@ -136,6 +146,7 @@ module _ (options : VerifyOptions) (place : TextStart) (text : List ℕ) (before
         end.offset further within refl (omega (arith, few, further)) (omega (arith, few_moves, moves))
         (λ input stands. took) (due (Ok (Some end)) g h k)
 
+    -- writing the line of a game without a fault failed
     pub game_broke : {E : Type 0} (e : E) (input : List ℕ) → Stands input → (end : PgnEnd) (g : State)
         → judged_at options.strict text at ≡ Ok (Some end) → g ≡ (read_at options.strict.draws_of_2014 text at).state
         → CutShort w' w'' (if options.quiet then [] else game_line (next_number tally) (length g.moves) end.outcome
@@ -182,6 +193,7 @@ module _ (options : VerifyOptions) (place : TextStart) (text : List ℕ) (before
             (faulty ∷ [])
             (subst (Took w' w'') (one_line options input (next_number tally) faulty) took, refl))
 
+        -- writing the lines of a fault failed
         pub fault_broke : {E : Type 0} (e : E) (input : List ℕ) → Stands input
             → CutShort w' w'' (placed_line options input (next_number tally) faulty)
             → Writes options input before w w'' (Err e) reports

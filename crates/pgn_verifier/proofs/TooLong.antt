@@ -1,4 +1,5 @@
--- A piece that is too long is reported in one line, or two.
+-- A piece of a collection that is too long to be read is reported as a fault, with a line that explains it if that is
+-- asked for. The lines that `too_long_lines` makes are those of the definition (lines_are).
 use Rattle.std.proofs.Common.{◌≡◌, ℕ, ◌+◌, Bool, true, List, [], ◌∷◌, ◌++◌, Some, None, Ok, Err, refl, sym, ap, subst, ◌∙◌, append-nil, if◌then◌else◌}
 use Rattle.std.specs.Option.{option_map_or}
 use Rattle.byte_devices.specs.Devices.{OutputState, Took, CutShort}
@@ -17,6 +18,7 @@ long_lines explain input number at span names unread beginning =
     fault_line number (record { kind = Pgn TooLong; offset = at }) span names
     ++ (if explain then explanation_line input at (shown beginning ++ unread) else [])
 
+-- the place where the piece begins is right in the input, so faults at its first byte can be explained
 pub stands_there : (explain : Bool) (start : TextStart) (line : ℕ) (input : List ℕ) (piece : PieceSeen)
     → start.offset ≡ piece.offset → start.line ≡ line → PieceStandsIf explain line input piece
     → StandsIf explain start input []
@@ -27,6 +29,7 @@ stands_there explain start line input piece offset is stands e =
       column = ap (column_of input) offset ∙ there.column;
     }
 
+-- the parts of the lines, as the code has them, are those that the definition names
 module _ (options : VerifyOptions) (input : List ℕ) (before : Tally) (w w' : OutputState) (piece : PieceSeen)
     (none : piece.bytes ≡ None) (number at : ℕ) (span names unread beginning : List ℕ)
     (number_is : number ≡ next_number before)

@@ -1,5 +1,6 @@
--- After a fault at what can't be read no end of the game is found: such a fault is one of reading, not one that is
--- looked for at a game's end.
+-- If a game's fault is at what can't be read as a token, no end of the game is found, so nothing is read after it
+-- (none_next). For such a fault is one of reading the game, for which the law `unreadable_games_have_no_end` says so,
+-- and never one that is looked for at a game's end.
 use Rattle.std.proofs.Common.{◌≡◌, ℕ, Bool, true, false, List, length, Option, Some, None, IfErr, IfSome, Result, Ok, Err, refl, sym, ap, ◌∙◌, if◌then◌else◌}
 use Rattle.std.specs.Option.{option_eq, option_map, option_map_or, option_or}
 use Rattle.byte_devices.specs.Bytes.{after_byte_order_mark}
@@ -15,6 +16,7 @@ use Rattle.pgn_verifier.specs.shared.Contradictions.{looked_for, variation_in}
 use Rattle.pgn_verifier.specs.ties.AfterFaults.{IsFaultAt, stops_tokens}
 use Rattle.pgn_verifier.proofs.FaultsInText.{either}
 
+-- the answer with this fault, and that without one
 abbrev faulty : GameFault → Result (Option PgnEnd) GameFault
 faulty fault = Err fault
 
@@ -29,10 +31,12 @@ never_well o f e = cc
 
 -- ---- faults that are looked for at a game's end
 
--- a fault, if there is one, is not at what can't be read, wherever it is
+-- the fault, if there is one, isn't at what can't be read as a token, at whatever offset
 abbrev IsReadable : List ℕ → Option GameFault → Type 0
 IsReadable text fault = IfSome fault (λ f. stops_tokens text f.offset f.kind ≡ false)
 
+-- so it is for the first of two faults, for one that may not be looked for, and for each kind of fault that is looked
+-- for at a game's end
 first_of : (text : List ℕ) (first second : Option GameFault) → IsReadable text first → IsReadable text second
     → IsReadable text (option_or first second)
 first_of text (Some fault) second h k = h

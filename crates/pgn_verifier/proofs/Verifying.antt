@@ -1,4 +1,5 @@
--- What verifying reads and writes, from what its parts did to the devices.
+-- What `verify` and `verify_collection` did to input and output together, as their contracts say it (`Ran`), put
+-- together from what was read and what was written: one lemma for each way in which they end.
 use Rattle.std.proofs.Common.{◌≡◌, ℕ, Bool, true, false, List, Result, Ok, Err, IsErr, refl, sym, subst, append-nil, IfErr}
 use Rattle.byte_devices.specs.Devices.{InputState, OutputState, Took, Sent, CutShort}
 use Rattle.byte_devices.specs.Transfers.{InputGave, Ran, nothing, all_of, all_unflushed}
@@ -12,6 +13,7 @@ use Rattle.pgn_verifier.specs.Reports.{Placed, counts_of, verified}
 use Rattle.pgn_verifier.proofs.shared.ReportsAre.{are_reports, are_collection_reports}
 use Rattle.pgn_verifier.specs.ties.OnTheWay.{IsAll, IsNotAll, WritesText, text_lines, collection_lines, collection_written}
 
+-- what was read, in the form of a transfer; then the same if the last read failed
 gave : (r r' : InputState) (text : List ℕ) (ended : Bool) → HasRead ended r r' text
     → InputGave r r' (came r' text ended false)
 gave r r' text ended h = record {
@@ -36,6 +38,7 @@ gave_before_a_fault r r' text h = record {
 
 -- ---- a text
 
+-- not all of the input was read, so nothing was written; the fault says why
 not_all_read : (options : VerifyOptions) (r r' : InputState) (w : OutputState) (fault : VerifyFault)
     → IsNotAll r r' fault
     → Ran (Verifies options (Err fault)) (record { input = r; output = w }) (record { input = r'; output = w })
@@ -52,17 +55,20 @@ not_all_read options r r' w NoMemory (text, read) =
 not_all_read options r r' w InputTooLong (text, read, long) =
     (came r' text false false, nothing, gave r r' text false read, took_nothing w, (refl, (refl, refl, long, refl)))
 
+-- the same at the exit of a `?`
 pub not_all_exit : (options : VerifyOptions) (r r' : InputState) (w : OutputState)
     (result : Result Verified VerifyFault) → IsErr result → IfErr result (λ fault. IsNotAll r r' fault)
     → Ran (Verifies options result) (record { input = r; output = w }) (record { input = r'; output = w })
 not_all_exit options r r' w (Ok verdict) is h = cc
 not_all_exit options r r' w (Err fault) is h = not_all_read options r r' w fault h
 
+-- all was read, but there was no memory for the board's tables or the game
 pub no_memory : (options : VerifyOptions) (r r' : InputState) (w : OutputState) (text : List ℕ) → IsAll r r' text
     → Ran (Verifies options (Err NoMemory)) (record { input = r; output = w }) (record { input = r'; output = w })
 no_memory options r r' w text (read, few) =
     (came r' text true false, nothing, gave r r' text true read, took_nothing w, (refl, (refl, (λ e. few), refl)))
 
+-- the lines of all games were written
 pub text_verified : (E : Type 0) (options : VerifyOptions) (r r' : InputState) (w w' : OutputState) (text : List ℕ)
     (verdict : Verified) → IsAll r r' text → WritesText {E = E} options text w w' (Ok verdict)
     → Ran (Verifies options (Ok verdict)) (record { input = r; output = w }) (record { input = r'; output = w' })
@@ -74,6 +80,7 @@ text_verified E options r r' w w' text verdict (read, few) (is, sent) = (
   (refl, ((refl, refl), few, (placed_on options.strict 0 text, are_reports options.strict 0 text, refl, is))),
 )
 
+-- all was read, and a write or the flush failed
 pub text_broke_off : (options : VerifyOptions) (r r' : InputState) (w w' : OutputState) (text : List ℕ)
     → IsAll r r' text → CutShort w w' (text_lines options text)
     → Ran (Verifies options (Err WriteFailed)) (record { input = r; output = w }) (record { input = r'; output = w' })
@@ -90,6 +97,7 @@ text_broke_off options r r' w w' text (read, few) (start, begins, failed) = (
 
 -- ---- a collection
 
+-- all pieces were read, and their lines and the counts were written and flushed
 pub collection_verified : (options : VerifyOptions) (r r' : InputState) (w w' : OutputState) (text : List ℕ)
     (verdict : Verified) → HasRead true r r' text → Sent w w' (collection_written options true text)
     → verdict ≡ verified (counts_of (collection_placed options.strict true text))
@@ -110,6 +118,7 @@ collection_verified options r r' w w' text verdict read sent is = (
   ),
 )
 
+-- a write or the flush failed
 pub collection_broke_off : (options : VerifyOptions) (r r' : InputState) (w w' : OutputState) (ended : Bool)
     (text : List ℕ) → HasRead ended r r' text → CutShort w w' (collection_written options ended text)
     → Ran (VerifiesCollection options (Err WriteFailed)) (record { input = r; output = w })

@@ -17,7 +17,7 @@ pub struct Strictness {
     pub board: bool,
 }
 
-/// Only a move after the end of the game.
+/// Nothing is looked for but a move after the end of the game, also after a draw by fivefold repetition or by 75 moves.
 pub const LENIENT: Strictness = Strictness {
     draws_of_2014: true,
     variations: false,
@@ -26,7 +26,8 @@ pub const LENIENT: Strictness = Strictness {
     board: false,
 };
 
-/// That, an unknown variant, and a result that differs.
+/// What [`LENIENT`] looks for, an unknown variant, and a termination marker that differs from the tag `Result` or from
+/// the board's verdict.
 pub const STRICT_FAULTS: Strictness = Strictness {
     draws_of_2014: true,
     variations: false,

@@ -1,4 +1,6 @@
--- One text after another is added as the two together, where some of it waits in the buffer or a write fails.
+-- Texts that are added to a buffer one after the other. The writer has taken the front of all the bytes, and the buffer
+-- holds the others (TookSome); or the writer failed, and took only a beginning of them (CutShort). `w`, `x` and `y` are
+-- what the buffer holds before, between and after the steps, `t` and `u` the texts.
 use Rattle.std.proofs.Common.{◌≡◌, ℕ, ◌+◌, ◌<◌, List, [], ◌++◌, length, get_or, take, drop, Result, Ok, Err, IsErr, sym, ap, ◌∙◌, append_assoc, append-nil, flat_map, take-append-drop}
 use Rattle.std.proofs.lemmas.List.Concat.{flat_map-append}
 use Rattle.byte_devices.specs.Devices.{OutputState, CutShort, Puts}
@@ -7,7 +9,7 @@ use Rattle.pgn_writer.specs.ties.Waiting.{TookSome, Adds}
 
 -- ---- texts that are added
 
--- a text, and another
+-- two texts added one after the other are one text added
 pub added_more : (a b c : OutputState) (w x y t u : List ℕ) → TookSome a b w x t → TookSome b c x y u
     → TookSome a c w y (t ++ u)
 added_more a b c w x y t u h k = record {
@@ -17,7 +19,7 @@ added_more a b c w x y t u h k = record {
       ∙ sym (append_assoc h.out k.out y);
 }
 
--- a text, and one that broke off
+-- the first text was added, and at the second the writer failed: it took a beginning of both
 pub added_break : (a b c : OutputState) (w x t u : List ℕ) → TookSome a b w x t → CutShort b c (x ++ u)
     → CutShort a c (w ++ (t ++ u))
 added_break a b c w x t u h k =
@@ -25,21 +27,23 @@ added_break a b c w x t u h k =
     sym (append_assoc w t u) ∙ ap (λ v. v ++ u) h.is ∙ append_assoc h.out x u in
     rw all (breaks_more a b c h.out (x ++ u) h.took k)
 
--- where a text broke off, so did each longer one
+-- if the writer failed at a text, it took a beginning also of any longer text that begins with it
 pub break_longer : (a b : OutputState) (w t u : List ℕ) → CutShort a b (w ++ t) → CutShort a b (w ++ (t ++ u))
 break_longer a b w t u h = rw (← append_assoc w t u) (breaks_longer a b (w ++ t) u h)
 
+-- at the exit of a `?`, where the result is an error, a text that was cut short fulfils `Adds`
 pub adds_exit : {A E : Type 0} (a b : OutputState) (r : Result A E) (w x t : List ℕ) → CutShort a b (w ++ t) → IsErr r
     → Adds a b w x r t
 adds_exit a b (Ok v) w x t h k = cc
 adds_exit a b (Err e) w x t h k = h
 
+-- the first text was added, and the step for the second succeeded or failed: so did the step for both
 pub adds_more : {A E : Type 0} (a b c : OutputState) (r : Result A E) (w x y t u : List ℕ) → TookSome a b w x t
     → Adds b c x y r u → Adds a c w y r (t ++ u)
 adds_more a b c (Ok v) w x y t u h k = added_more a b c w x y t u h k
 adds_more a b c (Err e) w x y t u h k = added_break a b c w x t u h k
 
--- what waited was written, and then the text
+-- the buffer was emptied into the writer, and then the text was put straight to the writer: this adds the text
 pub put_after : {A E : Type 0} (a b c : OutputState) (r : Result A E) (w x t : List ℕ) → TookSome a b w x [] → x ≡ []
     → Puts b c r t → Adds a c w x r t
 put_after {A = A} {E = E} a b c r w x t h none k = by_result r k
@@ -55,22 +59,23 @@ put_after {A = A} {E = E} a b c r w x t h none k = by_result r k
     }
     by_result (Err e) k = rw all (breaks_more a b c h.out t h.took k)
 
--- where all was added, what waits is written
+-- after a text was added, what the buffer holds is written: then the writer got all, or failed at some byte of it
 pub finished : {A E : Type 0} (a b c : OutputState) (r : Result A E) (w x t : List ℕ) → TookSome a b w x t
     → Puts b c r x → Puts a c r (w ++ t)
 finished a b c (Ok v) w x t h k = rw h.is (took_more a b c h.out x h.took k)
 finished a b c (Err e) w x t h k = rw h.is (breaks_more a b c h.out x h.took k)
 
--- ---- texts of the elements of a list
+-- ---- the texts `f x` of the elements x of a list, added one after the other
 
--- one of them more
+-- the texts of the first i elements were added, and then that of element i: those of the first i + 1 were
 pub parts_more : {X : Type 0} (a b c : OutputState) (w x y : List ℕ) (f : X → List ℕ) (xs : List X) (i : ℕ) (d : X)
     → i < length xs → TookSome a b w x (flat_map f (take i xs)) → TookSome b c x y (f (get_or xs i d))
     → TookSome a c w y (flat_map f (take (i + 1) xs))
 parts_more a b c w x y f xs i d h s t = rw (flat_more f xs i d h)
     (added_more a b c w x y (flat_map f (take i xs)) (f (get_or xs i d)) s t)
 
--- one of them broke off
+-- the texts of the first i elements were added, and the writer failed at that of element i: it took a beginning of all
+-- the texts
 pub parts_break : {X : Type 0} (a b c : OutputState) (w x : List ℕ) (f : X → List ℕ) (xs : List X) (i : ℕ) (d : X)
     → i < length xs → TookSome a b w x (flat_map f (take i xs)) → CutShort b c (x ++ f (get_or xs i d))
     → CutShort a c (w ++ flat_map f xs)

@@ -1,5 +1,7 @@
--- Tokens in full lines. They are written by how many bytes the line that is begun has; that gives the lines of the
--- definitions, which are full, and no other lines are.
+-- Tokens in lines of at most 79 characters, as full as they can be. Three accounts give the same lines: the definition,
+-- whose list has the last line first (`lines_of`); the same from the first line on (lines_are); and the text as it is
+-- written, by how many bytes the line begun has so far (all_filled). No other lines hold these tokens and are full
+-- (only_lines).
 use mathlib.Core.List.{reverse_aux}
 use Rattle.std.proofs.Common.{◌≡◌, ℕ, ◌+◌, ◌<◌, ◌≤◌, Bool, true, false, cond, eqb, leb, List, [], ◌∷◌, ◌++◌, length, map, reverse, refl, sym, ap, subst, ◌∙◌, append_assoc, arith, le-leb, flat_map, fold, append-nil, length-append}
 use Rattle.std.proofs.lemmas.Bool.Decides.{nat_tests}
@@ -8,7 +10,7 @@ use Rattle.pgn_writer.specs.shared.Lines.{lines_from, lines_begun, line_close, w
 
 -- ---- the last line first, and the first line first
 
--- more tokens after those whose last line is `line` and whose lines before that are `earlier`
+-- more tokens `ts`, where so far the last line is `line`, and `earlier` has the lines before it, the last one first
 lines_on : (ts : List (List ℕ)) (line : List ℕ) (earlier : List (List ℕ))
     → reverse (fold with_token (line ∷ earlier) ts) ≡ reverse_aux earlier (lines_from line ts)
 lines_on [] line earlier = refl
@@ -24,6 +26,7 @@ lines_on (t ∷ ts) line earlier =
     by_test true here next = here
     by_test false here next = next
 
+-- the definition's lines are those that are filled from the first one on
 pub lines_are : (tokens : List (List ℕ)) → lines_of tokens ≡ lines_begun tokens
 lines_are [] = refl
 lines_are (t ∷ ts) = lines_on ts t []
@@ -36,6 +39,8 @@ abbrev pub filled_from : List ℕ → ℕ → List (List ℕ) → List ℕ
 filled_from prefix column [] = line_close column
 filled_from prefix column (t ∷ ts) = wrapped_token prefix column t ++ filled_from prefix (next_column column t) ts
 
+-- what is written from a begun line on, with the line itself before it, is the text of the lines from that line on; by
+-- induction on the tokens left
 line_filled : (prefix line : List ℕ) (ts : List (List ℕ)) → 0 < length line → AreShort ts
     → prefix ++ (line ++ filled_from prefix (length line) ts) ≡ ended prefix (lines_from line ts)
 line_filled prefix line [] some short =
@@ -65,6 +70,7 @@ line_filled prefix line (t ∷ ts) some short =
         ≡ (prefix ++ line ++ 10 ∷ []) ++ (prefix ++ (t ++ more)) = simp append_assoc in
         regroup ∙ ap (λ xs. (prefix ++ line ++ 10 ∷ []) ++ xs) next
 
+-- what is written for all tokens, if no line is begun before, is the text of the definition's lines
 pub all_filled : (prefix : List ℕ) (ts : List (List ℕ)) → AreShort ts
     → filled_from prefix 0 ts ≡ ended prefix (lines_of ts)
 all_filled prefix [] short = refl
@@ -74,15 +80,16 @@ all_filled prefix (t ∷ ts) short =
 
 -- ---- the lines as lists of tokens
 
+-- a token at the end of a line that has tokens comes after a space
 pub line_text-push : (t : List ℕ) (ts : List (List ℕ)) (u : List ℕ)
     → line_text (t ∷ ts ++ u ∷ []) ≡ line_text (t ∷ ts) ++ 32 ∷ u
 line_text-push t [] u = refl
 line_text-push t (s ∷ ts) u = ap (λ text. t ++ 32 ∷ text) (line_text-push s ts u)
     ∙ sym (append_assoc t (32 ∷ line_text (s ∷ ts)) (32 ∷ u))
 
--- ---- no others are
+-- ---- no other lines are full and hold these tokens
 
--- tokens after others in a line
+-- the text of tokens that come after others in a line, each after a space
 abbrev tail : List (List ℕ) → List ℕ
 tail ts = flat_map (λ u. 32 ∷ u) ts
 
@@ -102,7 +109,7 @@ goes_on line (u ∷ ts) rest h =
     ap (λ b. cond b (lines_from (line ++ 32 ∷ u) (ts ++ rest)) (line ∷ lines_from u (ts ++ rest))) fits
     ∙ goes_on (line ++ 32 ∷ u) ts rest few ∙ ap (λ l. lines_from l rest) group
 
--- full lines are those of their tokens
+-- full lines, the first of which begins with the token u, are the lines that their tokens fill
 full_lines : (u : List ℕ) (us : List (List ℕ)) (lines : List (List (List ℕ))) → AreFullLines ((u ∷ us) ∷ lines)
     → lines_from u (us ++ flat_map (λ l. l) lines) ≡ map line_text ((u ∷ us) ∷ lines)
 full_lines u us [] h =
@@ -125,6 +132,7 @@ full_lines u us ((v ∷ vs) ∷ lines) h =
           (ap (λ xs. (u ∷ us) ∷ xs) is);
     }))
 
+-- lines that are as full as they can be are the definition's lines of their tokens
 pub only_lines : (lines : List (List (List ℕ))) → AreFullLines lines
     → map line_text lines ≡ lines_of (flat_map (λ l. l) lines)
 only_lines [] h = refl

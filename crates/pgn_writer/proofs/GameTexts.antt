@@ -1,4 +1,7 @@
--- The text of a game has three parts, put one after the other; if one can't be put, a beginning of the whole was.
+-- The text of a game is put in parts: tags and empty line, moves, empty line; and these in parts of their own, down to
+-- a move's number and SAN. Each text of three parts is a HasParts; if one of them can't be put, the writer took a
+-- beginning of the whole (first_broke, second_broke), and otherwise what becomes of the last becomes of the whole
+-- (third_put).
 use Rattle.std.proofs.Common.{◌≡◌, ℕ, zero, suc, ◌+◌, Bool, true, false, eqb, List, [], ◌∷◌, ◌++◌, take, slice_get, Some, Result, refl, sym, ap, subst, ◌∙◌, append_assoc, append-nil, add-one, arith, IsTrue, flat_map}
 use Rattle.std.proofs.{lemmas.List.Concat.flat_map-append, lemmas.Bool.Decides.nat_tests}
 use Rattle.chess_base.specs.{declared.man.Move.Move, declared.man.Variant.Variant, declared.setup.Setup.Setup, Moves.is_legal, Moves.after}
@@ -14,21 +17,23 @@ use Rattle.pgn_writer.proofs.{FilledLines.filled_from, FilledLines.all_filled, N
 
 -- ---- texts of three parts
 
+-- `text` is `t`, `u` and `v`, one after the other
 pub record HasParts (t u v text : List ℕ) : Type 0 where
   pub is : text ≡ t ++ (u ++ v)
 
--- the first could not be put
+-- the writer failed at the first part, so it took a beginning of the whole
 pub first_broke : (a b : OutputState) (w t u v text : List ℕ) → HasParts t u v text → CutShort a b (w ++ t)
     → CutShort a b (w ++ text)
 first_broke a b w t u v text parts h = rw parts.is (break_longer a b w t (u ++ v) h)
 
--- the second could not be put
+-- the first part was added, and the writer failed at the second: it took a beginning of the whole
 pub second_broke : (a b c : OutputState) (w x t u v text : List ℕ) → HasParts t u v text → TookSome a b w x t
     → CutShort b c (x ++ u) → CutShort a c (w ++ text)
 second_broke a b c w x t u v text parts h k =
     rw parts.is (added_break a b c w x t (u ++ v) h (break_longer b c x u v k))
 
--- the first two were put, and what became of the third became of all
+-- the first two parts were added; if the third is, so is the whole, and if the writer fails at it, it took a beginning
+-- of the whole
 pub third_put : {A E : Type 0} (a b c d : OutputState) (r : Result A E) (w x y z t u v text : List ℕ)
     → HasParts t u v text → TookSome a b w x t → TookSome b c x y u → Adds c d y z r v → Adds a d w z r text
 third_put a b c d r w x y z t u v text parts h k l =
@@ -36,7 +41,9 @@ third_put a b c d r w x y z t u v text parts h k l =
 
 -- ---- tags
 
--- the tags of a start, and the last ones after them
+-- the lines of the tags after the roster are those of the start (`FEN` and `SetUp`) and then the last ones
+-- (`Termination` and `Variant`). Here and below `before` is the prefix as the code has it after a step, still the same
+-- `prefix`
 further_is : (prefix before : List ℕ) (start : Setup) (v : Variant) (t : Termination) → v ≡ start.variant
     → before ≡ prefix → ended prefix (further_lines start t) ≡ ended prefix (start_lines_in start.variant start)
     ++ ended before (last_lines v t)
@@ -46,6 +53,7 @@ further_is prefix before start v t is b =
     ∙ ap (λ q. ended prefix (start_lines_in start.variant start) ++ ended q (last_lines start.variant t)) (sym b)
     ∙ ap (λ u. ended prefix (start_lines_in start.variant start) ++ ended before (last_lines u t)) (sym is)
 
+-- the writer failed at the lines of FEN and SetUp, so it took a beginning of all the tags after the roster
 pub start_broke : (a b : OutputState) (w prefix : List ℕ) (start : Setup) (t : Termination)
     → CutShort a b (w ++ ended prefix (start_lines_in start.variant start))
     → CutShort a b (w ++ ended prefix (further_lines start t))
@@ -54,6 +62,7 @@ start_broke a b w prefix start t h =
     (break_longer a b w (ended prefix (start_lines_in start.variant start)) (ended prefix (last_lines start.variant t))
     h)
 
+-- the lines of FEN and SetUp were added; then what becomes of the last tags becomes of all tags after the roster
 pub further_put : {A E : Type 0} (a b c : OutputState) (r : Result A E) (w x y prefix before : List ℕ) (start : Setup)
     (v : Variant) (t : Termination) → v ≡ start.variant → before ≡ prefix
     → TookSome a b w x (ended prefix (start_lines_in start.variant start))
@@ -62,7 +71,7 @@ further_put a b c r w x y prefix before start v t is same h k =
     subst (Adds a c w y r) (sym (further_is prefix before start v t is same))
     (adds_more a b c r w x y (ended prefix (start_lines_in start.variant start)) (ended before (last_lines v t)) h k)
 
--- the tags of a game and an empty line
+-- the parts of what `put_tag_lines` puts: the roster, the tags after it, and an empty line
 pub tags_are : (prefix before last_before : List ℕ) (t : Tags) (outcome : Outcome) (start : Setup)
     (termination : Termination) (s : State) → outcome ≡ outcome_now s → start ≡ s.start
     → termination ≡ termination_of t.ended outcome → before ≡ prefix → last_before ≡ prefix
@@ -81,6 +90,7 @@ tags_are prefix before last_before t outcome start termination s o is said b l =
           ∙ rw (b, l, said, o, is) refl;
     }
 
+-- the text of all lines is that of the tags' lines and an empty line, of the moves' lines, and of an empty line
 parts_ended : (prefix : List ℕ) (tags moves : List (List ℕ))
     → ended prefix (tags ++ [] ∷ moves ++ [] ∷ [])
     ≡ ended prefix (tags ++ [] ∷ []) ++ ended prefix moves ++ ended prefix ([] ∷ [])
@@ -99,7 +109,7 @@ pgn_filled prefix t s short = parts_ended prefix (tag_lines t s) (lines_of (game
     ∙ ap (λ xs. ended prefix (tag_lines t s ++ [] ∷ []) ++ xs ++ ended prefix ([] ∷ []))
     (sym (all_filled prefix (game_tokens s) short))
 
--- a game's tags, its moves, and an empty line
+-- the parts of what `put_game` puts: the tags with an empty line, the moves' lines, and an empty line
 pub game_is : (prefix before last_before : List ℕ) (t : Tags) (s : State) → before ≡ prefix → last_before ≡ prefix
     → HasParts (ended prefix (tag_lines t s ++ [] ∷ [])) (ended before (lines_of (game_tokens s)))
     (last_before ++ [] ++ 10 ∷ []) (pgn prefix t s)
@@ -115,7 +125,8 @@ game_is prefix before last_before t s b l =
           ∙ rw (b, l) refl;
     }
 
--- all was put after nothing, and what waits is written
+-- the buffer was empty at first and the whole text was added; once what is left in the buffer is written, the writer
+-- got the text
 pub game_written : {A E : Type 0} (a b c : OutputState) (r : Result A E) (w x prefix before : List ℕ) (t : Tags)
     (s : State) → w ≡ [] → before ≡ prefix → TookSome a b w x (pgn before t s) → Puts b c r x
     → Puts a c r (pgn prefix t s)
@@ -123,7 +134,7 @@ game_written a b c r w x prefix before t s none is h k =
     subst (Puts a c r) (ap (λ v. v ++ pgn before t s) none ∙ ap (λ v. pgn v t s) is)
     (finished a b c r w x (pgn before t s) h k)
 
--- ---- tokens, one list after another
+-- ---- tokens of one list after those of another: their text, and the bytes in the last line (its column)
 
 pub placed_all-append : (prefix : List ℕ) (column : ℕ) (ts us : List (List ℕ))
     → placed_all prefix column (ts ++ us) ≡ placed_all prefix column ts
@@ -148,7 +159,8 @@ filled_from-append prefix column (t ∷ ts) us =
     ∙ sym (append_assoc (wrapped_token prefix column t) (placed_all prefix (next_column column t) ts)
     (filled_from prefix (column_after_all column (t ∷ ts)) us))
 
--- the moves of a game, its outcome, and the end of the line
+-- the parts of what `put_move_text` puts: the tokens of the moves, the outcome, and the end of the line. `col` and
+-- `end` are the columns after the first part and after the second
 pub moves_are : (prefix before outcome : List ℕ) (column col end : ℕ) (game : Seen) → IsPlayable game → column ≡ 0
     → before ≡ prefix → col ≡ column_after_all column (numbered_moves true game.state.start game.state.moves)
     → outcome ≡ outcome_text (outcome_now game.state) → end ≡ next_column col outcome
@@ -165,13 +177,14 @@ moves_are prefix before outcome column col end game playable none b is o e =
 
 -- ---- the tokens of a move
 
+-- one token that is put is a list of one token put into lines
 one_placed : (prefix before text token : List ℕ) (column col : ℕ) → before ≡ prefix → col ≡ column → text ≡ token
     → wrapped_token before col text ≡ placed_all prefix column (token ∷ [])
 one_placed prefix before text token column col p c t =
     ap (λ v. wrapped_token v col text) p ∙ ap (λ n. wrapped_token prefix n text) c
     ∙ ap (λ v. wrapped_token prefix column v) t ∙ sym (append-nil (wrapped_token prefix column token))
 
--- the number could not be put
+-- the writer failed at the move's number, so it took a beginning of the number and the move
 pub number_broke : (a b : OutputState) (w prefix : List ℕ) (column : ℕ) (f : Bool) (p q : Setup) (m : Move) → q ≡ p
     → CutShort a b (w ++ placed_all prefix column (number_if_due q.side f q.fullmove))
     → CutShort a b (w ++ placed_all prefix column (numbered_move f p m))
@@ -182,7 +195,7 @@ number_broke a b w prefix column f p q m same h =
     (placed_all prefix (column_after_all column number) (san p m ∷ []))
     (subst (λ (s : Setup). CutShort a b (w ++ placed_all prefix column (number_if_due s.side f s.fullmove))) same h))
 
--- the move could not be put
+-- the number was added, and the writer failed at the move's SAN: it took a beginning of both
 pub move_broke : (a b c : OutputState) (w x prefix before text : List ℕ) (column col : ℕ) (f : Bool) (p q : Setup)
     (m : Move) → q ≡ p → before ≡ prefix → col ≡ column_after_all column (number_if_due q.side f q.fullmove)
     → text ≡ san p m
@@ -200,7 +213,7 @@ move_broke a b c w x prefix before text column col f p q m same pre is said h k 
     (subst (λ v. CutShort b c (x ++ v)) (one_placed prefix before text (san p m) (column_after_all column number) col
     pre here said) k))
 
--- both were put
+-- number and SAN were added, so the tokens of the move were put into lines
 pub move_put : (a b c : OutputState) (w x y prefix before text : List ℕ) (column col : ℕ) (f : Bool) (p q : Setup)
     (m : Move) → q ≡ p → before ≡ prefix → col ≡ column_after_all column (number_if_due q.side f q.fullmove)
     → text ≡ san p m
@@ -228,6 +241,7 @@ legal_next start [] (suc i) m h e = cc
 legal_next start (x ∷ ms) zero m h e = let same : x ≡ m = cc in subst (λ v. IsTrue (is_legal start v)) same h.0
 legal_next start (x ∷ ms) (suc i) m h e = legal_next (after start x) ms i m h.1 e
 
+-- the position after one more move of the list, move i, is that after the moves before it and then this one
 last_more : (start : Setup) (ms : List Move) (i : ℕ) (m : Move) → slice_get ms i ≡ Some m
     → position_after start (take (suc i) ms) ≡ after (position_after start (take i ms)) m
 last_more start [] zero m e = cc
@@ -235,6 +249,7 @@ last_more start [] (suc i) m e = cc
 last_more start (x ∷ ms) zero m e = let same : x ≡ m = cc in ap (after start) same
 last_more start (x ∷ ms) (suc i) m e = last_more (after start x) ms i m e
 
+-- the tokens of one more move, where the text's first move comes before all of these
 more_after : (p : Setup) (ms : List Move) (i : ℕ) (m : Move) → slice_get ms i ≡ Some m
     → numbered_moves false p (take (suc i) ms) ≡ numbered_moves false p (take i ms)
     ++ numbered_move false (position_after p (take i ms)) m
@@ -247,6 +262,7 @@ more_after p (x ∷ ms) (suc i) m e =
     ∙ sym (append_assoc (numbered_move false p x) (numbered_moves false (after p x) (take i ms))
     (numbered_move false (position_after (after p x) (take i ms)) m))
 
+-- the same where the list begins with the text's first move: only move 0 is numbered as such
 moves_more : (p : Setup) (ms : List Move) (i : ℕ) (m : Move) → slice_get ms i ≡ Some m
     → numbered_moves true p (take (suc i) ms) ≡ numbered_moves true p (take i ms)
     ++ numbered_move (eqb i 0) (position_after p (take i ms)) m
@@ -261,7 +277,7 @@ moves_more p (x ∷ ms) (suc i) m e =
     ∙ sym (append_assoc (numbered_move true p x) (numbered_moves false (after p x) (take i ms))
     (numbered_move false (position_after (after p x) (take i ms)) m)))
 
--- where the moves go on after some of them
+-- the tokens of all moves begin with those of the first n
 moves_split : (f : Bool) (p : Setup) (ms : List Move) (n : ℕ)
     → (rest : List (List ℕ)) × (numbered_moves f p ms ≡ numbered_moves f p (take n ms) ++ rest)
 moves_split f p ms zero = (numbered_moves f p ms, refl)
@@ -276,8 +292,8 @@ moves_split f p (x ∷ ms) (suc n) = by_rest (moves_split false (after p x) ms n
           ∙ sym (append_assoc (numbered_move f p x) (numbered_moves false (after p x) (take n ms)) rest),
     )
 
--- a move after those before it: of the game's moves the one with that number, in the position that they
--- give
+-- what the loop of `put_moves` has at its round i: the prefix and the column that the moves before it left, whether it
+-- is the first round, the position after these moves (`q`), and move i of the game (`m`)
 pub record IsNext (prefix : List ℕ) (column : ℕ) (p : Setup) (ms : List Move) (i : ℕ) (before : List ℕ) (col : ℕ)
     (f : Bool) (q : Setup) (m : Move) : Type 0 where
   pub prefix_is : before ≡ prefix
@@ -286,6 +302,7 @@ pub record IsNext (prefix : List ℕ) (column : ℕ) (p : Setup) (ms : List Move
   pub position : q ≡ position_after p (take i ms)
   pub move : slice_get ms i ≡ Some m
 
+-- the text of one more move comes after that of the moves before it, at the column to which they came
 next_text : (prefix before : List ℕ) (column col : ℕ) (p q : Setup) (ms : List Move) (i : ℕ) (f : Bool) (m : Move)
     → IsNext prefix column p ms i before col f q m
     → placed_all prefix column (numbered_moves true p (take (suc i) ms))
@@ -297,7 +314,7 @@ next_text prefix before column col p q ms i f m n =
     ∙ placed_all-append prefix column so_far next
     ∙ ap (λ v. placed_all prefix column so_far ++ v) (rw (n.prefix_is, n.column_is, n.first, n.position) refl)
 
--- one move more was put
+-- the moves before move i were added, and then move i: the first i + 1 moves were
 pub moves_put : (a b c : OutputState) (w x y prefix before : List ℕ) (column col : ℕ) (p q : Setup) (ms : List Move)
     (i : ℕ) (f : Bool) (m : Move) → IsNext prefix column p ms i before col f q m
     → TookSome a b w x (placed_all prefix column (numbered_moves true p (take i ms)))
@@ -308,7 +325,7 @@ moves_put a b c w x y prefix before column col p q ms i f m n h k =
     (added_more a b c w x y (placed_all prefix column (numbered_moves true p (take i ms)))
     (placed_all before col (numbered_move f q m)) h k)
 
--- one could not be put
+-- the moves before move i were added, and the writer failed at move i: it took a beginning of the text of all moves
 pub moves_broke : (a b c : OutputState) (w x prefix before : List ℕ) (column col : ℕ) (p q : Setup) (ms : List Move)
     (i : ℕ) (f : Bool) (m : Move) → IsNext prefix column p ms i before col f q m
     → TookSome a b w x (placed_all prefix column (numbered_moves true p (take i ms)))
@@ -331,6 +348,7 @@ moves_broke a b c w x prefix before column col p q ms i f m n h k = by_rest (mov
         (subst (λ v. CutShort a c (w ++ v)) (sym (next_text prefix before column col p q ms i f m n))
         (added_break a b c w x so_far (placed_all before col (numbered_move f q m)) h k)))
 
+-- the column after move i is that after the first i + 1 moves
 pub columns_more : (prefix before : List ℕ) (column col new : ℕ) (p q : Setup) (ms : List Move) (i : ℕ) (f : Bool)
     (m : Move) → IsNext prefix column p ms i before col f q m
     → new ≡ column_after_all col (numbered_move f q m)
@@ -346,6 +364,7 @@ columns_more prefix before column col new p q ms i f m n is =
     ∙ ap (column_after_all column) (moves_more p ms i m n.move) ∙ column_after_all-append column so_far next in
     is ∙ here ∙ sym whole
 
+-- the position after move i is that after the first i + 1 moves
 pub positions_more : (p q new : Setup) (ms : List Move) (i : ℕ) (m : Move) → q ≡ position_after p (take i ms)
     → slice_get ms i ≡ Some m → new ≡ after q m → new ≡ position_after p (take (i + 1) ms)
 positions_more p q new ms i m same e is = is ∙ ap (λ v. after v m) same ∙ sym (last_more p ms i m e)

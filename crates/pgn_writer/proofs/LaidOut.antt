@@ -1,4 +1,5 @@
--- The text that is written of a game is laid out as said, and no other text is.
+-- A text that is laid out as a game's (`IsPgn`: the tags' lines, and the moves in lines as full as they can be) is the
+-- text `pgn`, since full lines with these tokens are the only ones (only_lines of FilledLines).
 use Rattle.std.proofs.Common.{◌≡◌, ℕ, List, [], ◌∷◌, ◌++◌, ap, ◌∙◌}
 use Rattle.chess_game.specs.Game.{State}
 use Rattle.pgn_writer.specs.{declared.tags.Tags.Tags, GameText.tag_lines, GameText.pgn, Written.ended, Written.lines_of, PgnText.IsPgn}

@@ -1,4 +1,6 @@
--- A game's tokens are those of its moves one after another, and its outcome.
+-- The tokens of a game are defined as a first number such as `12...` if Black begins, then the moves with White's
+-- numbers, then the outcome. The code writes them move by move, where only the text's first move may have `12...`; here
+-- both are the same tokens (game_numbered).
 use Rattle.std.proofs.Common.{◌≡◌, ℕ, true, false, ◌&&◌, ◌==◌, List, [], ◌∷◌, ◌++◌, length, refl, sym, ap, ◌∙◌, append_assoc, arith, codes, decimal, not}
 use Rattle.std.proofs.lemmas.Bool.Decides.{nat_tests}
 use Rattle.chess_base.specs.{declared.man.Colour.Colour, declared.man.Colour.TheVariants.White, declared.man.Colour.TheVariants.Black, declared.man.Move.Move, declared.setup.Setup.Setup, Men.same_colour, Moves.after, Options.list_if}
@@ -6,11 +8,13 @@ use Rattle.chess_game.specs.{Game.State, Game.outcome_now, Results.outcome_text}
 use Rattle.chess_text.specs.San.{san}
 use Rattle.pgn_writer.specs.{GameText.move_tokens, GameText.game_tokens, shared.NumberedMoves.number_if_due, shared.NumberedMoves.numbered_moves}
 
+-- before a move that is not the text's first there is a number only for White
 later_number : (c : Colour) (n : ℕ)
     → number_if_due c false n ≡ list_if (same_colour c White) ((decimal n ++ codes ".") ∷ [])
 later_number White n = refl
 later_number Black n = refl
 
+-- moves after the text's first have the tokens of the definition
 later_moves : (p : Setup) (ms : List Move) → numbered_moves false p ms ≡ move_tokens p ms
 later_moves p [] = refl
 later_moves p (m ∷ ms) =
@@ -24,6 +28,7 @@ abbrev first_number : Setup → List Move → List (List ℕ)
 first_number p ms =
     list_if (same_colour p.side Black && not (length ms == 0)) ((decimal p.fullmove ++ codes "...") ∷ [])
 
+-- moves from the text's first on have these, after the first number
 all_moves : (p : Setup) (ms : List Move) → numbered_moves true p ms ≡ first_number p ms ++ move_tokens p ms
 all_moves p [] = by_colour p.side
   where

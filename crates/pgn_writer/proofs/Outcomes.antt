@@ -1,4 +1,5 @@
--- The outcome that is parsed of a word is the one of which the word is the text.
+-- For `outcome_of`, which calls `try_from` of Outcome: the outcome that this parses of a word is the one whose text the
+-- word is, and other words have none.
 use Rattle.std.proofs.Common.{◌≡◌, ℕ, Bool, true, false, List, refl, sym, subst, bytes_eq, Some, Result, Ok, Err}
 use Rattle.std.proofs.lemmas.Slice.Eq.{bytes_eq-Decides}
 use Rattle.std.specs.Result.{result_ok}
@@ -6,13 +7,14 @@ use Rattle.chess_game.specs.{Results.outcome_text, Results.ParsesOutcome, declar
 use Rattle.chess_game.specs.declared.results.Outcome.TheVariants.{WhiteWins, BlackWins, Draw, Unfinished}
 use Rattle.pgn_writer.specs.Outcomes.{outcome_of}
 
+-- the definition finds each outcome by its own text
 outcome_found : (o : Outcome) → Some o ≡ outcome_of (outcome_text o)
 outcome_found WhiteWins = refl
 outcome_found BlackWins = refl
 outcome_found Draw = refl
 outcome_found Unfinished = refl
 
--- what is parsed of a word is its outcome
+-- a result of parsing, taken as an option, is the definition's outcome of the word
 pub outcome_parsed : {E : Type 0} (word : List ℕ) (r : Result Outcome E) → ParsesOutcome word r
     → result_ok r ≡ outcome_of word
 outcome_parsed word (Ok o) is = subst (λ w. Some o ≡ outcome_of w) (sym is) (outcome_found o)

@@ -1,4 +1,5 @@
--- Each token of a game fits a line.
+-- Each token of a game has 1 to 79 bytes, so it fits into a line: an outcome, a number of a playable game (at most
+-- 999999) and the SAN of a legal move.
 use Rattle.std.proofs.Common.{◌≡◌, append_assoc, ℕ, ◌+◌, ◌≤◌, Bool, true, false, List, [], ◌∷◌, ◌++◌, length, arith, leb-true, length-append, codes, decimal}
 use Rattle.std.proofs.lemmas.Fmt.{length-decimal-le}
 use Rattle.chess_base.specs.{declared.man.Colour.Colour, declared.man.Colour.TheVariants.White, declared.man.Colour.TheVariants.Black, declared.man.Move.Move, declared.setup.Setup.Setup, Moves.after, Sound.IsSound}
@@ -16,6 +17,7 @@ short_outcome BlackWins = ((omega arith, omega arith), tt)
 short_outcome Draw = ((omega arith, omega arith), tt)
 short_outcome Unfinished = ((omega arith, omega arith), tt)
 
+-- a number before short tokens; a move of Black after the first has none
 short_number : (c : Colour) (is_first : Bool) (n : ℕ) (ts : List (List ℕ)) → n ≤ 999999 → AreShort ts
     → AreShort (number_if_due c is_first n ++ ts)
 short_number White is_first n ts h rest =
@@ -28,6 +30,7 @@ short_number Black true n ts h rest =
     ((omega (arith, all), omega (arith, all, digits)), rest)
 short_number Black false n ts h rest = rest
 
+-- the tokens of the moves of a line from a sound position, before short tokens
 short_moves : (is_first : Bool) (p : Setup) (ms : List Move) (ts : List (List ℕ)) → IsSound p → IsLine p ms
     → AreShort ts → AreShort (numbered_moves is_first p ms ++ ts)
 short_moves is_first p [] ts sound line rest = rest

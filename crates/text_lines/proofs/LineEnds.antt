@@ -1,5 +1,6 @@
--- All bytes before the first `\n` go to the line that has begun; if there is such a byte, the line is whole, and what
--- follows is held on.
+-- For `held_line`, which looks for a `\n` (byte 10) among the bytes not yet looked at. If there is none, all of them go
+-- to the line that has begun, and no line is found (none_held). Otherwise those before it do, this line is found, and
+-- the bytes after it stay to be looked at (line_held).
 use Rattle.std.proofs.Common.{◌≡◌, ◌≢◌, ◌≤◌, ◌<◌, ℕ, ◌+◌, ◌-◌, eqb, Bool, true, false, List, [], ◌∷◌, ◌++◌, length, get_or, take, drop, Some, None, one-add, refl, sym, ap, subst, ◌∙◌, arith, append_assoc, append-nil, length-drop, eqb-true, cond, not, slice_range, ◌==◌}
 use Rattle.std.specs.List.{position_or_len}
 use Rattle.std.proofs.lemmas.List.{drop-drop, drop-take, drop_all, drop_more, take_all, length-take}
@@ -34,6 +35,7 @@ passed n at_end part (c ∷ cs) rest = by_test (eqb c 10) refl (passed n at_end 
         (append_assoc part (c ∷ []) (take (line_len cs) cs))
         ∙ sym (ap (λ k. past k part (c ∷ cs)) (one-add (line_len cs)))
 
+-- a text from its first byte 10 on is that byte and what follows it
 ends_at : (k : ℕ) (xs : List ℕ) → k ≡ line_len xs → k < length xs → drop k xs ≡ 10 ∷ drop (k + 1) xs
 ends_at k xs h l =
     let end = passes_at_first (λ c. c == 10) xs 0 (subst (λ m. m < length xs) h l) in
@@ -78,7 +80,7 @@ line_held n held part' coming' k line is within shown empty left =
           ∙ ap (λ v. line ∷ lines_from n at_end part' (v ++ rest)) (sym left),
     )
 
--- parts after which the lines are the same give the same line, where `\n` follows
+-- if the same lines follow after x as after y, whatever comes, then a `\n` that comes next makes the same line of them
 pub same_line : (n : ℕ) (x y : List ℕ) → SameLines n x y → line_of n true x ≡ line_of n true y
 same_line n x y same = heads (line_of n true x) (line_of n true y) (lines_from n true [] []) (
     sym (ten_step n true x 10 [] refl) ∙ same true (10 ∷ []) ∙ ten_step n true y 10 [] refl

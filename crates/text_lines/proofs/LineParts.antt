@@ -1,4 +1,6 @@
--- What has come of a line is kept up to its limit; whichever the bytes past it are, the line is the same.
+-- Of a line that is read only the first n bytes are kept, n being the limit of a line's length; a single byte 0 after
+-- them stands for all that were dropped (`kept_part`). Whatever these were, the line is too long and the lines are the
+-- same (overflow_same), and the line made from the bytes kept is the definition's (line_kept, line_put).
 use Rattle.std.proofs.Common.{◌≡◌, ℕ, ◌+◌, ◌-◌, ◌<◌, ◌≤◌, ◌==◌, nat_lt, nat_eq, min, ◌≢◌, Bool, true, false, List, [], ◌∷◌, ◌++◌, length, take, drop, refl, sym, ap, ◌∙◌, arith, append_assoc, length-append, reverse}
 use Rattle.std.specs.List.{onto_first}
 use Rattle.std.proofs.{lemmas.List.Splits.slice_split-cons_yes, lemmas.List.Splits.slice_split-cons_no, lemmas.List.Splits.length-slice_split, Math.Nat.min-le_right, lemmas.Grind.common_steps, lemmas.Bool.Decides.nat_tests}
@@ -10,7 +12,7 @@ use Rattle.text_lines.proofs.shared.Lines.{without_front_blanks-short}
 lt_true : (m n : ℕ) → m < n → nat_lt m n ≡ true
 lt_true m n h = grind arith
 
--- a text of no more than 64 bytes is its first 64; these are no more than the text has
+-- a text of no more than 64 bytes is its own first 64
 pub all_taken : (xs : List ℕ) → length xs ≤ 64 → xs ≡ take 64 xs
 all_taken xs h = sym (take_all 64 xs h)
 
@@ -18,7 +20,7 @@ pub beginning_short : (xs : List ℕ) → length (take 64 xs) ≤ length xs
 beginning_short xs =
     let is = length-take 64 xs in omega (arith, is)
 
--- of a part of more bytes than are kept some are there
+-- the part of a line that is too long isn't empty: at least the byte 0 is there, which stands for what was dropped
 pub long_has_bytes : (items part : List ℕ) (long : Bool) → kept_part items long ≡ part → long ≡ true
     → false ≡ (length part == 0)
 long_has_bytes items part true is h =
@@ -27,7 +29,7 @@ long_has_bytes items part true is h =
     sym some ∙ ap (λ (xs : List ℕ). length xs == 0) is
 long_has_bytes items part false is h = absurd (cc)
 
--- so many bytes show of a line that is too long
+-- how many bytes of a line that is too long are shown as its text: 64, or n if that is less
 shown_len : ℕ → ℕ
 shown_len n = min 64 n
 
@@ -35,29 +37,33 @@ shown_le : (n : ℕ) → shown_len n ≤ n
 unfolding shown_len
 shown_le n = min-le_right 64 n
 
+-- two lines that are too long are the same line if the bytes shown of them are the same
 line_long : (n : ℕ) (e : Bool) (x y : List ℕ) → n < length x → n < length y
     → take (shown_len n) x ≡ take (shown_len n) y → line_of n e x ≡ line_of n e y
 unfolding line_of shown_len
 line_long n e x y h k t = rw (lt_true n (length x) h, lt_true n (length y) k, t) refl
 
--- ---- the parts of a text, of which the first has come in part
+-- ---- the parts of a text between its `\n`s, where the beginning of the first has come before
 
--- what has come is put before the first part
+-- if the text begins with a `\n`, the first part is what has come before
 front_part : (front : List ℕ) (more : List (List ℕ)) → with_front front ([] ∷ more) ≡ front ∷ more
 front_part [] more = refl
 front_part (b ∷ front) more = ap (onto_first b) (front_part front more)
 
+-- a byte at the front of the first part may as well be the last that has come before
 front_byte : (front : List ℕ) (c : ℕ) (all : List (List ℕ))
     → with_front front (onto_first c all) ≡ with_front (front ++ c ∷ []) all
 front_byte [] c all = refl
 front_byte (b ∷ front) c all = ap (onto_first b) (front_byte front c all)
 
+-- a part that another follows is a line that a `\n` ended
 ended_first : (n : ℕ) (at_end : Bool) (part : List ℕ) (all : List (List ℕ)) → 0 < length all
     → lines_of_parts n at_end (part ∷ all) ≡ line_of n true part ∷ lines_of_parts n at_end all
 unfolding lines_of_parts
 ended_first n at_end part [] some = absurd (omega (arith, some))
 ended_first n at_end part (next ∷ more) some = refl
 
+-- a `\n` ends the line that has begun (`part`), and the lines of the bytes after it follow
 pub ten_step : (n : ℕ) (at_end : Bool) (part : List ℕ) (b : ℕ) (bs : List ℕ) → b ≡ 10
     → lines_from n at_end part (b ∷ bs) ≡ line_of n true part ∷ lines_from n at_end [] bs
 ten_step n at_end part b bs h =
@@ -67,6 +73,7 @@ ten_step n at_end part b bs h =
     ∙ ap (lines_of_parts n at_end) (front_part part (parts bs))
     ∙ ended_first n at_end part (parts bs) (omega (arith, some))
 
+-- any other byte is added to the line that has begun
 pub byte_step : (n : ℕ) (at_end : Bool) (part : List ℕ) (b : ℕ) (bs : List ℕ) → b ≢ 10
     → lines_from n at_end part (b ∷ bs) ≡ lines_from n at_end (part ++ b ∷ []) bs
 byte_step n at_end part b bs h =
@@ -74,7 +81,7 @@ byte_step n at_end part b bs h =
     ap (λ all. lines_of_parts n at_end (with_front part all)) (slice_split-cons_no (λ c. c == 10) b bs e)
     ∙ ap (lines_of_parts n at_end) (front_byte part b (parts bs))
 
--- what has come, where nothing follows it
+-- if no byte follows, what has come is the only part
 alone : (part : List ℕ) → with_front part (parts []) ≡ part ∷ []
 alone part = front_part part []
 
@@ -82,6 +89,7 @@ last_of : (n : ℕ) (part : List ℕ) → lines_of_parts n false (part ∷ []) �
 unfolding lines_of_parts
 last_of n part = refl
 
+-- if no byte follows and the stream hasn't ended, there is no line
 pub none_from : (n : ℕ) (part : List ℕ) → lines_from n false part [] ≡ []
 none_from n part = ap (lines_of_parts n false) (alone part) ∙ last_of n part
 
@@ -89,10 +97,12 @@ last_at_end : (n : ℕ) (part : List ℕ) → 0 < length part → lines_of_parts
 unfolding lines_of_parts
 last_at_end n part h = rw (lt_true 0 (length part) h) refl
 
+-- if no byte follows and the stream has ended, what has come is the last line
 pub last_left : (n : ℕ) (part : List ℕ) → 0 < length part → lines_from n true part [] ≡ line_of n false part ∷ []
 last_left n part h = ap (lines_of_parts n true) (alone part) ∙ last_at_end n part h
 
--- lines that are too long are alike where the bytes are that show
+-- if both x and y are already too long for a line, and the bytes shown of them are the same, the same lines follow
+-- after either; by induction on the bytes that come
 long_same : (n : ℕ) (x y : List ℕ) → n < length x → n < length y → take (shown_len n) x ≡ take (shown_len n) y
     → SameLines n x y
 long_same n x y h k t true [] =
@@ -119,7 +129,8 @@ long_same n x y h k t at_end (c ∷ cs) =
         let other : c ≢ 10 = grind arith in
         byte_step n at_end x c cs other ∙ on ∙ sym (byte_step n at_end y c cs other)
 
--- bytes past the last that is kept: whichever they are, the lines are the same
+-- of `bytes` only those that fit after `items` are kept, up to n in all; a byte 0 in place of the others gives the same
+-- lines, as the line is too long either way
 pub overflow_same : (n : ℕ) (items : List ℕ) (long : Bool) (bytes : List ℕ) → (long ≡ true → length items ≡ n)
     → length items ≤ n → n - length items < length bytes
     → SameLines n (kept_part items long ++ bytes) ((items ++ take (n - length items) bytes) ++ 0 ∷ [])
@@ -163,12 +174,13 @@ line_over : (n : ℕ) (e : Bool) (x : List ℕ) → n < length x
 unfolding line_of shown_len
 line_over n e x h = rw (lt_true n (length x) h) refl
 
--- of n bytes that are kept the first 64 are those that show
+-- of a line that is too long n bytes are kept, and the first 64 of these are the bytes shown
 shown_kept : (n : ℕ) (items : List ℕ) → length items ≡ n → take (shown_len n) items ≡ take 64 items
 unfolding shown_len
 shown_kept n items e = ap (λ k. take (min 64 k) items) (sym e) ∙ take_min 64 items
 
--- the line of a part that is kept
+-- the line made from the bytes kept (`items`) is the definition's line of the part (`whole`): their first 64 bytes if
+-- more came (`long`), and otherwise the trimmed text
 pub line_kept : (n : ℕ) (e long : Bool) (items text whole : List ℕ) → (long ≡ true → length items ≡ n)
     → length items ≤ n → kept_part items long ≡ whole
     → (long ≡ true → text ≡ take 64 items) → (long ≡ false → text ≡ trimmed items)
@@ -184,7 +196,8 @@ line_kept n e false items text whole full short is t f =
     ap (λ v. record { text = v; too_long = false; ended = e }) (f refl) ∙ sym (line_short n e items short)
     ∙ ap (line_of n e) is
 
--- the line of bytes that have come at once, of which the first n are kept
+-- the same for a line that came in one piece (`put_line`): of its bytes `kept` are the first n, or all if there are no
+-- more
 pub line_put : (n : ℕ) (e : Bool) (bytes kept text : List ℕ)
     → (nat_lt n (length bytes) ≡ true → text ≡ take 64 kept)
     → (nat_lt n (length bytes) ≡ false → text ≡ trimmed kept)
@@ -222,6 +235,7 @@ trimmed_short xs =
     let b = without_front_blanks-short (without_return xs) in
     let d = without_return-short xs in omega (arith, a, b, d)
 
+-- the flag of a line is the one that it is made with
 pub line_ended : (n : ℕ) (e : Bool) (piece : List ℕ) → (line_of n e piece).ended ≡ e
 unfolding line_of
 line_ended n e piece = refl

@@ -1,4 +1,7 @@
--- During one call for the next line, what is held after each read stands for all bytes that were given.
+-- For the loops of `read_line` and `read_line_until`, which read pieces until they hold a whole line. After each read
+-- (SoFar) the bytes held now give the same lines as those held at the call with all that was read since, whatever comes
+-- next. One more piece keeps this (piece_on), and from it the contract follows at the input's end (at_the_end) and at a
+-- failed read (fault_until).
 use Rattle.std.proofs.Common.{◌≡◌, ℕ, ◌+◌, ◌-◌, ◌<◌, ◌≤◌, inl, inr, Bool, true, false, List, [], ◌∷◌, ◌++◌, length, take, Option, Some, None, Result, Ok, Err, IsErr, refl, sym, ap, ◌∙◌, arith, append_assoc, append-nil, length-append, nat_eq, ◌==◌, not, subst, MatchBool}
 use Rattle.std.proofs.{Math.Seq.take-append_seam, lemmas.List.nil_from_length}
 use Rattle.text_lines.proofs.LineParts.{line_ended, ten_step, byte_step, none_from, last_left}
@@ -11,7 +14,9 @@ use Rattle.text_lines.specs.Lines.{LineSeen, Held, nothing_held, lines_from, lin
 use Rattle.text_lines.specs.{laws.Unended.HasNoEnd, ties.Kept.HeldLine, declared.lines.TheConstants.PIECE_LEN}
 use Rattle.text_lines.specs.Next.{before_piece, Waits, work, NextLine, NextLineUntil, line_if}
 
--- after some reads: what was given, and that what is held stands for it
+-- during a call for the next line: since it began `given` was read, which took the input from `r` to `r'` and the bytes
+-- held from `held` to `held'`. By `lines` no byte is lost; by `work` no more can still come than at the call. `n` is
+-- the limit of a line's length
 pub record SoFar (n : ℕ) (r r' : InputState) (held held' : Held) (given : List ℕ) : Type 0 where
   pub bytes : Consumes r.known_bytes r'.known_bytes given
   pub waits : Waits n r r' held given
@@ -22,16 +27,18 @@ pub record SoFar (n : ℕ) (r r' : InputState) (held held' : Held) (given : List
   pub silences : r'.silence_count ≡ r.silence_count
   pub work : work r' held' ≤ work r held
 
+-- of a choice by a test that is false, the second holds
 at_false : (b : Bool) (P Q : Type 0) → b ≡ false → Q → MatchBool b P Q
 at_false true P Q e p = cc
 at_false false P Q e p = p
 
--- where the held bytes have no line, none of the bytes so far is past one
+-- if no whole line is found in the bytes held (`HeldLine .. None`), there is none in all that came since the call
 whole_so_far : (n : ℕ) (r r' : InputState) (h h' h'' : Held) (given : List ℕ) → SoFar n r r' h h' given
     → HeldLine n h' h'' None → lines_held n false h given ≡ []
 whole_so_far n r r' h h' h'' given s f = ap (lines_held n false h) (sym (append-nil given)) ∙ s.lines false [] ∙ f.0
 
--- what is held after a piece
+-- if no whole line was held, and then a piece was read, the lines since the call are those of the line that has begun
+-- (`h''.part`), the piece and what follows
 lines_on : (n : ℕ) (r r' : InputState) (h h' h'' : Held) (given piece : List ℕ) → SoFar n r r' h h' given
     → HeldLine n h' h'' None → (at_end : Bool) (rest : List ℕ)
     → lines_held n at_end h ((given ++ piece) ++ rest) ≡ lines_from n at_end h''.part (piece ++ rest)
@@ -40,12 +47,14 @@ lines_on n r r' h h' h'' given piece s f at_end rest =
     ∙ f.2 at_end (piece ++ rest)
     ∙ ap (λ v. lines_from n at_end h''.part (v ++ (piece ++ rest))) f.1
 
+-- without the last piece, the bytes given are those before it
 before_last : (given piece : List ℕ) (last : ℕ) → last ≡ length piece → before_piece last (given ++ piece) ≡ given
 before_last given piece last e =
     let len : length (given ++ piece) ≡ length given + length piece = length-append given piece in
     let at : length (given ++ piece) - last ≡ length given = omega arith in
     ap (λ v. take v (given ++ piece)) at ∙ take-append_seam given piece
 
+-- a piece was read only as no whole line was held before it
 waits_on : (n : ℕ) (r r' r'' : InputState) (h h' h'' : Held) (given piece : List ℕ) → SoFar n r r' h h' given
     → HeldLine n h' h'' None → GavePiece r' r'' piece → Waits n r r'' h (given ++ piece)
 waits_on n r r' r'' h h' h'' given piece s f p =
@@ -57,6 +66,7 @@ waits_on n r r' r'' h h' h'' given piece s f p =
           ∙ whole_so_far n r r' h h' h'' given s f,
     )
 
+-- one more piece, read as no whole line was held, keeps SoFar: then the piece is what is to be looked at
 pub piece_on : (n : ℕ) (r r' r'' : InputState) (h h' h'' : Held) (given piece : List ℕ) → SoFar n r r' h h' given
     → HeldLine n h' h'' None → GavePiece r' r'' piece → 0 < length piece → length piece ≤ PIECE_LEN
     → SoFar n r r'' h (record { part = h''.part; coming = piece }) (given ++ piece)
@@ -70,10 +80,12 @@ piece_on n r r' r'' h h' h'' given piece s f p some few = record {
   work = (let a = p.falls in let b = s.work in omega arith);
 }
 
+-- an empty piece counts as a report of the input's end
 reported_end : (r r' : InputState) (piece : List ℕ) → GavePiece r r' piece → piece ≡ []
     → r'.end_count ≡ saturating_increment r.end_count
 reported_end r r' piece p e = p.ends ∙ rw e refl
 
+-- at the input's end the lines since the call are those of the line that has begun
 lines_end : (n : ℕ) (r r' : InputState) (h h' h'' : Held) (given piece : List ℕ) → SoFar n r r' h h' given
     → HeldLine n h' h'' None → piece ≡ [] → (at_end : Bool)
     → lines_held n at_end h (given ++ piece) ≡ lines_from n at_end h''.part []
@@ -85,6 +97,7 @@ both_empty : (a b : List ℕ) → a ≡ [] → b ≡ [] → record { part = a; c
 both_empty a b e f = ap (λ (v : List ℕ). let h : Held = record { part = v; coming = b } in h) e
     ∙ ap (λ (v : List ℕ). let h : Held = record { part = []; coming = v } in h) f
 
+-- at the input's end with no line begun: there is no line
 end_none : (E : Type 0) (n : ℕ) (r r' r'' : InputState) (h h' h'' h3 : Held) (given piece : List ℕ)
     → SoFar n r r' h h' given → HeldLine n h' h'' None → GavePiece r' r'' piece → piece ≡ [] → h''.part ≡ []
     → h3 ≡ nothing_held
@@ -104,6 +117,7 @@ end_none E n r r' r'' h h' h'' h3 given piece s f p e empty left = (
   },
 )
 
+-- at the input's end with a line begun: that is the last one
 end_last : (E : Type 0) (n : ℕ) (r r' r'' : InputState) (h h' h'' h3 : Held) (given piece : List ℕ)
     (line : LineSeen) → SoFar n r r' h h' given → HeldLine n h' h'' None → GavePiece r' r'' piece → piece ≡ []
     → 0 < length h''.part
@@ -143,6 +157,7 @@ pub found : (n : ℕ) (r r' r'' : InputState) (h h' : Held) (given : List ℕ) (
 found n r r' r'' h h' given true e w s = subst (λ v. SoFar n r v h h' given) (sym w) s
 found n r r' r'' h h' given false e w s = cc
 
+-- a step of the input that keeps the length of the last piece keeps `Waits`
 kept_waits : (n : ℕ) (r r' r'' : InputState) (h : Held) (given : List ℕ) → r''.last_len ≡ r'.last_len
     → Waits n r r' h given → Waits n r r'' h given
 kept_waits n r r' r'' h given e (inl (none, last)) = inl (none, e ∙ last)
@@ -151,7 +166,8 @@ kept_waits n r r' r'' h given e (inr (few, none)) = inr (
   ap (λ v. lines_held n false h (before_piece v given)) e ∙ none,
 )
 
--- at the exit of a `?`: a read failed, and what is held stands for all that was given
+-- at the exit of a `?`: a read failed, and `read_line_until` returns the fault. No whole line had come, and the bytes
+-- held still give the lines of all that was read
 pub fault_until : (n : ℕ) (r r' r'' : InputState) (h h' h'' : Held) (given coming : List ℕ)
     (result : Result (Option Bool) ReadFault) (line : LineSeen) → SoFar n r r' h h' given → HeldLine n h' h'' None
     → coming ≡ [] → FailedToRead r' r'' → IsErr result
@@ -173,6 +189,7 @@ fault_until n r r' r'' h h' h'' given coming (Err fault) line s f e p is = (
   },
 )
 
+-- bytes without a `\n` are added to the line that has begun
 piece_on_part : (n : ℕ) (at_end : Bool) (part piece rest : List ℕ) → HasNoEnd piece
     → lines_from n at_end part (piece ++ rest) ≡ lines_from n at_end (part ++ piece) rest
 piece_on_part n at_end part [] rest h = ap (λ v. lines_from n at_end v rest) (sym (append-nil part))
@@ -180,15 +197,18 @@ piece_on_part n at_end part (c ∷ cs) rest h =
     byte_step n at_end part c (cs ++ rest) h.0 ∙ piece_on_part n at_end (part ++ c ∷ []) cs rest h.1
     ∙ ap (λ v. lines_from n at_end v rest) (append_assoc part (c ∷ []) cs)
 
+-- for the law `lines_are_pieces`: bytes without a `\n`, and a `\n` after them, are a line
 pub law_ended : (n : ℕ) (at_end : Bool) (piece rest : List ℕ) → HasNoEnd piece
     → lines_from n at_end [] (piece ++ 10 ∷ rest) ≡ line_of n true piece ∷ lines_from n at_end [] rest
 law_ended n at_end piece rest h = piece_on_part n at_end [] piece (10 ∷ rest) h ∙ ten_step n at_end piece 10 rest refl
 
+-- at the stream's end bytes without a `\n` are a line
 pub law_last : (n : ℕ) (piece : List ℕ) → HasNoEnd piece → 0 < length piece
     → lines_from n true [] piece ≡ line_of n false piece ∷ []
 law_last n piece h some = ap (lines_from n true []) (sym (append-nil piece)) ∙ piece_on_part n true [] piece [] h
     ∙ last_left n piece some
 
+-- before it they are none
 pub law_not_at_end : (n : ℕ) (piece : List ℕ) → HasNoEnd piece → lines_from n false [] piece ≡ []
 law_not_at_end n piece h = ap (lines_from n false []) (sym (append-nil piece)) ∙ piece_on_part n false [] piece [] h
     ∙ none_from n piece

@@ -1,4 +1,5 @@
--- The reports that are made one after another are those of the definitions.
+-- The reports that are made game by game (`placed_on`, and for a collection piece by piece) are those that the
+-- relations ask for (`IsJudged`, `AreReports`, `AreCollectionReports`), which speak of a split of the text into tokens.
 use Rattle.std.proofs.Common.{◌≡◌, ℕ, zero, suc, ◌+◌, ◌<◌, ◌≤◌, Bool, List, [], ◌∷◌, length, drop, Option, Some, None, IfSome, true, false, not, ◌&&◌, is_some, nat_lt, Result, Ok, Err, IfOk, refl, sym, ap, subst, arith, flat_map, MatchBool, nat_le, if◌then◌else◌}
 use Rattle.std.specs.Option.{option_map_or, unwrap_or}
 use Rattle.chess_game.specs.{Game.State, declared.game.TheConstants.MOST_MOVES, declared.verdicts.Verdict.Verdict}
@@ -100,6 +101,7 @@ none_at_end strict text =
     (ending strict.draws_of_2014 (read_of_split strict.draws_of_2014 MOST_MOVES (length text) ts).state)
     (read_of_split strict.draws_of_2014 MOST_MOVES (length text) ts).answer) (none_from_end text)
 
+-- the reports on a text, game by game; by induction on a bound for the number of games left
 module _ (goes_on : Bool) (strict : Strictness) (start : ℕ) (text : List ℕ) where
   nothing_there : AreReports goes_on strict start text (length text) []
   nothing_there =

@@ -1,4 +1,5 @@
--- The reason for a fault is the one that the function gives: what a bad tag lacks is found part by part.
+-- The reason that `reason` gives for a fault is right by the relation `IsReason` (reason_is). For a bad tag it is the
+-- part that the tag lacks, found by reading part by part: name, quote, string, bracket (tag_reason_is).
 use Rattle.std.proofs.Common.{◌≡◌, ℕ, ◌<◌, Bool, true, false, cond, eqb, List, [], ◌∷◌, ◌++◌, length, Option, Some, None, refl, sym, ap, subst, ◌∙◌, arith, codes, is_some}
 use Rattle.std.specs.{List.list_all, Option.option_map_or}
 use Rattle.std.proofs.lemmas.Bool.{and_parts, eqb-true}

@@ -1,5 +1,5 @@
--- A token more keeps that the first end is the same (GameEnds.seeks_on); a token that ends the game, the text's end and
--- what can't be read each give it by one lemma.
+-- A token that doesn't end the game keeps the invariant (GameEnds.seeks_on). One that does is the end (GameEnds.found);
+-- at the text's end and at what can't be read there is none (GameEnds.none_to_end, none_readable).
 use Rattle.std.proofs.Common.{◌≡◌, None, Some, refl, sym, ◌∙◌, rules}
 use Rattle.pgn_tokens.specs.Seen.{token_seen}
 use Rattle.chess_pgn.proofs.GameEnds.{seeks_on, found, none_to_end, none_readable, end_is}

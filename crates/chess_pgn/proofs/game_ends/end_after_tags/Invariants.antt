@@ -1,4 +1,5 @@
--- The loop's invariant: the first end from `offset` on is the first one from `at` on (Seeks of GameEnds).
+-- The loop's invariant: the first end of a game from `offset` on is the first one from `at` on (Seeks of GameEnds).
+-- What decreases is the number of bytes after `offset`.
 use Rattle.std.proofs.Common.{length, ◌-◌}
 use Rattle.chess_pgn.proofs.GameEnds.{Seeks}
 use Rattle.chess_pgn.proofs.game_ends.end_after_tags.Given as goal

@@ -1,4 +1,4 @@
--- Each half-move takes at least one byte of the text (FaultPlaces).
+-- A token plays at most one half-move and has at least a byte (FaultPlaces.half_moves_have_bytes).
 use Rattle.chess_pgn.proofs.FaultPlaces.{half_moves_have_bytes}
 use Rattle.chess_pgn.proofs.laws.half_moves_have_bytes.Goals as goal
 

@@ -1,5 +1,6 @@
--- By the test reading stopped at a move after one of the two draws, or it didn't (PastDraws.is_past); then the same is
--- read without these draws (PastDraws.alike_answer).
+-- The code's test says whether reading stopped at a move after one of the two draws of 2014 (PastDraws.is_past). If it
+-- did, `read_anew` is called as its contract asks; if not, the same is read without these draws
+-- (PastDraws.alike_answer).
 use Rattle.std.proofs.Common.{◌∙◌, Err, sym, true}
 use Rattle.chess_game.specs.declared.game.TheConstants.{MOST_MOVES}
 use Rattle.chess_pgn.specs.GameRead.{pgn_read}

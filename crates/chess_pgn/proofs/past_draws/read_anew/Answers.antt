@@ -1,5 +1,6 @@
--- The moves are read again from there on where the tags end, from the same start and with the same tag Termination
--- (PastDraws.anew_read, anew_failed).
+-- The moves are read again from where the tags end, from the same start and with the same tag Termination. If they can
+-- be read, this is what is read without the two draws (PastDraws.anew_read); so is their fault, if not
+-- (PastDraws.anew_failed).
 use Rattle.std.proofs.Common.{◌∙◌, ap}
 use Rattle.std.proofs.lemmas.Result.{err_from_is_err_and}
 use Rattle.chess_game.specs.Game.{State}

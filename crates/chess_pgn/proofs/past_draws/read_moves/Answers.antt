@@ -1,5 +1,5 @@
--- Each token keeps that what is left gives the whole (PastDraws.passed, moved); the termination marker, a fault, the
--- text's end and what can't be read each end the game by one lemma.
+-- A token keeps the invariant if it changes nothing (PastDraws.passed) or is a move (PastDraws.moved). The termination
+-- marker, a fault, the text's end and what can't be read each end the game by one lemma of PastDraws.
 use Rattle.std.proofs.Common.{◌∙◌, ap, false, length}
 use Rattle.std.proofs.lemmas.Result.{err_from_is_err_and}
 use Rattle.chess_game.specs.Game.{Seen, from_start}

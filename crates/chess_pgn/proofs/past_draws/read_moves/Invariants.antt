@@ -1,3 +1,5 @@
+-- The loop's invariant: `game` is begun anew in the position after `plies` half-moves, and reading on from `offset`
+-- gives what reading from `at` gives (Again of PastDraws). What decreases is the number of bytes after `offset`.
 use Rattle.std.proofs.Common.{◌≡◌, false, length, ◌-◌}
 use Rattle.chess_game.specs.{Game.from_start, declared.game.TheConstants.MOST_MOVES}
 use Rattle.chess_pgn.specs.GameRead.{moves_read}

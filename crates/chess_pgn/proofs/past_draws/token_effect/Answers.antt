@@ -1,4 +1,4 @@
--- A word is as many bytes before the text's end as the definitions count.
+-- The definition counts a word's place from the text's end, the code from its front: both are the same offset.
 use Rattle.std.proofs.Common.{◌≡◌, ◌-◌, arith}
 use Rattle.chess_pgn.proofs.past_draws.token_effect.Goals as goal
 

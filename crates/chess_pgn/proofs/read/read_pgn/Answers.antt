@@ -1,6 +1,6 @@
--- From here on, the rest with what was read so far gives what the whole text gives (GameReads.Reads): the step of a
--- token keeps that (GameReads.more), and so do what is skipped after it (GameReads.alike) and the words taken then
--- (GameReads.further), after which the next token is left to a step (GameReads.ReadsWords).
+-- Reading on from here, with the game read so far, gives what is read of the whole game (GameReads.Reads). The step of
+-- a token keeps this (GameReads.more), and so do what is skipped after it (GameReads.alike) and the words played then
+-- (GameReads.further), after which the next token is no move to be played (GameReads.ReadsWords).
 use Rattle.pgn_tokens.specs.Seen.{token_seen, fault_seen}
 use Rattle.chess_pgn.specs.{declared.read.PgnFaultKind.TheVariants.NoResult, ties.GameSteps.so_far, ties.GameSteps.StopsAt}
 use Rattle.pgn_tokens.proofs.shared.Tokens.{token_within}

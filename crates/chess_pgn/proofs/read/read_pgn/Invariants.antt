@@ -1,5 +1,5 @@
 -- The loop's invariant: reading on from `offset` gives what reading from `at` gives, and the token there is no move
--- that the game plays (ReadsWords of GameReads).
+-- that the game plays (ReadsWords of GameReads). What decreases is the number of bytes after `offset`.
 use Rattle.std.proofs.Common.{length, ◌-◌}
 use Rattle.chess_pgn.proofs.GameReads.{ReadsWords}
 use Rattle.chess_pgn.proofs.read.read_pgn.Given as goal

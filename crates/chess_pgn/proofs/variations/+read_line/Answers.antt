@@ -1,4 +1,5 @@
--- Each token keeps that what is left gives the whole, or its fault is the line's (LinesRead).
+-- A token keeps the invariant (LineReads of LinesRead: the first fault from here on is the line's), or its fault is the
+-- line's first. Each goal is one lemma of LinesRead, by what the token is.
 use Rattle.std.proofs.{Common.◌≡◌, Common.None, Common.sym, Common.◌∙◌, Common.rules, lemmas.Result.err_from_is_err_and}
 use Rattle.pgn_tokens.specs.Seen.{token_seen}
 use Rattle.chess_pgn.proofs.LinesRead.{begun, ended, unread, goes_on, passed_over, moved_on, faulty, not_opened, faulty_inside, went_inside}

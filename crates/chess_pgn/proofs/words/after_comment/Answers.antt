@@ -1,4 +1,5 @@
--- A closed comment is a token at which nothing counts (GameReads.commented, skipped_alike).
+-- A comment with its `}` is the next token (GameReads.commented), and as it is skipped, it changes nothing
+-- (GameReads.skipped_alike).
 use Rattle.std.proofs.Common.{refl, sym, arith}
 use Rattle.chess_pgn.proofs.GameReads.{commented, skipped_alike}
 use Rattle.chess_pgn.proofs.words.after_comment.Goals as goal

@@ -1,4 +1,5 @@
--- Each comment and the white space after it leave the rest read alike (GameReads.alike_on).
+-- A comment, and the white space after it, change nothing of what is read (ReadsAlike); so a round keeps the invariant
+-- (GameReads.alike_on).
 use Rattle.std.proofs.Common.{arith}
 use Rattle.chess_pgn.proofs.{GameReads.alike_on, SkippedTokens.skips_alike}
 use Rattle.chess_pgn.proofs.words.after_skipped.Goals as goal

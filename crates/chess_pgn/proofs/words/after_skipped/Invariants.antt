@@ -1,4 +1,5 @@
--- The loop's invariant: reading on from `offset` gives the same as from `at`.
+-- The loop's invariant: reading on from `offset` gives the same as from `at`. What decreases is the number of bytes
+-- after `offset`.
 use Rattle.std.proofs.Common.{◌≤◌, ◌-◌, length}
 use Rattle.chess_pgn.specs.ties.GameSteps.{ReadsAlike}
 use Rattle.chess_pgn.proofs.words.after_skipped.Given as goal

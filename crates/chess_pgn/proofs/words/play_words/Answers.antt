@@ -1,5 +1,5 @@
--- A word that is taken is the next token (some_word), and the step of that token is what was done
--- (GameReads.one_more). Where none is taken, the next token is left (LeftTokens.left_at).
+-- A word that is taken is the next token (some_word), and the step of that token is what was done (GameReads.one_more).
+-- If the next word is not taken, the next token is no move that the game plays (LeftTokens.left_at).
 use Rattle.std.proofs.Common.{refl}
 use Rattle.chess_pgn.proofs.{GameReads.one_more, LeftTokens.left_at}
 use Rattle.pgn_tokens.proofs.shared.Tokens.{some_word}

@@ -1,5 +1,5 @@
--- One more token keeps that what is left gives the whole (LastTagReads.one_more), and so does what is skipped
--- after it (LastTagReads.skipped_on).
+-- A token more keeps the invariant: the last tag from here on, or else the last so far, is the last of all
+-- (LastTagReads.one_more). What is skipped after it changes nothing (LastTagReads.skipped_on).
 use Rattle.std.proofs.Common.{sym, ◌∙◌}
 use Rattle.pgn_tokens.specs.Seen.{token_seen}
 use Rattle.pgn_tokens.proofs.LastTagReads.{one_more, skipped_on}

@@ -1,5 +1,5 @@
 -- The loop's invariant: the last tag of this name from `offset` on, or else `last`, is the last one from `at` on (Reads
--- of LastTagReads).
+-- of LastTagReads). What decreases is the number of bytes after `offset`.
 use Rattle.std.proofs.Common.{length, ◌-◌}
 use Rattle.pgn_tokens.proofs.LastTagReads.{Reads}
 use Rattle.pgn_tokens.proofs.last_tags.last_tag.Given as goal

@@ -1,5 +1,6 @@
--- A token more keeps that the tokens after the tags are the same (PassedTags.passes_on); the first that can't be among
--- tags, the text's end and what can't be read each end the tags by one lemma.
+-- A token that may come among tags keeps the invariant (PassedTags.passes_on). A token that can't ends the tags
+-- (PassedTags.passed_all), and so do the text's end (PassedTags.passed_to_end) and what can't be read
+-- (PassedTags.no_tag).
 use Rattle.std.proofs.Common.{sym, ◌∙◌, refl}
 use Rattle.pgn_tokens.specs.Seen.{token_seen}
 use Rattle.pgn_tokens.proofs.PassedTags.{passes_on, passed_all, passed_to_end, no_tag}

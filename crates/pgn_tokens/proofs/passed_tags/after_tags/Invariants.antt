@@ -1,4 +1,5 @@
--- The loop's invariant: the tags from `offset` on end where those from `at` on end (PassesTags of PassedTags).
+-- The loop's invariant: the tags from `offset` on end where those from `at` on end (PassesTags of PassedTags). What
+-- decreases is the number of bytes after `offset`.
 use Rattle.std.proofs.Common.{length, ◌-◌}
 use Rattle.pgn_tokens.proofs.PassedTags.{PassesTags}
 use Rattle.pgn_tokens.proofs.passed_tags.after_tags.Given as goal

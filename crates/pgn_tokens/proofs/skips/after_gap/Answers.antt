@@ -1,5 +1,5 @@
--- What follows the gap of the rest follows the gap of the text, since the definition too skips a `%` line
--- and white space (Skipped.gap_line_more, gap_blank_more).
+-- By the invariant the gap that is left ends where the whole gap ends. A round skips what the definition skips there: a
+-- `%` line up to its end, or a byte of white space (Skipped.gap_line_more, gap_blank_more).
 use Rattle.std.proofs.Common.{sym, ap, ◌∙◌, false}
 use Rattle.pgn_tokens.specs.shared.Gaps.{gap_left}
 use Rattle.pgn_tokens.proofs.{Gaps.gap_same, Skipped.gap_line_more, Skipped.gap_blank_more}

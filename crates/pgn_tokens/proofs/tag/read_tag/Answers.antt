@@ -1,4 +1,4 @@
--- With its name and string read, a text that lacks the closing bracket is no tag in the definition too
+-- The exit where no `]` follows: the name and the string were read, and by the definition too this is no tag
 -- (Strings.tag_unclosed).
 use Rattle.std.proofs.Common.{sym, ap, ◌∙◌}
 use Rattle.pgn_tokens.specs.ties.FirstSeen.{tag_seen}

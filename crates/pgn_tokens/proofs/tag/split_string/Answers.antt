@@ -1,6 +1,7 @@
--- The bytes so far, put before the string that the rest holds, are the string of the text. Each byte goes over from the
--- rest to them, up to the closing quote or the end of the line (Strings). The first, plain ones go over at once
--- (PlainBytes.plain_first).
+-- By the invariant the bytes before `offset`, put before the string that the rest gives, are the string of the whole
+-- text. The plain bytes at the front come first, all at once (PlainBytes.plain_first); then each byte goes over from
+-- the rest (Strings.place_kept, place_other), up to the closing quote (Strings.place_quote) or the end of the line
+-- (Strings.place_line).
 use Rattle.std.proofs.Common.{take, drop, sym, ap, ◌∙◌}
 use Rattle.pgn_tokens.specs.Tokens.{onto, string_at}
 use Rattle.pgn_tokens.proofs.PlainBytes.{plain_first}

@@ -1,4 +1,5 @@
--- The tags from a token on are its own and those after it (TagsLeft).
+-- By the invariant the tags from `offset` on are those from `at` on. The token there gives its own tag, if it is one,
+-- and the tags after it are left (TagsLeft.tags_more).
 use Rattle.std.proofs.Common.{sym, ◌∙◌, rules}
 use Rattle.pgn_tokens.specs.Seen.{token_seen}
 use Rattle.pgn_tokens.proofs.TagsLeft.{goes_on, found_tag}

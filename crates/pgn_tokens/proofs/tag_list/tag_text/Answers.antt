@@ -1,4 +1,5 @@
--- The tags are those of the text's split (Splits.read_split).
+-- The tag was found among the tokens that are read, and these are a split of the text (Splits.read_split), as the
+-- contract asks for.
 use Rattle.pgn_tokens.specs.Tokens.{tokens_from}
 use Rattle.byte_devices.specs.Bytes.{after_byte_order_mark}
 use Rattle.pgn_tokens.proofs.Splits.{read_split}

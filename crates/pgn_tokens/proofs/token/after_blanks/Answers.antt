@@ -1,4 +1,5 @@
--- White space or a dot is a token that is skipped (SkippedTokens.blank_more).
+-- A byte of white space or a dot is a token of its own that is skipped, so a round skips one token more
+-- (SkippedTokens.blank_more).
 use Rattle.std.proofs.Common.{sym, ◌∙◌, arith}
 use Rattle.pgn_tokens.proofs.SkippedTokens.{none_yet, blank_more}
 use Rattle.pgn_tokens.proofs.token.after_blanks.Goals as goal

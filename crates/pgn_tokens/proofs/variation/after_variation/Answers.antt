@@ -1,6 +1,6 @@
--- The rest, with so many variations open, ends where the whole variation ends: each part that is skipped at once is a
--- step of the definition (part_is of VariationParts), a byte opens at most one more (depth_few), and a comment without
--- an end ends all (part_unclosed).
+-- A round skips a part of the variation (a comment, a skipped line or a byte), as the definition does (part_is of
+-- VariationParts), and opens at most one variation more, so `depth` doesn't overflow (depth_few). If a comment has no
+-- end, that is the fault (part_unclosed).
 use Rattle.std.proofs.Common.{sym, ◌∙◌, get_or, Some, arith}
 use Rattle.pgn_tokens.proofs.VariationParts.{part_unclosed, part_is, depth_few}
 use Rattle.pgn_tokens.proofs.variation.after_variation.Goals as goal

@@ -1,5 +1,5 @@
--- A token more keeps that none before was a variation (VariationsSought.sought_on); a variation, the last `(`, the
--- text's end and what can't be read each end the search by one lemma.
+-- A token that is no variation keeps the invariant (VariationsSought.sought_on). The search ends at a variation, behind
+-- the last `(`, at the text's end and at what can't be read, each by one lemma of VariationsSought.
 use Rattle.std.proofs.Common.{refl, sym, ◌∙◌, arith}
 use Rattle.pgn_tokens.specs.Seen.{token_seen}
 use Rattle.pgn_tokens.proofs.VariationsSought.{none_before, none_left, none_to_end, none_readable, found, sought_on}

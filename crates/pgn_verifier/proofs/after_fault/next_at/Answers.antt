@@ -1,5 +1,5 @@
--- Where the game ends is said of some list of tokens that the text is split into; there is only one (split_read). After
--- what can't be read there is no end (UnreadFaults.none_after).
+-- The contract of `game_end` speaks of some split of the text into tokens; there is only one, that of the definition
+-- (split_read). After a fault at what can't be read no end is looked for, and there is none (UnreadFaults.none_after).
 use Rattle.std.proofs.Common.{◌∙◌, ap, sym, length, None, if◌then◌else◌}
 use Rattle.byte_devices.specs.Bytes.{after_byte_order_mark}
 use Rattle.chess_pgn.specs.GameEnds.{game_end}

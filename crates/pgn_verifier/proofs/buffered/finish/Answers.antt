@@ -1,4 +1,5 @@
--- The lines of the text's reports were written, from the first byte on (Finished.whole_lines), and then flushed.
+-- The lines written are those of the definition, numbered from 1 (Finished.whole_lines), and then they are flushed; if
+-- the flush fails, they may be cut short (Finished.not_flushed).
 use Rattle.std.proofs.{Common.subst, lemmas.Result.err_from_is_err_and}
 use Rattle.byte_devices.specs.Devices.{Took, CutShort}
 use Rattle.byte_devices.proofs.shared.Devices.{sent_on}

@@ -1,4 +1,6 @@
--- The text so far is what was read: a piece more, the end, or a piece too long. `pieces_left` falls with each.
+-- By the invariant `text` is what was read so far. A piece more keeps this (InputRead.more_read); at the end, with too
+-- many bytes, or without memory for more, the loop ends (InputRead.all_read, too_long, no_room). Each read leaves one
+-- fewer that can succeed.
 use Rattle.std.proofs.Common.{◌≡◌, ◌<◌, ◌++◌, length, take, arith}
 use Rattle.pgn_verifier.proofs.InputRead.{all_read, more_read, no_room, too_long, still_few}
 use Rattle.std.proofs.lemmas.Result.{err_from_is_err_and}

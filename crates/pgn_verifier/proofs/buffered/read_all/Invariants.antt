@@ -1,4 +1,5 @@
--- The loop's invariant: `text` is what was read so far, and not too long.
+-- The loop's invariant: `text` is what was read so far, and has at most `PIECE_LEN` bytes. What decreases is the number
+-- of reads that can still succeed.
 use Rattle.std.proofs.Common.{◌≤◌, false, length}
 use Rattle.pgn_pieces.specs.{Pieces.HasRead, declared.pieces.TheConstants.PIECE_LEN}
 use Rattle.pgn_verifier.proofs.buffered.read_all.Given as goal

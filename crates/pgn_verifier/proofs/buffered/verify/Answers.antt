@@ -1,4 +1,5 @@
--- Each way out gives what passed at the devices (Verifying.not_all_exit and those after it).
+-- Each way in which `verify` ends, by a `?` or at its end, is one lemma of Verifying, which says what became of input
+-- and output.
 use Rattle.std.proofs.{Common.rules, Common.Ok, Common.IfErr, lemmas.Result.err_from_is_err_and}
 use Rattle.byte_devices.specs.{Devices.CutShort, declared.traits.WriteFault.WriteFault}
 use Rattle.pgn_verifier.specs.ties.OnTheWay.{IsNotAll, WritesText, text_lines}

@@ -1,4 +1,5 @@
--- A piece is verified as a text of its own, unless it is too long: then it has one report (TooLong).
+-- A piece is verified as a text of its own (the contract of `verify_text`). One that is too long has a single report,
+-- whose lines were written or broke off (TooLong.too_long_written, too_long_broke).
 use Rattle.std.proofs.Common.{true, ◌∙◌, refl, sym, subst}
 use Rattle.byte_devices.specs.{Devices.Took, Devices.CutShort, declared.traits.WriteFault.WriteFault}
 use Rattle.pgn_pieces.specs.Stream.{current}

@@ -1,4 +1,5 @@
--- The loop's invariant: the pieces before this one were reported (SoFar of CollectionVerified).
+-- The loop's invariant: the pieces before this one were reported (SoFar of CollectionVerified). What decreases is how
+-- far the end of the current piece is from 2 ^ 63 bytes, the most that a collection may have.
 use Rattle.std.proofs.Common.{◌≡◌, length, ◌+◌, ◌-◌, ◌^◌}
 use Rattle.pgn_verifier.proofs.CollectionVerified.{SoFar}
 use Rattle.pgn_verifier.proofs.collection.verify_pieces.Given as goal

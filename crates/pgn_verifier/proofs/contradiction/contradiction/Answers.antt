@@ -1,4 +1,4 @@
--- Both faults are in the text (FaultsInText), so the first of them is.
+-- A fault of the tag `Result` and one of the board are both in the text, so the first of them is (FaultsInText).
 use Rattle.std.proofs.Common.{length, sym, subst}
 use Rattle.chess_pgn.specs.GameRead.{ending}
 use Rattle.pgn_verifier.specs.GameFaults.{board_says_otherwise}

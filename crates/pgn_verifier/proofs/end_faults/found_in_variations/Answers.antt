@@ -1,5 +1,6 @@
--- The fault is in the game's text, which is a beginning of the whole. Where that ends before its first byte, or no
--- token is a variation, there is none.
+-- Variations are read in the game's text, up to its end, so a fault there is in the whole text
+-- (FaultsInText.err_weaker). If that text ends before its first byte, or has no variation, there is none
+-- (FaultsInText.none_without_bytes, none_without_variation).
 use Rattle.std.proofs.Common.{length, take, sym, ◌∙◌, arith}
 use Rattle.pgn_verifier.proofs.FaultsInText.{err_weaker, none_without_bytes, none_without_variation, take_few}
 use Rattle.pgn_verifier.proofs.end_faults.found_in_variations.Goals as goal

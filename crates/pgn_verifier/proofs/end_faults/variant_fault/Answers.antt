@@ -1,4 +1,5 @@
--- The reader's contract speaks of some list of tokens that the text is split into; there is only one (split_read).
+-- The contract of `unknown_variant` speaks of some split of the text into tokens; there is only one, that of the
+-- definition (split_read).
 use Rattle.std.proofs.Common.{◌≡◌, length, ap, ◌∙◌, arith}
 use Rattle.std.proofs.lemmas.Grind.{common_steps}
 use Rattle.chess_pgn.specs.UnknownVariants.{unknown_variant_in}

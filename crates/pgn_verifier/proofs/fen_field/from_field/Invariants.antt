@@ -1,5 +1,5 @@
--- The loop's invariant: `rest` from its field number `left` on is what is asked for, the FEN from its field `number`
--- on.
+-- The loop's invariant: the fields of `rest` from number `left` on are those of the FEN from number `number` on, which
+-- are asked for. What decreases is `left`, by one for each field that is dropped.
 use Rattle.std.proofs.Common.{◌≡◌, ◌≤◌, length}
 use Rattle.pgn_verifier.specs.WrongParts.{from_field}
 use Rattle.pgn_verifier.proofs.fen_field.from_field.Given as goal

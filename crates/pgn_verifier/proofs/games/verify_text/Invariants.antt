@@ -1,4 +1,5 @@
--- The loop's invariant: the games before `at` were reported, and `place` is right, from which lines are counted on.
+-- The loop's invariant: the games before `at` were reported (SoFar of TextVerified), and `place`, from which lines and
+-- columns are counted on, has the right ones (Known). What decreases is the number of bytes after `at`.
 use Rattle.std.proofs.Common.{◌≡◌, List, length, ◌-◌}
 use Rattle.pgn_verifier.specs.{Reports.Placed, ties.Counting.Known}
 use Rattle.pgn_verifier.proofs.TextVerified.{SoFar}

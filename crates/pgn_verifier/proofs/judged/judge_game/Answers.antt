@@ -1,4 +1,5 @@
--- The game is read either way, as `strict` says.
+-- By `strict` the game is read with the draws of 2014 or without; in each branch the contract of the function called is
+-- that of this one, with the flag put in.
 use Rattle.std.proofs.Common.{◌≡◌, ◌∙◌, Bool, IfOk, IfSome, ap, length, subst, sym, true}
 use Rattle.chess_pgn.specs.PastDraws.{Stands}
 use Rattle.pgn_verifier.specs.laws.Reported.{judged_of, read_at}

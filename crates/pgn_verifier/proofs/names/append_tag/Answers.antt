@@ -1,4 +1,5 @@
--- What is shown is of the last tag with this name (NamesShown).
+-- What a line shows is taken from the last tag with this name, as defined, or is `?` if there is none
+-- (NamesShown.shown_is).
 use Rattle.std.proofs.Common.{◌++◌, sym, ap, ◌∙◌, option_map}
 use Rattle.byte_devices.specs.Bytes.{after_byte_order_mark}
 use Rattle.pgn_verifier.proofs.NamesShown.{shown_or, shown_is}

@@ -1,4 +1,4 @@
--- The loop's invariant: the bytes so far were put, each as it is shown.
+-- The loop's invariant: the bytes so far were put, each as it is shown, one byte for each.
 use Rattle.std.proofs.Common.{◌≡◌, length, map, take}
 use Rattle.byte_devices.specs.Bytes.{shown_byte}
 use Rattle.pgn_verifier.proofs.shown.shown_bytes.Given as goal

@@ -1,5 +1,5 @@
--- The lines that were put so far are those of the first tags. A tag more is a line more (TagLines.tags_more), and a
--- line that breaks off is a beginning of all of them (TagLines.tags_break).
+-- If the lines of the first tags and then one more were added, those with it were (TagLines.tags_more). If the writer
+-- fails at a line, it took a beginning of the lines of all tags (TagLines.tags_break).
 use Rattle.std.proofs.Common.{◌∙◌}
 use Rattle.pgn_writer.proofs.{Added.adds_exit, TagLines.tags_more, TagLines.tags_break}
 use Rattle.pgn_writer.proofs.tag_lines.put_tags.Goals as goal

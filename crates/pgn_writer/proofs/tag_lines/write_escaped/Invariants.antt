@@ -1,4 +1,5 @@
--- The loop's invariant: the bytes so far were put, escaped, with at most two for each.
+-- The loop's invariant: the bytes so far were appended to the line, escaped (`text`), and as at most two bytes each
+-- (`len`), so the line has room for the rest.
 use Rattle.std.proofs.Common.{◌≡◌, ◌+◌, ◌*◌, ◌≤◌, ◌++◌, take}
 use Rattle.arrayvec.specs.ArrayVec.{array_vec_len}
 use Rattle.pgn_writer.specs.Written.{escaped}

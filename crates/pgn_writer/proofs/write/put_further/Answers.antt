@@ -1,4 +1,5 @@
--- The tags after the seven are those of the start and then the last ones, so their lines come one after the other
+-- The tags after the roster are those of the start (`FEN` and `SetUp`) and then the last ones. If the first can't be
+-- put, a beginning of all was (GameTexts.start_broke); otherwise what becomes of the last becomes of all
 -- (GameTexts.further_put).
 use Rattle.pgn_writer.proofs.{Added.adds_exit, GameTexts.start_broke, GameTexts.further_put}
 use Rattle.pgn_writer.proofs.write.put_further.Goals as goal

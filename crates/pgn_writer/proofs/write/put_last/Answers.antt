@@ -1,4 +1,5 @@
--- In each variant the tags of the array are those of the definition, whose termination is named by its text.
+-- The two tags of the array, or in normal chess the first alone, are those of the definition for this variant; the text
+-- of Termination is the one that the definition names.
 use Rattle.std.proofs.Common.{sym, subst, codes, [], ◌∷◌}
 use Rattle.pgn_writer.specs.{shared.TagGroups.last_lines, ties.Waiting.Adds, Written.tag_line, Written.ended}
 use Rattle.pgn_writer.proofs.write.put_last.Goals as goal

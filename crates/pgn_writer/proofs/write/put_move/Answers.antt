@@ -1,5 +1,6 @@
--- The tokens of a move are its number, where it has one, and then its SAN, at the column to which the number came
--- (GameTexts.move_put).
+-- The tokens of a move are its number, if one is due, and its SAN, put at the column that the number left. If both were
+-- put, the move was (GameTexts.move_put); otherwise a beginning of it was (GameTexts.number_broke, move_broke), and the
+-- board takes the move back.
 use Rattle.std.proofs.Common.{◌∙◌}
 use Rattle.pgn_writer.proofs.{Added.adds_exit, GameTexts.number_broke, GameTexts.move_broke, GameTexts.move_put}
 use Rattle.pgn_writer.proofs.write.put_move.Goals as goal

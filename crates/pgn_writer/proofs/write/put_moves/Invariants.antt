@@ -1,5 +1,5 @@
--- The loop's invariant: the tokens of the moves so far were put into lines, and the scratch board is at the position
--- after these moves.
+-- The loop's invariant: the tokens of the moves so far were put into lines (`added`), which left the line at this
+-- column (`column`); prefix and writer are as before; and the scratch board is at the position after these moves.
 use Rattle.std.proofs.Common.{◌≡◌, take, true}
 use Rattle.chess_game.specs.Line.{position_after}
 use Rattle.pgn_writer.specs.{shared.NumberedMoves.numbered_moves, shared.Lines.placed_all, shared.Lines.column_after_all, ties.Waiting.TookSome}

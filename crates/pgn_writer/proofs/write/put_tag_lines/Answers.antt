@@ -1,4 +1,5 @@
--- The roster, the further tags and an empty line come one after the other.
+-- The lines have three parts: the roster, the tags after it, and an empty line (GameTexts.tags_are). If one can't be
+-- put, a beginning of the whole was (GameTexts.first_broke, second_broke).
 use Rattle.std.proofs.Common.{refl, ◌∙◌}
 use Rattle.pgn_writer.proofs.Added.{adds_exit}
 use Rattle.pgn_writer.proofs.GameTexts.{first_broke, second_broke, third_put, tags_are}

@@ -1,4 +1,5 @@
--- The text that was put is the game's, and so is each text that is laid out as the game's (LaidOut.only_written).
+-- What `put_game` added and `finish` then wrote is the game's text (GameTexts.game_written). Any text that is laid out
+-- as the game's is the same text (LaidOut.only_written), so it was written too.
 use Rattle.std.proofs.Common.{rules}
 use Rattle.byte_devices.specs.Devices.{Puts}
 use Rattle.pgn_writer.specs.GameText.{pgn}

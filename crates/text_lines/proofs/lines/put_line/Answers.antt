@@ -1,4 +1,5 @@
--- A line of more than N bytes shows the first of its first N bytes (LineParts.line_put).
+-- Of a line of more than N bytes `put_text` is given the first N. The bytes shown of it, at most 64, are among these,
+-- so the line is the definition's (LineParts.line_put).
 use Rattle.std.proofs.Common.{true, arith, ap}
 use Rattle.text_lines.proofs.LineParts.{line_put}
 use Rattle.text_lines.proofs.lines.put_line.Goals as goal

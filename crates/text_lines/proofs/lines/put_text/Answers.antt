@@ -1,4 +1,5 @@
--- What is kept of a line that is too long is no more than came, and trimming makes no line longer: so it has room.
+-- Neither the first 64 bytes of a text nor its trimmed text is longer than the text, which has at most N bytes. So the
+-- line has room for them, and the branch `unreachable!()` is never taken.
 use Rattle.std.proofs.Common.{arith, ◌≤◌, ◌+◌, length, ap, IsOk}
 use Rattle.text_lines.proofs.lines.put_text.Goals as goal
 use Rattle.text_lines.proofs.lines.put_text.Goals.{then-is_too_long, else-is_too_long}

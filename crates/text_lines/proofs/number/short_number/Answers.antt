@@ -1,6 +1,6 @@
--- Of at most nine digits those before the last write less than 10 ^ 8 (FewDigits.small_number), so no step overflows;
--- and all write less than 10 to the power of their number (FewDigits.number_bound). What they write is
--- FewDigits.number_is.
+-- Of at most nine digits those before the last make a number less than 10 ^ 8, so no step overflows a `u32`
+-- (FewDigits.small_number). The whole number is that of the definition (FewDigits.number_is), and is less than 10 ^
+-- most (FewDigits.number_bound).
 use Rattle.std.proofs.Common.{arith, ◌<◌, ◌≤◌, ◌^◌, length}
 use Rattle.std.proofs.lemmas.Bool.Decides.{nat_tests}
 use Rattle.text_lines.proofs.FewDigits.{small_number, number_bound, number_is}

@@ -1,5 +1,6 @@
--- The loop's invariant: with the digits that are left `number` gives the whole number, and it is small enough not to
--- overflow.
+-- The loop's invariant: `number` followed by the digits that are left is the whole number (`rest`); the text is all
+-- digits exactly if the bytes left are (`digits`); and `number`, which has `byte-index` digits, is less than 10 to that
+-- power (`small`).
 use Rattle.std.proofs.Common.{drop, ◌^◌, ◌≡◌, ◌<◌}
 use Rattle.std.specs.List.{list_all}
 use Rattle.byte_devices.specs.Bytes.{is_digit}

@@ -1,5 +1,6 @@
--- The front that is left has the same text without end spaces and tabs as the whole: one at its end changes nothing
--- (Trims.end_step), and another byte ends the search (Trims.end_stop).
+-- By the invariant the first `to` bytes, without the spaces and tabs at their end, are the text without them. A space
+-- or tab as the last of these bytes can be dropped (Trims.end_step); at any other byte nothing more is cut
+-- (Trims.end_stop).
 use Rattle.std.proofs.Common.{arith, sym, ◌∙◌}
 use Rattle.text_lines.proofs.Trims.{end_step, end_stop, zero_end}
 use Rattle.text_lines.proofs.trim.cut_end.Goals as goal

@@ -1,4 +1,5 @@
 -- The loop's invariant: the text without its end spaces and tabs is the same for the first `to` bytes as for the whole.
+-- What decreases is `to`.
 use Rattle.std.proofs.Common.{length, take, ◌≡◌, ◌≤◌}
 use Rattle.text_lines.specs.Lines.{without_end_blanks}
 use Rattle.text_lines.proofs.trim.cut_end.Given as goal

@@ -1,4 +1,5 @@
--- The loop's invariant: the text without its front spaces and tabs is the same from `from` on as for the whole.
+-- The loop's invariant: the text without its front spaces and tabs is the same from `from` on as for the whole. What
+-- decreases is the number of bytes from `from` on.
 use Rattle.std.proofs.Common.{length, drop, ◌-◌, ◌≡◌, ◌≤◌}
 use Rattle.text_lines.specs.Lines.{without_front_blanks}
 use Rattle.text_lines.proofs.trim.trim_start.Given as goal

@@ -1,4 +1,5 @@
--- The loops' invariants: before `end` all bytes are of the word; between `end` and `from` all are spaces or tabs.
+-- The loops' invariants: all bytes before `end` are of the first word, and all between `end` and `from` are spaces or
+-- tabs. What decreases is the number of bytes that are left.
 use Rattle.std.proofs.Common.{length, take, drop, ◌-◌, ◌≡◌, ◌++◌, ◌≤◌}
 use Rattle.text_lines.specs.{Lines.without_front_blanks, Words.word_of}
 use Rattle.text_lines.proofs.words.split_word.Given as goal

@@ -1,4 +1,6 @@
--- The bounds of the line and the column are those of the text (Known).
+-- Line and column are known at this place or, if it is after the offset, at the text's beginning
+-- (Placed.known_at_start), and are counted on from there. They are bounded by the bytes before them, so nothing
+-- overflows.
 use Rattle.std.proofs.Common.{sym, subst, arith}
 use Rattle.pgn_verifier.specs.ties.Counting.{Known}
 use Rattle.pgn_verifier.proofs.Placed.{known_at_start}

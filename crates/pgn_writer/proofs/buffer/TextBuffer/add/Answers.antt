@@ -1,5 +1,6 @@
--- Where making room failed, a beginning of what waited was taken, so the text after it stays due (Added.break_longer).
--- A text longer than the buffer is put where nothing waits (Added.put_after).
+-- If making room failed, the writer took a beginning of what the buffer held, and so of that and the text after it
+-- (Added.break_longer). A text longer than the buffer is put straight to the writer, once the buffer is empty
+-- (Added.put_after).
 use Rattle.std.proofs.Common.{[]}
 use Rattle.pgn_writer.proofs.Added.{break_longer, adds_exit, put_after}
 use Rattle.pgn_writer.proofs.buffer.TextBuffer.add.Goals as goal

@@ -1,5 +1,5 @@
--- The parts that were added so far are one text: a part more makes it longer (Added.parts_more), and where a part
--- breaks off, so does the text of all parts (Added.parts_break).
+-- If the parts so far and then one more were added, those with it were (Added.parts_more). If the writer fails at a
+-- part, it took a beginning of all parts (Added.parts_break).
 use Rattle.std.proofs.Common.{List, ℕ, Bor}
 use Rattle.pgn_writer.proofs.Added.{adds_exit, parts_break, parts_more}
 use Rattle.pgn_writer.proofs.buffer.TextBuffer.add_parts.Goals as goal

@@ -1,4 +1,5 @@
--- Up to the first byte 10 all bytes go to the part (LineEnds.none_held, LineEnds.line_held).
+-- If the window has no byte 10, all its bytes go to the line that has begun (LineEnds.none_held). Otherwise those
+-- before the first byte 10 do, and then the line is whole (LineEnds.line_held).
 use Rattle.std.proofs.Common.{arith, ◌≡◌, ◌≤◌, ◌<◌, ◌++◌, List, ℕ, true, Some, None, length, take, ap, subst, ◌∙◌}
 use Rattle.std.proofs.lemmas.List.{drop_all}
 use Rattle.text_lines.specs.{Lines.Held, Lines.line_of, ties.Kept.SameLines, ties.Kept.HeldLine}

@@ -1,4 +1,5 @@
--- A line where one was read, and else none.
+-- `next` returns the line that `read_line` read, or `None` if it read none; so the clause is that of `read_line`, for
+-- `Ok(true)` and for `Ok(false)`.
 use Rattle.text_lines.proofs.lines.Lines.next.Goals as goal
 
 pub returns-in-Ok-true : goal.returns-in-Ok-true

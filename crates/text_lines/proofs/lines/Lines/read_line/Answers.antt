@@ -1,5 +1,6 @@
--- While it has no whole line, what is held stands for all bytes that were given, and a piece more keeps that
--- (Reading.piece_on). At the input's end the part that is left, if any, is the last line (Reading.at_the_end).
+-- A round that held no whole line and then read a piece keeps the invariant: the bytes held still give the lines of all
+-- bytes since the call (Reading.piece_on). If the read gave no byte, the input has ended, and the line that has begun,
+-- if any, is the last one (Reading.at_the_end).
 use Rattle.std.proofs.Common.{arith, sym, subst, None, ◌∙◌}
 use Rattle.byte_devices.specs.declared.traits.ReadFault.{ReadFault}
 use Rattle.text_lines.specs.{Lines.Held, ties.Kept.HeldLine}

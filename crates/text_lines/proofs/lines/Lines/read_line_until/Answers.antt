@@ -1,5 +1,6 @@
--- As in read_line: what is held stands for all bytes that were given, and a piece more keeps that (Reading.piece_on). A
--- wait that found something leaves the input as it was (Reading.found).
+-- As in `read_line`, a round that held no whole line and then read a piece keeps the invariant (Reading.piece_on), and
+-- at the input's end the line that has begun, if any, is the last one (Reading.at_the_end). A wait that found something
+-- leaves the input as it was (Reading.found); a failed read ends the call with its fault (Reading.fault_until).
 use Rattle.std.proofs.Common.{arith, sym, subst, None, ◌∙◌}
 use Rattle.byte_devices.specs.declared.traits.ReadFault.{ReadFault}
 use Rattle.text_lines.specs.{Lines.Held, ties.Kept.HeldLine}

@@ -1,4 +1,6 @@
--- The loop's invariant: what is held stands for all bytes that were given, and `line` is as it was (SoFar of Reading).
+-- The loop's invariant: whatever is read next, what is held now gives the same lines as what was held at the call, with
+-- the bytes `given` since then (SoFar of Reading); and `line` is as it was. What decreases is the number of reads that
+-- can still succeed, since each round that goes on reads once.
 use Rattle.std.proofs.Common.{◌≡◌, List, ℕ}
 use Rattle.text_lines.proofs.Reading.{SoFar}
 use Rattle.text_lines.proofs.lines.Lines.read_line_until.Given as goal

@@ -1,5 +1,5 @@
--- Where there is no room for all bytes, the part keeps as many as it can; whichever the others are, the lines are the
--- same (LineParts.overflow_same).
+-- If not all bytes fit, the part keeps those that do and drops the others. The line is too long then, whatever was
+-- dropped, and the lines are the same (LineParts.overflow_same).
 use Rattle.std.proofs.Common.{arith, ◌≡◌, ◌++◌, ◌∷◌, ◌-◌, ◌<◌, [], length, take, List, ℕ, ap, sym, subst, ◌∙◌}
 use Rattle.text_lines.specs.ties.Kept.{kept_part, SameLines}
 use Rattle.text_lines.proofs.LineParts.{overflow_same}

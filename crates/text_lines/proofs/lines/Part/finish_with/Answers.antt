@@ -1,5 +1,5 @@
--- With the bytes added, the part stands for the same lines as it and they did, so the same line is ended
--- (LineEnds.same_line).
+-- After `add` the same lines follow as with the bytes given, whatever comes. A `\n` comes next, so the line that it
+-- ends is the same too (LineEnds.same_line).
 use Rattle.std.proofs.Common.{sym, ◌++◌, ◌∙◌}
 use Rattle.text_lines.proofs.LineEnds.{same_line}
 use Rattle.text_lines.proofs.lines.Part.finish_with.Goals as goal

@@ -1,4 +1,4 @@
--- Of a line that is too long some bytes have come (long_has_bytes of LineParts).
+-- A line that is too long has some bytes, so false is right for it (long_has_bytes of LineParts).
 use Rattle.text_lines.proofs.LineParts.{long_has_bytes}
 use Rattle.text_lines.proofs.lines.Part.is_empty.Goals as goal
 
