@@ -83,6 +83,7 @@ abbrev pub Known : Shape → Given → Type 0
 Known s (valued name text) = TakesValue s name text
 Known s (flag name) = IsFlag s name
 
+-- options that pass a test (`IsOf`) by which the subcommand takes them are all taken
 pub all_known : (s : Shape) (IsOf : Given → Type 0) (options : List Given) → ((g : Given) → IsOf g → Known s g)
     → AllByRecursion IsOf options → AllByRecursion (Known s) options
 all_known s IsOf [] known all = tt
@@ -256,6 +257,8 @@ pub record TakesOptions (s : Shape) (options : List Given) : Type 0 where
   pub rows : rows_after s.rules [] (flat_map written options) ≡ rows_of_given s options
   pub passes : level_fault s [] nothing_held (flat_map written options) false [] ≡ []
 
+-- the subcommand takes options that it knows, each given once, if its defaults are accepted and the last check has no
+-- fault
 pub takes_options : (s : Shape) (options : List Given) → AllByRecursion (Known s) options → AreApart options
     → list_all is_fine s.rules ≡ true → check_fault s (rows_of_given s options) false ≡ [] → TakesOptions s options
 takes_options s options known apart fine check =
