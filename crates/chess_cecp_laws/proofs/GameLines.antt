@@ -196,7 +196,7 @@ fen_row : (s : State) (text : List ℕ) (fault : FenFault) → s.start.variant �
 fen_row s text fault e read =
     ap (λ (v : Variant). setboard_row s (fen_reading_as v text)) e ∙ ap (setboard_row s) read
 
--- `e4` is refused for its missing fields, and a board with a single king for its kings; by computation
+-- `e4` is refused for its missing fields, and a board with a single king for that; by computation
 no_fields : fen_reading_as Normal (argument_of (codes "setboard e4")) ≡ Err faults.Fields
 unfolding argument_of
 no_fields = refl
