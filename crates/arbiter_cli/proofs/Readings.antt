@@ -42,6 +42,7 @@ refused_by kinds said (BadFen x) h = absurd h
 refused_by kinds said BadDate h = absurd h
 refused_by kinds said BadKind h = absurd h
 
+-- what is returned where `clap` refused the arguments is a right reading of them
 pub refused_reading : (texts : List Text) (e : Error) (f : WordsFault) → IsParsed texts (Err e) → Refuses e f
     → IsReading texts (Err f)
 refused_reading texts e f p fits =
@@ -166,8 +167,8 @@ with_rows p = (p.0.now, rows_of (found_of p.1.now))
 abbrev or_session : Option (Text × List Row) → Text × List Row
 or_session o = unwrap_or o (codes "session", [])
 
--- `clap` parsed the arguments `texts` into `m`, and `o` is the subcommand found in it: what is asked for is that one, or a
--- session if there is none, and it has all that its grammar requires (entered_well)
+-- `clap` parsed the arguments `texts` into `m`, and `o` is the subcommand found in it: what is asked for is that one,
+-- or a session if there is none, and it has all that its grammar requires (entered_well)
 module _ (texts : List Text) (m : ArgMatches) (p : IsParsed texts (Ok m)) (o : Option (Bor Text × Bor ArgMatches))
     (e : option_map with_rows o ≡ subcommand_rows_of m) where
   abbrev pub met : option_map with_rows o ≡ subcommand_of (arbiter_app p.0) texts

@@ -1,7 +1,7 @@
 -- If `clap` reports no fault, what it matched is complete (required_there): a match has its two engines, and the
 -- numbers are in their ranges. For this each row has a value, and its values fit (HasValues): true before the walk over
--- the arguments, and kept by each of its steps that reports no fault. The lemma X_kept says so for the function X of
--- `clap`'s walk.
+-- the arguments, and kept by each of its steps that reports no fault. The lemmas named .._kept say so, each for a
+-- function of `clap`'s walk.
 use Rattle.std.proofs.Common.{◌≡◌, ◌<◌, ◌++◌, ◌&&◌, ◌||◌, ℕ, zero, suc, Bool, true, false, List, [], ◌∷◌, length, Option, Some, None, is_some, refl, sym, subst, ap, arith, true≢false, nat_lt, IfSome, codes, lit<, option_map, inl, inr, ◌∙◌, ◌⊎◌, unwrap_or, bytes_eq, chars, find, fold, slice_get, option_and_then, if◌then◌else◌, cond, ◌==◌, drop, encode_utf8}
 use Rattle.std.specs.{List.list_all, Option.option_map_or}
 use Rattle.clap.specs.{Lexer.long_of, Lexer.short_of, Values.is_request, Facts.explicit_source, Facts.unwrap_or_range, Kinds.Kinds, Kinds.check_kinds, Kinds.or_else, Takes.is_given, Takes.value_passes, declared.builder.value_parser.Reading.Reading, declared.builder.action.ArgAction.ArgAction, declared.error.kind.ErrorKind.ErrorKind, declared.parser.matches.ValueSource.ValueSource, declared.parser.matches.ValueSource.TheVariants.CommandLine, declared.parser.matches.ValueSource.TheVariants.DefaultValue, ValueTests.is_unsigned_in}

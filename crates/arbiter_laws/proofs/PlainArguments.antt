@@ -1,6 +1,6 @@
 -- What the program does without arguments, with `session` and with `verify`: a session, or it verifies games
 -- (serves_session, verifies_games). Reading such arguments gives the plan of this subcommand, or fails as memory ran
--- out, which the session and `verify` may do themselves.
+-- out; then the program ends as a session or `verify` without memory does.
 use Rattle.std.proofs.Common.{◌≡◌, ◌∙◌, ◌<◌, ℕ, Bool, List, [], ◌∷◌, bytes_eq, length, lit<, codes, Result, Ok, Err, refl, sym, ap, subst, inr, false, arith, true≢false}
 use Rattle.std.specs.List.{list_all, list_any}
 use Rattle.clap.specs.Words.{IsAmong, Text, kind_of}

@@ -129,6 +129,7 @@ module _ (name : Text) (options : List Given) (c : List Rule) where
       → find has_name (map row_for options) ≡ option_map row_for o
   found_row o e = sym (find-map has_name row_for options) ∙ ap (option_map row_for) e
 
+  -- the value found for it, by the option that was given (`o`), if there is one
   found_as : (o : Option Given) → find (λ g. bytes_eq (name_of g) name) options ≡ o
       → first_of name (fold with_default (map row_for options) c)
       ≡ option_or (option_map value_of o) (default_in name c)
@@ -141,6 +142,7 @@ module _ (name : Text) (options : List Given) (c : List Rule) where
       ≡ option_or (values_in options name) (default_in name c)
   value_found = found_as (find (λ g. bytes_eq (name_of g) name) options) refl
 
+  -- whether it counts as given, in the same way
   given_as : (o : Option Given) → find (λ g. bytes_eq (name_of g) name) options ≡ o → IsSome (option_map value_of o)
       → is_given name (fold with_default (map row_for options) c) ≡ true
   given_as None e some = absurd (true≢false (sym some))

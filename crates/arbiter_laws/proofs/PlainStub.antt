@@ -71,17 +71,19 @@ more (x ∷ xs) last = refl
 
 -- ---- one argument more
 
--- the first word and each later one: the walk goes on with it pending, and reports no fault
+-- the first word is pending after it
 first_walked : (text : Text) → has_hyphen text ≡ false
     → walked stub_shape.rules [] (walk_from nothing_held) text ≡ after_one [] text
 unfolding walked
 first_walked text plain = ap (λ (m : Held × Step). after_step stub_shape.rules text (walk_from nothing_held) m.0 m.1)
     (value_met idle tt text nothing_held plain)
 
+-- and it is reported with no fault; so is each later one (next_passes)
 first_passes : (text : Text) → has_hyphen text ≡ false → turn_fault stub_shape [] (walk_from nothing_held) text ≡ []
 first_passes text plain = ap₂ (λ (x : Kinds) (m : Held × Step). or_else x (step_fault stub_shape 1 m.0 m.1))
     (value_fault idle tt text nothing_held plain) (value_met idle tt text nothing_held plain)
 
+-- a later word: the one before it joins the row, and this one is pending
 next_walked : (before : List Text) (last text : Text) → has_hyphen text ≡ false
     → walked stub_shape.rules [] (after_one before last) text ≡ after_one (before ++ last ∷ []) text
 unfolding walked

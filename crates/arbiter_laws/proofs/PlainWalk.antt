@@ -54,7 +54,7 @@ pub record TakesValue (s : Shape) (name text : Text) : Type 0 where
   -- at the name: what is pending is settled, and the walk waits for the value
   pub first : (rows : List Row) (p : Option (Text × List Text))
       → walked s.rules [] (between rows p) (codes "--" ++ name) ≡ awaiting name (settled_rows s.rules p rows)
-  -- the only fault there may be one of settling
+  -- no fault is reported there but perhaps one of settling
   pub first_fault : (rows : List Row) (p : Option (Text × List Text))
       → turn_fault s [] (between rows p) (codes "--" ++ name)
       ≡ or_else (settle_fault s.rules s.args_override_self (held rows p)) []
@@ -62,13 +62,13 @@ pub record TakesValue (s : Shape) (name text : Text) : Type 0 where
   -- at the value: it is pending then
   pub taken : (rows : List Row) → plain_word s.rules (option name) text (held rows (Some (name, [])))
       ≡ (held rows (Some (name, text ∷ [])), next idle)
-  -- settled, it is the option's row; the only fault there may be that the option is repeated
+  -- settled, it is the option's row; no fault is reported but perhaps that the option is repeated
   pub uses : (rows : List Row) → settled_rows s.rules (Some (name, text ∷ [])) rows ≡ added (valued name text) rows
   pub passes : (rows : List Row) → settle_fault s.rules s.args_override_self (held rows (Some (name, text ∷ [])))
       ≡ or_else (repeat_fault false name rows) []
 
--- the subcommand `s` takes the flag `--name`: what is pending is settled, and the flag has its row at once. The only
--- faults may be those of settling, or that the flag is repeated
+-- the subcommand `s` takes the flag `--name`: what is pending is settled, and the flag has its row at once. No fault is
+-- reported but perhaps one of settling, or that the flag is repeated
 pub record IsFlag (s : Shape) (name : Text) : Type 0 where
   pub first : (rows : List Row) (p : Option (Text × List Text))
       → walked s.rules [] (between rows p) (codes "--" ++ name)
@@ -83,6 +83,7 @@ abbrev pub Known : Shape → Given → Type 0
 Known s (valued name text) = TakesValue s name text
 Known s (flag name) = IsFlag s name
 
+-- options that pass a test (`IsOf`) by which the subcommand takes them are all taken
 pub all_known : (s : Shape) (IsOf : Given → Type 0) (options : List Given) → ((g : Given) → IsOf g → Known s g)
     → AllByRecursion IsOf options → AllByRecursion (Known s) options
 all_known s IsOf [] known all = tt
@@ -256,6 +257,8 @@ pub record TakesOptions (s : Shape) (options : List Given) : Type 0 where
   pub rows : rows_after s.rules [] (flat_map written options) ≡ rows_of_given s options
   pub passes : level_fault s [] nothing_held (flat_map written options) false [] ≡ []
 
+-- the subcommand takes options that it knows, each given once, if its defaults are accepted and the last check has no
+-- fault
 pub takes_options : (s : Shape) (options : List Given) → AllByRecursion (Known s) options → AreApart options
     → list_all is_fine s.rules ≡ true → check_fault s (rows_of_given s options) false ≡ [] → TakesOptions s options
 takes_options s options known apart fine check =

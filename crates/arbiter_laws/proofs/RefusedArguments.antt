@@ -93,6 +93,7 @@ refused k (faults.BadFen f) w w' status help version is reported = absurd is
 refused k faults.BadDate w w' status help version is reported = absurd is
 refused k faults.BadKind w w' status help version is reported = absurd is
 
+-- so arguments that `clap` refuses with such a kind write nothing and have this status
 pub refuses_arguments : (ws : List Text) (k : ErrorKind) → k ≢ DisplayHelp → k ≢ DisplayVersion → AreRefused ws (k ∷ [])
     → RefusesArguments ws
 refuses_arguments ws k help version one s s' steps status (Ok plan, is, ran) = absurd (no_plan ws k plan one is)

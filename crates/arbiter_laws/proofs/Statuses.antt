@@ -11,6 +11,7 @@ use Rattle.chess_arbiter.specs.Program.{ReportsArguments}
 use Rattle.arbiter_laws.specs.Statuses.{HasStatus, StatusesAreStated}
 use Rattle.arbiter_laws.proofs.RefusedArguments.{no_help_asked}
 
+-- `clap` refused the arguments, and asked for no text: the status is 2
 refused_by_clap : (e : Error) (w w' : OutputState) (status : ℕ) → kind_of e ≢ DisplayHelp → kind_of e ≢ DisplayVersion
     → ReportsArguments (faults.Words e) w w' status → status ≡ 2
 refused_by_clap e w w' status help version (inl (asked, writes)) = no_help_asked (kind_of e) asked help version

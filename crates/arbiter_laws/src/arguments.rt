@@ -1,4 +1,5 @@
-//! Laws of the program's arguments: which are read as what, and which are refused. A caller learns one by calling its function, which does nothing.
+//! Laws of the program's arguments: which are read as what, and which are refused. A caller learns one by calling its
+//! function, which does nothing.
 
 ghost use Rattle.std.specs.Prelude.{[], ◌∷◌, codes};
 ghost use Rattle.clap.specs.declared.error.kind.ErrorKind.TheVariants.{DisplayHelp, DisplayVersion, MissingRequiredArgument};

@@ -1,4 +1,5 @@
-//! Laws of what the program does with its arguments, of its exit statuses, and of its limits. A caller learns one by calling its function, which does nothing.
+//! Laws of what the program does with its arguments, of its exit statuses, and of its limits. A caller learns one by
+//! calling its function, which does nothing.
 
 ghost use Rattle.std.specs.Prelude.{◌≡◌, [], ◌∷◌, codes};
 ghost use Rattle.chess_base.specs.declared.setup.TheConstants.{COUNTER_LIMIT};

@@ -5,6 +5,7 @@ use Rattle.cecp_engine.specs.{Levels.LevelSeen, Levels.allotted, Clocks.SideSeen
 use Rattle.chess_base.specs.declared.setup.TheConstants.{MOST_MOVES}
 use Rattle.cecp_engine.proofs.shared.Levels.{allotted_grows}
 
+-- a side that used no more than its time, and then no more than it had left, used no more than its time after the move
 pub within_more : (s : SideSeen) (used : ℕ) → IsWithin s → used ≤ allotted s.level s.moves - s.used
     → s.moves < MOST_MOVES → IsWithin (side_charged s used)
 within_more s used w in_time few =

@@ -39,6 +39,7 @@ first_of_from n at_end part (c ∷ cs) b = at (c == 10) refl (first_of_from n at
     at false e h k = let other : c ≢ 10 = grind arith in
         moved _ _ _ _ (byte_step n false part c cs other) (byte_step n at_end part c (cs ++ b) other) k
 
+-- the same of whole streams, which begin with no part of a line
 pub first_lines : (n : ℕ) (at_end : Bool) (a b : List ℕ) → GoesOn (stream_lines n false a) (stream_lines n at_end (a ++ b))
 first_lines n at_end a b = first_of_from n at_end [] a b
 

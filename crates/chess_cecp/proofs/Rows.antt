@@ -58,6 +58,7 @@ unfolding result_text
 outcome_begins WhiteWins comment = refl
 outcome_begins _ comment = refl
 
+-- nor does the line of a verdict, or the empty answer without one
 verdict_begins : (o : Option Verdict)
     → begins_refusal (option_map_or (λ v. result_text (verdict_result v) ++ new_line ∷ []) o []) ≡ false
 verdict_begins None = refl
@@ -89,6 +90,7 @@ result_obeys s text None = unchanged s _
 result_obeys s text (Some d) =
     by_test (contradicts_verdict (verdict_now s) d.outcome) (unchanged s _) (moved s (record s { declared = Some d }))
 
+-- `claim` in a game that is not over: a draw is declared, or the claim refused
 claim_obeys : (s : State) (claim : Option DrawClaim)
     → Obeys s false (option_map_or (λ c. declares s (record { outcome = Draw; comment = claim_comment c })) claim
     (answers s (codes "Error (no claim): ") (codes "claim")))
@@ -137,6 +139,7 @@ pub line_ends : (seen : SessionSeen) (line : LineSeen) → (session_response see
 unfolding session_response
 line_ends seen line = (line_obeys seen line).ends
 
+-- a line whose answer is a refusal leaves the session as it was
 pub refused_keeps : (seen : SessionSeen) (line : LineSeen) → IsRefusal (session_response seen line).text
     → (session_response seen line).state ≡ seen
 unfolding session_response

@@ -154,6 +154,7 @@ module _ {S : Type 0} {respond : Server S} {r r' : InputState} {w w' : OutputSta
   reached_by E r'' held' line false e (more, bytes, waits, got) =
       (given ++ more, true, [], reached_last {held' = held'} bytes waits (of_false line.ended _ _ e got))
 
+  -- a call for the next line that returned one has reached it
   pub reached : (E : Type 0) {r'' : InputState} (held' : Held) (line : LineSeen)
       → NextLine {E = E} COMMAND_LEN r' r'' held held' (Ok (Some line)) → IsReached r r'' done line
   reached E {r''} held' line n = reached_by E r'' held' line line.ended refl n

@@ -44,6 +44,7 @@ shaped : (named : Option Command) (b : Bool) → named ≡ None → b ≡ true
     → unwrap_or named (if b then BareMove else Unknown) ≡ BareMove
 shaped named b e f = rw (e, f) refl
 
+-- a text with a move's shape, whose first word is no known word, is a bare move
 is_bare : (text : List ℕ) → list_any (bytes_eq (word_of text)) known_words ≡ false → shape text ≡ true
     → command_of text ≡ BareMove
 unfolding command_of
@@ -51,6 +52,7 @@ is_bare text other e =
     shaped (named_command (word_of text) (argument_of text)) (shape text)
     (no_name (word_of text) (argument_of text) other) e
 
+-- the argument of `usermove ` and this text is the text
 argument_is : (text : List ℕ) → bytes_eq (word_of text) [] ≡ false → argument_of (codes "usermove " ++ text) ≡ text
 unfolding argument_of
 argument_is text e = kept text e

@@ -130,13 +130,14 @@ claimed s claim =
     option_map_or (λ c. declares s (record { outcome = Draw; comment = claim_comment c })) claim
     (answers s (codes "Error (no claim): ") (codes "claim"))
 
--- `claim` after the game's end, and before it
+-- `claim` after the game's end
 over_claim : (s : State) → is_over s ≡ true
     → claim_row s ≡ answers s (codes "Error (command not legal now): ") (codes "claim")
 over_claim s e =
     if_true (is_over s) (answers s (codes "Error (command not legal now): ") (codes "claim"))
     (claimed s (draw_claim (claims s.start s.moves))) e
 
+-- `claim` in a game that is not over, by the draw that can be claimed
 on_claim : (s : State) (claim : Option DrawClaim) → is_over s ≡ false → draw_claim (claims s.start s.moves) ≡ claim
     → claim_row s ≡ claimed s claim
 on_claim s claim e is =
@@ -151,6 +152,7 @@ braces_read : read_result (argument_of (codes "result 1-0 {Black {resigns}}")) �
 unfolding argument_of read_result result_comment
 braces_read = refl
 
+-- it is declared, if the board has no verdict
 braces_taken : (s : State) (text : List ℕ) → verdict_now s ≡ None
     → result_row s text (read_result (argument_of (codes "result 1-0 {Black {resigns}}")))
     ≡ becomes (result_in s without_braces)
@@ -160,11 +162,12 @@ braces_taken s text e =
     (answers s (codes "Error (the board says otherwise): ") text) (becomes (result_in s without_braces))
     (ap (λ (w : Option Verdict). contradicts_verdict w WhiteWins) e)
 
--- a result is accepted, or refused if the board says otherwise
+-- the result that `result 1-0 {Black resigns}` denotes
 result_read : read_result (argument_of (codes "result 1-0 {Black resigns}")) ≡ Some black_resigned
 unfolding argument_of read_result result_comment
 result_read = refl
 
+-- `result 1-0 {Black resigns}` is declared, unless the board's verdict (`v`) has another outcome
 result_taken : (s : State) (text : List ℕ) (v : Option Verdict) → verdict_now s ≡ v
     → contradicts_verdict v WhiteWins ≡ false
     → result_row s text (read_result (argument_of (codes "result 1-0 {Black resigns}")))
@@ -175,6 +178,7 @@ result_taken s text v e same =
     (answers s (codes "Error (the board says otherwise): ") text) (becomes (result_in s black_resigned))
     (ap (λ (w : Option Verdict). contradicts_verdict w WhiteWins) e ∙ same)
 
+-- it is refused, if the verdict has another outcome
 result_refused : (s : State) (text : List ℕ) (v : Option Verdict) → verdict_now s ≡ v
     → contradicts_verdict v WhiteWins ≡ true
     → result_row s text (read_result (argument_of (codes "result 1-0 {Black resigns}")))
@@ -192,7 +196,7 @@ fen_row : (s : State) (text : List ℕ) (fault : FenFault) → s.start.variant �
 fen_row s text fault e read =
     ap (λ (v : Variant). setboard_row s (fen_reading_as v text)) e ∙ ap (setboard_row s) read
 
--- `e4` is refused for its missing fields, and a board with a single king for its kings; by computation
+-- `e4` is refused for its missing fields, and a board with a single king for that; by computation
 no_fields : fen_reading_as Normal (argument_of (codes "setboard e4")) ≡ Err faults.Fields
 unfolding argument_of
 no_fields = refl
@@ -224,6 +228,7 @@ module _ (session : SessionSeen) where
       (answers s (codes "Error (game too long): ") (codes "e4")) refl (long_move session.limit s (codes "e4") e h)
       refl refl refl
 
+  -- `usermove e4` that denotes the move `m`: it is played, and the answer is the line of the verdict `v` after it
   on_move : (answer : Text) (m : Move) (v : Option Verdict) → is_over s ≡ false → length s.moves < session.limit
       → reading (current s) (codes "e4") ≡ reads.Move m → verdict_now (played s m) ≡ v
       → (judged_by (played s m) v).text ≡ codes answer → Plays session "usermove e4" answer m

@@ -49,6 +49,7 @@ and_later : {S : Type 0} (respond : Server S) (s : S) (ls more : List LineSeen) 
 and_later respond s [] more text ends = absurd cc
 and_later respond s (l ∷ ls) more text ends = sym (some_for [] l ls text) ∙ some_for [] l (ls ++ more) text
 
+-- a run that ended by a line such as `quit`, or by the input's end, answered the lines of the known bytes
 pub answers_input : {S : Type 0} (respond : Server S) (s s' : S) (end : End) (d d' : Devices)
     → Ran (Served respond s s' (Ok end)) d d' → AnswersInput respond s s' d d'
 answers_input {S} respond s s' Quit d d' (i, o, g, k, (none, (ok, (all, next, ends), early))) =

@@ -78,6 +78,7 @@ listed : (p : Setup) (ms : List Move) → p.variant ≡ Normal
 listed p [] e = refl
 listed p (m ∷ ms) e = rw ((texts_kept p e).shown m, listed p ms e)
 
+-- what `showmoves` shows
 moves_shown : (s : State) → s.start.variant ≡ Normal
     → moves_text (current s) (moves (current s)) ≡ normal_moves_text (normal_moves (normal_current s))
 unfolding moves_text
@@ -93,6 +94,7 @@ state_kept : (s : State) → s.start.variant ≡ Normal → state_text s ≡ nor
 unfolding state_text normal_state_text
 state_kept s e = rw (rep_kept s.start e s.moves, last_kept s.start e s.moves, verdict_kept s.start e s.moves)
 
+-- all commands, one by one
 pub normal_rows : (tags : Tags) (limit : ℕ) (s : State) (text argument : List ℕ) (command : Command)
     → s.start.variant ≡ Normal → has_normal_row command ≡ true →
     row tags limit s text argument command ≡ normal_row_of tags limit s text argument command

@@ -33,6 +33,7 @@ by_command session text command =
     let r = row session.tags session.limit session.state text (argument_of text) command in
     record { text = r.text; state = record session { state = r.state }; ends = r.ends }
 
+-- the session's response to a line that is not too long and has this command is the one by the command's row
 pub responds_by : (session : SessionSeen) (line : LineSeen) (command : Command) → line.too_long ≡ false
     → command_of line.text ≡ command → session_response session line ≡ by_command session line.text command
 unfolding session_response
@@ -92,6 +93,7 @@ neither None false e f = refl
 neither None true e f = absurd (cc)
 neither (Some c) shaped e f = absurd (cc)
 
+-- a text whose first word is none of the known ones, and that has no move's shape, is an unknown command
 is_unknown : (text : List ℕ) → list_any (bytes_eq (word_of text)) known_words ≡ false → shape text ≡ false
     → command_of text ≡ Unknown
 unfolding command_of
@@ -292,6 +294,7 @@ quits : (session : SessionSeen) → (response_to session "quit").ends ≡ true
 unfolding command_of named_command is_ignored
 quits session = ap (λ (r : Response SessionSeen). r.ends) (responds session "quit" Quit refl)
 
+-- a line that is too long is refused, even if it begins as `quit`
 too_long : (session : SessionSeen)
     → (session_response session (record { text = codes "quit"; too_long = true; ended = true })).text
     ≡ codes "Error (line too long): quit\n"

@@ -99,6 +99,7 @@ by_command seen text command =
     let r = row seen.tags seen.limit seen.state text (argument_of text) command in
     record { text = r.text; state = record seen { state = r.state }; ends = r.ends }
 
+-- the session's response to a line that is not too long and has this command is the one by the command's row
 responds_by : (seen : SessionSeen) (line : LineSeen) (text : List ℕ) (command : Command) → line.too_long ≡ false
     → line.text ≡ text → command_of text ≡ command → session_response seen line ≡ by_command seen text command
 unfolding session_response

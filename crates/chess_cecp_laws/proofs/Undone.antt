@@ -77,6 +77,7 @@ by_command seen line command =
     let r = row seen.tags seen.limit seen.state line.text (argument_of line.text) command in
     record { text = r.text; state = record seen { state = r.state }; ends = r.ends }
 
+-- the session's response to a line that is not too long and has this command is the one by the command's row
 responds_by : (seen : SessionSeen) (line : LineSeen) (command : Command) → line.too_long ≡ false
     → command_of line.text ≡ command → session_response seen line ≡ by_command seen line command
 unfolding session_response

@@ -98,13 +98,14 @@ pub record Wrote (plan : GamesPlan) (result : Result (Unit {0}) GamesFault) (d d
   pub all : is_ok result ≡ true → length games ≡ plan.games
   pub written : OutputTook d.output d'.output (all_of (game_texts plan games ++ score_line games))
 
--- games without a fault, and with a last game more that may have one, were all played by the plan
+-- games without a fault, numbered from `n` on, were played by the plan
 of_faultless : (plan : GamesPlan) (n : ℕ) (games : List GameRecord)
     → AllByRecursion (λ g. IsOfPlan plan g.0 g.1 × (g.1.end.fault ≡ None)) (enumerate_from n games)
     → AreOfPlan plan n games
 of_faultless plan n [] h = tt
 of_faultless plan n (g ∷ games) ((of, none), h) = (of, of_faultless plan (n + 1) games h)
 
+-- and with a last game more, which may have a fault
 with_last : (plan : GamesPlan) (n number : ℕ) (before : List GameRecord) (last : GameRecord)
     → AreOfPlan plan n before → IsOfPlan plan number last → number ≡ n + length before
     → AreOfPlan plan n (before ++ last ∷ [])
@@ -154,6 +155,7 @@ scored_by plan (Err WriteFailed) coming passes d d' s played = absurd s
 scored_by plan (Err NoMemory) coming passes d d' s played = absurd s
 scored_by plan (Err (CanNotStart command)) coming passes d d' s played = absurd s
 
+-- so it is for every match with a host that was played to its score
 pub wrote : (plan : GamesPlan) (result : Result (Unit {0}) GamesFault) (steps : List HostStep) (d d' : Outputs)
     → HasScore result → PlaysGamesWith plan result steps d d' → Wrote plan result d d'
 wrote plan result steps d d' s (inl (c, by)) =

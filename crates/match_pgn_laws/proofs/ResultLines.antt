@@ -146,6 +146,7 @@ inner_numbers White is_first n ts h rest = (inner_number n (codes ".") h refl, r
 inner_numbers Black true n ts h rest = (inner_number n (codes "...") h refl, rest)
 inner_numbers Black false n ts h rest = rest
 
+-- the tokens of legal moves: their numbers and their SAN
 inner_moves : (is_first : Bool) (p : Setup) (ms : List Move) (ts : List (List ℕ)) → IsSound p → IsLine p ms
     → AreInner ts → AreInner (numbered_moves is_first p ms ++ ts)
 inner_moves is_first p [] ts sound line rest = rest
@@ -184,6 +185,7 @@ escaped_in_line (c ∷ cs) h =
     by_test true e more = and_from (in_line c) (list_all in_line (escaped cs)) e more
     by_test false e more = and_from (in_line c) (list_all in_line (escaped cs)) e more
 
+-- the line of a tag has no line feed, if its name and text have none
 tag_in_line : (name text : List ℕ) → list_all in_line name ≡ true → list_all in_line text ≡ true
     → list_all in_line (tag_line name text) ≡ true
 tag_in_line name text h k =

@@ -163,6 +163,7 @@ turned : (b : Bool) (a t left : Arguments) (x y : List ℕ)
 turned true a t left x y is = ap playing is
 turned false a t left x y is = ap playing is
 
+-- the stub's state after its turn: it plays a side, and has the arguments that are left
 pub turn_state : (arguments left : Arguments) → left ≡ (turn arguments).state.arguments
     → playing left ≡ (turn arguments).state
 turn_state [] left is = ap playing is

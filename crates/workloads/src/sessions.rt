@@ -27,7 +27,8 @@ fn add_start(text: &mut Vec<u8>, start: &Position) -> Result<(), AllocError> {
     }
 }
 
-// The lines that come between moves: some more often than others, `claim` mostly refused, and `e2e5x` no command.
+// The lines that come between moves, some more often than others; `claim` is mostly refused, and `e2e5x` is never a
+// legal move.
 const QUESTIONS: [&[u8]; 8] = [
     b"showfen\n",
     b"showfen\n",

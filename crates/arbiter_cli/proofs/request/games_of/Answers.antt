@@ -13,6 +13,7 @@ read_or : (o : Option Text) → unwrap_or (option_map number_of o) 1 ≡ option_
 read_or None = refl
 read_or (Some t) = refl
 
+-- the number of games is from 1 to 1,000: the grammar takes no other value, and without one it is 1
 in_range : (o : Option Text) → ((t : Text) → o ≡ Some t → is_unsigned_in 1 1000 t ≡ true)
     → (1 ≤ option_map_or number_of o 1) × (option_map_or number_of o 1 ≤ 1000)
 in_range None has = (omega arith, omega arith)
