@@ -89,7 +89,7 @@ pub record PartsAreShown : Type 0 where
   -- variant
   pub position : explanation (from_start initial_setup) (Pgn IllegalMove) None
       ≡ codes " | rnbqkbnr/pppppppp/8/8/8/8/PPPPPPPP/RNBQKBNR w KQkq - 0 1"
-  -- it is the game's last, not its start; this text stands for its FEN
+  -- it is the game's last, not its start; `FEN` is in place of that position's
   pub last_position : (s : State) → fen (current s) ≡ codes "FEN"
       → explanation s (Pgn IllegalMove) None ≡ codes " | FEN"
   -- and the reason comes after it
@@ -136,6 +136,7 @@ pub record ReasonsAreGiven : Type 0 where
   pub castling : fen_reason faults.Castling ≡ codes "castling, as in normal chess unless the tag Variant names Chess960"
   -- for other faults
   pub zeros : IsGiven (Pgn IllegalMove) "0-0 *" "castling, and no result of PGN"
+  -- not of castling on the queen's side
   pub no_zeros : IsReason (Pgn IllegalMove) (codes "0-0-0 *") (Some BlackMates) None
   pub after_end : IsGiven (Pgn AfterEnd) "e4 *" "0-1 {Black mates}"
   pub token_in_variation : IsGiven (InVariation BadToken) "foo)" "not a move"

@@ -61,7 +61,7 @@ illegal =
 abbrev pub after_end : Report
 after_end = Faulty (record { kind = Pgn AfterEnd; offset = 39 }) (codes " | A - B, E F") 39 (codes "O-O") [] false
 
--- the report on a comment that isn't closed, after which nothing is read; FEN stands for the position
+-- the report on a comment that isn't closed, after which nothing is read; `FEN` is in place of a position's
 abbrev pub unclosed : Report
 unclosed = Faulty (record { kind = Pgn UnclosedComment; offset = 6 }) [] 6 (codes "{") (codes " | FEN") true
 
@@ -119,8 +119,8 @@ pub record ReportsAreWritten : Type 0 where
   -- of a collection the counts come after them
   pub of_collection : (text : List ℕ) → AreCollectionReports lenient 0 (cut text) both
       → VerifiesCollection plain (Ok FaultReported) (whole text)
-      (all_of (codes "game 1: 2 half-moves, 0-1, time forfeit\ngame 2: illegal move at byte 39\n\
-games 1 half-moves 2 faults 1\n"))
+      (all_of (codes "game 1: 2 half-moves, 0-1, time forfeit\ngame 2: illegal move at byte 39\n"
+      ++ codes "games 1 half-moves 2 faults 1\n"))
   pub no_games : VerifiesCollection plain (Ok EachGame) (whole [])
       (all_of (codes "games 0 half-moves 0 faults 0\n"))
   -- but none, if a read fails, and no line of the last piece, which may go on
@@ -179,7 +179,7 @@ pub record TextsAreReadOn : Type 0 where
   -- a variation after a game's marker isn't the game's
   pub later_variation : judged_at with_variations (codes "* (e4)") 0
       ≡ Ok (Some (record { outcome = Unfinished; termination = None; offset = 1 }))
-  -- nowhere, if the text ends before that, or can't be read up to there
+  -- a game ends nowhere, if the text ends before its marker or such tags, or can't be read up to there
   pub end : IsReadOnAt "e9 e4" None
   pub unreadable : IsReadOnAt "e9 {1-0 *" None
 
