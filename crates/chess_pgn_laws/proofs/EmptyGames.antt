@@ -181,6 +181,7 @@ tokens_end = record {
   word = refl;
   draw = refl;
   lost = refl;
+  skips = (4 ∷ 3 ∷ [], refl);
   none_next = refl;
   bad_tag_next = refl;
   unclosed_next = refl;

@@ -19,7 +19,7 @@ use Rattle.chess_pgn.specs.declared.read.PgnFaultKind.{PgnFaultKind}
 use Rattle.chess_pgn.specs.declared.read.PgnFaultKind.TheVariants.{BadTag, BadFen, BadToken, AfterEnd, TooLong, UnclosedComment, UnclosedVariation, NoResult}
 use Rattle.chess_pgn.specs.declared.tagged_result.ResultTag.{ResultTag}
 use Rattle.pgn_tokens.specs.GameTags.{TagPair, game_tags_of}
-use Rattle.pgn_tokens.specs.Seen.{IsNextToken}
+use Rattle.pgn_tokens.specs.Seen.{IsNextToken, SkipsTo}
 use Rattle.pgn_tokens.specs.TagsPassed.{IsAfterTags}
 use Rattle.pgn_tokens.specs.Tokens.{Skip, Word, Bad, tokens_from}
 use Rattle.pgn_tokens.specs.declared.token.TokenFault.TheVariants as token_faults
@@ -134,6 +134,8 @@ pub record TokensEnd : Type 0 where
   pub word : tokens_from (codes "aZ09_+#=-/!?:*") 0 ≡ (14, Word (codes "aZ09_+#=-/!?:")) ∷ (1, Word (codes "*")) ∷ []
   pub draw : (read_of "1/2-1/2").answer ≡ Ok (Some (record { outcome = Draw; termination = None; offset = 7 }))
   pub lost : (read_of "0-1").answer ≡ Ok (Some (record { outcome = BlackWins; termination = None; offset = 3 }))
+  -- from one offset to another there may be only what is skipped, as here up to the move
+  pub skips : SkipsTo (codes ". e4") 0 2
   -- what a reader of single tokens returns: that none is left, or the first that can't be read
   pub none_next : IsNextToken [] 0 (Ok None)
   pub bad_tag_next : IsNextToken (codes "12[") 2 (Err token_faults.BadTag)
