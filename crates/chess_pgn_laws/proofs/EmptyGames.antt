@@ -21,8 +21,9 @@ use Rattle.chess_text_laws.specs.Laws.{ShapedByText}
 use Rattle.chess_text.specs.declared.reading.Reading.TheVariants as reads
 use Rattle.chess_pgn.specs.GameRead.{GameRead, closed_by, declared_after, failed, moves_read, pgn_read}
 use Rattle.pgn_tokens.specs.Tokens.{Word, after_gap_lines, token_at, tokens_from, tokens_of}
+use Rattle.chess_pgn.specs.Variations.{variation_fault}
 use Rattle.chess_pgn.specs.Words.{word_gives}
-use Rattle.chess_pgn.specs.{declared.read.PgnEnd.PgnEnd, declared.read.PgnFault.PgnFault, declared.read.PgnFaultKind.TheVariants.AfterEnd, declared.read.PgnFaultKind.TheVariants.BadFen, declared.read.PgnFaultKind.TheVariants.IllegalMove}
+use Rattle.chess_pgn.specs.{declared.read.PgnEnd.PgnEnd, declared.read.PgnFault.PgnFault, declared.read.PgnFaultKind.TheVariants.AfterEnd, declared.read.PgnFaultKind.TheVariants.BadFen, declared.read.PgnFaultKind.TheVariants.IllegalMove, declared.read.PgnFaultKind.TheVariants.TooLong}
 use Rattle.pgn_writer.specs.Terminations.{termination_named}
 use Rattle.chess_pgn_laws.specs.EmptyGames.{EmptyGamesAreRead, NamesAreKnown, PercentLinesAreSkipped, StringsEnd, TagsAreFound, TokensEnd, read_of}
 
@@ -119,6 +120,12 @@ late_word p is mate none =
     ∙ ap (λ (r : Reading). (by_word p r).answer) none
     ∙ ap (λ (o : Option Verdict). by_end (is_some o)) mate
 
+-- a variation that may not be nested is the fault
+none_nested : (p : Setup) → variation_fault tokens_from 0 (codes "(e4)") p 0
+    ≡ Some (record { kind = TooLong; offset = 0 })
+unfolding variation_fault
+none_nested p = refl
+
 -- ---- row by row
 
 strings_end : StringsEnd
@@ -179,13 +186,18 @@ tokens_end = record {
   word = refl;
   draw = refl;
   lost = refl;
+  skips = (4 ∷ 3 ∷ [], refl);
+  none_next = refl;
+  bad_tag_next = refl;
+  unclosed_next = refl;
   no_token = refl;
 }
 
 tags_are_found : TagsAreFound
-unfolding pgn_read termination_named after_gap_lines token_at tokens_of tokens_from
+unfolding pgn_read termination_named may_name_right after_gap_lines token_at tokens_of tokens_from
 tags_are_found = record {
   gaps = refl;
+  returns = refl;
   name = refl;
   hyphen = refl;
   no_name = refl;
@@ -193,11 +205,14 @@ tags_are_found = record {
   after_marks = refl;
   late = refl;
   late_bad = refl;
+  in_order = refl;
+  passed = refl;
   only_marks = refl;
   only_tag = refl;
   last_known = refl;
   last_unknown = refl;
   first_bad_fen = refl;
+  by_variant = refl;
   small_name = refl;
 }
 
@@ -235,6 +250,8 @@ empty_games_are_read law = record {
   lost = ap (λ (over : Option Verdict). declared_after (is_some over) BlackWins) no_verdict;
   drawn = ap (λ (over : Option Verdict). declared_after (is_some over) Draw) no_verdict;
   no_move_before = refl;
+  tag_before = refl;
+  too_deep = none_nested;
   variant = refl;
   termination = refl;
   after_mate = late_word mated fen_is_read is_mate (none_read mated (codes "O-O") none_legal (is_shaped law));

@@ -1,23 +1,28 @@
 -- Texts of games without a move, in which a number, a comment or a variation could be taken for moves or for a result;
 -- what tags and a result say without one (PGN standard of 1994, sections 5 to 7, 8.1, 8.2 and 9.8.1); and what a word is
 -- where the game has ended before a move.
-use Rattle.std.specs.Prelude.{◌≡◌, ℕ, true, [], ◌∷◌, codes, length, map, replicate, Option, Some, None, Ok, Err}
+use Rattle.std.specs.Prelude.{◌≡◌, ℕ, true, List, [], ◌∷◌, codes, length, map, replicate, Option, Some, None, Ok, Err}
 use Prim.Native.String.{String as Text}
 use Rattle.byte_devices.specs.Bytes.{tab}
 use Rattle.chess_base.specs.Initial.{initial_setup_of}
 use Rattle.chess_base.specs.declared.man.Variant.TheVariants.{Normal, Fischerandom}
-use Rattle.chess_base.specs.declared.fen_fault.FenFault.TheVariants.{Fields}
+use Rattle.chess_base.specs.declared.fen_fault.FenFault.TheVariants.{Counters, Fields}
+use Rattle.chess_base.specs.declared.setup.Setup.{Setup}
 use Rattle.chess_game.specs.declared.results.Outcome.TheVariants.{WhiteWins, BlackWins, Draw, Unfinished}
 use Rattle.chess_game.specs.declared.verdicts.Verdict.TheVariants.{WhiteMates, BlackMates, Stalemate, InsufficientMaterial, FivefoldRepetition, SeventyFiveMoves}
 use Rattle.chess_pgn.specs.GameRead.{GameRead, known_variant, not_of_2014, pgn_read}
 use Rattle.chess_pgn.specs.ResultTags.{result_tag_of}
 use Rattle.chess_pgn.specs.UnknownVariants.{unknown_variant_in}
-use Rattle.chess_pgn.specs.Variations.{variations_fault}
+use Rattle.chess_pgn.specs.Variations.{variation_fault, variations_fault}
 use Rattle.chess_pgn.specs.declared.read.PgnEnd.{PgnEnd}
 use Rattle.chess_pgn.specs.declared.read.PgnFaultKind.{PgnFaultKind}
-use Rattle.chess_pgn.specs.declared.read.PgnFaultKind.TheVariants.{BadTag, BadFen, BadToken, AfterEnd, UnclosedComment, UnclosedVariation, NoResult}
+use Rattle.chess_pgn.specs.declared.read.PgnFaultKind.TheVariants.{BadTag, BadFen, BadToken, AfterEnd, TooLong, UnclosedComment, UnclosedVariation, NoResult}
 use Rattle.chess_pgn.specs.declared.tagged_result.ResultTag.{ResultTag}
+use Rattle.pgn_tokens.specs.GameTags.{TagPair, game_tags_of}
+use Rattle.pgn_tokens.specs.Seen.{IsNextToken, SkipsTo}
+use Rattle.pgn_tokens.specs.TagsPassed.{IsAfterTags}
 use Rattle.pgn_tokens.specs.Tokens.{Skip, Word, Bad, tokens_from}
+use Rattle.pgn_tokens.specs.declared.token.TokenFault.TheVariants as token_faults
 use Rattle.pgn_writer.specs.Outcomes.{outcome_of}
 use Rattle.pgn_writer.specs.Terminations.{termination_named}
 use Rattle.pgn_writer.specs.declared.termination.Termination.TheVariants.{TimeForfeit}
@@ -129,15 +134,31 @@ pub record TokensEnd : Type 0 where
   pub word : tokens_from (codes "aZ09_+#=-/!?:*") 0 ≡ (14, Word (codes "aZ09_+#=-/!?:")) ∷ (1, Word (codes "*")) ∷ []
   pub draw : (read_of "1/2-1/2").answer ≡ Ok (Some (record { outcome = Draw; termination = None; offset = 7 }))
   pub lost : (read_of "0-1").answer ≡ Ok (Some (record { outcome = BlackWins; termination = None; offset = 3 }))
+  -- from one offset to another there may be only what is skipped, as here up to the move
+  pub skips : SkipsTo (codes ". e4") 0 2
+  -- what a reader of single tokens returns: that none is left, or the first that can't be read
+  pub none_next : IsNextToken [] 0 (Ok None)
+  pub bad_tag_next : IsNextToken (codes "12[") 2 (Err token_faults.BadTag)
+  pub unclosed_next : IsNextToken (codes "12 {a") 3 (Err (token_faults.UnclosedComment 2))
   -- no token begins with any of these bytes: a vertical tab (11), a form feed (12), and others
   pub no_token : map (λ c. tokens_from (c ∷ []) 0) (11 ∷ 12 ∷ codes ")}]<>,@~'") ≡ replicate 11 ((1, Bad) ∷ [])
 
 -- ---- tags (section 8.1)
 
+-- the tag of this name with this text, which begins at this offset
+abbrev pub tag_found : Text → Text → ℕ → TagPair
+tag_found name text offset = record { name = codes name; text = codes text; offset = offset }
+
+-- two tags, a number, and the tag of the next game
+abbrev pub two_tags : List ℕ
+two_tags = codes "[A \"b\"][C \"d\"]12[E \"f\"]*"
+
 -- what is a tag of a game, and which of its tags count
 pub record TagsAreFound : Type 0 where
   -- lines may end in a tag
   pub gaps : EndsAt "[ A\n\"b\"\n]*" 10
+  -- also with a carriage return alone, as in some old files
+  pub returns : EndsAt "[\rA\r\"b\"\r]*" 10
   -- a name has letters, digits and `_`, and nothing else
   pub name : EndsAt "[A_1 \"b\"]*" 10
   pub hyphen : FailsAt "[A-1 \"b\"]*" BadTag 0
@@ -149,6 +170,11 @@ pub record TagsAreFound : Type 0 where
   -- after a number a tag is the next game's, also one that can't be read
   pub late : FailsAt "12[A \"b\"]*" NoResult 2
   pub late_bad : FailsAt "12[*" NoResult 2
+  -- so a game's own tags are those before it, in their order, each with the offset of its text
+  pub in_order : game_tags_of (length two_tags) (tokens_from two_tags 0)
+      ≡ tag_found "A" "b" 4 ∷ tag_found "C" "d" 11 ∷ []
+  -- the offset after them is that of the number
+  pub passed : IsAfterTags two_tags 0 14
   -- only marks and comments are no game, but a tag is one without a result
   pub only_marks : (read_of "!? {a}").answer ≡ Ok None
   pub only_tag : FailsAt "[A \"b\"]" NoResult 7
@@ -158,6 +184,8 @@ pub record TagsAreFound : Type 0 where
   pub last_unknown : EndsAt "[Termination \"time forfeit\"][Termination \"x\"]*" 46
   -- but the first FEN that can't be read is the fault
   pub first_bad_fen : FailsAt "[FEN \"x\"][FEN \"y\"]*" (BadFen Fields) 6
+  -- a FEN is read by the rules of the tag Variant: here `A` is a right, as only in Chess960, so the counter is the fault
+  pub by_variant : FailsAt "[Variant \"Chess960\"][FEN \"8/8/8/8/8/8/8/8 w A - x 1\"]*" (BadFen Counters) 26
   -- a name in small letters is another name
   pub small_name : EndsAt "[fen \"x\"]*" 10
 
@@ -224,6 +252,12 @@ pub record EmptyGamesAreRead : Type 0 where
   -- where variations are read, one before the first move is a fault, since there is no move that it replaces
   pub no_move_before : variations_fault tokens_from (codes "1. (e4) *") (initial_setup_of Normal) 0
       ≡ Some (record { kind = BadToken; offset = 3 })
+  -- the game's own tags are no fault
+  pub tag_before : variations_fault tokens_from (codes "[A \"b\"] (e4) *") (initial_setup_of Normal) 0
+      ≡ Some (record { kind = BadToken; offset = 8 })
+  -- and a variation is a fault where none may be nested any more, whatever is in it
+  pub too_deep : (p : Setup) → variation_fault tokens_from 0 (codes "(e4)") p 0
+      ≡ Some (record { kind = TooLong; offset = 0 })
   -- what a tag names may be in capital or small letters: a variant, and how the game ended
   pub variant : (read_of "[Variant \"Chess960\"] *").state.start ≡ initial_setup_of Fischerandom
   pub termination : (read_of "[Termination \"Time forfeit\"] *").answer

@@ -122,8 +122,8 @@ pub fn texts_are_worked_out()
 /// States a law and does nothing: some texts are games without moves, though a number, a comment or a variation in them
 /// could be taken for moves or for a result. `*` declares nothing, `1-0` does. The tags Variant and Termination name in
 /// capital or small letters what they name. A word in a mate is a move after the end. Row by row it is shown where
-/// strings, comments, variations, glyphs and words end, where `%` skips a line, which tags count, and which names of
-/// variants, terminations and outcomes are known.
+/// strings, comments, variations, glyphs and words end, where `%` skips a line, which tags count, by which rules a FEN
+/// is read, and which names of variants, terminations and outcomes are known.
 ///
 /// It refuses a number that is compared with the moves, moves of a comment that count, a variation that ends in a
 /// comment, a string that ends at a quote after a backslash, a `%` within a line that skips its rest, and a word after a

@@ -1,11 +1,13 @@
 -- Names of faults, parts of texts that are shown for them, and reasons, by computation: each row of a definition in
 -- specs/WorkedExplanations is one equation.
-use Rattle.std.proofs.Common.{refl}
+use Rattle.std.proofs.Common.{◌≡◌, ℕ, List, [], ◌++◌, Some, None, codes, refl, ap}
 use Rattle.std.specs.Fmt.{digits}
 use Rattle.chess_base.specs.Initial.{initial_setup, initial_setup_of}
-use Rattle.chess_fen.specs.Writing.{placement_text}
-use Rattle.chess_game.specs.Ends.{result_text}
-use Rattle.pgn_verifier.specs.{Explanations.explanation_line, WrongParts.from_field}
+use Rattle.chess_fen.specs.Writing.{fen, placement_text}
+use Rattle.chess_game.specs.{Ends.result_text, Game.State, Game.current}
+use Rattle.chess_pgn.specs.declared.read.PgnFaultKind.TheVariants.{IllegalMove}
+use Rattle.pgn_verifier.specs.{Explanations.explanation, Explanations.explanation_line, WrongParts.from_field}
+use Rattle.pgn_verifier.specs.declared.game_fault.FaultKind.TheVariants.{Pgn}
 use Rattle.pgn_verifier_laws.specs.WorkedExplanations.{FaultsAreCalled, PartsAreShown, ReasonsAreGiven}
 
 pub faults_are_called : FaultsAreCalled
@@ -26,6 +28,14 @@ faults_are_called = record {
   board = refl;
 }
 
+last_is_shown : (s : State) → fen (current s) ≡ codes "FEN"
+    → explanation s (Pgn IllegalMove) None ≡ codes " | FEN"
+last_is_shown s is = ap (λ (text : List ℕ). (codes " | " ++ text) ++ []) is
+
+reason_is_last : (s : State) → fen (current s) ≡ codes "FEN"
+    → explanation s (Pgn IllegalMove) (Some (codes "why")) ≡ codes " | FEN | why"
+reason_is_last s is = ap (λ (text : List ℕ). (codes " | " ++ text) ++ codes " | why") is
+
 pub parts_are_shown : PartsAreShown
 unfolding digits explanation_line from_field initial_setup initial_setup_of placement_text
 parts_are_shown = record {
@@ -34,14 +44,20 @@ parts_are_shown = record {
   target = refl;
   clock = refl;
   number = refl;
+  long_clock = refl;
+  spaces = refl;
+  long_field = refl;
   others = refl;
   move = refl;
   game = refl;
+  unprintable = refl;
   long = refl;
   end = refl;
   long_name = refl;
   column = refl;
   position = refl;
+  last_position = last_is_shown;
+  reason_after_it = reason_is_last;
   no_position = λ s. refl;
 }
 
@@ -56,8 +72,14 @@ reasons_are_given = record {
   variation = refl;
   no_move = refl;
   no_token = refl;
+  no_name = refl;
+  no_value = refl;
+  not_closed = refl;
+  no_bracket = refl;
+  percent = refl;
   castling = refl;
   zeros = refl;
+  no_zeros = refl;
   after_end = refl;
   token_in_variation = refl;
   variant = refl;

@@ -3,7 +3,8 @@ use Rattle.std.specs.Prelude.{◌≡◌, ℕ, Bool, true, false, Option, Some, N
 use Rattle.chess_game.specs.declared.results.Outcome.TheVariants.{WhiteWins, Draw, Unfinished}
 use Rattle.chess_game.specs.declared.verdicts.Verdict.{Verdict}
 use Rattle.chess_game.specs.declared.verdicts.Verdict.TheVariants.{WhiteMates, BlackMates, Stalemate, InsufficientMaterial, FivefoldRepetition, SeventyFiveMoves}
-use Rattle.chess_pgn.specs.GameRead.{not_of_2014}
+use Rattle.chess_game.specs.Game.{State, verdict_now}
+use Rattle.chess_pgn.specs.GameRead.{ending, not_of_2014}
 use Rattle.chess_pgn.specs.declared.read.PgnEnd.{PgnEnd}
 use Rattle.chess_pgn.specs.declared.read.PgnFaultKind.TheVariants.{AfterEnd, IllegalMove}
 use Rattle.pgn_verifier.specs.GameFaults.{judged}
@@ -73,6 +74,9 @@ EndsEachGame v = not_of_2014 v ≡ Some v
 pub record DrawsArePassed : Type 0 where
   pub fivefold : not_of_2014 FivefoldRepetition ≡ None
   pub seventy_five_moves : not_of_2014 SeventyFiveMoves ≡ None
+  -- a game in which 75 moves were reached is over only for a reader that doesn't pass them over
+  pub passed : (s : State) → verdict_now s ≡ Some SeventyFiveMoves → ending false s ≡ None
+  pub heeded : (s : State) → verdict_now s ≡ Some SeventyFiveMoves → ending true s ≡ Some SeventyFiveMoves
   pub white_mates : EndsEachGame WhiteMates
   pub black_mates : EndsEachGame BlackMates
   pub stalemate : EndsEachGame Stalemate

@@ -5,7 +5,8 @@ use Rattle.byte_devices.specs.Bytes.{byte, carriage_return}
 use Rattle.chess_base.specs.declared.fen_fault.FenFault.{FenFault}
 use Rattle.chess_base.specs.declared.fen_fault.FenFault.TheVariants as faults
 use Rattle.chess_base.specs.Initial.{initial_setup}
-use Rattle.chess_game.specs.Game.{State, from_start}
+use Rattle.chess_fen.specs.Writing.{fen}
+use Rattle.chess_game.specs.Game.{State, current, from_start}
 use Rattle.chess_game.specs.declared.results.Outcome.TheVariants.{BlackWins}
 use Rattle.chess_game.specs.declared.verdicts.Verdict.TheVariants.{BlackMates}
 use Rattle.chess_pgn.specs.declared.read.PgnFaultKind.TheVariants.{BadTag, BadFen, BadToken, IllegalMove, AmbiguousMove, AfterEnd, TooLong, UnclosedComment, UnclosedVariation, NoResult}
@@ -16,6 +17,7 @@ use Rattle.pgn_verifier.specs.Reports.{names_of}
 use Rattle.pgn_verifier.specs.WrongParts.{fen_reason, token_reason}
 use Rattle.pgn_verifier.specs.declared.game_fault.FaultKind.{FaultKind}
 use Rattle.pgn_verifier.specs.declared.game_fault.FaultKind.TheVariants.{Pgn, InVariation, UnknownVariant, ResultDiffers, BoardSaysOtherwise}
+use Rattle.pgn_verifier.specs.laws.Reasons.{tag_reason}
 
 -- ---- names
 
@@ -58,6 +60,13 @@ pub record PartsAreShown : Type 0 where
   pub target : field_shown wrong_clock faults.EnPassant ≡ (15, codes "e3")
   pub clock : field_shown wrong_clock faults.Counters ≡ (18, codes "x")
   pub number : field_shown "[FEN \"8/8 w KQ e3 7 y\"] *" faults.Counters ≡ (20, codes "y")
+  -- a clock has at most six digits, and is the wrong one if it has seven
+  pub long_clock : field_shown "[FEN \"8/8 w KQ e3 1000000 y\"] *" faults.Counters ≡ (18, codes "1000000")
+  -- several spaces may be between fields
+  pub spaces : field_shown "[FEN \"8/8  w KQ\"] *" faults.Side ≡ (11, codes "w")
+  -- at most 80 bytes of a field
+  pub long_field : wrong_part (Pgn (BadFen faults.Placement)) (replicate 81 (byte "z")) 0 0
+      ≡ (0, replicate 80 (byte "z"))
   -- the first field, if the fault is of the placement, of the whole position, or of the number of fields
   pub others : map (field_shown wrong_clock)
       (faults.Placement ∷ faults.Kings ∷ faults.Pawns ∷ faults.Men ∷ faults.Check ∷ faults.Fields ∷ [])
@@ -65,6 +74,8 @@ pub record PartsAreShown : Type 0 where
   -- of an illegal move its word, and of a game without a result its first word
   pub move : wrong_part (Pgn IllegalMove) (codes "1. e9 *") 0 3 ≡ (3, codes "e9")
   pub game : wrong_part (Pgn NoResult) (codes " 1. e4 ") 1 7 ≡ (1, codes "1.")
+  -- `?` for each byte that is not printable ASCII, as of `é` in UTF-8; only up to white space
+  pub unprintable : shown (195 ∷ 169 ∷ codes "4 e5") ≡ codes "??4"
   -- at most 40 bytes; `(end)` where the text ends
   pub long : shown (replicate 41 (byte "z")) ≡ replicate 40 (byte "z")
   pub end : shown [] ≡ codes "(end)"
@@ -78,6 +89,12 @@ pub record PartsAreShown : Type 0 where
   -- variant
   pub position : explanation (from_start initial_setup) (Pgn IllegalMove) None
       ≡ codes " | rnbqkbnr/pppppppp/8/8/8/8/PPPPPPPP/RNBQKBNR w KQkq - 0 1"
+  -- it is the game's last, not its start; `FEN` is in place of that position's
+  pub last_position : (s : State) → fen (current s) ≡ codes "FEN"
+      → explanation s (Pgn IllegalMove) None ≡ codes " | FEN"
+  -- and the reason comes after it
+  pub reason_after_it : (s : State) → fen (current s) ≡ codes "FEN"
+      → explanation s (Pgn IllegalMove) (Some (codes "why")) ≡ codes " | FEN | why"
   pub no_position : (s : State) → map (λ kind. explanation s kind None)
       (Pgn BadTag ∷ Pgn (BadFen faults.Kings) ∷ InVariation IllegalMove ∷ UnknownVariant ∷ []) ≡ replicate 4 []
 
@@ -86,6 +103,11 @@ pub record PartsAreShown : Type 0 where
 -- the reason for a bad token, where this text begins
 abbrev pub IsTokenReason : Text → Text → Type 0
 IsTokenReason text reason = token_reason (codes text) ≡ codes reason
+
+-- the reason for a bad tag, where this text begins. The law `reports_are_the_only_ones` says that it is the one that is
+-- given
+abbrev pub IsTagReasonOf : Text → Text → Type 0
+IsTagReasonOf text reason = tag_reason (codes text) ≡ codes reason
 
 -- this is the reason for a fault of this kind, where this text begins; the board has mated White
 abbrev pub IsGiven : FaultKind → Text → Text → Type 0
@@ -103,10 +125,19 @@ pub record ReasonsAreGiven : Type 0 where
   pub variation : IsTokenReason "(e4)" "no move that this variation replaces"
   pub no_move : IsTokenReason "foo" "not a move"
   pub no_token : IsTokenReason "<" "begins no token"
+  -- for a bad tag: the first part that it lacks
+  pub no_name : IsTagReasonOf "[\"a\"] *" "no name"
+  pub no_value : IsTagReasonOf "[A b\"] *" "no value"
+  pub not_closed : IsTagReasonOf "[A \"b] *" "string not closed"
+  pub no_bracket : IsTagReasonOf "[A \"b\" *" "no bracket after the value"
+  -- a `%` after the bracket is no line of its own, so it is in place of a name
+  pub percent : IsTagReasonOf "[%\nA \"b\"] *" "no name"
   -- for a bad FEN
   pub castling : fen_reason faults.Castling ≡ codes "castling, as in normal chess unless the tag Variant names Chess960"
   -- for other faults
   pub zeros : IsGiven (Pgn IllegalMove) "0-0 *" "castling, and no result of PGN"
+  -- not of castling on the queen's side
+  pub no_zeros : IsReason (Pgn IllegalMove) (codes "0-0-0 *") (Some BlackMates) None
   pub after_end : IsGiven (Pgn AfterEnd) "e4 *" "0-1 {Black mates}"
   pub token_in_variation : IsGiven (InVariation BadToken) "foo)" "not a move"
   pub variant : IsGiven UnknownVariant "Atomic\"]" "neither normal chess nor Chess960, by a name that is known"

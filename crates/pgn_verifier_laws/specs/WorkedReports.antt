@@ -1,18 +1,26 @@
 -- What is written of reports, where games begin and end, where a text is read on after a fault, and into which pieces a
 -- collection is cut, worked out.
-use Rattle.std.specs.Prelude.{◌≡◌, ℕ, true, false, List, [], ◌∷◌, ◌++◌, length, map, replicate, codes, Option, Some, None}
+use Rattle.std.specs.Prelude.{◌≡◌, ◌≤◌, ℕ, Bool, true, false, List, [], ◌∷◌, ◌++◌, length, map, replicate, codes, Option, Some, None, Ok, Err}
 use Prim.Native.String.{String as Text}
-use Rattle.chess_game.specs.declared.results.Outcome.TheVariants.{BlackWins, Draw}
-use Rattle.chess_pgn.specs.declared.read.PgnFaultKind.TheVariants.{AfterEnd, IllegalMove}
+use Rattle.byte_devices.specs.Transfers.{FromInput, nothing, all_of, all_unflushed}
+use Rattle.chess_game.specs.declared.results.Outcome.TheVariants.{BlackWins, Draw, Unfinished}
+use Rattle.chess_pgn.specs.declared.read.PgnFaultKind.TheVariants.{AfterEnd, IllegalMove, UnclosedComment}
 use Rattle.chess_pgn.specs.GameEnds.{game_end}
 use Rattle.pgn_tokens.specs.Tokens.{Token, Tag, tokens_from}
 use Rattle.pgn_pieces.specs.Pieces.{cut}
+use Rattle.pgn_pieces.specs.declared.pieces.PieceFault.TheVariants as cutting
+use Rattle.pgn_pieces.specs.declared.pieces.TheConstants.{PIECE_LEN}
+use Rattle.pgn_verifier.specs.Collection.{AreCollectionReports, VerifiesCollection}
 use Rattle.pgn_verifier.specs.Explanations.{explanation_line}
-use Rattle.pgn_verifier.specs.Reports.{Report, Placed, Game, Faulty, counts_line, counts_of, names_of, report_lines, spanning}
+use Rattle.pgn_verifier.specs.Faults.{of_piece}
+use Rattle.pgn_verifier.specs.Reports.{AreReports, Report, Placed, Game, Faulty, counts_line, counts_of, names_of, report_lines, spanning}
+use Rattle.pgn_verifier.specs.Verify.{Verifies}
+use Rattle.pgn_verifier.specs.declared.fault.VerifyFault.TheVariants.{ReadFailed, NoMemory, InputTooLong}
 use Rattle.pgn_verifier.specs.declared.game_fault.FaultKind.TheVariants.{Pgn}
 use Rattle.pgn_verifier.specs.declared.options.Strictness.{Strictness}
 use Rattle.pgn_verifier.specs.declared.options.VerifyOptions.{VerifyOptions}
-use Rattle.pgn_verifier.specs.laws.Reported.{placed_on}
+use Rattle.pgn_verifier.specs.declared.tally.Verified.TheVariants.{EachGame, FaultReported}
+use Rattle.pgn_verifier.specs.laws.Reported.{judged_at, placed_of, placed_on, too_long_placed}
 use Rattle.pgn_writer.specs.declared.termination.Termination.TheVariants.{TimeForfeit}
 
 -- no contradiction and no variation is looked at
@@ -34,6 +42,12 @@ with_spans = record plain { spans = true }
 abbrev pub with_names : VerifyOptions
 with_names = record plain { names = true }
 
+abbrev pub with_spans_and_names : VerifyOptions
+with_spans_and_names = record plain { spans = true; names = true }
+
+abbrev pub with_explain : VerifyOptions
+with_explain = record plain { explain = true }
+
 -- the report on a game of two half-moves that White lost on time, and that on the illegal move Ke3 in a game between A
 -- and B
 abbrev pub lost : Report
@@ -47,6 +61,10 @@ illegal =
 abbrev pub after_end : Report
 after_end = Faulty (record { kind = Pgn AfterEnd; offset = 39 }) (codes " | A - B, E F") 39 (codes "O-O") [] false
 
+-- the report on a comment that isn't closed, after which nothing is read; `FEN` is in place of a position's
+abbrev pub unclosed : Report
+unclosed = Faulty (record { kind = Pgn UnclosedComment; offset = 6 }) [] 6 (codes "{") (codes " | FEN") true
+
 -- the first goes up to the byte 9, the second from the byte 10 on up to the byte 45
 abbrev pub both : List Placed
 both = spanning 0 9 lost ∷ spanning 10 45 illegal ∷ []
@@ -55,6 +73,13 @@ both = spanning 0 9 lost ∷ spanning 10 45 illegal ∷ []
 abbrev pub four_tags : List (ℕ × Token)
 four_tags = (46, Tag (codes "Event") (codes "E") 38) ∷ (34, Tag (codes "Date") (codes "F") 27)
     ∷ (23, Tag (codes "White") (codes "A") 15) ∷ (11, Tag (codes "Black") (codes "B") 3) ∷ []
+
+-- what came from an input that ended after this text, and from one of which a read failed then
+abbrev pub whole : List ℕ → FromInput
+whole text = record { text = text; early = text; ended = true; failed = false; silences = 0 }
+
+abbrev pub cut_off : List ℕ → FromInput
+cut_off text = record { text = text; early = []; ended = false; failed = true; silences = 0 }
 
 -- the lines of these two reports, with these options, are this text
 abbrev pub AreWritten : VerifyOptions → Text → Type 0
@@ -70,11 +95,39 @@ pub record ReportsAreWritten : Type 0 where
   -- only the line of a fault names the players
   pub names : AreWritten with_names
       "game 1: 2 half-moves, 0-1, time forfeit\ngame 2: illegal move at byte 39 | A - B, E F\n"
+  -- the span comes before the players
+  pub spans_and_names : report_lines with_spans_and_names [] 2 (spanning 10 45 illegal ∷ [])
+      ≡ codes "game 2: illegal move at byte 39, bytes 10 to 45 | A - B, E F\n"
   -- who the players are: White first, and then the event and the date; `?` for each tag that is missing
   pub players : names_of four_tags ≡ codes " | A - B, E F"
   pub nobody : names_of [] ≡ codes " | ? - ?, ? ?"
   -- the fourth byte of the third line is explained
   pub explained : explanation_line (codes "a\nb\ncdef") 7 (codes "f") ≡ codes "# line 3 column 4 f\n"
+  -- after the explanation comes which bytes aren't read: from the fault's own on, not from its game's
+  pub unread : report_lines with_explain (codes "1. e4 {") 1 (spanning 0 7 unclosed ∷ [])
+      ≡ codes "game 1: unclosed comment at byte 6\n# line 1 column 7 { | FEN | bytes 6 to 7 not read\n"
+  -- of a piece that is too long no byte is read
+  pub too_long : report_lines with_explain (codes "1. e4 e5 \nab c") 1
+      (too_long_placed (record { offset = 10; bytes = codes "ab c" }) ∷ [])
+      ≡ codes "game 1: too long at byte 10\n# line 2 column 1 ab | bytes 10 to 14 not read\n"
+  -- of a text all lines are written, numbered from 1, and no counts
+  pub of_text : (text : List ℕ) → length text ≤ PIECE_LEN → AreReports false lenient 0 text 0 both
+      → Verifies plain (Ok FaultReported) (whole text)
+      (all_of (codes "game 1: 2 half-moves, 0-1, time forfeit\ngame 2: illegal move at byte 39\n"))
+  -- nothing is, if it can't be read to its end
+  pub text_cut_off : Verifies plain (Err ReadFailed) (cut_off (codes "*\n")) nothing
+  -- of a collection the counts come after them
+  pub of_collection : (text : List ℕ) → AreCollectionReports lenient 0 (cut text) both
+      → VerifiesCollection plain (Ok FaultReported) (whole text)
+      (all_of (codes "game 1: 2 half-moves, 0-1, time forfeit\ngame 2: illegal move at byte 39\n"
+      ++ codes "games 1 half-moves 2 faults 1\n"))
+  pub no_games : VerifiesCollection plain (Ok EachGame) (whole [])
+      (all_of (codes "games 0 half-moves 0 faults 0\n"))
+  -- but none, if a read fails, and no line of the last piece, which may go on
+  pub cut_off_in_piece : VerifiesCollection plain (Err ReadFailed) (cut_off (codes "*\n")) (all_unflushed [])
+  -- why cutting into pieces failed is why verifying does
+  pub piece_faults : map of_piece (cutting.ReadFailed ∷ cutting.NoMemory ∷ cutting.InputTooLong ∷ [])
+      ≡ ReadFailed ∷ NoMemory ∷ InputTooLong ∷ []
   -- a move after a mate
   pub after_mate : report_lines plain [] 1 (spanning 0 42 after_end ∷ [])
       ≡ codes "game 1: move after the end at byte 39\n"
@@ -98,6 +151,18 @@ GamesAreFound = map span (placed_on lenient 0 (codes " *\n *")) ≡ (1, 2) ∷ (
 abbrev pub IsReadOnAt : Text → Option ℕ → Type 0
 IsReadOnAt text at = game_end (length (codes text)) (tokens_from (codes text) 0) ≡ at
 
+-- a text is read with `--variations`
+abbrev pub with_variations : Strictness
+with_variations = record lenient { variations = true }
+
+-- whether it is said of a report that from the fault's byte on the text isn't read
+abbrev pub is_left : Report → Bool
+is_left (Game plies outcome termination) = false
+is_left (Faulty fault names wrong_at part why is_unread) = is_unread
+
+abbrev pub leaves_bytes : Placed → Bool
+leaves_bytes p = is_left p.report
+
 -- where a text is read on, in games whose first word is no move
 pub record TextsAreReadOn : Type 0 where
   -- after the game's marker, whatever comes before that
@@ -105,7 +170,16 @@ pub record TextsAreReadOn : Type 0 where
   pub later : IsReadOnAt "e9 e4 (1-0) {*} e5 1-0 *" (Some 22)
   -- without one at the tags of the next game
   pub tags : IsReadOnAt "e9 [A \"b\"] *" (Some 3)
-  -- nowhere, if the text ends before that, or can't be read up to there
+  -- so it is with `--keep-going`, and the fault's span goes up to there; without it, up to the text's end
+  pub kept_going : map span (placed_of true lenient 0 (codes "12 [A \"b\"]*")) ≡ (0, 3) ∷ (3, 11) ∷ []
+  pub stopped : map span (placed_on lenient 0 (codes "12 [A \"b\"]*")) ≡ (0, 11) ∷ []
+  -- if no end is found, the bytes from the fault on are left, unless the fault is the text's end
+  pub bytes_left : map leaves_bytes (placed_of true lenient 0 (codes "12 {")) ≡ true ∷ []
+  pub none_left : map leaves_bytes (placed_of true lenient 0 (codes "12")) ≡ false ∷ []
+  -- a variation after a game's marker isn't the game's
+  pub later_variation : judged_at with_variations (codes "* (e4)") 0
+      ≡ Ok (Some (record { outcome = Unfinished; termination = None; offset = 1 }))
+  -- a game ends nowhere, if the text ends before its marker or such tags, or can't be read up to there
   pub end : IsReadOnAt "e9 e4" None
   pub unreadable : IsReadOnAt "e9 {1-0 *" None
   -- so also at a `[` that begins no tag: what comes from there on is not split into tokens

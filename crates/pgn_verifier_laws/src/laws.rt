@@ -156,9 +156,9 @@ pub fn faults_are_in_order()
 {}
 
 /// States a law and does nothing: the lines of some reports, of their counts and of an explanation, byte by byte, with
-/// some options of `verify`; where two games of a text begin and end; where some texts are read on after a fault; and
-/// into which pieces some texts are cut. And how each fault is named, which part of a text is shown for it, as for each
-/// fault of a FEN, and for which reasons.
+/// some options of `verify`, and what is written of a text or a collection with two reports; where two games of a text
+/// begin and end; where some texts are read on after a fault; and into which pieces some texts are cut. And how each
+/// fault is named, which part of a text is shown for it, as for each fault of a FEN, and for which reasons.
 ///
 /// It refuses a game that is numbered only if it is shown, Black's name before White's, white space that belongs to the
 /// game after it, a result that is read again after a fault, an Event line that begins no piece, or begins one after
