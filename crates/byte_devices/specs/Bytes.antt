@@ -1,6 +1,6 @@
 -- Names of bytes, kinds of bytes, and a byte as it is shown.
 use Prim.Native.String.{String as Text}
-use Rattle.std.specs.Prelude.{ℕ, ◌==◌, Bool, ◌&&◌, ◌||◌, if◌then◌else◌, List, [], ◌∷◌, take, nat_le, nat_lt, codes, slice_index_or}
+use Rattle.std.specs.Prelude.{ℕ, ◌==◌, Bool, ◌&&◌, ◌||◌, if◌then◌else◌, List, [], ◌∷◌, take, nat_le, nat_lt, codes, slice_index_or, Option, Some, None}
 use Rattle.std.specs.Str.{bytes_eq}
 
 -- the code of a text's first character, 0 for the empty text: `byte "A"` is 65
@@ -46,6 +46,11 @@ is_name_byte c = is_letter c || (is_digit c || c == byte "_")
 -- a byte as it is shown: `?` in place of what is not printable ASCII (32 to 126)
 abbrev pub shown_byte : ℕ → ℕ
 shown_byte c = if nat_lt c 32 || nat_lt 126 c then byte "?" else c
+
+-- the text after its first byte if that byte is `b`, otherwise `None`
+abbrev pub after_byte : ℕ → List ℕ → Option (List ℕ)
+after_byte b [] = None
+after_byte b (c ∷ rest) = if c == b then Some rest else None
 
 -- the index at which reading a text from index `at` begins: 3 if `at` is 0 and the text begins with a byte order mark
 -- (EF BB BF), otherwise `at`

@@ -3,8 +3,8 @@
 use Rattle.std.proofs.Common.{◌≡◌, ℕ, ◌≤◌, Bool, true, false, not, cond, ◌&&◌, ◌||◌, eqb, List, [], ◌∷◌, ◌++◌, length, drop, Some, refl, sym, ap, ◌∙◌, append_assoc, arith}
 use Rattle.std.specs.List.{list_all, prefix_len, take_while, AllByRecursion}
 use Rattle.std.proofs.{lemmas.Bool.and_parts, lemmas.Bool.and_from, lemmas.Bool.or_parts, lemmas.Bool.Decides.nat_tests}
-use Rattle.pgn_tokens.specs.Tokens.{Tag, after_gap, after_byte, string_at, onto, token_at}
-use Rattle.byte_devices.specs.Bytes.{is_name_byte}
+use Rattle.pgn_tokens.specs.Tokens.{Tag, after_gap, string_at, onto, token_at}
+use Rattle.byte_devices.specs.Bytes.{is_name_byte, after_byte}
 use Rattle.pgn_tokens.specs.shared.TagParts.{closed, with_text, with_string, with_tag_name, tag_by_parts}
 use Rattle.chess_game.specs.Results.{IsTagText}
 use Rattle.pgn_writer.specs.Written.{escaped, tag_line}

@@ -4,7 +4,7 @@ use Rattle.std.specs.Io.KnownBytes.{Consumes, IsAtEnd}
 use Rattle.std.specs.List.{onto_first, take_while, prefix_len, list_any, list_all, concat, fold}
 use Rattle.std.specs.Option.{option_map, option_map_or}
 use Rattle.std.specs.Str.{bytes_eq}
-use Rattle.byte_devices.specs.Bytes.{byte, is_blank, is_digit, is_name_byte, after_byte_order_mark}
+use Rattle.byte_devices.specs.Bytes.{byte, is_blank, is_digit, is_name_byte, after_byte, after_byte_order_mark}
 use Rattle.byte_devices.specs.Devices.{InputState, saturating_increment}
 use Rattle.pgn_pieces.specs.Places.{breaks_line}
 use Rattle.pgn_pieces.specs.declared.pieces.PieceFault.{PieceFault}
@@ -61,11 +61,6 @@ abbrev pub from_quote : Bool → List ℕ → List ℕ
 from_quote kept [] = []
 from_quote kept (c ∷ rest) = if not kept && c == byte "\"" then c ∷ rest else from_quote (not kept && c == byte "\\") rest
 
--- the text after its first byte, if that is `b`
-abbrev pub after_byte : ℕ → List ℕ → Option (List ℕ)
-after_byte b [] = None
-after_byte b (c ∷ rest) = if c == b then Some rest else None
-
 -- what comes after the string of the tag with which a text begins, and any spaces and tabs: `] e4` in `[a "b" ] e4`.
 -- Empty if the string isn't closed
 abbrev pub after_string : List ℕ → List ℕ
@@ -77,8 +72,7 @@ abbrev pub after_part : List ℕ → Option (List ℕ)
 after_part text = option_map (drop_while is_blank) (if begins_tag text then after_byte (byte "]") (after_string text)
     else (if bytes_eq (take 1 text) (codes "{") then after_byte (byte "}") (drop_while (λ c. not (c == byte "}")) text)
     else (if bytes_eq (take 1 text) (codes "$") then Some (drop_while is_digit (drop 1 text))
-    else (if list_any (λ c. list_any (λ k. c == k) (codes ".!?")) (take 1 text) then Some (drop 1 text)
-    else None))))
+    else (if list_any (λ c. list_any (λ k. c == k) (codes ".!?")) (take 1 text) then Some (drop 1 text) else None))))
 
 -- what comes after the tags, comments, glyphs, dots and marks with which a text begins (`after_part`): the text itself
 -- if it begins with none. At most as many are passed over as the first argument says

@@ -14,8 +14,8 @@ ghost use Rattle.std.specs.Prelude.{◌≡◌, ◌≤◌, nat_lt, true, false, �
 ghost use Rattle.std.specs.Str.{bytes_eq};
 ghost use Rattle.std.specs.List.{list_all, list_any};
 ghost use Rattle.std.specs.Option.{option_map};
-ghost use Rattle.pgn_pieces.specs.Pieces.{drop_while, front_of, after_byte, after_name, after_part, after_parts, after_string, begins_tag, ends_in_tag, from_quote, has_more, tag_name, is_tag_line, is_event_line, is_moves_line};
-ghost use Rattle.byte_devices.specs.Bytes.{after_byte_order_mark, is_blank, is_digit};
+ghost use Rattle.pgn_pieces.specs.Pieces.{drop_while, front_of, after_name, after_part, after_parts, after_string, begins_tag, ends_in_tag, from_quote, has_more, tag_name, is_tag_line, is_event_line, is_moves_line};
+ghost use Rattle.byte_devices.specs.Bytes.{after_byte, after_byte_order_mark, is_blank, is_digit};
 ghost use Rattle.pgn_pieces.specs.Places.{breaks_line, line_ends};
 ghost use Rattle.pgn_pieces.specs.ties.Fronts.{after_value, behind_string, from_mark, is_empty_with, without_blanks};
 

@@ -5,7 +5,8 @@ use Rattle.std.proofs.Common.{◌≡◌, ℕ, suc, ◌+◌, ◌-◌, ◌≤◌, 
 use Rattle.std.specs.List.{list_all, join_with_byte, onto_first, prefix_len, take_while}
 use Rattle.std.proofs.{lemmas.Bool.Decides.nat_tests, lemmas.List.take_rest, lemmas.List.Splits.join_with_byte-slice_split}
 use Rattle.text_lines.specs.Lines.{parts}
-use Rattle.pgn_tokens.specs.Tokens.{is_white_space, after_white_space, is_gap_line, after_gap_lines, after_gap, after_byte, after_next}
+use Rattle.byte_devices.specs.Bytes.{after_byte}
+use Rattle.pgn_tokens.specs.Tokens.{is_white_space, after_white_space, is_gap_line, after_gap_lines, after_gap, after_next}
 use Rattle.pgn_tokens.specs.shared.Gaps.{gap_left}
 use Rattle.pgn_tokens.proofs.ByteRuns.{differs}
 

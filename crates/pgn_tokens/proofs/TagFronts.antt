@@ -3,8 +3,8 @@
 use Rattle.std.proofs.Common.{◌≡◌, ℕ, suc, ◌+◌, ◌<◌, Bool, true, false, cond, eqb, List, [], ◌∷◌, ◌++◌, length, take, drop, Option, Some, None, refl, sym, ap, subst, ◌∙◌, inl, inr, append_assoc, length-append, arith, is_some, unwrap_or, eqb-true, length-take-le, take-append-drop}
 use Rattle.std.specs.List.{list_all, prefix_len, take_while}
 use Rattle.std.proofs.{Math.Seq.drop-append_seam, lemmas.Bool.Decides.nat_tests, lemmas.List.Sums.prefix_len-le-length}
-use Rattle.byte_devices.specs.Bytes.{is_name_byte}
-use Rattle.pgn_tokens.specs.Tokens.{after_byte, after_gap, after_next, name_at}
+use Rattle.byte_devices.specs.Bytes.{is_name_byte, after_byte}
+use Rattle.pgn_tokens.specs.Tokens.{after_gap, after_next, name_at}
 use Rattle.pgn_tokens.specs.Split.{IsGap, OpensTag, opens}
 use Rattle.pgn_tokens.proofs.ByteRuns.{run_passes, run_take}
 use Rattle.pgn_tokens.proofs.TagSplits.{opening_parts, GapLeaves, from_gap, gap_goes, name_stops, next_read}

@@ -3,8 +3,8 @@
 use Rattle.std.proofs.Common.{◌≡◌, ℕ, zero, suc, ◌+◌, ◌<◌, ◌≤◌, Bool, true, false, cond, eqb, List, [], ◌∷◌, ◌++◌, length, drop, Option, Some, None, IfSome, refl, sym, ap, subst, ◌∙◌, inl, inr, ◌⊎◌, arith, ◌&&◌, take-append-drop, append_assoc, length-append}
 use Rattle.std.specs.List.{list_all, list_any, prefix_len, take_while}
 use Rattle.std.proofs.lemmas.Bool.{and_parts, or_parts, or_cases, eqb-true}
-use Rattle.pgn_tokens.specs.Tokens.{Token, Tag, Bad_tag, is_white_space, line_end, after_gap, string_at, onto, after_byte, after_next}
-use Rattle.byte_devices.specs.Bytes.{is_name_byte}
+use Rattle.pgn_tokens.specs.Tokens.{Token, Tag, Bad_tag, is_white_space, line_end, after_gap, string_at, onto, after_next}
+use Rattle.byte_devices.specs.Bytes.{is_name_byte, after_byte}
 use Rattle.pgn_tokens.specs.{shared.Gaps.gap_left, shared.Kinds.IsTag}
 use Rattle.pgn_tokens.specs.shared.TagParts.{closed, with_text, with_string, with_tag_name, tag_by_parts}
 use Rattle.pgn_tokens.proofs.{Skipped.gap_line, Strings.string_after, Strings.string_quote, Strings.string_other, Gaps.gap_same, VariationInsides.line_end_is}

@@ -2,7 +2,7 @@
 -- comments, `%` lines, `$` glyphs and variations are skipped; tags and words are kept; the first token that can't be
 -- read is the last. This project's own is what Split names, and that the bytes EF BB BF at offset 0 are skipped.
 use Rattle.std.specs.Prelude.{ℕ, zero, suc, ◌-◌, Bool, false, not, ◌&&◌, ◌||◌, List, [], ◌∷◌, ◌++◌, length, take, drop, slice_index, Option, Some, None, codes, ◌==◌, if◌then◌else◌, option_and_then}
-use Rattle.byte_devices.specs.Bytes.{is_digit, byte, carriage_return, new_line, space, tab, is_name_byte}
+use Rattle.byte_devices.specs.Bytes.{is_digit, byte, carriage_return, new_line, space, tab, is_name_byte, after_byte}
 use Rattle.std.specs.List.{list_all, list_any, join_with_byte, prefix_len, position_or_len, take_while}
 use Rattle.std.specs.Option.{option_map, option_map_or, unwrap_or}
 use Rattle.std.specs.Str.{bytes_eq}
@@ -109,11 +109,6 @@ string_at (c ∷ d ∷ rest) =
     else (if c == new_line then None
     else (if c == byte "\\" then (if d == new_line then None else onto (c ∷ d ∷ []) (string_at rest))
     else onto (c ∷ []) (string_at (d ∷ rest))))
-
--- the text after its first byte if that byte is `b`, otherwise `None`
-abbrev pub after_byte : ℕ → List ℕ → Option (List ℕ)
-after_byte b [] = None
-after_byte b (c ∷ rest) = if c == b then Some rest else None
 
 -- the text after any white space and `%` lines, and then the byte `b`; none if another byte comes there. The text's own
 -- first byte begins no line, so a `%` there is not skipped

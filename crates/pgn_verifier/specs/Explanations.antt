@@ -90,6 +90,5 @@ explanation s kind reason = (if has_position kind then codes " | " ++ fen (curre
 -- the line that explains a fault by this text: `# line 2 column 4 ` and the text. The line and the column are those of
 -- the offset `begin` of `input`, which is all that was read
 unfoldable pub explanation_line : List ℕ → ℕ → List ℕ → List ℕ
-explanation_line input begin text =
-    codes "# line " ++ (decimal (line_of input begin) ++ (codes " column " ++ (decimal (column_of input begin)
-    ++ (codes " " ++ (text ++ new_line ∷ [])))))
+explanation_line input begin text = codes "# line " ++ (decimal (line_of input begin) ++ (codes " column "
+    ++ (decimal (column_of input begin) ++ (codes " " ++ (text ++ new_line ∷ [])))))

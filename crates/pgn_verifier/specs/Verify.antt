@@ -26,8 +26,7 @@ Verifies options (Err WriteFailed) i o = IsWhole i × (length i.text ≤ PIECE_L
 Verifies options (Err ReadFailed) i o = (i.ended ≡ false) × (i.failed ≡ true) × (o ≡ nothing)
 -- memory ran out before the input's end, or at the end of at most `PIECE_LEN` bytes; no read failed, and nothing was
 -- written
-Verifies options (Err NoMemory) i o =
-    (i.failed ≡ false) × (i.ended ≡ true → length i.text ≤ PIECE_LEN) × (o ≡ nothing)
+Verifies options (Err NoMemory) i o = (i.failed ≡ false) × (i.ended ≡ true → length i.text ≤ PIECE_LEN) × (o ≡ nothing)
 -- more than `PIECE_LEN` bytes were read, before the input's end; no read failed, and nothing was written
 Verifies options (Err InputTooLong) i o =
     (i.failed ≡ false) × (i.ended ≡ false) × (PIECE_LEN < length i.text) × (o ≡ nothing)

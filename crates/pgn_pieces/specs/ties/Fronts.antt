@@ -3,7 +3,7 @@ use Rattle.std.specs.Prelude.{ℕ, Bool, false, ◌||◌, ◌==◌, List, take, 
 use Rattle.std.specs.List.{list_all, position_or_len}
 use Rattle.std.specs.Option.{option_map}
 use Rattle.std.specs.Str.{bytes_eq}
-use Rattle.pgn_pieces.specs.Pieces.{after_byte, drop_while, from_quote}
+use Rattle.pgn_pieces.specs.Pieces.{drop_while, from_quote}
 use Rattle.byte_devices.specs.Bytes.{byte, is_blank}
 
 -- a text without the spaces and tabs at its beginning

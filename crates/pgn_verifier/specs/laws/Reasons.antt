@@ -3,11 +3,11 @@
 use Rattle.std.specs.Prelude.{ℕ, ◌++◌, if◌then◌else◌, List, take, take_while, codes, is_some, Option, Some, None}
 use Rattle.std.specs.Option.{option_map, option_map_or}
 use Rattle.std.specs.Str.{bytes_eq}
-use Rattle.byte_devices.specs.Bytes.{byte}
+use Rattle.byte_devices.specs.Bytes.{byte, after_byte}
 use Rattle.chess_game.specs.Ends.{verdict_result, result_text}
 use Rattle.chess_game.specs.Results.{outcome_text}
 use Rattle.chess_game.specs.declared.verdicts.Verdict.{Verdict}
-use Rattle.pgn_tokens.specs.Tokens.{after_byte, after_gap, after_next, is_word_byte, name_at, string_at}
+use Rattle.pgn_tokens.specs.Tokens.{after_gap, after_next, is_word_byte, name_at, string_at}
 use Rattle.chess_pgn.specs.declared.read.PgnFaultKind.TheVariants.{BadTag, BadFen, BadToken, IllegalMove, AfterEnd}
 use Rattle.pgn_verifier.specs.Explanations.{shown}
 use Rattle.pgn_verifier.specs.WrongParts.{fen_reason, token_reason}
