@@ -78,12 +78,16 @@ class Name:
 
     @property
     def path(self):
+        """Its file, from the top of the repository."""
         folders = self.module.split(".")
         return f"crates/{self.crate}/specs/{'/'.join(folders)}.antt"
 
 
 @dataclass
 class Definition:
+    """A definition: its kind (`abbrev`, `unfoldable`, `record` or `data`), its lines without comments, and of a data
+    type the names of its constructors."""
+
     key: Name
     kind: str
     line: int  # in its file, from 1 on
@@ -92,6 +96,7 @@ class Definition:
 
     @property
     def lines(self):
+        """How many lines it has."""
         return len(self.body)
 
 
@@ -112,14 +117,17 @@ class Function:
 
     @property
     def full_name(self):
+        """`OWNER::NAME`, or only the name if no type or trait has it."""
         return f"{self.owner}::{self.name}" if self.owner else self.name
 
 
 def read(path):
+    """The text of a file, given from the top of the repository."""
     return (TOP / path).read_text(encoding="utf-8")
 
 
 def crates():
+    """The names of the crates, in their order."""
     return sorted(p.parent.name for p in TOP.glob("crates/*/src"))
 
 
@@ -130,6 +138,7 @@ def used_crates(text=None):
 
 
 def without_comment(line):
+    """A line of a file .antt without its comment."""
     return re.sub(r"(^|\s)--(\s.*)?$", "", line).rstrip()
 
 
@@ -159,6 +168,7 @@ def by_module(text):
     """The text with a line for each module from which `use M.{N.d, ..}` brings names."""
 
     def lines(found):
+        """The lines that take the place of one import."""
         names = {}
         for path, there, here in imported_items(found[1], found[2]):
             names.setdefault(path, []).append(there if here == there else f"{there} as {here}")
@@ -226,6 +236,9 @@ class Specs:
     """The definitions of files of specs/: of all of this repository, unless others are given."""
 
     def __init__(self, paths=None):
+        """`definitions` has them by Name; `imports` the names and aliases of each (crate, module), as `imports_of`
+        finds them; `constructors` the data type of each constructor; `infix` the definitions whose name is no word,
+        such as `◌++◌`."""
         self.definitions = {}
         self.named_by = {}  # what `references` found
         self.files = []
@@ -300,6 +313,7 @@ class Specs:
         return self.named_by[key]
 
     def find_references(self, key):
+        """Finds what `references` returns. A `do` names `◌>>=◌`."""
         names, aliases = self.imports[(key.crate, key.module)]
         found = set()
         for text, bound in self.texts(key):
@@ -344,7 +358,7 @@ class Places:
 
 
 def is_field(text, end):
-    """A field in a record literal: `name =`, and no `==`."""
+    """Whether the name that ends at `end` is that of a field in a record literal: ` = ` follows, and not ` ==`."""
     return bool(re.match(r" = ", text[end:end + 3]))
 
 
@@ -378,7 +392,8 @@ def bound_in(equation, name):
 # ---- functions
 
 def contract_at(lines, i):
-    """The signature and the clauses of the function that begins in a line, and the line in which its body begins."""
+    """The signature and the clauses of the function that begins in line `i`, and the line in which its body begins, or
+    in which it ends if it has none."""
     signature, clauses, kind, is_whole = [], [], None, True
     indent = len(lines[i]) - len(lines[i].lstrip())
     while True:
@@ -406,6 +421,9 @@ class Sources:
     """All functions of a tree, and which of them a user of a crate can call."""
 
     def __init__(self):
+        """By files, `imports` has their names and aliases. `models` has the text by which contracts see a type,
+        `ghosts` those of a trait's ghost members, `members` the names of the ghost members that a type's impls define,
+        and `exports` the names that each crate offers."""
         self.functions = []
         self.imports = {}
         self.models = {}
@@ -420,6 +438,8 @@ class Sources:
             self.exports[crate] = self.exported(crate)
 
     def read_file(self, crate, path):
+        """Reads the functions of a file, and what its traits and impls declare by `ghost`. `owner` is the type or trait
+        of the block in which a line is."""
         lines = read(path).split("\n")
         names, aliases = imports_of(lines, "ghost use ")
         self.imports[path] = (names, aliases)
@@ -477,6 +497,8 @@ class Sources:
         return names
 
     def is_public(self, f):
+        """Whether a user of its crate can call a function: it is public and no test, and the crate offers it, or its
+        type."""
         if "tests" in f.path or f.crate.endswith("_tests"):
             return False
         return f.is_pub and (f.owner or f.name) in self.exports[f.crate]
