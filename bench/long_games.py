@@ -12,6 +12,7 @@ class Session:
     """The program's session, asked line by line."""
 
     def __init__(self, arbiter):
+        """Starts the program."""
         self.program = subprocess.Popen(
             [arbiter], stdin=subprocess.PIPE, stdout=subprocess.PIPE, text=True, bufsize=1
         )
@@ -31,6 +32,7 @@ class Session:
         return answers
 
     def end(self):
+        """Ends the session, and waits for that."""
         self.program.stdin.close()
         self.program.wait()
 

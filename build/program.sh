@@ -10,7 +10,9 @@ copies+=/chess_arbiter/${top##*/}-$(sha256sum <<<"$top" | head -c 16)
 log=$copies/log
 no_copy="the sources can't be copied to $copies"
 
+# Writes a message to standard error.
 say() { echo "arbiter: $*" >&2; }
+# Ends the build with a reason.
 fail() { say "$*: the program was not built"; exit 1; }
 
 # Makes folders for a crate and all below it, each once, and copies their lines of crates.txt. A name that has no line

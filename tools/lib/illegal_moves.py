@@ -41,6 +41,7 @@ def between(start, end):
 
 
 def colour_of(piece):
+    """Returns the colour of a piece, by its letter: `w` or `b`."""
     return "w" if piece.isupper() else "b"
 
 
@@ -54,9 +55,11 @@ class Position:
 
     @property
     def name(self):
+        """The name of the side to move."""
         return SIDES[self.side]
 
     def is_own(self, square):
+        """Says whether a piece of the side to move is on a square."""
         return square in self.pieces and colour_of(self.pieces[square]) == self.side
 
     def at(self, square):
@@ -64,11 +67,12 @@ class Position:
         return f"{NAMES[self.pieces[square].lower()]} on {square}"
 
     def king(self):
+        """Returns the square of its king."""
         return next(square for square, piece in self.pieces.items() if piece.lower() == "k" and self.is_own(square))
 
     def rook_of(self, wing):
         """Returns the square of the rook with which the side may castle on a wing (`O-O` or `O-O-O`); None if it has no
-        right to."""
+        right to. A right is K or Q for the rook on the file h or a, or the letter of the rook's file."""
         rank, king = self.king()[1], self.king()
         for letter in self.rights.strip("-"):
             file = {"K": "H", "Q": "A"}.get(letter.upper(), letter.upper()).lower()
@@ -90,6 +94,7 @@ def attacked(pieces, start):
 
 
 def forward(pawn):
+    """Returns how many ranks a pawn's single step goes up the board: 1 or -1."""
     return 1 if pawn.isupper() else -1
 
 

@@ -52,7 +52,8 @@ class Unreadable(Exception):
 
 
 def front(text, start):
-    """Returns the bytes that decide the kind of the line at an offset."""
+    """Returns the bytes that decide the kind of the line at an offset: its first FRONT bytes at most, without a byte
+    order mark and then spaces and tabs at the start."""
     return LINE_END.split(text[start : start + FRONT], maxsplit=1)[0].removeprefix(MARK).lstrip(b" \t")
 
 
@@ -133,6 +134,7 @@ class Cutter:
     """Cuts a text, to which one block after another is added, into parts of `least` bytes or more."""
 
     def __init__(self, least, counts_lines):
+        """With `counts_lines` each part gets the number of the lines before it."""
         self.least, self.counts_lines = least, counts_lines
         self.start, self.lines, self.text = 0, 0, bytearray()  # what is not cut yet
         self.tried = least  # it has no cut before this offset
@@ -285,6 +287,7 @@ class File:
                 os.close(source)
 
     def open(self):
+        """Opens the file, and returns its descriptor."""
         try:
             return os.open(self.name, os.O_RDONLY)
         except OSError as error:

@@ -42,6 +42,7 @@ class Engine:
 
     @property
     def command(self):
+        """Its command, quoted as in a shell."""
         return shlex.join(self.words)
 
     @property
