@@ -9,6 +9,7 @@ from sources import WORD, contract_at, imported_names, imports_of, is_written, n
 # A call of a law, and an import of what is called.
 CALL = re.compile(r"^    (\w+)\(\);$", re.M)
 IMPORT = re.compile(r"^use (\w+)::(?:\{([^}]*)\}|(\w+));\n", re.M)
+# An import of definitions, and the head of a function.
 GHOST = re.compile(r"^ghost use (\S+?)(?:\.\{(.*)\}| as (\w+));\n", re.M)
 FUNCTION = re.compile(r"^ *(?:pub(?:\(crate\))? )?(?:const )?fn (\w+)\b")
 

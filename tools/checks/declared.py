@@ -5,6 +5,7 @@ that contracts see by a model and not by their fields."""
 import re
 from dataclasses import dataclass
 
+# The head of a type or a constant, and an import.
 HEAD = re.compile(r"^ *(?:pub(?:\([\w ]+\))? )?(?:struct|enum|const|type) (\w+)\b")
 USE = re.compile(r"^ *(?:pub(?:\([\w ]+\))? )?use ((?:\w+::)+)([^;]*);", re.M)
 

@@ -188,7 +188,8 @@ class Lemmas:
         return found - {None}
 
     def roots(self):
-        """What a check asks for."""
+        """Yields the keys of what a check asks for: all items of files that answer goals of functions, and what the
+        code names."""
         for file in self.files.values():
             if is_of_function(file):
                 yield from (item.key for item in file.items)

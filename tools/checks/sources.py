@@ -209,7 +209,9 @@ def is_written(name, text):
 
 
 def named(text, names, aliases, home=None, bound=frozenset()):
-    """Yields the (crate, module, name) of each name in a text that is imported, and of each other word as a name of `home`."""
+    """Yields the (crate, module, name) of each name in a text that is imported, by `names` and `aliases` of
+    `imports_of`. With `home`, a (crate, module), each other word is taken as a name of that module. Names in `bound`,
+    and those of fields in record literals, are left out."""
     for m in re.finditer(rf"(?<![\w.'])({WORD})(?:\.({WORD}))?", text):
         first, second = m.group(1), m.group(2)
         if first in bound or is_field(text, m.end(1)):
@@ -297,7 +299,8 @@ class Specs:
         return found
 
     def texts(self, key):
-        """The parts of a definition, each with the names that are bound in it."""
+        """The parts of a definition (of a record or data type one, otherwise its type and each equation), each with the
+        names that are bound in it."""
         definition = self.definitions[key]
         if definition.kind in ("record", "data"):
             bound = set(re.findall(rf"[({{]((?:{WORD} )+):", definition.body[0]))
@@ -374,7 +377,8 @@ def equations(definition):
 
 
 def bound_in(equation, name):
-    """Names that stand for values in it: small letters left of `=`, after λ, in binders and after `let`."""
+    """The names that an equation binds, which are no definitions: those with a small first letter left of `=`, after λ,
+    in binders and after `let`."""
     bound = set()
     m = re.match(r"^(.*?) =(\s|$)", equation.split("\n")[0] + " ")
     if m and not re.match(r"^(abbrev|unfoldable)", equation):
@@ -516,7 +520,8 @@ class Sources:
         return bound - (used & set(self.imports[f.path][0]) & parameters)
 
     def names_in(self, specs, f, wanted=None):
-        """The definitions that its clauses name, or the wanted ones of them, with those by which contracts see its arguments."""
+        """The definitions that a function's clauses name (if some are wanted, only those of its clauses `ensures` with
+        these names count), and those by which contracts see its arguments."""
         names, aliases = self.imports[f.path]
         found = set()
         for kind, name, text in f.clauses:
@@ -542,7 +547,8 @@ def mutations(folder="must-fail"):
 # ---- documents
 
 def target_of(label):
-    """The file that a short link means, from the top; None where there is none."""
+    """The file, from the top of the repository, that a short link such as `base/Moves` or `base/position.rt` means;
+    None if there is none."""
     crate, _, name = label.partition("/")
     crate = SHORT.get(crate)
     if not crate:

@@ -80,7 +80,7 @@ class Copies:
         self.add_good(bytes(text[at:]))
 
     def add_good(self, part):
-        """Copies what has no fault; white space alone, as before a game with a fault, is left out after one."""
+        """Copies a part without a fault. After a game with a fault a part that is only white space is left out."""
         if not self.follows and not part.removeprefix(MARK).strip(WHITE):
             return
         if self.good:

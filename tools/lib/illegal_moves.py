@@ -7,8 +7,10 @@ from boards import FILES, board_of
 NAMES = {"p": "pawn", "n": "knight", "b": "bishop", "r": "rook", "q": "queen", "k": "king"}
 SIDES = {"w": "White", "b": "Black"}
 OTHER = {"w": "b", "b": "w"}
+# Steps as (files, ranks).
 STRAIGHT = [(1, 0), (-1, 0), (0, 1), (0, -1)]
 DIAGONAL = [(1, 1), (1, -1), (-1, 1), (-1, -1)]
+# The pieces that go one step, and those that go along lines, with their steps.
 JUMPS = {"k": STRAIGHT + DIAGONAL, "n": [(i * f, j * r) for f, r in ((1, 2), (2, 1)) for i in (1, -1) for j in (1, -1)]}
 LINES = {"r": STRAIGHT, "b": DIAGONAL, "q": STRAIGHT + DIAGONAL}
 COORDINATES = re.compile(r"([a-h][1-8])([a-h][1-8])([nbrq]?)")

@@ -14,6 +14,7 @@ REPORTS = (ENDED_LINE, WROTE_LINE, KILLED_LINE)
 OWN_LINES = ("arbiter: ", "tournament: ")
 SEATS = ("first", "second")
 HANDSHAKE = ("xboard", "protover 2")
+# What is advised where an engine does not answer the first lines.
 NO_HANDSHAKE = "any other engine must end its lines and flush them, and may need longer to start"
 # The faults of an engine that did not answer in time, without the side.
 NO_ANSWER = ("did not answer", "sent no done=1 (a UCI engine needs polyglot)")

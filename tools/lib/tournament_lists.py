@@ -79,7 +79,8 @@ class Lists:
 
 @dataclass(frozen=True)
 class Game:
-    """A game of the list: its number, its round, and the names of its engines. A round is an opening and a turn."""
+    """A game of the list: its number, its round, and the names of its engines. The round is `N.1` or `N.2`: the first
+    or the second game of a pair, from the opening N."""
 
     number: int
     round: str
