@@ -79,8 +79,8 @@ follow() {
     printf "$clear" >&2
 }
 
-# Ends with what rt printed, without what was proved, and with the reason why it failed. Its status is given, or another
-# reason, and whether a part of the log could not be written.
+# Ends the build, after what rt printed but for its lines on what was proved, with the reason why it failed. The first
+# argument is rt's status, or a reason in words; the second is not 0 if a part of the log could not be written.
 fail_by() {
     [ -f "$log" ] || fail "$copies was deleted meanwhile"
     grep -avE ': (proved|ok)$|: modules loaded=|^(so far: |by-macro: |logic |logic=proved )' "$log" >&2

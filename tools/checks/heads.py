@@ -77,8 +77,8 @@ class Heads:
 
     def lost_of_list(self, file, text):
         """The names of a list that name nothing; None if the text is no list of names. `alone` has the names so far
-        whose module a later `NAME of MODULE` may give; `module` is that of the last `MODULE.NAME`, and what follows is
-        looked up there too."""
+        whose module a later `NAME of MODULE` may give; `module` is that of the last `MODULE.NAME`, in which what
+        follows is looked up."""
         lost, alone, module = [], [], None
         for item in LIST.split(text.replace(", of ", " of ")):
             item = item.removesuffix(" and those after it")

@@ -14,6 +14,7 @@ from sources import TOP, Sources, imported_items
 # A name as antt has it: `length-append`, `◌++◌`, `then-loop-to-test+else`.
 NAME = r"[^\s(){}\[\],;.λ:]+"
 BREAK = re.compile(r"[\s(){}\[\],;.]+")
+# The head of a lemma or a definition, and an import.
 HEAD = re.compile(
     r"^(?P<kind>(?:pub |unfoldable |abbrev |pattern )*)"
     rf"(?:(?P<what>record|data) (?P<of>{NAME})|(?P<name>{NAME})(?: \{{[^{{}}]*\}})* :(?: |$))"

@@ -153,6 +153,7 @@ def imported_names(text):
             yield there.strip(), (here or there).strip()
 
 
+# An import, and one of several names in braces, which may be of several modules.
 IMPORT = re.compile(r"(?:pub |unfoldable |ghost )*use ([^\s{]+?)(?:\.\{(.*)\}| as (\S+))?$")
 GROUP = re.compile(r"^(\s*(?:pub |unfoldable |ghost )*use [^\s{}]+)\.\{([^{}]*)\}(;?)$", re.M)
 

@@ -27,6 +27,7 @@ SSH_OPTIONS = "-o ServerAliveInterval=15 -o ConnectTimeout=15".split()
 NOT_REACHED = (126, 127, 255)  # statuses of a host that lacks a program, and of ssh if it fails or the program is killed
 READY_SECONDS = 30  # for a host's answer to whether it can do jobs
 END_SECONDS = 5  # for what runs on a host to end when it is asked to
+# What a host runs to say whether it has these programs, and how many processors.
 READY = """lacks=
 for program; do command -v "$program" >/dev/null || lacks+=" $program"; done
 [ "$lacks" ] && echo "it lacks$lacks" || echo "ready $(nproc)"

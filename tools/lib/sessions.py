@@ -15,5 +15,6 @@ def answers(arbiter, commands, **how):
 
 
 def shown(lines):
-    """Returns what the answers to `showfen` and `showpgn` among these lines show, without their prefix."""
+    """Returns what the answers to `showfen` and `showpgn` among these lines show: they are the lines that begin with `#
+    `, here without that."""
     return [line[2:].rstrip() for line in lines if line == "#" or line.startswith("# ")]
