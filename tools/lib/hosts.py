@@ -52,7 +52,8 @@ class Stop:
         self.at, self.kills, self.runs = None, False, set()
 
     def now(self, kills=False):
-        """Ends all that runs on hosts, and what is started later."""
+        """Asks all that runs on hosts to end, or with `kills` kills it. What is started later is ended at once (by
+        Run)."""
         self.at, self.kills = self.at or time.monotonic(), self.kills or kills
         for run in list(self.runs):
             self.end(run)

@@ -15,6 +15,6 @@ def answers(arbiter, commands, **how):
 
 
 def shown(lines):
-    """Returns what the answers to `showfen` and `showpgn` among these lines show: they are the lines that begin with `#
-    `, here without that."""
+    """Returns what a session shows for `showfen` and `showpgn`: of its answers the lines that begin with `#`, without
+    that and the space after it."""
     return [line[2:].rstrip() for line in lines if line == "#" or line.startswith("# ")]

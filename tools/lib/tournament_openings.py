@@ -160,8 +160,8 @@ def of_line(number, line):
 
 
 def moves_of(line):
-    """Returns the words of a line of moves that are played, or that are no move: without numbers, comments and
-    variations."""
+    """Returns the moves of a line, and other words in their place, which a session will refuse; without numbers,
+    comments and variations."""
     return [token[token.lastgroup] for token in main_line(line) if token.lastgroup in PLAYED]
 
 
