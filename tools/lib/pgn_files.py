@@ -18,7 +18,7 @@ MEBIBYTE = 2**20
 UNCUT = 256 * MEBIBYTE  # a text is given up if it has no cut in so many bytes
 
 # The kinds of lines, as crates/pgn_pieces/specs/Pieces.antt defines them.
-# FRONT bytes of a line decide its kind, and MARK (the byte order mark of UTF-8) before them doesn't count.
+# The first FRONT bytes of a line decide its kind. A byte order mark of UTF-8 (MARK) at their start is left out.
 FRONT = 256
 MARK = b"\xef\xbb\xbf"
 TAG_LINE = re.compile(rb'\[[A-Za-z0-9_]+[ \t]*"')
