@@ -12,6 +12,7 @@ class Session:
     """The program's session, asked line by line."""
 
     def __init__(self, arbiter):
+        """Starts the program."""
         self.program = subprocess.Popen(
             [arbiter], stdin=subprocess.PIPE, stdout=subprocess.PIPE, text=True, bufsize=1
         )
@@ -31,13 +32,16 @@ class Session:
         return answers
 
     def end(self):
+        """Ends the session, and waits for that."""
         self.program.stdin.close()
         self.program.wait()
 
 
 def long_game(arbiter, length):
-    """Returns the moves of a legal game of that many half-moves, if it lasts: a piece is taken only where nothing else
-    can be played, and a pawn moves only where 100 half-moves had none."""
+    """Returns the moves of a legal game of that many half-moves, or of fewer if it can't go on. Each move is drawn with
+    a fixed seed: from quiet moves of pieces, if there are none from those of pawns, and then from captures; but those
+    of pawns come first where 100 half-moves had none. A move that the session answers by a line, as where it ends the
+    game, is taken back."""
     session, dice, moves, clock = Session(arbiter), random.Random(1), [], 0
     session.ask("new")
     while len(moves) < length:

@@ -10,7 +10,9 @@ copies+=/chess_arbiter/${top##*/}-$(sha256sum <<<"$top" | head -c 16)
 log=$copies/log
 no_copy="the sources can't be copied to $copies"
 
+# Writes a message to standard error.
 say() { echo "arbiter: $*" >&2; }
+# Ends the build with a reason.
 fail() { say "$*: the program was not built"; exit 1; }
 
 # Makes folders for a crate and all below it, each once, and copies their lines of crates.txt. A name that has no line
@@ -77,8 +79,8 @@ follow() {
     printf "$clear" >&2
 }
 
-# Ends with what rt printed, without what was proved, and with the reason why it failed. Its status is given, or another
-# reason, and whether a part of the log could not be written.
+# Ends the build, after what rt printed but for its lines on what was proved, with the reason why it failed. The first
+# argument is rt's status, or a reason in words; the second is not 0 if a part of the log could not be written.
 fail_by() {
     [ -f "$log" ] || fail "$copies was deleted meanwhile"
     grep -avE ': (proved|ok)$|: modules loaded=|^(so far: |by-macro: |logic |logic=proved )' "$log" >&2

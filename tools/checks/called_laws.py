@@ -1,5 +1,5 @@
-"""The laws of other crates that a law calls. Its proof takes what these ensure, in their words: so where those words are copied
-(twins.py), the called laws are copied too, with their proofs."""
+"""Finds the laws of other crates that a law calls. The law's proof uses their clauses, and these name definitions: so
+where twins.py copies such a definition to try a wrong one, it copies the called laws too, with their proofs."""
 
 import re
 from pathlib import Path
@@ -9,6 +9,7 @@ from sources import WORD, contract_at, imported_names, imports_of, is_written, n
 # A call of a law, and an import of what is called.
 CALL = re.compile(r"^    (\w+)\(\);$", re.M)
 IMPORT = re.compile(r"^use (\w+)::(?:\{([^}]*)\}|(\w+));\n", re.M)
+# An import of definitions, and the head of a function.
 GHOST = re.compile(r"^ghost use (\S+?)(?:\.\{(.*)\}| as (\w+));\n", re.M)
 FUNCTION = re.compile(r"^ *(?:pub(?:\(crate\))? )?(?:const )?fn (\w+)\b")
 
@@ -32,7 +33,8 @@ def is_named(name, text):
 
 
 def imports_for(source, text):
-    """The imports of a file of src/ that a part of it needs."""
+    """Returns the imports of a file of src/ (`source`) that a part of it (`text`) needs: of each import only the names
+    that occur in that part."""
     found = []
     for path, items, alias in GHOST.findall(source):
         here = [it.strip() for it in items.split(",") if is_named(list(imported_names(it))[0][1], text)] if items else []
@@ -45,12 +47,14 @@ class Law:
     """A law: its crate, its file in src/ (without the suffix) and the name of its function. `crates` is the folder of all."""
 
     def __init__(self, crates, crate, file, name):
+        """Reads the law's function; `text` is empty if there is none."""
         self.crates, self.crate, self.file, self.name = Path(crates), crate, file, name
         self.path = self.crates / crate / "src" / f"{file}.rt"
         self.source = self.path.read_text(encoding="utf-8") if self.path.is_file() else ""
         self.text = law_text(self.source, name)
 
     def __eq__(self, other):
+        """Whether both are the same law, whatever folder they were read from."""
         return (self.crate, self.file, self.name) == (other.crate, other.file, other.name)
 
     def proofs(self):
@@ -68,8 +72,9 @@ class Law:
         return [law for law in found if law]
 
     def other_contracts(self):
-        """What else it calls that the imported crates declare, with the modules that the clauses name: a name that several
-        functions have counts for each."""
+        """Yields the functions that it calls and that are no laws of other crates, each with the modules of specs/ that
+        its clauses name. They are looked for by name in the crates from which its file imports: of several functions
+        with a name each is yielded."""
         called = set(re.findall(r"(\w+)\(", self.text)) - {self.name} - {law.name for law in self.calls()}
         for crate in sorted({crate for _, crate in imported(self.source)}):
             for path in sorted((self.crates / crate / "src").glob("**/*.rt")):

@@ -16,7 +16,7 @@ def is_shared(module):
 
 
 def private_citations(top=TOP):
-    """Each such place: `FILE:LINE` and the module."""
+    """Yields each citation of what is private to another crate: its `FILE:LINE`, and the module."""
     own = {path.name for path in (top / "crates").iterdir()}
     for crate in sorted(own):
         for folder in ("src", "specs", "proofs"):
@@ -26,8 +26,8 @@ def private_citations(top=TOP):
 
 
 def private_in(path, crate, own, top):
-    """The same for one file of a crate. `own`: the names of all crates of the repository; the toolchain's, such as std,
-    don't count. A shared lemma may not cite its own crate's ties either."""
+    """Yields those in one file of `crate`. `own` has the names of this repository's crates: citations of others, such
+    as the toolchain's std, don't count. In a shared lemma a citation of its own crate's specs/ties counts too."""
     relative = path.relative_to(top)
     is_lemma = relative.parts[2:4] == ("proofs", "shared")
     for number, line in enumerate(path.read_text(encoding="utf-8").split("\n"), 1):

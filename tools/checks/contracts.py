@@ -1,4 +1,5 @@
-"""What clauses name, as the lists of claims have it, and the table of reading paths, with links by line."""
+"""Which definitions the clauses of a claim name, for its lists in docs/claims/; and the table of reading paths in
+docs/claims/README.md, with links to lines of the sources. tools/checks/theorems uses it."""
 
 import re
 
@@ -14,13 +15,15 @@ def link(name, path, line):
 
 
 def texts_of(function, wanted):
-    """The texts of the wanted ones of a function's clauses `ensures`, and of what its impl promises of these."""
+    """Returns the texts of a function's clauses `ensures` whose names are in `wanted`, and of the wanted promises
+    `ghost NAME = {..}` of its impl."""
     texts = [text for name, text in function.gives if name in wanted]
     return texts + [text for kind, name, text in function.clauses if kind == "ensures" and name in wanted]
 
 
 def top_definitions(reached, theorems):
-    """The definitions that wanted clauses of functions name and that no other one there reaches, in the clauses' order."""
+    """Returns the definitions that the clauses name, in the order of the clauses, without those that another one of
+    them reaches. `theorems` are pairs of a function and the names of its clauses."""
     keys = {}
     for function, wanted in theorems:
         names, aliases = reached.sources.imports[function.path]
@@ -45,7 +48,8 @@ def with_links(cell, links):
 
 
 def path_row(reached, theorems, definitions):
-    """A row of the table of reading paths, and what is wrong with it."""
+    """Returns a row of the table with links, and its faults. Its definitions are to be read one after another: each
+    must be named by a theorem of the row or by a definition before it, and at most LONGEST_PATH are allowed."""
     functions = {name: reached.functions(name)[:1] for name in names_of(theorems)}
     faults = [f"there is no function {name}" for name, found in functions.items() if not found]
     functions = {name: found[0] for name, found in functions.items() if found}
@@ -71,7 +75,8 @@ def path_row(reached, theorems, definitions):
 
 
 def paths(reached, table, readme):
-    """The table of reading paths with its links, and what is wrong with it: a row has the theorems of README's row."""
+    """Returns the table of reading paths with links, and its faults. Its rows must have the theorems of the rows of
+    README's table of claims, in their order."""
     head, rows = table.split("\n")[:2], [row.strip("| ").split(" | ") for row in table.split("\n")[2:]]
     claims = [re.findall(r"\[`([^`]+)`\]\(docs/THEOREMS", line) for line in readme.split("\n") if line.startswith("| ")]
     claims = [names for names in claims if names]

@@ -5,6 +5,7 @@ that contracts see by a model and not by their fields."""
 import re
 from dataclasses import dataclass
 
+# The head of a type or a constant, and an import.
 HEAD = re.compile(r"^ *(?:pub(?:\([\w ]+\))? )?(?:struct|enum|const|type) (\w+)\b")
 USE = re.compile(r"^ *(?:pub(?:\([\w ]+\))? )?use ((?:\w+::)+)([^;]*);", re.M)
 
@@ -40,7 +41,9 @@ class Types:
         return self.crates[crate]
 
     def find(self, crate, module, name):
-        """The item that an import of a definition names, or None: `module` is `declared.FILE.TYPE` or has an ending."""
+        """The item that an import of a definition names, or None. `module` is `declared.FILE.TYPE`, perhaps with an
+        ending such as `.TheVariants`, and then the item is TYPE; or `declared.FILE.TheConstants`, and then it is the
+        constant `name`."""
         parts = module.split(".")
         if parts[0] != "declared" or not (self.folder / crate / "src").is_dir():
             return None
@@ -70,6 +73,7 @@ class Types:
         return self.in_text(item.crate, item.file, "\n".join(self.items(item.crate)[item])) - {item}
 
     def reached(self, items):
+        """These items and all that they name, directly or through others."""
         seen, left = set(), list(items)
         while left:
             item = left.pop()

@@ -1,6 +1,6 @@
-"""What can be found in a wrong definition without a prover, for tools/checks/definition_edits --text-only: a text to replace
-that is not there exactly once; a law that there isn't, or that doesn't reach the edited file; and in the copies (twins.py) a name
-of a module that there isn't, or that the crate of laws can't name."""
+"""Finds faults of wrong definitions without a prover, for tools/checks/definition_edits --text-only: an old text that
+is not in its file exactly once; a law that doesn't exist, or that doesn't reach the edited file; and in the copies
+(twins.py) a module that doesn't exist, or that the crate of laws can't name."""
 
 import re
 
@@ -27,8 +27,8 @@ def law_faults(edit, modules, crate):
 
 
 def contract_faults(twins):
-    """Yields what the law, or a called law that is copied, calls without being a law, so that it isn't copied, though its
-    clauses name what is."""
+    """Yields each function, itself no law, that the law or a copied law calls and whose clauses name a module that is
+    copied. Only laws are copied, so these clauses would keep the definition without the edit."""
     for law in [twins.law, *twins.called] if twins.law else []:
         for name, modules in law.other_contracts():
             yield from (f"{law.name} calls {name}, whose clauses name {it}" for it in sorted(modules & twins.copied))
@@ -40,9 +40,11 @@ def imports_in(text):
 
 
 class Copied:
-    """The files as they are with the copies."""
+    """The files as they would be if the copies of `twins` were written; nothing is written."""
 
     def __init__(self, twins):
+        """`texts` has the files that would differ from the sources, `listed` the crates that the crate of laws may
+        name."""
         self.twins, self.crates, self.crate = twins, twins.crates, twins.crate
         self.texts = twins.texts()
         self.listed = twins.listed(self.text(twins.crates_txt))
@@ -52,7 +54,7 @@ class Copied:
         return self.texts[path] if path in self.texts else read(path) if path.is_file() else None
 
     def faults(self):
-        """Yields what the texts that differ from the sources can't name."""
+        """Yields the names of crates and modules in these files that they can't name."""
         for path in sorted(self.texts):
             if path != self.twins.crates_txt:
                 yield from self.faults_in(path, self.texts[path])
@@ -83,7 +85,9 @@ class Copied:
                 yield f"{where}: {name} {fault}"
 
     def module_fault(self, name, is_whole):
-        """What is wrong with the name of a module, which an item's name follows unless it is whole; empty if nothing is."""
+        """Returns what is wrong with the name of a module; an empty text if nothing is. The file of each folder on the
+        way must have a line `mod` for the next part, and `pub mod` where another crate names it. Unless `is_whole`, the
+        name's last parts may be those of an item."""
         _, crate, *parts = name.split(".")
         if not (self.crates / crate).is_dir() or WRITTEN.search(name):
             return ""

@@ -17,10 +17,13 @@ class Edit:
 
     @property
     def name(self):
+        """The name of its file, without the suffix."""
         return self.path.stem
 
 
 def read_edit(path):
+    """Returns the wrong definition of a file. Where a file to edit is not given from crates/ on, it is one of the
+    edit's own crate."""
     edit, file, old = Edit(path), None, None
     for line in path.read_text(encoding="utf-8").splitlines():
         kind, _, rest = line.partition(": ")
@@ -37,6 +40,7 @@ def read_edit(path):
 
 
 def read_edits(crate):
+    """Returns the wrong definitions of a crate, given by its folder, in the order of their names."""
     return [read_edit(path) for path in sorted((crate / "definition-edits").glob("*.edit"))]
 
 
@@ -58,7 +62,7 @@ them and the code were wrong alike, these lines don't say that anything would no
 
 
 def where(edit, crate):
-    """In which files of specs/ an edit is, as the page has it."""
+    """Returns the files of specs/ that an edit changes, by the names that the page gives them."""
     files = [file.split("/", 2) for file in edit.files]
     names = [
         "the law" if below == crate and crate.endswith("_laws") else f"{short_name(below)}/{Path(rest).stem}"

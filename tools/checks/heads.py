@@ -43,6 +43,7 @@ class Heads:
     """The comments of all files of proofs/ of a checkout, whose lemmas are given, and what they may name."""
 
     def __init__(self, lemmas):
+        """`lemmas` is a `Lemmas` of lemmas.py; `of_crate` has the modules of each crate."""
         self.lemmas = lemmas
         self.of_crate = {}
         for module in lemmas.files:
@@ -55,7 +56,8 @@ class Heads:
         return own if crate else own | {path for path, _ in file.names.values()} | set(file.aliases.values())
 
     def called(self, file, name, crate=None):
-        """Those of these modules that have this name, perhaps with the folders before it."""
+        """The modules that a comment of this file may call so: those of `modules` whose path ends in this name, such as
+        `Words` or `shared/Words`."""
         parts = name.replace("/", ".").removeprefix("proofs.").split(".")
         return [path for path in self.modules(file, crate) if path.split(".")[-len(parts) :] == parts]
 
@@ -64,7 +66,7 @@ class Heads:
         return module not in self.lemmas.files or self.lemmas.find(module, name) is not None
 
     def is_in(self, file, name, module, crate=None):
-        """Whether one of the modules with this name has a name."""
+        """Whether one of the modules that the comment may call `module` has the name `name`."""
         return any(self.has(path, name) for path in self.called(file, module, crate))
 
     def is_known(self, file, name, crate=None):
@@ -74,7 +76,9 @@ class Heads:
         return any(self.lemmas.find(path, name) for path in self.modules(file, crate))
 
     def lost_of_list(self, file, text):
-        """The names of a list that name nothing; None if the text is no list of names."""
+        """The names of a list that name nothing; None if the text is no list of names. `alone` has the names so far
+        whose module a later `NAME of MODULE` may give; `module` is that of the last `MODULE.NAME`, in which what
+        follows is looked up."""
         lost, alone, module = [], [], None
         for item in LIST.split(text.replace(", of ", " of ")):
             item = item.removesuffix(" and those after it")

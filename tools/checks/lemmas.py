@@ -14,6 +14,7 @@ from sources import TOP, Sources, imported_items
 # A name as antt has it: `length-append`, `◌++◌`, `then-loop-to-test+else`.
 NAME = r"[^\s(){}\[\],;.λ:]+"
 BREAK = re.compile(r"[\s(){}\[\],;.]+")
+# The head of a lemma or a definition, and an import.
 HEAD = re.compile(
     r"^(?P<kind>(?:pub |unfoldable |abbrev |pattern )*)"
     rf"(?:(?P<what>record|data) (?P<of>{NAME})|(?P<name>{NAME})(?: \{{[^{{}}]*\}})* :(?: |$))"
@@ -42,6 +43,7 @@ class Item:
 
     @property
     def key(self):
+        """Its module and its name, by which it is found."""
         return self.module, self.name
 
     @property
@@ -59,6 +61,9 @@ class File:
     """A file .antt: its items, and what it imports."""
 
     def __init__(self, path, relative):
+        """`relative` is its path from the top of the repository. `names` has for each imported name its module and its
+        name there, `passed` those of them that are passed on (`pub use`), `aliases` the modules that have another name
+        here, and `constructors` the item in which each field or constructor is."""
         self.relative = relative
         parts = relative.removesuffix(".antt").split("/")
         self.crate, self.module = parts[1], ".".join(parts[1:])
@@ -68,6 +73,8 @@ class File:
         self.read(self.text.split("\n"))
 
     def read(self, lines):
+        """Reads the items and the imports. `around` has the blocks `module _ .. where` in which a line is, with their
+        indentation and what they bind; `current` is the item to which further lines belong."""
         around, current, comment, opened = [], None, False, None
         for number, raw in enumerate(joined(lines), 1):
             line = re.sub(r"(^|\s)--(\s.*)?$", "", raw).rstrip()
@@ -100,6 +107,7 @@ class File:
             comment = False
 
     def import_line(self, m):
+        """Takes the names of an import, which USE has matched."""
         path = m.group("path").removeprefix("Rattle.")
         if m.group("names") is not None:
             for module, there, here in imported_items(path, m.group("names")):
@@ -111,7 +119,8 @@ class File:
 
 
 def joined(lines):
-    """The lines, with the heads of modules and imports that go on put on one, and the others left empty."""
+    """The lines, with a head `module _ .. where` of several lines joined on its first one. The others are left empty,
+    so that the numbers of lines stay."""
     out, open_at = [], None
     for line in lines:
         if open_at is not None:
@@ -130,6 +139,8 @@ class Lemmas:
     """All files of proofs/ and specs/ of a checkout."""
 
     def __init__(self, top=TOP):
+        """`files` has the files by module, `items` the items by their keys, and `inside` for each field or constructor
+        the key of its record or data type."""
         self.top = top
         self.files = {}
         for path in sorted(top.glob("crates/*/proofs/**/*.antt")) + sorted(top.glob("crates/*/specs/**/*.antt")):
@@ -141,7 +152,7 @@ class Lemmas:
         }
 
     def place(self, module, name):
-        """Where a name of a module is declared: there, or where the module has it from."""
+        """Where a name of a module is declared: in that module, or in the one from which it passes the name on."""
         for _ in range(9):
             file = self.files.get(module)
             if (module, name) in self.items or (module, name) in self.inside or not file or name not in file.passed:
@@ -155,7 +166,8 @@ class Lemmas:
         return place if place in self.items else self.inside.get(place)
 
     def named(self, file, text):
-        """The items that a text of a file names."""
+        """The keys of the items that a text of a file names: by words, also those of operators (the parts of `◌++◌` are
+        written apart), with the name of a module, and by `do`, which uses `◌>>=◌`."""
         found = set()
         words = {w for w in BREAK.split(text) if w}
         for word in words:
@@ -177,7 +189,8 @@ class Lemmas:
         return found - {None}
 
     def roots(self):
-        """What a check asks for."""
+        """Yields the keys of what a check asks for: all items of files that answer goals of functions, and what the
+        code names."""
         for file in self.files.values():
             if is_of_function(file):
                 yield from (item.key for item in file.items)
@@ -185,6 +198,8 @@ class Lemmas:
             yield from self.named_by_code(path)
 
     def named_by_code(self, path):
+        """Yields the keys of what a file of src/ names, by a path such as `crate::proofs::M::x` or by an import; None
+        for a name that isn't found."""
         text = path.read_text(encoding="utf-8")
         crate = path.relative_to(self.top).parts[1]
         for own, other, module in CITED.findall(text):
@@ -271,6 +286,7 @@ class Lemmas:
         return " ".join(numbers.get(t) or self.full(file, t) for t in tokens)
 
     def full(self, file, word):
+        """A word with the module that declares it; the word itself if none does."""
         if word in file.names:
             return ".".join(self.place(*file.names[word]))
         return f"{file.module}.{word}" if self.find(file.module, word) else word

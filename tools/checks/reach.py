@@ -12,6 +12,7 @@ from declared import Types
 from sources import HEAD, TOP, Name, Places, Sources, Specs, imports_of, read, reading_order, used_crates, without_comment
 from toolchain import Toolchain, guides
 
+# The functions that have a row in the table of docs/claims/README.md.
 HEADLINES = [
     "run_program", "run_session", "run_match", "read_words",
     "read_pgn", "write_pgn", "read_move", "san", "move_text", "read_fen", "read_fen_as", "write_fen",
@@ -39,7 +40,11 @@ ROOMS = {
 
 
 class Reach:
+    """What contracts reach, by the sources of this repository and of the toolchain, if one is on the path. The
+    definitions in `closed` are left out, with what only they reach."""
+
     def __init__(self):
+        """Reads all sources."""
         self.specs = Specs()
         self.sources = Sources()
         self.order = reading_order(read("tools/checks/reading_order.txt"))
@@ -60,6 +65,7 @@ class Reach:
         return exact or found
 
     def of(self, functions):
+        """The definitions that the contracts of these functions reach."""
         roots = set()
         for f in functions:
             roots |= self.sources.names_in(self.specs, f)
@@ -90,6 +96,8 @@ class Reach:
         return [row for row in rows if row[1]]
 
     def by_file(self, keys):
+        """The names of these definitions by their files, and the files in reading order; those that the order doesn't
+        list come last."""
         files = {}
         for key in keys:
             files.setdefault(key.path, []).append(key.name)

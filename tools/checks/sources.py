@@ -78,12 +78,16 @@ class Name:
 
     @property
     def path(self):
+        """Its file, from the top of the repository."""
         folders = self.module.split(".")
         return f"crates/{self.crate}/specs/{'/'.join(folders)}.antt"
 
 
 @dataclass
 class Definition:
+    """A definition: its kind (`abbrev`, `unfoldable`, `record` or `data`), its lines without comments, and of a data
+    type the names of its constructors."""
+
     key: Name
     kind: str
     line: int  # in its file, from 1 on
@@ -92,6 +96,7 @@ class Definition:
 
     @property
     def lines(self):
+        """How many lines it has."""
         return len(self.body)
 
 
@@ -112,14 +117,17 @@ class Function:
 
     @property
     def full_name(self):
+        """`OWNER::NAME`, or only the name if no type or trait has it."""
         return f"{self.owner}::{self.name}" if self.owner else self.name
 
 
 def read(path):
+    """The text of a file, given from the top of the repository."""
     return (TOP / path).read_text(encoding="utf-8")
 
 
 def crates():
+    """The names of the crates, in their order."""
     return sorted(p.parent.name for p in TOP.glob("crates/*/src"))
 
 
@@ -130,6 +138,7 @@ def used_crates(text=None):
 
 
 def without_comment(line):
+    """A line of a file .antt without its comment."""
     return re.sub(r"(^|\s)--(\s.*)?$", "", line).rstrip()
 
 
@@ -144,6 +153,7 @@ def imported_names(text):
             yield there.strip(), (here or there).strip()
 
 
+# An import, and one of several names in braces, which may be of several modules.
 IMPORT = re.compile(r"(?:pub |unfoldable |ghost )*use ([^\s{]+?)(?:\.\{(.*)\}| as (\S+))?$")
 GROUP = re.compile(r"^(\s*(?:pub |unfoldable |ghost )*use [^\s{}]+)\.\{([^{}]*)\}(;?)$", re.M)
 
@@ -159,6 +169,7 @@ def by_module(text):
     """The text with a line for each module from which `use M.{N.d, ..}` brings names."""
 
     def lines(found):
+        """The lines that take the place of one import."""
         names = {}
         for path, there, here in imported_items(found[1], found[2]):
             names.setdefault(path, []).append(there if here == there else f"{there} as {here}")
@@ -199,7 +210,9 @@ def is_written(name, text):
 
 
 def named(text, names, aliases, home=None, bound=frozenset()):
-    """Yields the (crate, module, name) of each name in a text that is imported, and of each other word as a name of `home`."""
+    """Yields the (crate, module, name) of each name in a text that is imported, by `names` and `aliases` of
+    `imports_of`. With `home`, a (crate, module), each other word is taken as a name of that module. Names in `bound`,
+    and those of fields in record literals, are left out."""
     for m in re.finditer(rf"(?<![\w.'])({WORD})(?:\.({WORD}))?", text):
         first, second = m.group(1), m.group(2)
         if first in bound or is_field(text, m.end(1)):
@@ -226,6 +239,9 @@ class Specs:
     """The definitions of files of specs/: of all of this repository, unless others are given."""
 
     def __init__(self, paths=None):
+        """`definitions` has them by Name; `imports` the names and aliases of each (crate, module), as `imports_of`
+        finds them; `constructors` the data type of each constructor; `infix` the definitions whose name is no word,
+        such as `◌++◌`."""
         self.definitions = {}
         self.named_by = {}  # what `references` found
         self.files = []
@@ -284,7 +300,8 @@ class Specs:
         return found
 
     def texts(self, key):
-        """The parts of a definition, each with the names that are bound in it."""
+        """The parts of a definition (of a record or data type one, otherwise its type and each equation), each with the
+        names that are bound in it."""
         definition = self.definitions[key]
         if definition.kind in ("record", "data"):
             bound = set(re.findall(rf"[({{]((?:{WORD} )+):", definition.body[0]))
@@ -300,6 +317,7 @@ class Specs:
         return self.named_by[key]
 
     def find_references(self, key):
+        """Finds what `references` returns. A `do` names `◌>>=◌`."""
         names, aliases = self.imports[(key.crate, key.module)]
         found = set()
         for text, bound in self.texts(key):
@@ -344,7 +362,7 @@ class Places:
 
 
 def is_field(text, end):
-    """A field in a record literal: `name =`, and no `==`."""
+    """Whether the name that ends at `end` is that of a field in a record literal: ` = ` follows, and not ` ==`."""
     return bool(re.match(r" = ", text[end:end + 3]))
 
 
@@ -360,7 +378,8 @@ def equations(definition):
 
 
 def bound_in(equation, name):
-    """Names that stand for values in it: small letters left of `=`, after λ, in binders and after `let`."""
+    """The names that an equation binds, which are no definitions: those with a small first letter left of `=`, after λ,
+    in binders and after `let`."""
     bound = set()
     m = re.match(r"^(.*?) =(\s|$)", equation.split("\n")[0] + " ")
     if m and not re.match(r"^(abbrev|unfoldable)", equation):
@@ -378,7 +397,8 @@ def bound_in(equation, name):
 # ---- functions
 
 def contract_at(lines, i):
-    """The signature and the clauses of the function that begins in a line, and the line in which its body begins."""
+    """The signature and the clauses of the function that begins in line `i`, and the line in which its body begins, or
+    in which it ends if it has none."""
     signature, clauses, kind, is_whole = [], [], None, True
     indent = len(lines[i]) - len(lines[i].lstrip())
     while True:
@@ -406,6 +426,9 @@ class Sources:
     """All functions of a tree, and which of them a user of a crate can call."""
 
     def __init__(self):
+        """By files, `imports` has their names and aliases. `models` has the text by which contracts see a type,
+        `ghosts` those of a trait's ghost members, `members` the names of the ghost members that a type's impls define,
+        and `exports` the names that each crate offers."""
         self.functions = []
         self.imports = {}
         self.models = {}
@@ -420,6 +443,8 @@ class Sources:
             self.exports[crate] = self.exported(crate)
 
     def read_file(self, crate, path):
+        """Reads the functions of a file, and what its traits and impls declare by `ghost`. `owner` is the type or trait
+        of the block in which a line is."""
         lines = read(path).split("\n")
         names, aliases = imports_of(lines, "ghost use ")
         self.imports[path] = (names, aliases)
@@ -477,6 +502,8 @@ class Sources:
         return names
 
     def is_public(self, f):
+        """Whether a user of its crate can call a function: it is public and no test, and the crate offers it, or its
+        type."""
         if "tests" in f.path or f.crate.endswith("_tests"):
             return False
         return f.is_pub and (f.owner or f.name) in self.exports[f.crate]
@@ -494,7 +521,8 @@ class Sources:
         return bound - (used & set(self.imports[f.path][0]) & parameters)
 
     def names_in(self, specs, f, wanted=None):
-        """The definitions that its clauses name, or the wanted ones of them, with those by which contracts see its arguments."""
+        """The definitions that a function's clauses name (if some are wanted, only those of its clauses `ensures` with
+        these names count), and those by which contracts see its arguments."""
         names, aliases = self.imports[f.path]
         found = set()
         for kind, name, text in f.clauses:
@@ -520,7 +548,8 @@ def mutations(folder="must-fail"):
 # ---- documents
 
 def target_of(label):
-    """The file that a short link means, from the top; None where there is none."""
+    """The file, from the top of the repository, that a short link such as `base/Moves` or `base/position.rt` means;
+    None if there is none."""
     crate, _, name = label.partition("/")
     crate = SHORT.get(crate)
     if not crate:

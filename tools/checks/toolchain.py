@@ -31,6 +31,8 @@ class Toolchain(Specs):
     """The definitions of the toolchain's crates; a file is read when a name of it is looked up."""
 
     def __init__(self, folder):
+        """`folder` has the crates; `known` lists the modules that were read, `passed_on` the names that each of these
+        passes on, and `modules` those that a crate's Lib passes on."""
         super().__init__([])
         self.folder, self.known, self.passed_on, self.modules = folder, set(), {}, {}
         self.types = Types(folder, {}, {})
@@ -40,6 +42,7 @@ class Toolchain(Specs):
         return printed("version").split()[0]
 
     def lines_of(self, crate, module):
+        """The lines of a module's file, or None if there is no such file."""
         path = self.folder / crate / "specs" / f"{module.replace('.', '/')}.antt"
         return path.read_text(encoding="utf-8").split("\n") if crate and path.is_file() else None
 

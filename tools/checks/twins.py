@@ -22,6 +22,7 @@ UNLISTED = {"std", "core", "crate"}
 
 
 def read(path):
+    """The text of a file."""
     return path.read_text(encoding="utf-8")
 
 
@@ -41,6 +42,7 @@ class Modules:
     """The modules of the crates in a folder, as they are when it is made, and which of them each names."""
 
     def __init__(self, crates):
+        """`crates` is the folder of the crates; `paths` has the file of each module."""
         self.crates = Path(crates)
         self.paths = {
             self.name_of(path): path for kind in KINDS for path in sorted(self.crates.glob(f"*/{kind}/**/*.antt"))
@@ -52,6 +54,7 @@ class Modules:
         return ".".join(("Rattle", *path.relative_to(self.crates).with_suffix("").parts))
 
     def path_of(self, name):
+        """The file of a module, whether it exists or not."""
         return self.crates.joinpath(*name.split(".")[1:]).with_suffix(".antt")
 
     def longest(self, name):
@@ -85,6 +88,9 @@ class Twins:
     calls."""
 
     def __init__(self, modules, crate, files, law=""):
+        """Finds what is to be copied; nothing is written. `files` are those to be edited, given from crates/ on, and
+        `law` is `FILE::FUNCTION`. Called laws and copied modules are found by turns, until no more laws are called
+        whose clauses name what is copied. `missed` are edited modules that nothing here reaches."""
         self.modules, self.crates, self.crate = modules, modules.crates, crate
         self.crates_txt = self.crates.parent / "crates.txt"
         self.law = Law(self.crates, crate, *law.split("::")) if law else None
@@ -158,6 +164,7 @@ class Twins:
         """The text in which each name of a module that is copied is that of the copy."""
 
         def twin(found):
+            """The copy's name in place of a name that was found."""
             name = self.modules.longest(found[0])
             return self.twin(name) + found[0][len(name) :] if name in self.copied else found[0]
 
@@ -167,6 +174,7 @@ class Twins:
         """The text of a file of src/ that calls the copies of laws."""
 
         def imports(found):
+            """An import in which the laws that are copied come from their copies."""
             names = [there for there, _ in imported_names(found[2] or found[3])]
             copied = {it.name: it for it in self.called if it.crate == found[1] and it.name in names}
             others = [name for name in names if name not in copied]
@@ -227,6 +235,7 @@ class Twins:
         return self.line_in(text).split(":")[1].split()
 
     def line_in(self, text):
+        """The line of the crate of laws in the text of crates.txt, without a comment."""
         return re.search(rf"^{self.crate}\b[^:#\n]*:[^#\n]*", text, re.M)[0].rstrip()
 
     def listing(self, texts):

@@ -107,6 +107,7 @@ class Sprt:
     beta: float
 
     def __str__(self):
+        """The four numbers, as a tournament's options.txt keeps them."""
         return f"{self.elo0} {self.elo1} {self.alpha} {self.beta}"
 
     def bounds(self):
@@ -114,6 +115,7 @@ class Sprt:
         return math.log(self.beta / (1 - self.alpha)), math.log((1 - self.beta) / self.alpha)
 
     def ratio(self, counts):
+        """Returns the log-likelihood ratio of counts of game pairs."""
         return log_likelihood_ratio(counts, self.elo0, self.elo1)
 
     def accepted(self, counts):

@@ -17,6 +17,7 @@ class Copy:
     """A file to which parts of texts are copied, one after another; each part begins a line of its text."""
 
     def __init__(self, name):
+        """Opens the file for writing; what it had is lost."""
         self.file = open(name, "wb")
         self.last, self.is_after_moves = b"", False  # the last byte, and whether a tag line would begin a piece
 
@@ -32,6 +33,7 @@ class Copy:
         self.write(part)
 
     def write(self, part):
+        """Writes a part, and keeps what must be known of it before the next one."""
         self.file.write(part)
         self.last = part[-1:]
         self.is_after_moves = self.ends_after_moves(part)
@@ -59,6 +61,7 @@ class Copies:
     """The files of the good games and of those with a fault; either may be None, and is then not written."""
 
     def __init__(self, good, bad):
+        """Opens the files for writing."""
         self.good, self.bad = (Copy(name) if name else None for name in (good, bad))
         self.follows = False  # whether what comes next is right after what the file of good games has
 
@@ -77,7 +80,7 @@ class Copies:
         self.add_good(bytes(text[at:]))
 
     def add_good(self, part):
-        """Copies what has no fault; white space alone, as before a game with a fault, is left out after one."""
+        """Copies a part without a fault. After a game with a fault a part that is only white space is left out."""
         if not self.follows and not part.removeprefix(MARK).strip(WHITE):
             return
         if self.good:
@@ -86,6 +89,7 @@ class Copies:
         self.follows = True
 
     def close(self):
+        """Closes both files."""
         for copy in (self.good, self.bad):
             if copy:
                 copy.file.close()

@@ -27,6 +27,7 @@ SSH_OPTIONS = "-o ServerAliveInterval=15 -o ConnectTimeout=15".split()
 NOT_REACHED = (126, 127, 255)  # statuses of a host that lacks a program, and of ssh if it fails or the program is killed
 READY_SECONDS = 30  # for a host's answer to whether it can do jobs
 END_SECONDS = 5  # for what runs on a host to end when it is asked to
+# What a host runs to say whether it has these programs, and how many processors.
 READY = """lacks=
 for program; do command -v "$program" >/dev/null || lacks+=" $program"; done
 [ "$lacks" ] && echo "it lacks$lacks" || echo "ready $(nproc)"
@@ -44,17 +45,21 @@ def catch_signals(handler):
 
 
 class Stop:
-    """When this script was asked to end: at `at`, or not yet. All that runs on hosts is then asked to end, or killed."""
+    """Whether this script is to end: `at` is the moment at which it was first asked to, or None. All that runs on hosts
+    is then asked to end, or killed (`kills`)."""
 
     def __init__(self):
         self.at, self.kills, self.runs = None, False, set()
 
     def now(self, kills=False):
+        """Asks all that runs on hosts to end, or with `kills` kills it. What is started later is ended at once (by
+        Run)."""
         self.at, self.kills = self.at or time.monotonic(), self.kills or kills
         for run in list(self.runs):
             self.end(run)
 
     def end(self, run):
+        """Asks a command on a host to end, or kills it."""
         if self.kills:
             run.kill()
         else:
@@ -69,6 +74,7 @@ class Run:
     and thus with this process."""
 
     def __init__(self, words, output, errors):
+        """Starts the command. `output` and `errors` take its standard output and error, as for Popen."""
         pipes = {"stdin": subprocess.PIPE, "stdout": output, "stderr": errors}
         self.process = subprocess.Popen(words, bufsize=0, start_new_session=True, **pipes)
         self.inputs = [self.process.stdin]
@@ -81,6 +87,7 @@ class Run:
         return self.inputs.pop()
 
     def ask_to_end(self):
+        """Asks it to end by closing its standard input, unless that was closed or taken before."""
         # A list gives each entry once, also to threads and a signal's handler.
         with contextlib.suppress(IndexError):
             self.inputs.pop().close()
@@ -92,6 +99,7 @@ class Run:
         self.kill()
 
     def kill(self):
+        """Kills its processes on this machine, if it has not ended."""
         with contextlib.suppress(ProcessLookupError):
             if self.process.returncode is None:
                 os.killpg(self.process.pid, signal.SIGKILL)
@@ -125,6 +133,7 @@ class Host:
     it did, which failed there since one didn't, and why it was given up."""
 
     def __init__(self, label, slots=0):
+        """Reads an entry of the list, such as `4/box1`; an entry without a number has so many slots."""
         number, rest = re.fullmatch(r"(?:(\d+)/)?(.*)", label, re.DOTALL).groups()
         *ssh, self.name = shlex.split(rest) or [""]
         self.label, self.slots, self.is_here = label, int(number or 0) or slots, self.name == ":"
@@ -173,6 +182,7 @@ class Jobs:
     on a host where it failed least often. A class for each kind of jobs says by `do` what a host does for one."""
 
     def __init__(self, hosts):
+        """Makes the threads, which begin at `start`. `serving` counts those that have not ended."""
         self.hosts, self.given_up = list(hosts), []
         self.waiting, self.running = deque(), {}  # the jobs that no host does, and those that one does, with the host
         self.tries, self.failures = Counter(), Counter()  # how often a job failed, and how often on a host
@@ -181,11 +191,12 @@ class Jobs:
         self.serving = len(self.threads)
 
     def start(self):
+        """Starts the threads."""
         for thread in self.threads:
             thread.start()
 
     def serve(self, host):
-        """Is a thread of a host."""
+        """What each thread of a host runs. If it fails, the whole script is asked to end."""
         try:
             self.work(host)
         except BaseException:
@@ -202,7 +213,8 @@ class Jobs:
             self.do(host, job)
 
     def take(self, host):
-        """Waits for a job that a host should do; returns None if there is none, nor may be one."""
+        """Waits until there is a job that the host should do, and returns it; returns None if there can be none any
+        more, if the host was given up, or if the script is to end."""
         with self.changed:
             while not STOP.at and not host.fault and self.may_come():
                 job = next((job for job in self.waiting if self.suits(host, job)), None)

@@ -7,8 +7,10 @@ from boards import FILES, board_of
 NAMES = {"p": "pawn", "n": "knight", "b": "bishop", "r": "rook", "q": "queen", "k": "king"}
 SIDES = {"w": "White", "b": "Black"}
 OTHER = {"w": "b", "b": "w"}
+# Steps as (files, ranks).
 STRAIGHT = [(1, 0), (-1, 0), (0, 1), (0, -1)]
 DIAGONAL = [(1, 1), (1, -1), (-1, 1), (-1, -1)]
+# The pieces that go one step, and those that go along lines, with their steps.
 JUMPS = {"k": STRAIGHT + DIAGONAL, "n": [(i * f, j * r) for f, r in ((1, 2), (2, 1)) for i in (1, -1) for j in (1, -1)]}
 LINES = {"r": STRAIGHT, "b": DIAGONAL, "q": STRAIGHT + DIAGONAL}
 COORDINATES = re.compile(r"([a-h][1-8])([a-h][1-8])([nbrq]?)")
@@ -41,6 +43,7 @@ def between(start, end):
 
 
 def colour_of(piece):
+    """Returns the colour of a piece, by its letter: `w` or `b`."""
     return "w" if piece.isupper() else "b"
 
 
@@ -54,9 +57,11 @@ class Position:
 
     @property
     def name(self):
+        """The name of the side to move."""
         return SIDES[self.side]
 
     def is_own(self, square):
+        """Says whether a piece of the side to move is on a square."""
         return square in self.pieces and colour_of(self.pieces[square]) == self.side
 
     def at(self, square):
@@ -64,11 +69,12 @@ class Position:
         return f"{NAMES[self.pieces[square].lower()]} on {square}"
 
     def king(self):
+        """Returns the square of its king."""
         return next(square for square, piece in self.pieces.items() if piece.lower() == "k" and self.is_own(square))
 
     def rook_of(self, wing):
         """Returns the square of the rook with which the side may castle on a wing (`O-O` or `O-O-O`); None if it has no
-        right to."""
+        right to. A right is K or Q for the rook on the file h or a, or the letter of the rook's file."""
         rank, king = self.king()[1], self.king()
         for letter in self.rights.strip("-"):
             file = {"K": "H", "Q": "A"}.get(letter.upper(), letter.upper()).lower()
@@ -90,6 +96,7 @@ def attacked(pieces, start):
 
 
 def forward(pawn):
+    """Returns how many ranks a pawn's single step goes up the board: 1 or -1."""
     return 1 if pawn.isupper() else -1
 
 

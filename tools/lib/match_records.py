@@ -14,6 +14,7 @@ REPORTS = (ENDED_LINE, WROTE_LINE, KILLED_LINE)
 OWN_LINES = ("arbiter: ", "tournament: ")
 SEATS = ("first", "second")
 HANDSHAKE = ("xboard", "protover 2")
+# What is advised where an engine does not answer the first lines.
 NO_HANDSHAKE = "any other engine must end its lines and flush them, and may need longer to start"
 # The faults of an engine that did not answer in time, without the side.
 NO_ANSWER = ("did not answer", "sent no done=1 (a UCI engine needs polyglot)")
@@ -37,10 +38,12 @@ class WrittenGame:
 
     @property
     def result(self):
+        """The outcome by its tag."""
         return self.tags.get("Result", "*")
 
     @property
     def termination(self):
+        """The tag Termination, which a game that ended as usual lacks or has as `normal`."""
         return self.tags.get("Termination", "normal")
 
     def is_decided(self):
@@ -56,6 +59,7 @@ class LoggedLine:
     """A line of a log: its moment in milliseconds, its mark (`<` received, `>` sent, `!` report), engine and text."""
 
     def __init__(self, fields):
+        """`fields` are the groups of LOG_LINE after the first one."""
         self.moment, self.mark, self.seat, self.text = int(fields[0]), fields[1], fields[2].strip(), fields[3]
 
     def asks(self):
@@ -74,6 +78,7 @@ class LoggedGame:
     `xboard` sent to White."""
 
     def __init__(self, first_line):
+        """`ended` and `wrote` are by engine, `first` or `second`; `killed` has sides."""
         self.lines = [first_line]
         self.ended, self.wrote, self.others = {}, {seat: [] for seat in SEATS}, []
         self.killed = []
@@ -84,9 +89,11 @@ class LoggedGame:
         return self.lines[0].seat
 
     def side(self, seat):
+        """Returns the side of an engine."""
         return "White" if seat == self.white else "Black"
 
     def seat(self, side):
+        """Returns the engine, `first` or `second`, of a side."""
         return self.white if side == "White" else SEATS[self.white == "first"]
 
     def add_report(self, line):

@@ -18,6 +18,7 @@ MEBIBYTE = 2**20
 UNCUT = 256 * MEBIBYTE  # a text is given up if it has no cut in so many bytes
 
 # The kinds of lines, as crates/pgn_pieces/specs/Pieces.antt defines them.
+# The first FRONT bytes of a line decide its kind. A byte order mark of UTF-8 (MARK) at their start is left out.
 FRONT = 256
 MARK = b"\xef\xbb\xbf"
 TAG_LINE = re.compile(rb'\[[A-Za-z0-9_]+[ \t]*"')
@@ -53,7 +54,8 @@ class Unreadable(Exception):
 
 
 def front(text, start):
-    """Returns the bytes that decide the kind of the line at an offset."""
+    """Returns the bytes that decide the kind of the line at an offset: its first FRONT bytes at most, without a byte
+    order mark and then spaces and tabs at the start."""
     return LINE_END.split(text[start : start + FRONT], maxsplit=1)[0].removeprefix(MARK).lstrip(b" \t")
 
 
@@ -139,6 +141,7 @@ class Cutter:
     """Cuts a text, to which one block after another is added, into parts of `least` bytes or more."""
 
     def __init__(self, least, counts_lines):
+        """With `counts_lines` each part gets the number of the lines before it."""
         self.least, self.counts_lines = least, counts_lines
         self.start, self.lines, self.text = 0, 0, bytearray()  # what is not cut yet
         self.tried = least  # it has no cut before this offset
@@ -291,6 +294,7 @@ class File:
                 os.close(source)
 
     def open(self):
+        """Opens the file, and returns its descriptor."""
         try:
             return os.open(self.name, os.O_RDONLY)
         except OSError as error:

@@ -15,5 +15,6 @@ def answers(arbiter, commands, **how):
 
 
 def shown(lines):
-    """Returns what the answers to `showfen` and `showpgn` among these lines show, without their prefix."""
+    """Returns what a session shows for `showfen` and `showpgn`: of its answers the lines that begin with `#`, without
+    that and the space after it."""
     return [line[2:].rstrip() for line in lines if line == "#" or line.startswith("# ")]

@@ -21,10 +21,12 @@ class Stockfish:
     """A stockfish that runs on, and lists legal moves."""
 
     def __init__(self):
+        """Starts it, so that it writes castling as in Chess960."""
         self.process = subprocess.Popen([STOCKFISH], stdin=subprocess.PIPE, stdout=subprocess.PIPE, text=True)
         self.say("setoption name UCI_Chess960 value true")
 
     def say(self, line):
+        """Sends it a line."""
         self.process.stdin.write(line + "\n")
         self.process.stdin.flush()
 
@@ -40,5 +42,6 @@ class Stockfish:
                 found.append(match[1])
 
     def end(self):
+        """Ends it, and waits for that."""
         self.say("quit")
         self.process.wait()

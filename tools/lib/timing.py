@@ -7,7 +7,8 @@ import time
 
 
 def processor_time(words, text=b"", stdout=subprocess.PIPE):
-    """Returns the seconds of user and system time of a program that reads this text, and how it ended."""
+    """Returns the seconds of processor time, of the user and of the system, that a program takes which reads this text,
+    and how it ended."""
     before = resource.getrusage(resource.RUSAGE_CHILDREN)
     ended = subprocess.run(words, input=text, stdout=stdout, stderr=subprocess.PIPE)
     after = resource.getrusage(resource.RUSAGE_CHILDREN)
@@ -15,7 +16,7 @@ def processor_time(words, text=b"", stdout=subprocess.PIPE):
 
 
 def elapsed(words, path=os.devnull):
-    """Returns the seconds elapsed of a program that reads a file, and how it ended."""
+    """Returns the seconds of real time that a program takes which reads a file, and how it ended."""
     with open(path, "rb") as file:
         begun = time.monotonic()
         ended = subprocess.run(words, stdin=file, capture_output=True)

@@ -12,8 +12,10 @@ from list_files import entries
 
 LIB = Path(__file__).resolve().parent
 MOST_NAME = 60  # characters
+# A word that is a setting, and the settings as messages list them.
 SETTING = re.compile(r"(uci)|(name|dir|level|memory|cores)=(.*)|option\.([^=]+)(=.*)?")
 SETTINGS = "name=, dir=, level=, memory=, cores=, option.NAME= and uci"
+# The fields of an Engine for the settings with `=`, and which of these take numbers.
 FIELDS = {"name": "given", "dir": "folder", "level": "level", "memory": "memory", "cores": "cores"}
 NUMBERS = ("memory", "cores")
 LIKE_A_SETTING = re.compile(r"[\w.]+=.*")
@@ -42,6 +44,7 @@ class Engine:
 
     @property
     def command(self):
+        """Its command, quoted as in a shell."""
         return shlex.join(self.words)
 
     @property

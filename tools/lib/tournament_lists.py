@@ -55,6 +55,7 @@ class Lists:
     moves: dict = field(default_factory=dict)
 
     def programs(self):
+        """Returns the programs that a host needs to play with all engines."""
         return sorted({program for engine in self.engines for program in engine.programs()})
 
     def levels(self):
@@ -78,7 +79,8 @@ class Lists:
 
 @dataclass(frozen=True)
 class Game:
-    """A game of the list: its number, its round, and the names of its engines. A round is an opening and a turn."""
+    """A game of the list: its number, its round, and the names of its engines. The round is `N.1` or `N.2`: the first
+    or the second game of a pair, from the opening N."""
 
     number: int
     round: str
@@ -100,6 +102,7 @@ def show(text, stream=None):
 
 
 def report(text):
+    """Writes a message to standard error, after the script's name."""
     show(f"{Path(needed.command()).name}: {text}")
 
 
@@ -220,6 +223,7 @@ def kept_rounds(folder, lists):
 
 
 def lines(path):
+    """Returns the lines of a file; none if there is no such file."""
     return path.read_text(encoding="utf-8").splitlines() if path.exists() else []
 
 
@@ -295,7 +299,8 @@ def opponents(lists):
 
 
 def pairs(lists):
-    """Yields the round and the engines' names of each game: each pair plays an opening twice, with colours changed."""
+    """Yields the round and the names of White and Black for each game: each pair plays an opening twice, with colours
+    changed."""
     for number in range(1, len(lists.openings) + 1):
         for first, second in opponents(lists):
             yield f"{number}.1", first.name, second.name
@@ -342,6 +347,7 @@ def keep(folder, lists, games):
 
 
 def kept_names(folder):
+    """Returns the names of a folder's engines, in their order."""
     return lines(folder / "names.txt")
 
 

@@ -20,6 +20,7 @@ BOOK_ENTRY = 16  # bytes of an entry of a polyglot book
 LEAST_ENTRIES = 8  # fewer keys may be in order by chance
 
 TAG_LINE = re.compile(r'(?m)^[ \t]*\[\s*\w+\s*"')
+# The first field of a FEN, an operation of EPD, a whole EPD, and a move in SAN or in coordinates.
 PLACEMENT = re.compile(r"[pnbrqkPNBRQK1-8/]*/[pnbrqkPNBRQK1-8/]*")
 OPERATION = re.compile(r'\s*([A-Za-z]\w*)((?:\s+(?:"[^"]*"|[^\s";]+))*)\s*(?:;|$)')
 EPD = re.compile(
@@ -159,6 +160,8 @@ def of_line(number, line):
 
 
 def moves_of(line):
+    """Returns the moves of a line, and other words in their place, which a session will refuse; without numbers,
+    comments and variations."""
     return [token[token.lastgroup] for token in main_line(line) if token.lastgroup in PLAYED]
 
 

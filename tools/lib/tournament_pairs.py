@@ -24,6 +24,7 @@ class Pairs:
         self.drawn += points.count(0.5)
 
     def __add__(self, other):
+        """The counts of both together."""
         return Pairs([sum(both) for both in zip(self.counts, other.counts)], self.drawn + other.drawn)
 
     def cells(self):
@@ -65,6 +66,7 @@ class AllPairs:
             self.single[key] = own
 
     def of_first_two(self):
+        """Returns the pairs of the first two engines, which --sprt is about."""
         return self.found.get(tuple(self.names[:2]), Pairs())
 
     def of_first(self):

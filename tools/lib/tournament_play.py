@@ -44,6 +44,8 @@ class Trial:
     can't play, and what to warn of; each may be an empty text. It had so many seconds for each reply."""
 
     def __init__(self, engine, seat, errors, seconds):
+        """Judges a trial by what play_game wrote to standard error (`errors`). The engine had the seat `first` or
+        `second`."""
         self.name = self.fault = self.warning = ""
         logged, statuses = match_records.logged_games(errors), STATUS.findall(errors)
         if not logged or not statuses:
@@ -175,6 +177,8 @@ class Player(Jobs):
     were over all the same are kept; if the test accepts nothing with them any more, games are played again."""
 
     def __init__(self, book, lists, hosts, timeout, most_tries, date):
+        """`book` takes the outcomes; `timeout` is the most seconds that a game may take; `date` is for the games'
+        tags."""
         super().__init__(hosts)
         self.book, self.folder, self.lists = book, book.folder, lists
         self.timeout, self.most_tries, self.date = timeout, most_tries, date
@@ -203,6 +207,7 @@ class Player(Jobs):
                 run.kill()
 
     def work(self, host):
+        """Plays games on a host, one after another; ends the script if a file can't be written."""
         try:
             super().work(host)
         except OSError as fault:
@@ -210,9 +215,12 @@ class Player(Jobs):
             STOP.now()
 
     def may_come(self):
+        """Says whether there may be a game to play: also while others run, since one may have to be played again."""
         return self.running or (self.waiting and not self.book.accepted)
 
     def suits(self, host, game):
+        """Says whether a host should play a game now: not if the test is decided, or if it is not known whether the
+        host can play."""
         is_wanted = not self.book.accepted and host not in self.suspects
         return is_wanted and super().suits(host, game)
 
@@ -225,6 +233,7 @@ class Player(Jobs):
             return game
 
     def started(self, host, game):
+        """Starts a game on a host, with its records in running/; returns its process."""
         engines = {engine.name: engine for engine in self.lists.engines}
         pair = [engines[name] for name in (game.white, game.black)]
         options = [*self.lists.patience.options(), *without_date(self.lists.options), "--date", self.date]

@@ -65,6 +65,7 @@ class Outcome:
         return self.fault or self.end == VOID
 
     def at_fault(self):
+        """Returns the names of the engines that are at fault."""
         return [self.game.white if side == "White" else self.game.black for side in self.sides]
 
     def row(self):
@@ -176,6 +177,7 @@ def kind_of_end(written, comment):
 
 
 def read_text(path):
+    """Returns the text of a file; an empty one if there is no such file."""
     return path.read_text(encoding="latin-1") if path.exists() else ""
 
 
@@ -263,7 +265,8 @@ def rebuilt(game, logged, date):
 
 
 class Row:
-    """An engine's line of the table."""
+    """An engine's line of the table: its points, games by their points, faults by kind, how many games it lost on time
+    and by the rules, and against each opponent the points and the games."""
 
     def __init__(self, engine):
         self.engine, self.points, self.time, self.rules = engine, 0, 0, 0
@@ -271,12 +274,14 @@ class Row:
         self.against = {}
 
     def add(self, opponent, points):
+        """Counts a game against an opponent in which the engine had so many points."""
         scored, games = self.against.get(opponent, (0, 0))
         self.against[opponent] = scored + points, games + 1
         self.points += points
         self.scores[points] += 1
 
     def games(self):
+        """Returns how many games count."""
         return sum(self.scores.values())
 
     def cells(self, kinds):
@@ -304,6 +309,7 @@ class Table:
     what a test has decided."""
 
     def __init__(self, names, faults, sprt):
+        """`faults` says how faults count (`loss`, `strict` or `void`); `sprt` is the test, or None."""
         self.faults, self.rows = faults, {name: Row(name) for name in names}
         self.pairs, self.sprt = tournament_pairs.AllPairs(names), sprt
         self.ends, self.amiss = Counter(), []
@@ -404,6 +410,7 @@ class Book:
     FILES = ("results.tsv", "games.pgn", "rated.pgn", "table.txt")
 
     def __init__(self, folder, total):
+        """Reads what the folder has; `total` is the number of all games."""
         self.folder, self.total = folder, total
         self.faults, self.sprt = kept_faults(folder), kept_sprt(folder)
         openings = match_records.written_games(read_text(folder / "openings.pgn"))
@@ -446,9 +453,11 @@ class Book:
         self.write_table()
 
     def write_table(self):
+        """Writes table.txt anew."""
         write_lines(self.folder / "table.txt", self.table())
 
     def table(self):
+        """Returns the lines of the table."""
         return self.counted.lines(self.total)
 
     def line(self, outcome):
