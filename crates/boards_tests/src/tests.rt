@@ -1,3 +1,5 @@
+//! Both boards, Plain and Bits: lines counted by making and taking back, hashes, check and mate, and sets of squares.
+
 ghost use Rattle.std.specs.Prelude.{◌≡◌, OnOk};
 
 use chess_base::{Colour, Kind, Move, Position, Square, Variant};
