@@ -1,3 +1,5 @@
+//! Devices of tests and counted devices: what each call gives, takes or fails at, and how often the device is called.
+
 ghost use Rattle.std.specs.Prelude.{◌<◌, ◌≤◌, IfOk};
 
 use byte_devices::{
