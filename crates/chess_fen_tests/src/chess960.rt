@@ -1,8 +1,10 @@
+//! FENs of Chess960, whose castling rights are named by the files of the rooks.
+
 use crate::judging::{Wanted, check_all};
 use chess_base::{FenFault, Variant};
 use chess_fen::{read_fen, read_fen_as};
 
-// FENs in Chess960.
+// FENs, and what is to be written of their positions: a right is read as K, Q or a file, and written as a file.
 const RIGHTS: &[(&[u8], Wanted)] = &[
     (
         b"rnbqkbnr/pppppppp/8/8/8/8/PPPPPPPP/RNBQKBNR w KQkq - 0 1",
@@ -32,14 +34,15 @@ const RIGHTS: &[(&[u8], Wanted)] = &[
     (b"4k3/8/8/8/8/8/8/rRK5 w B - 0 1", Wanted::Same),
 ];
 
+// Reads each FEN as one of Chess960.
 #[test]
 fn rights_are_read_and_written_by_files(rt: HostRuntime) {
     check_all(&rt, Variant::Fischerandom, RIGHTS);
 }
 
-// Each field of rights but the last two's names no rook, one right twice, two on one side, or is no such field. The
-// last two have a fault that is reported before the squares of the rights, and one that is reported after their
-// letters.
+// FENs that are refused. In all but the last two the field of castling rights is at fault: it names a file without a
+// rook, or one right twice, or two rooks on one side of the king, or it has another form. The last two also have
+// another fault: one that is reported before the squares of the rights, and one that is reported after their letters.
 const BAD_RIGHTS: &[(&[u8], Wanted)] = &[
     (
         b"4k3/8/8/8/8/8/8/RK5R w C - 0 1",
@@ -107,11 +110,13 @@ const BAD_RIGHTS: &[(&[u8], Wanted)] = &[
     ),
 ];
 
+// Each is refused with its fault.
 #[test]
 fn bad_rights_are_refused(rt: HostRuntime) {
     check_all(&rt, Variant::Fischerandom, BAD_RIGHTS);
 }
 
+// Rights named by files are refused in a FEN of normal chess, and read in one of Chess960.
 #[test]
 fn normal_chess_knows_no_letters_of_files(rt: HostRuntime) {
     let text = b"r3k2r/8/8/8/8/8/8/R3K2R w HAha - 0 1".as_slice();
