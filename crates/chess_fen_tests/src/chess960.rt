@@ -4,7 +4,8 @@ use crate::judging::{Wanted, check_all};
 use chess_base::{FenFault, Variant};
 use chess_fen::{read_fen, read_fen_as};
 
-// FENs, and what is to be written of their positions: a right is read as K, Q or a file, and written as a file.
+// FENs, and what is written of their positions: a right is read as K, Q or a file, and written as a file. The one that
+// names two rooks twice is refused.
 const RIGHTS: &[(&[u8], Wanted)] = &[
     (
         b"rnbqkbnr/pppppppp/8/8/8/8/PPPPPPPP/RNBQKBNR w KQkq - 0 1",
@@ -40,9 +41,9 @@ fn rights_are_read_and_written_by_files(rt: HostRuntime) {
     check_all(&rt, Variant::Fischerandom, RIGHTS);
 }
 
-// FENs that are refused. In all but the last two the field of castling rights is at fault: it names a file without a
-// rook, or one right twice, or two rooks on one side of the king, or it has another form. The last two also have
-// another fault: one that is reported before the squares of the rights, and one that is reported after their letters.
+// FENs whose field of castling rights is at fault: it names no rook, or one right twice, or two rooks on one side of
+// the king, or it has another form. The last three have a second fault as well: the side to move is looked at before
+// the rights, the kings before the rooks of the rights, and the letters of the rights before the target.
 const BAD_RIGHTS: &[(&[u8], Wanted)] = &[
     (
         b"4k3/8/8/8/8/8/8/RK5R w C - 0 1",

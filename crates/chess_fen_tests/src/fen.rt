@@ -219,8 +219,8 @@ fn changed_positions_are_judged(rt: HostRuntime) {
 // Below are texts in other forms than those that are written, and texts with each fault, and of several the
 // first.
 
-// Texts that are read though they would be written otherwise: other blanks, ranks or counters, or fields that are
-// missing.
+// Texts that are read though their positions are written otherwise: with more blanks, other digits, rights in another
+// order, zeros before a counter, 0 as the number of the move, or no counters.
 const SPELLINGS: &[(&[u8], Wanted)] = &[
     (
         b"4k3/8/8/8/8/8/8/4K2R  w  K -",
