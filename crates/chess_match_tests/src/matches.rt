@@ -278,7 +278,7 @@ fn flood(rt: &impl Abort, alloc: Global, on: On, back: &[u8], ending: &Ending) -
     ends_so_on(rt, alloc, on, &input, ending, 1)
 }
 
-// The move after them is taken; with one more line there are too many.
+// The move after these lines is the 10,000th and is taken. With one more line before the `pong` there are too many.
 fn floods_on(rt: &impl Abort, alloc: Global, on: On) -> Result<(), Fail> {
     flood(rt, alloc, on, b"move f2f3\nresign\n", &WHITE_RESIGNS)?;
     flood(rt, alloc, on, b"move f2f3\nx\npong 2\n", &FLOOD)

@@ -12,8 +12,8 @@ use std::cell::Cell;
 use std::process::Abort;
 use std::test::Fail;
 
-/// Gives bytes in pieces: the first `before` at once, the others when the clock shows `comes`. A wait takes the clock
-/// to that moment, or to its own end if that comes first.
+/// An engine's output. It gives the first `before` bytes at once, and the others when the clock shows `comes`. A wait
+/// takes the clock to that moment, or to the end of the wait if that is earlier; a read takes it to that moment.
 #[derive(Drop)]
 struct Late<'a> {
     input: Counted<PieceReader<'a>>,
