@@ -609,6 +609,7 @@ fn rows_are_read<B: Board + Drop>(
     Ok(())
 }
 
+// Reads the rows on both boards.
 #[test]
 fn games_are_read(rt: HostRuntime) -> Result<(), Fail> {
     rows_are_read(&rt, rt.alloc(), Plain::new(), &ROWS)?;

@@ -500,7 +500,7 @@ fn a_prefix_longer_than_the_buffer_is_written(rt: HostRuntime) -> Result<(), Fai
     is_written_after_on_both(&rt, rt.alloc(), prefix.as_slice())
 }
 
-// Each law of chess_pgn_laws can be called, without a condition.
+// Each law of chess_pgn and of chess_pgn_laws can be called, without a condition.
 #[test]
 fn laws_are_called() {
     a_game_is_tags_and_moves();
