@@ -220,7 +220,7 @@ fn other_moves_in_a_middle_game(rt: HostRuntime) -> Result<(), Fail> {
     check_all(&rt, rt.alloc(), MIDDLE_GAME, OTHER_TEXTS)
 }
 
-// Texts that are broken in some way, as if a part were missing.
+// Texts of which most don't have the form of a move.
 const BROKEN_TEXTS: &[(&[u8], Wanted)] = &[
     (b"", Wanted::NotAMove),
     (b"+", Wanted::NotAMove),
