@@ -17,6 +17,7 @@ fn is_equal<T: PartialEq + Debug>(rt: &impl Abort, found: &T, wanted: &T) {
     assert_eq!(rt; *found, *wanted);
 }
 
+// Without arguments the plan is a session, as with the word `session`.
 #[test]
 fn plans_without_arguments(rt: HostRuntime) -> Result<(), Fail> {
     let none: [&str; 0] = [];
@@ -263,7 +264,8 @@ const VERIFY: [(&[&str], bool, bool, bool, bool, bool, bool, bool); 23] = [
     ),
 ];
 
-// The arguments of `verify` go together in any order.
+// Reads the arguments of each row, whose options come in any order, and compares the plan. `--strict` sets three tests
+// at once: the variant, the tag Result and the board.
 #[test]
 fn verify_by_its_options(rt: HostRuntime) -> Result<(), Fail> {
     for (arguments, keep_going, quiet, strict, explain, spans, names, variations) in &VERIFY {
@@ -296,8 +298,9 @@ fn verify_by_its_options(rt: HostRuntime) -> Result<(), Fail> {
     Ok(())
 }
 
-// Arguments of `verify` with `--ignore`, and what is looked for: an unknown variant, another result than the tag's, and
-// than the board's, and a move after one of the draws of 2014.
+// Arguments of `verify` with `--ignore`, and whether these faults are then looked for: an unknown variant, a result
+// that differs from the tag Result, one that differs from the board's verdict, and a move after one of the draws of
+// 2014 (fivefold repetition, 75 moves).
 const IGNORED: [(&[&str], bool, bool, bool, bool); 13] = [
     (&["verify", "--ignore", "board"], false, false, false, true),
     (
@@ -380,7 +383,8 @@ const IGNORED: [(&[&str], bool, bool, bool, bool); 13] = [
     ),
 ];
 
-// Kinds that are ignored are not looked for; without `--strict` only `after-end` is.
+// A kind that is ignored is not looked for. Without `--strict` only moves after a draw of 2014 are looked for, unless
+// `after-end` is ignored.
 #[test]
 fn kinds_are_ignored(rt: HostRuntime) -> Result<(), Fail> {
     for (arguments, variant, result, board, draws_of_2014) in &IGNORED {
@@ -411,6 +415,7 @@ const NO_KINDS: [&str; 12] = [
     "after-end-board",
 ];
 
+// Each of these values is refused as a bad kind.
 #[test]
 fn other_kinds_are_refused(rt: HostRuntime) -> Result<(), Fail> {
     for kinds in &NO_KINDS {
@@ -429,6 +434,7 @@ const STUBS: [(&[&str], usize); 3] = [
     (&["stub", "--", "-x"], 1),
 ];
 
+// The plan of a stub has the last arguments, of the number that the row gives.
 #[test]
 fn a_stub_keeps_its_arguments(rt: HostRuntime) -> Result<(), Fail> {
     for (arguments, count) in &STUBS {
@@ -441,8 +447,9 @@ fn a_stub_keeps_its_arguments(rt: HostRuntime) -> Result<(), Fail> {
     Ok(())
 }
 
-// Arguments of `match`, and what they ask for; `level` is the moves per session, the base and the increment, both in
-// milliseconds.
+// Arguments of `match`, and the plan that they give: both engines' commands, the level of both (the moves per session,
+// the base and the increment, both in milliseconds), the variant and the FEN of the start, how many games are played,
+// the date, and whether there is a log.
 struct MatchRow {
     arguments: &'static [&'static str],
     white: &'static str,
@@ -455,6 +462,7 @@ struct MatchRow {
     log: bool,
 }
 
+// A match with nothing but its engines, one with most options, and one of each variant from its initial position.
 const MATCHES: [MatchRow; 4] = [
     MatchRow {
         arguments: &["match", "--white", "a b", "--black=c"],
@@ -533,7 +541,7 @@ const MATCHES: [MatchRow; 4] = [
     },
 ];
 
-// The moves per session, the base and the increment of a level, both in milliseconds.
+// A level as rows give it: the moves per session, the base and the increment, both in milliseconds.
 fn level_in(level: Level) -> [u32; 3] {
     [
         level.moves(),
@@ -542,6 +550,7 @@ fn level_in(level: Level) -> [u32; 3] {
     ]
 }
 
+// Asserts that a plan gives both sides the row's level, and has its variant and start.
 fn check_setup(rt: &impl Abort, plan: &GamesPlan<'_>, row: &MatchRow) {
     is_equal(rt, &level_in(plan.white_level), &row.level);
     is_equal(rt, &level_in(plan.black_level), &row.level);
@@ -549,6 +558,7 @@ fn check_setup(rt: &impl Abort, plan: &GamesPlan<'_>, row: &MatchRow) {
     is_equal(rt, &write_fen(&plan.start).as_slice(), &row.fen);
 }
 
+// Asserts that a plan is what the row says.
 fn check_match(rt: &impl Abort, plan: &GamesPlan<'_>, row: &MatchRow) {
     is_equal(
         rt,
@@ -560,6 +570,7 @@ fn check_match(rt: &impl Abort, plan: &GamesPlan<'_>, row: &MatchRow) {
     check_setup(rt, plan, row);
 }
 
+// Reads the arguments of each row, and compares the plan.
 #[test]
 fn a_match_by_its_options(rt: HostRuntime) -> Result<(), Fail> {
     for row in &MATCHES {
@@ -571,7 +582,8 @@ fn a_match_by_its_options(rt: HostRuntime) -> Result<(), Fail> {
     Ok(())
 }
 
-// Options of a match after its engines, whether its flags fall without a line, and the milliseconds for a reply.
+// Options of a match after its engines; whether a flag then falls while its engine is silent (`--flag`), and how many
+// milliseconds an engine has for a reply (`--reply-timeout`, which is given in seconds).
 const PATIENCE: [(&[&str], bool, Option<u64>); 8] = [
     (&[], false, None),
     (&["--flag"], true, None),
@@ -583,7 +595,8 @@ const PATIENCE: [(&[&str], bool, Option<u64>); 8] = [
     (&["--log", "--games", "2"], false, None),
 ];
 
-// Options of a match after its engines that are refused.
+// Options of a match after its engines that are refused: a timeout that is not a whole number from 1 to 999, or an
+// option that is given twice, without its value, or with a value that it does not take.
 const NO_PATIENCE: [&[&str]; 12] = [
     &["--reply-timeout", "0"],
     &["--reply-timeout", "1000"],
@@ -599,13 +612,14 @@ const NO_PATIENCE: [&[&str]; 12] = [
     &["--flag", "1"],
 ];
 
-// The arguments of a match between two engines with these options.
+// The arguments of a match between the engines `x` and `y`, followed by these options.
 fn match_with(alloc: Global, options: &[&'static str]) -> Result<Vec<&'static str>, AllocError> {
     let mut arguments = vec![in alloc; "match", "--white", "x", "--black", "y"]?;
     arguments.extend_from_slice(options)?;
     Ok(arguments)
 }
 
+// Reads a match with the options of each row, and compares both limits of its plan.
 #[test]
 fn a_match_has_its_patience(rt: HostRuntime) -> Result<(), Fail> {
     for (options, flag, reply) in &PATIENCE {
@@ -619,7 +633,8 @@ fn a_match_has_its_patience(rt: HostRuntime) -> Result<(), Fail> {
     Ok(())
 }
 
-// Options of a match after its engines, and the levels of the first engine and of the second one.
+// Options of a match after its engines, and the levels of the first engine and of the second one, as `level_in` gives
+// them. An engine without an option of its own has that of `--level`, or the level by default.
 const LEVELS: [(&[&str], [u32; 3], [u32; 3]); 6] = [
     (
         &["--white-level", "0 1 2"],
@@ -660,6 +675,7 @@ const LEVELS: [(&[&str], [u32; 3], [u32; 3]); 6] = [
     ),
 ];
 
+// Reads a match with the options of each row, and compares both levels of its plan.
 #[test]
 fn engines_have_levels_of_their_own(rt: HostRuntime) -> Result<(), Fail> {
     for (options, white, black) in &LEVELS {
@@ -699,6 +715,7 @@ const NO_LEVELS: [(&[&str], LevelFault); 5] = [
     ),
 ];
 
+// Each row is refused with a bad level, of which the fault is that of the first bad one.
 #[test]
 fn levels_of_their_own_may_be_bad(rt: HostRuntime) -> Result<(), Fail> {
     for (options, fault) in &NO_LEVELS {
@@ -719,7 +736,7 @@ const DRAWS: [(&[&str], Draws); 4] = [
     (&["--draws=automatic", "--games", "2"], Draws::Automatic),
 ];
 
-// Options of a match after its engines that are refused.
+// Options of a match after its engines that `clap`, which reads the options, refuses.
 const NO_DRAWS: [&[&str]; 5] = [
     &["--draws", "Automatic"],
     &["--draws", "auto"],
@@ -728,6 +745,7 @@ const NO_DRAWS: [&[&str]; 5] = [
     &["--draws", "claimed", "--draws", "automatic"],
 ];
 
+// Reads a match with the options of each row, and compares its kind of draws.
 #[test]
 fn a_match_has_its_draws(rt: HostRuntime) -> Result<(), Fail> {
     for (options, draws) in &DRAWS {
@@ -740,6 +758,7 @@ fn a_match_has_its_draws(rt: HostRuntime) -> Result<(), Fail> {
     Ok(())
 }
 
+// Each of these options is refused by `clap`, with status 2.
 #[test]
 fn other_draws_are_refused(rt: HostRuntime) -> Result<(), Fail> {
     for options in &NO_DRAWS {
@@ -752,6 +771,7 @@ fn other_draws_are_refused(rt: HostRuntime) -> Result<(), Fail> {
     Ok(())
 }
 
+// Each of these options is refused by `clap`, with status 2.
 #[test]
 fn other_patience_is_refused(rt: HostRuntime) -> Result<(), Fail> {
     for options in &NO_PATIENCE {
@@ -764,7 +784,8 @@ fn other_patience_is_refused(rt: HostRuntime) -> Result<(), Fail> {
     Ok(())
 }
 
-// Arguments of a match, and what is reported of them.
+// Arguments that `clap` accepts but that ask for no plan, and what is reported of them: the first fault, where there
+// are several.
 const FAULTS: [(&[&str], &str); 10] = [
     (
         &[
@@ -906,7 +927,7 @@ const FAULTS: [(&[&str], &str); 10] = [
     ),
 ];
 
-// Arguments that ask for nothing: what is reported of them.
+// Each row is refused, and its fault is shown by this text.
 #[test]
 fn faults_are_reported(rt: HostRuntime) -> Result<(), Fail> {
     for (arguments, wanted) in &FAULTS {
@@ -919,6 +940,7 @@ fn faults_are_reported(rt: HostRuntime) -> Result<(), Fail> {
     Ok(())
 }
 
+// Arguments that `clap` refuses, with status 2, or that ask it for help or for the version, with status 0.
 const OTHERS: [(&[&str], i32); 46] = [
     (&["match", "--white", "x"], 2),
     (
@@ -1002,7 +1024,7 @@ const OTHERS: [(&[&str], i32); 46] = [
     (&["-V"], 0),
 ];
 
-// Arguments that are none of the program's forms, or ask for help: the status that `clap` gives them.
+// Each row gives no plan, but an answer of `clap` with this status.
 #[test]
 fn other_arguments_are_refused(rt: HostRuntime) -> Result<(), Fail> {
     for (arguments, status) in &OTHERS {
@@ -1014,7 +1036,7 @@ fn other_arguments_are_refused(rt: HostRuntime) -> Result<(), Fail> {
     Ok(())
 }
 
-// Arguments that ask for help, the beginning of a line in that text, and the arguments of the example on that line.
+// Arguments that ask for help, a line of that text up to its example's end, and the example's own arguments.
 const EXAMPLES: [(&[&str], &str, &[&str]); 19] = [
     (&["--help"], "\n  arbiter     ", &[]),
     (&["--help"], "\n  arbiter verify < games.pgn ", &["verify"]),
@@ -1168,7 +1190,7 @@ const EXAMPLES: [(&[&str], &str, &[&str]); 19] = [
     ),
 ];
 
-// The examples in the texts of help ask for something.
+// Each example that a text of help shows is there, and its arguments give a plan.
 #[test]
 fn examples_in_help_are_accepted(rt: HostRuntime) -> Result<(), Fail> {
     for (asked, line, arguments) in &EXAMPLES {

@@ -3,6 +3,7 @@
 # match, and that an engine that hangs doesn't hold up a match.
 program=/proc/$PPID/exe
 
+# Ends this script with a failure if two files differ: same FILE FILE
 same() {
     cmp "$1" "$2" >&2 || exit
 }

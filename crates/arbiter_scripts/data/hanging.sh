@@ -5,6 +5,7 @@
 place=$1
 trap '' HUP INT PIPE TERM
 
+# Hangs for 1,000 seconds if this is the place to hang: hang_at PLACE
 hang_at() {
     [ "$place" != "$1" ] || exec sleep 1000
 }

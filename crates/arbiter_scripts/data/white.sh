@@ -4,6 +4,7 @@
 # (stockfish played 64 of the games, and pgn-extract wrote them.)
 program=/proc/$PPID/exe
 
+# Ends this script with a failure if two files differ: same FILE FILE
 same() {
     cmp "$1" "$2" >&2 || exit
 }

@@ -1,3 +1,5 @@
+//! Both boards, Plain and Bits: lines counted by making and taking back, hashes, check and mate, and sets of squares.
+
 ghost use Rattle.std.specs.Prelude.{◌≡◌, OnOk};
 
 use chess_base::{Colour, Kind, Move, Position, Square, Variant};
@@ -14,10 +16,11 @@ fn is_equal<T: PartialEq + Debug>(rt: &impl Abort, found: &T, wanted: &T) {
     assert_eq!(rt; *found, *wanted);
 }
 
+// The fault of `lines` where a board is elsewhere once a move was made and taken back.
 const LEFT_ELSEWHERE: &str = "taking back left another position";
 
-/// How many lines of so many legal moves there are: the last moves are counted, and each move before is
-/// made and taken back.
+/// How many lines of `depth` legal moves there are (perft). Moves are made and taken back, but for the last ones, which
+/// are only counted; after each `take_back` the board must be at its position again.
 fn lines<B: Board>(board: &mut B, depth: u32) -> Result<u64, &'static str>
     ensures { OnOk result (B.position board.new ≡ B.position board.old) }
 {
@@ -38,7 +41,8 @@ fn lines<B: Board>(board: &mut B, depth: u32) -> Result<u64, &'static str>
     Ok(count)
 }
 
-/// Counts the lines of up to so many moves from each position, whose variant that is.
+/// Counts the lines of 1 to `most` moves from the position of each row, which is read in this variant, and compares
+/// them with the row's counts.
 fn count<B: Board>(
     rt: &impl Abort,
     board: &mut B,
@@ -57,6 +61,7 @@ fn count<B: Board>(
     Ok(())
 }
 
+// The plain board, of 64 squares, begins at the initial position, and counts all lines of up to three moves.
 #[test]
 fn plain_counts_lines_of_normal_chess(rt: HostRuntime) -> Result<(), Fail> {
     let mut board = Plain::new();
@@ -64,6 +69,7 @@ fn plain_counts_lines_of_normal_chess(rt: HostRuntime) -> Result<(), Fail> {
     count(&rt, &mut board, Variant::Normal, NORMAL.as_slice(), 3)
 }
 
+// The same in Chess960.
 #[test]
 fn plain_counts_lines_of_chess960(rt: HostRuntime) -> Result<(), Fail> {
     count(
@@ -75,6 +81,7 @@ fn plain_counts_lines_of_chess960(rt: HostRuntime) -> Result<(), Fail> {
     )
 }
 
+// The board of bit sets begins at the initial position too, and counts all lines of up to four moves.
 #[test]
 fn bits_count_lines_of_normal_chess(rt: HostRuntime) -> Result<(), Fail> {
     let tables = AttackTables::open(rt.alloc()).ok().ok_or("memory")?;
@@ -83,6 +90,7 @@ fn bits_count_lines_of_normal_chess(rt: HostRuntime) -> Result<(), Fail> {
     count(&rt, &mut board, Variant::Normal, NORMAL.as_slice(), 4)
 }
 
+// The same in Chess960.
 #[test]
 fn bits_count_lines_of_chess960(rt: HostRuntime) -> Result<(), Fail> {
     let tables = AttackTables::open(rt.alloc()).ok().ok_or("memory")?;
@@ -96,6 +104,7 @@ fn bits_count_lines_of_chess960(rt: HostRuntime) -> Result<(), Fail> {
     )
 }
 
+// Each legal move of a position, made on a board, leads to what `Position::after` gives, and taking it back leads back.
 #[test]
 fn what_is_made_is_the_position_after(rt: HostRuntime) -> Result<(), Fail> {
     let kiwipete = read_fen(KIWIPETE).ok().ok_or("sound")?;
@@ -109,8 +118,8 @@ fn what_is_made_is_the_position_after(rt: HostRuntime) -> Result<(), Fail> {
     Ok(())
 }
 
-// Positions and their hashes, as another program gives them: all kinds of piece, either side on move, all
-// rights, one and none. Target and counters make no difference.
+// Positions and their hashes (a board's `word`), as another program gives them: all kinds of piece, either side on
+// move, all rights, one and none. En passant target and counters are not in the hash.
 const WORDS: [(&[u8], u64); 6] = [
     (
         b"rnbqkbnr/pppppppp/8/8/8/8/PPPPPPPP/RNBQKBNR w KQkq - 0 1",
@@ -129,7 +138,7 @@ const WORDS: [(&[u8], u64); 6] = [
     (b"4k3/8/8/8/8/8/8/4K3 w - - 0 1", 0xD933_5A52_334C_2F4E),
 ];
 
-/// Asks a board for the hashes of these positions.
+/// Sets a board to each of these positions, and compares its hash.
 fn tells_words<B: Board>(rt: &impl Abort, board: &mut B) -> Result<(), Fail> {
     for (fen, word) in &WORDS {
         board.set(&read_fen(fen).ok().ok_or("sound")?);
@@ -138,7 +147,7 @@ fn tells_words<B: Board>(rt: &impl Abort, board: &mut B) -> Result<(), Fail> {
     Ok(())
 }
 
-/// Asks a board for the hashes on the way from one position to another by 1. e4, and back.
+/// Compares a board's hash after 1. e4 was made, and after it was taken back: the first two rows of WORDS.
 fn tells_words_on_the_way<B: Board>(rt: &impl Abort, board: &mut B) -> Result<(), Fail> {
     board.set(&Position::initial());
     let m = Move {
@@ -159,6 +168,7 @@ fn tells_words_on_the_way<B: Board>(rt: &impl Abort, board: &mut B) -> Result<()
     Ok(())
 }
 
+// Both boards have the hashes of WORDS, at positions that are set and at one that is reached by a move.
 #[test]
 fn hashes_are_those_counted_apart(rt: HostRuntime) -> Result<(), Fail> {
     tells_words(&rt, &mut Plain::new())?;
@@ -169,7 +179,7 @@ fn hashes_are_those_counted_apart(rt: HostRuntime) -> Result<(), Fail> {
     tells_words_on_the_way(&rt, &mut bits)
 }
 
-// Fool's mate, and a stalemate.
+// At the initial position there is no check, but a move; at fool's mate check and no move; at a stalemate neither.
 #[test]
 fn mate_is_check_without_a_move(rt: HostRuntime) -> Result<(), Fail> {
     let mate = b"rnb1kbnr/pppp1ppp/8/4p3/6Pq/5P2/PPPPP2P/RNBQKBNR w KQkq - 1 3".as_slice();
@@ -186,7 +196,7 @@ fn mate_is_check_without_a_move(rt: HostRuntime) -> Result<(), Fail> {
     Ok(())
 }
 
-// The program at the head of chess_moves, with the number of moves made.
+// The example at the head of chess_moves, which makes and takes back each legal move; it returns how many were made.
 fn forward_and_back(position: &Position) -> usize {
     let mut board = Plain::new();
     board.set(position);
@@ -202,6 +212,7 @@ fn forward_and_back(position: &Position) -> usize {
     made
 }
 
+// The initial position has 20 legal moves, by the list that needs no board and by making each on one.
 #[test]
 fn moves_are_listed_without_a_board(rt: HostRuntime) {
     let start = Position::initial();
@@ -209,7 +220,8 @@ fn moves_are_listed_without_a_board(rt: HostRuntime) {
     assert!(rt; forward_and_back(&start) == 20);
 }
 
-// The numbers of b1, g1, b8 and g8.
+// A loop over the set of all knights gives b1, g1, b8 and g8 in this order: their numbers are 1, 6, 57 and 62, and are
+// compared as the digits of one number to the base 64.
 #[test]
 fn a_set_is_looped_over(rt: HostRuntime) {
     let board = Plain::new();
@@ -225,6 +237,7 @@ fn a_set_is_looped_over(rt: HostRuntime) {
     assert!(rt; (white & black).is_empty() && white != black);
 }
 
+// The debug text of a set lists its squares; that of its iterator, those that are left.
 #[test]
 fn sets_are_debugged_by_their_squares(rt: HostRuntime) -> Result<(), Fail> {
     let set = SquareSet::single(Square::E4) | SquareSet::single(Square::B1);

@@ -1,3 +1,5 @@
+//! Devices of tests and counted devices: what each call gives, takes or fails at, and how often the device is called.
+
 ghost use Rattle.std.specs.Prelude.{◌<◌, ◌≤◌, IfOk};
 
 use byte_devices::{
@@ -9,6 +11,7 @@ use std::fmt::Debug;
 use std::io::{self, Read, Write};
 use std::process::Abort;
 
+// What the inputs of most tests below give: 9 bytes in two lines.
 const TEXT: &[u8] = b"new\ne2e4\n";
 
 // Asserts that two values are equal. One function for all types, since an assertion for each costs much to prove.
@@ -16,7 +19,7 @@ fn is_equal<T: PartialEq + Debug>(rt: &impl Abort, found: &T, wanted: &T) {
     assert_eq!(rt; *found, *wanted);
 }
 
-// Reads a piece, which is to be this one.
+// Makes one read of at most 16 bytes, and asserts that it gives this piece or fails.
 fn gives<R: Input>(rt: &impl Abort, input: &mut R, piece: Result<&[u8], ReadFault>) {
     let mut buffer = [0; 16];
     let given = match input.read(&mut buffer) {
@@ -26,21 +29,22 @@ fn gives<R: Input>(rt: &impl Abort, input: &mut R, piece: Result<&[u8], ReadFaul
     is_equal(rt, &given, &piece);
 }
 
-// Puts a text, which is to be answered so.
+// Puts a text on an output, and asserts what `put` answers.
 fn puts<W: Output>(rt: &impl Abort, output: &mut W, text: &[u8], wanted: Result<(), WriteFault>) {
     assert_eq!(rt; put(output, text), wanted, "put {text:?}");
 }
 
-// Flushes an output, which is to be answered so.
+// Flushes an output, and asserts what the flush answers.
 fn is_flushed<W: Output>(rt: &impl Abort, output: &mut W, wanted: Result<(), WriteFault>) {
     is_equal(rt, &output.flush(), &wanted);
 }
 
-// The bytes that were taken are these.
+// Asserts that the bytes that a writer took are these.
 fn is_taken(rt: &impl Abort, bytes: &[u8], wanted: &[u8]) {
     is_equal(rt, &bytes, &wanted);
 }
 
+// A slice gives its text by one read, and after that nothing, however often it is read.
 #[test]
 fn healthy_input_never_fails(rt: HostRuntime) {
     let mut input = Counted::reading(TEXT);
@@ -49,6 +53,7 @@ fn healthy_input_never_fails(rt: HostRuntime) {
     gives(&rt, &mut input, Ok(b""));
 }
 
+// A vector takes all that is put, in one part or in several; empty texts and flushes change nothing.
 #[test]
 fn healthy_output_never_fails(rt: HostRuntime) {
     let mut output = Counted::writing(Vec::new(rt.alloc()));
@@ -62,6 +67,7 @@ fn healthy_output_never_fails(rt: HostRuntime) {
     is_taken(&rt, output.into_writer().as_slice(), b"new\ne2e4\npong 7\n");
 }
 
+// A `PieceReader` gives at most `cut` bytes at a time, and at its end none.
 #[test]
 fn pieces_are_cut_as_set(rt: HostRuntime) {
     for cut in 1..4 {
@@ -73,6 +79,8 @@ fn pieces_are_cut_as_set(rt: HostRuntime) {
     }
 }
 
+// Of both devices only the call with the chosen number, the second, fails; the next call goes on where the one before
+// ended.
 #[test]
 fn one_call_fails_and_the_next_goes_on(rt: HostRuntime) {
     let mut input = Counted::reading(PieceReader::new(TEXT, 4, 2));
@@ -87,9 +95,11 @@ fn one_call_fails_and_the_next_goes_on(rt: HostRuntime) {
     is_taken(&rt, output.writer().bytes.as_slice(), b"new\ne2e4");
 }
 
+// The parts that `put_parts` writes below: 7 bytes in all.
 const PARTS: [&[u8]; 3] = [b"pong ", b"7", b"\n"];
 
-// The bytes at a time, the call that fails, whether all parts are put, and what was taken of them.
+// How many bytes a writer takes at a time, which of its calls fails (0: none), whether all of PARTS are put, and what
+// was taken of them.
 const BREAKS: [(usize, u64, bool, &[u8]); 6] = [
     (16, 0, true, b"pong 7\n"),
     (1, 0, true, b"pong 7\n"),
@@ -99,6 +109,7 @@ const BREAKS: [(usize, u64, bool, &[u8]); 6] = [
     (16, 3, false, b"pong 7"),
 ];
 
+// Puts the parts on the writer of each row, and compares the answer and what was taken.
 #[test]
 fn parts_break_off_where_a_write_fails(rt: HostRuntime) {
     for (cut, fails_at, is_put, taken) in &BREAKS {
@@ -109,7 +120,8 @@ fn parts_break_off_where_a_write_fails(rt: HostRuntime) {
     }
 }
 
-// A device that counts its calls and the bytes of their pieces, and answers all alike: so many bytes, or a failure.
+// A device, reader and writer in one, that counts its calls and the bytes that each asked for or offered. It answers
+// every call alike: with this many bytes, as far as they have room, or with a failure for `None`.
 #[derive(Drop)]
 struct Asked {
     calls: u64,
@@ -118,6 +130,7 @@ struct Asked {
 }
 
 impl Asked {
+    // A device that was not called yet and gives this answer.
     fn answering(answer: Option<usize>) -> Self {
         Asked {
             calls: 0,
@@ -126,11 +139,12 @@ impl Asked {
         }
     }
 
-    // Its calls, and the bytes of their pieces.
+    // How many calls there were, and how many bytes they asked for or offered in all.
     fn asked(&self) -> [u64; 2] {
         [self.calls, self.bytes]
     }
 
+    // Counts a call for `len` bytes, and answers it.
     fn ask(&mut self, len: usize) -> io::Result<usize>
         ensures { IfOk result (λ n. n ≤ len) }
     {
@@ -170,9 +184,10 @@ impl Write for Asked {
     }
 }
 
+// The bytes that each call below reads into, or writes.
 const PIECE: [u8; 9000] = [0; 9000];
 
-// Reads from a device that answers all alike, which gives so much.
+// Reads from such a device 1,499 times. Each read answers `wanted`, and is one call for all 9,000 bytes.
 fn reads(rt: &impl Abort, answer: Option<usize>, wanted: Result<usize, ReadFault>) {
     let mut buffer = PIECE;
     let mut input = Counted::reading(Asked::answering(answer));
@@ -182,7 +197,7 @@ fn reads(rt: &impl Abort, answer: Option<usize>, wanted: Result<usize, ReadFault
     }
 }
 
-// Each read is one call of the device with all of the piece, whatever came before.
+// A read is one call of the device with the whole buffer, whatever that answers.
 #[test]
 fn a_read_is_one_read_of_the_device(rt: HostRuntime) {
     reads(&rt, Some(9000), Ok(9000));
@@ -191,7 +206,7 @@ fn a_read_is_one_read_of_the_device(rt: HostRuntime) {
     reads(&rt, None, Err(ReadFault));
 }
 
-// Writes to a device that answers all alike, which takes so much.
+// Writes to such a device 1,499 times. Each write answers `wanted`, and is one call with all 9,000 bytes.
 fn writes(rt: &impl Abort, answer: Option<usize>, wanted: Result<usize, WriteFault>) {
     let mut output = Counted::writing(Asked::answering(answer));
     for calls in 1..1500 {
@@ -200,7 +215,7 @@ fn writes(rt: &impl Abort, answer: Option<usize>, wanted: Result<usize, WriteFau
     }
 }
 
-// So is each write.
+// A write is one call of the device with all bytes, whatever that answers. To take none of them is a failure.
 #[test]
 fn a_write_is_one_write_of_the_device(rt: HostRuntime) {
     writes(&rt, Some(9000), Ok(9000));
@@ -209,7 +224,7 @@ fn a_write_is_one_write_of_the_device(rt: HostRuntime) {
     writes(&rt, None, Err(WriteFault));
 }
 
-// Flushes a device that answers all alike.
+// Flushes such a device 1,499 times. Each flush answers `wanted`, and is one call.
 fn flushes(rt: &impl Abort, answer: Option<usize>, wanted: Result<(), WriteFault>) {
     let mut output = Counted::writing(Asked::answering(answer));
     for calls in 1..1500 {
@@ -218,20 +233,21 @@ fn flushes(rt: &impl Abort, answer: Option<usize>, wanted: Result<(), WriteFault
     }
 }
 
-// Each flush is one flush, whatever writes would answer.
+// A flush is one call of the device, and fails where that does.
 #[test]
 fn a_flush_is_one_flush_of_the_device(rt: HostRuntime) {
     flushes(&rt, Some(1), Ok(()));
     flushes(&rt, None, Err(WriteFault));
 }
 
-// So many bytes come before the first brace, and before the first of three bytes.
+// Asserts that `len` bytes come before the first `}`, and before the first of three bytes of which it is one.
 fn is_found(rt: &impl Abort, bytes: &[u8], len: usize) {
     is_equal(rt, &len_before(bytes, b'}'), &len);
     is_equal(rt, &len_before_any(bytes, b'"', b'}', b'\n'), &len);
 }
 
-// A byte is found at each place of two blocks and after them; where it isn't, all bytes are counted.
+// Bytes are searched by blocks: a `}` is found at each place in the first blocks and among the bytes left over, and
+// where there is none all bytes are counted.
 #[test]
 fn a_byte_is_found_at_each_place(rt: HostRuntime) {
     for len in 0..80 {
@@ -242,7 +258,8 @@ fn a_byte_is_found_at_each_place(rt: HostRuntime) {
     }
 }
 
-// A call at the gate, and what becomes of it.
+// A call of the gated devices and what it answers: a read gives a line, or fails since the gate is shut; a write takes
+// these bytes; a flush succeeds.
 enum Step {
     Gives(&'static [u8]),
     IsEarly,
@@ -250,7 +267,7 @@ enum Step {
     Flushes,
 }
 
-// A second line needs a second flush, after all that was written.
+// The gate lets one line through for each flush: a read fails after a line until an answer is written and flushed.
 const STEPS: [Step; 12] = [
     Step::Gives(b"new\n"),
     Step::IsEarly,
@@ -266,6 +283,7 @@ const STEPS: [Step; 12] = [
     Step::Gives(b"ping 1\n"),
 ];
 
+// Takes the steps in order. At the end four reads have been counted as too early.
 #[test]
 fn gate_opens_at_each_flush_for_one_line(rt: HostRuntime) {
     let open = Cell::new(true);
@@ -283,12 +301,12 @@ fn gate_opens_at_each_flush_for_one_line(rt: HostRuntime) {
     is_taken(&rt, output.writer().bytes.as_slice(), b"pong 1\nx");
 }
 
-// Waits for a piece, which is to be there or not.
+// Waits for a piece, and asserts whether one is there.
 fn waits<R: Input>(rt: &impl Abort, input: &mut R, wanted: bool) {
     is_equal(rt, &input.wait(0), &wanted);
 }
 
-// Waits for each piece of a text and reads it; nothing is to come between them.
+// Waits for each piece of a text and reads it, `cut` bytes at a time. No wait finds nothing.
 fn gives_text<R: Input>(rt: &impl Abort, input: &mut R, text: &[u8], cut: usize)
     requires { 0 < cut }
 {
@@ -298,7 +316,8 @@ fn gives_text<R: Input>(rt: &impl Abort, input: &mut R, text: &[u8], cut: usize)
     }
 }
 
-// An input gives so many bytes of the text, then so many waits find nothing, and then it gives the others.
+// An input gives the first `at` bytes of TEXT, then `silences` waits find nothing, and then it gives the others and its
+// end.
 fn falls_silent(rt: &impl Abort, at: usize, silences: u64, cut: usize)
     requires { 0 < cut }
 {
@@ -313,6 +332,7 @@ fn falls_silent(rt: &impl Abort, at: usize, silences: u64, cut: usize)
     gives(rt, &mut input, Ok(b""));
 }
 
+// Lets an input fall silent after each number of bytes, read byte by byte and in one piece.
 #[test]
 fn an_input_falls_silent_at_each_place(rt: HostRuntime) {
     for at in 0..10 {
@@ -323,7 +343,7 @@ fn an_input_falls_silent_at_each_place(rt: HostRuntime) {
     }
 }
 
-// Only waits find nothing: a read gives what there is.
+// During a silence only waits find nothing: a read gives the next piece all the same.
 #[test]
 fn a_read_does_not_wait_for_the_silence_to_end(rt: HostRuntime) {
     let mut input = SilentAfter::new(PieceReader::new(TEXT, 64, 0), 4, 2);
@@ -335,7 +355,7 @@ fn a_read_does_not_wait_for_the_silence_to_end(rt: HostRuntime) {
     gives(&rt, &mut input, Ok(b""));
 }
 
-// A reader of std has no clock, so a read may be made at once, before its end and there.
+// A plain reader of std has no clock, so each wait answers at once that a read may be made, also at its end.
 #[test]
 fn a_reader_without_a_clock_is_not_waited_for(rt: HostRuntime) {
     let mut input = Counted::reading(TEXT);
@@ -345,7 +365,7 @@ fn a_reader_without_a_clock_is_not_waited_for(rt: HostRuntime) {
     waits(&rt, &mut input, true);
 }
 
-// A silence and a failed write can be counted, which asks the device for nothing.
+// `fall_silent` and `fail_write` only count a silence or a failed write: the device isn't called.
 #[test]
 fn counting_asks_nothing_of_the_device(rt: HostRuntime) {
     let mut input = Counted::reading(Asked::answering(Some(1)));

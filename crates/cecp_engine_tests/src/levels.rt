@@ -6,8 +6,8 @@ use std::alloc::Global;
 use std::process::Abort;
 use std::test::Fail;
 
-// A text, and what is written of its level: the text that engines are sent, the base in whole seconds and in
-// milliseconds, and so the increment.
+// A text of a level, and what `shown` makes of it: the text that engines are sent, then the base in seconds and in
+// milliseconds, and the increment in both.
 const LEVELS: [(&str, &str); 12] = [
     ("0 0:30 2", "0 0:30 2: 30 s, 30000 ms and 2 s, 2000 ms"),
     (" 040\t5 000", "40 5 0: 300 s, 300000 ms and 0 s, 0 ms"),
@@ -38,7 +38,7 @@ const LEVELS: [(&str, &str); 12] = [
     ("999 0 0", "999 0 0: 0 s, 0 ms and 0 s, 0 ms"),
 ];
 
-// Texts that denote no level, and the first part of each that is wrong.
+// Texts that denote no level, and which part of each is the first that is wrong.
 const REFUSED: [(&str, LevelFault); 20] = [
     ("", LevelFault::Words),
     ("40 5", LevelFault::Words),
@@ -62,6 +62,7 @@ const REFUSED: [(&str, LevelFault); 20] = [
     ("0 0:10 1000", LevelFault::Increment),
 ];
 
+// Reads a level, and writes its text, base and increment, as LEVELS has them.
 fn shown(alloc: Global, text: &str) -> Result<String, Fail> {
     let level: Level = text.parse()?;
     Ok(format!(in alloc;
@@ -73,12 +74,13 @@ fn shown(alloc: Global, text: &str) -> Result<String, Fail> {
     )?)
 }
 
+// Asserts that `shown` makes `wanted` of this text.
 fn is_shown(rt: &impl Abort, alloc: Global, text: &str, wanted: &str) -> Result<(), Fail> {
     assert_eq!(rt; shown(alloc, text)?.as_str(), wanted);
     Ok(())
 }
 
-// What is written of a level, with and without decimals: zeros that say nothing are left out.
+// Each text of LEVELS is read and shown so. Zeros that say nothing, as in `040` and `2.0`, are left out.
 #[test]
 fn levels_are_parsed_and_shown(rt: HostRuntime) -> Result<(), Fail> {
     for (text, wanted) in &LEVELS {
@@ -87,11 +89,13 @@ fn levels_are_parsed_and_shown(rt: HostRuntime) -> Result<(), Fail> {
     Ok(())
 }
 
+// Asserts that a text is read as no level, and parsed with this fault.
 fn is_refused(rt: &impl Abort, text: &str, fault: LevelFault) {
     assert!(rt; Level::read(text.as_bytes()).is_none());
     assert_eq!(rt; text.parse::<Level>(), Err(fault));
 }
 
+// Each text of REFUSED has its fault.
 #[test]
 fn the_first_fault_of_a_level_is_reported(rt: HostRuntime) {
     for (text, fault) in &REFUSED {
@@ -113,7 +117,8 @@ fn levels_have_milliseconds(rt: HostRuntime) -> Result<(), Fail> {
     Ok(())
 }
 
-// Counts a move of White, which took `used` milliseconds, and looks at the time that it has left then.
+// Charges White's clock with a move that took `used` milliseconds, and asserts that it then has `left`. (`charge`
+// requires that the clock has that time, and counts few enough moves.)
 fn spend(rt: &impl Abort, clocks: &mut Clocks, used: u64, left: u64) {
     if used <= clocks.remaining(Colour::White) && clocks.moves(Colour::White) < 20000 {
         clocks.charge(Colour::White, used);
@@ -121,8 +126,8 @@ fn spend(rt: &impl Abort, clocks: &mut Clocks, used: u64, left: u64) {
     assert_eq!(rt; clocks.remaining(Colour::White), left);
 }
 
-// At `0 0:08 0.08` a side has 8,000 ms for its first move. After moves of 250 and 8 ms it has 8,000 and twice 80, less
-// 258.
+// At `0 0:08 0.08` a side begins with 8,000 ms, and gets 80 more after each move: 7,830 are left after a move of 250
+// ms, and 7,902 after one of 8 ms. Black's clock stays.
 #[test]
 fn increments_of_less_than_a_second_are_counted(rt: HostRuntime) -> Result<(), Fail> {
     let level = "0 0:08 0.08".parse()?;
@@ -136,8 +141,8 @@ fn increments_of_less_than_a_second_are_counted(rt: HostRuntime) -> Result<(), F
     Ok(())
 }
 
-// Each side's clock runs by its own time control: White has a minute for two moves, and then another one; Black has ten
-// seconds for the game, and a tenth of a second more after each move.
+// Each clock runs by its own time control. White has a minute for each two moves; Black has ten seconds for the game,
+// and a tenth of a second more after each move.
 #[test]
 fn each_side_has_its_time_control(rt: HostRuntime) -> Result<(), Fail> {
     let mut clocks = Clocks::new(ByColour {

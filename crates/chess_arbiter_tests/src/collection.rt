@@ -1,15 +1,17 @@
-//! Collections: `verify --keep-going` reads them piece by piece.
+//! Collections, which `verify --keep-going` cuts into pieces and goes on reading after a fault.
 
 use crate::readers::{Parts, run_on};
 use crate::runs::{Devices, SOUND, Wanted, check_in_all_pieces, run};
 use std::process::Abort;
 use std::test::Fail;
 
+// The arguments of the runs below.
 const KEEP_GOING: &[&str] = &["verify", "--keep-going"];
 
-// Collections, what is written of them, and the status.
+// Collections, what `verify --keep-going` writes of them (a line for each game or fault, and then the counts), and the
+// program's status: 1 if there is a fault.
 const PIECES: [(&[u8], &[u8], u8); 17] = [
-    // Tags without a game.
+    // Tags without a game: there is no result where the text ends.
     (
         b"[Event \"a\"]\n[Site \"b\"]\n",
         b"game 1: no result at byte 23\ngames 0 half-moves 0 faults 1\n",
@@ -102,6 +104,7 @@ const PIECES: [(&[u8], &[u8], u8); 17] = [
     (b"", b"games 0 half-moves 0 faults 0\n", 0),
 ];
 
+// Verifies each row, however its bytes are cut by reads and writes.
 #[test]
 fn collections_in_all_pieces(rt: HostRuntime) {
     for (text, lines, status) in &PIECES {
@@ -115,7 +118,7 @@ fn collections_in_all_pieces(rt: HostRuntime) {
     }
 }
 
-// Verifies a collection that comes in two reads.
+// Verifies a collection of which one read gives the first `at` bytes and the next ones the rest.
 fn check_two_reads(
     rt: &impl Abort,
     host: &HostRuntime,
@@ -153,6 +156,7 @@ pub fn check_each_cut(
 pub const COLLECTION: &[u8] =
     b"[Event \"a\"]\n\n1. e4 e5 *\n\n[Event \"b\"]\n\n1. e4 e4 *\n\n[Event \"c\"]\n\n1. d4 1-0";
 
+// What is written of its first piece, of its first two, of all of it, and of all of it with `--spans`.
 const FIRST_LINE: &[u8] = b"game 1: 2 half-moves, *\n";
 
 const TWO_LINES: &[u8] = b"game 1: 2 half-moves, *\ngame 2: illegal move at byte 44\n";
@@ -163,13 +167,16 @@ const ALL_LINES: &[u8] =
 const ALL_SPANS: &[u8] =
     b"game 1: 2 half-moves, *, bytes 0 to 23\ngame 2: illegal move at byte 44, bytes 25 to 48\ngame 3: 1 half-moves, 1-0, bytes 50 to 72\ngames 2 half-moves 3 faults 1\n";
 
-// Five pieces, two of which end in the middle of a comment or a variation.
+// Five pieces, of which the first ends within a comment and the fourth within a variation. There are byte order mark,
+// both kinds of line end, and a tag within a comment.
 const MIXED: &[u8] =
     b"\xef\xbb\xbf1. e4 {x\n[Event \"b\"]\r\n1. d4 *\r\n\r\n[Event \"c\"] {[Event \"d\"]} *\n[Event \"e\"]\n1. e4 (\n[Event \"f\"]\n*";
 
+// What is written of it.
 const MIXED_LINES: &[u8] =
     b"game 1: unclosed comment at byte 9\ngame 2: 1 half-moves, *\ngame 3: 0 half-moves, *\ngame 4: unclosed variation at byte 82\ngame 5: 0 half-moves, *\ngames 3 half-moves 1 faults 2\n";
 
+// A collection that comes in two reads is verified as one that comes in one, wherever it is cut.
 #[test]
 fn collections_cut_at_each_byte(rt: HostRuntime) -> Result<(), Fail> {
     check_each_cut(
@@ -195,7 +202,7 @@ fn collections_cut_at_each_byte(rt: HostRuntime) -> Result<(), Fail> {
     )
 }
 
-// The lines of the pieces whose end is among so many bytes.
+// The lines of COLLECTION that can be written once `given` bytes were read: those of the pieces whose end is known.
 fn lines_known(given: usize) -> &'static [u8] {
     if given < 33 {
         b""
@@ -206,7 +213,8 @@ fn lines_known(given: usize) -> &'static [u8] {
     }
 }
 
-/// Verifies a text where a read fails after so many bytes, by when these lines are known.
+/// Verifies a text that is read byte by byte, where the read after the first `given` bytes fails. Just `lines` are
+/// written then, and the failure is reported.
 pub fn check_failed_read(
     rt: &impl Abort,
     host: &HostRuntime,
@@ -228,7 +236,7 @@ pub fn check_failed_read(
     run(host, arguments, text, devices).check(rt, wanted);
 }
 
-// Exactly the lines of the pieces whose end was read are written, also where the read of the input's end fails.
+// Exactly the lines of the pieces whose end was read are written, also where the read at the input's end fails.
 #[test]
 fn collections_whose_reads_fail(rt: HostRuntime) {
     for given in 0..=COLLECTION.len() {
@@ -237,8 +245,8 @@ fn collections_whose_reads_fail(rt: HostRuntime) {
     }
 }
 
-/// Verifies a text, of which these lines are written, where a write, or the flush after all of them, fails after so
-/// many bytes.
+/// Verifies a text whose whole output is `lines`, on an output that takes a byte at a time and fails after `taken` of
+/// them (after all: at the flush). These bytes are written then, and the failure is reported.
 pub fn check_failed_write(
     rt: &impl Abort,
     host: &HostRuntime,
@@ -261,6 +269,7 @@ pub fn check_failed_write(
     Ok(())
 }
 
+// Lets the output fail after each number of bytes.
 #[test]
 fn collections_whose_writes_fail(rt: HostRuntime) -> Result<(), Fail> {
     for taken in 0..=ALL_LINES.len() {

@@ -1,19 +1,20 @@
-//! The program over devices that are cut and that fail.
+//! Sessions, stubs and `verify` over devices that cut their bytes, end early or fail at some call.
 
 use crate::runs::{Devices, Outcome, SOUND, Wanted, check_in_all_pieces, is_equal, run};
 use std::alloc::Global;
 use std::process::Abort;
 use std::test::Fail;
 
-/// A line to the program, and what it answers.
+/// A line that the program reads, and what it answers.
 type Line = (&'static [u8], &'static [u8]);
 
-/// Arguments of the program, and lines to it.
+/// A session, with the program or with its stub: the arguments of the program, and its lines in order.
 struct Talk {
     arguments: &'static [&'static str],
     lines: &'static [Line],
 }
 
+// The sessions that the tests below run over devices of each kind.
 const TALKS: [Talk; 3] = [
     Talk {
         arguments: &[],
@@ -61,7 +62,8 @@ const TALKS: [Talk; 3] = [
     },
 ];
 
-// The lines up to that number of bytes, as far as they are whole: their answers, and how many bytes they have.
+// What a session has answered when it has read `given` bytes, which is the answers to the lines that are whole by then;
+// and how many bytes these lines have.
 fn answered(alloc: Global, lines: &[Line], given: usize) -> Result<(Vec<u8>, usize), Fail> {
     let mut answers = Vec::new(alloc);
     let mut read: usize = 0;
@@ -76,6 +78,7 @@ fn answered(alloc: Global, lines: &[Line], given: usize) -> Result<(Vec<u8>, usi
     Ok((answers, read))
 }
 
+// The lines of a session, one after another, as its input.
 fn input_of(alloc: Global, lines: &[Line]) -> Result<Vec<u8>, Fail> {
     let mut input = Vec::new(alloc);
     for (text, _) in lines {
@@ -84,15 +87,15 @@ fn input_of(alloc: Global, lines: &[Line]) -> Result<Vec<u8>, Fail> {
     Ok(input)
 }
 
-// What the program reports of a failed input, and of a failed output.
+// What the program reports where its input fails, and where its output does.
 const READ_FAILED: &[u8] = b"arbiter: read failed\n";
 
 const WRITE_FAILED: &[u8] = b"arbiter: write failed\n";
 
-// The most calls of a device in the runs below.
+// More calls than any run below makes of its output.
 const CALLS: u64 = 400;
 
-// Runs a session in pieces of each length.
+// Runs a session whose bytes are cut in several ways: the answers are the same.
 fn check_talk(rt: &impl Abort, host: &HostRuntime, talk: &Talk) -> Result<(), Fail> {
     let input = input_of(host.alloc(), talk.lines)?;
     let (answers, _) = answered(host.alloc(), talk.lines, input.len())?;
@@ -101,6 +104,7 @@ fn check_talk(rt: &impl Abort, host: &HostRuntime, talk: &Talk) -> Result<(), Fa
     Ok(())
 }
 
+// Runs each session so.
 #[test]
 fn answers_are_the_same_in_all_pieces(rt: HostRuntime) -> Result<(), Fail> {
     for talk in &TALKS {
@@ -109,8 +113,8 @@ fn answers_are_the_same_in_all_pieces(rt: HostRuntime) -> Result<(), Fail> {
     Ok(())
 }
 
-// Asserts that a run on a beginning of an input wrote these answers, and two lines more at most where a part of a line
-// is left.
+// Asserts that a run on the beginning of an input wrote these answers, and then nothing more unless `is_cut`: a part of
+// a line is left, which is answered as a line, by at most two lines.
 fn check_beginning(
     rt: &impl Abort,
     outcome: &Outcome,
@@ -128,7 +132,7 @@ fn check_beginning(
     Ok(())
 }
 
-// Runs a session on the first bytes of its input.
+// Runs a session on the first `given` bytes of its input.
 fn check_cut(
     rt: &impl Abort,
     host: &HostRuntime,
@@ -151,7 +155,7 @@ fn check_cuts(rt: &impl Abort, host: &HostRuntime, talk: &Talk) -> Result<(), Fa
     Ok(())
 }
 
-// Whole lines are answered as ever; what is left of a line is a line of its own, with one line of an answer at most.
+// Whole lines are answered as ever. What is left of a line at the input's end is read as a line of its own.
 #[test]
 fn inputs_cut_after_each_byte(rt: HostRuntime) -> Result<(), Fail> {
     for talk in &TALKS {
@@ -160,7 +164,7 @@ fn inputs_cut_after_each_byte(rt: HostRuntime) -> Result<(), Fail> {
     Ok(())
 }
 
-// Runs a session whose input fails at that call, after so many bytes.
+// Runs a session that is read byte by byte, where the read numbered `call` fails: `call - 1` bytes came before it.
 fn check_failed_read(
     rt: &impl Abort,
     host: &HostRuntime,
@@ -184,7 +188,7 @@ fn check_failed_read(
     Ok(())
 }
 
-// Runs a session whose input fails at each call in turn.
+// Runs a session once for each of its reads, which then fails.
 fn check_failed_reads(rt: &impl Abort, host: &HostRuntime, talk: &Talk) -> Result<(), Fail> {
     let input = input_of(host.alloc(), talk.lines)?;
     for call in 1..=input.len() {
@@ -193,7 +197,7 @@ fn check_failed_reads(rt: &impl Abort, host: &HostRuntime, talk: &Talk) -> Resul
     Ok(())
 }
 
-// What was read before the failure is answered, line by line, and no more.
+// The lines that were whole before the failure are answered, and no more.
 #[test]
 fn reads_that_fail_at_each_call(rt: HostRuntime) -> Result<(), Fail> {
     for talk in &TALKS {
@@ -202,7 +206,7 @@ fn reads_that_fail_at_each_call(rt: HostRuntime) -> Result<(), Fail> {
     Ok(())
 }
 
-// Asserts that a run wrote a beginning of the answers and reported a failed write, if its status says so.
+// Asserts that a run wrote a beginning of the answers, and that it reported a failed write if its status isn't 0.
 fn check_taken(rt: &impl Abort, outcome: &Outcome, answers: &[u8]) {
     assert!(rt; answers.starts_with(outcome.output.as_slice()));
     if outcome.status != 0 {
@@ -211,7 +215,8 @@ fn check_taken(rt: &impl Abort, outcome: &Outcome, answers: &[u8]) {
     }
 }
 
-// Runs arguments on an input where the output fails at each call in turn, up to the first that is not made.
+// Runs the program once for each call of its output, a write of one byte or a flush, which then fails, up to the first
+// run in which none fails. A failure at a later call never leaves less written.
 fn check_each_write(
     rt: &impl Abort,
     host: &HostRuntime,
@@ -237,7 +242,7 @@ fn check_each_write(
     is_equal(rt, &taken_before, &answers.len());
 }
 
-// Runs a session whose output fails at each call in turn.
+// Runs a session so, against all of its answers.
 fn check_failed_writes(rt: &impl Abort, host: &HostRuntime, talk: &Talk) -> Result<(), Fail> {
     let input = input_of(host.alloc(), talk.lines)?;
     let (answers, _) = answered(host.alloc(), talk.lines, input.len())?;
@@ -251,7 +256,7 @@ fn check_failed_writes(rt: &impl Abort, host: &HostRuntime, talk: &Talk) -> Resu
     Ok(())
 }
 
-// Each write and each flush in turn: a beginning of the answers was taken, and that only grows.
+// Wherever the output fails, a beginning of the answers was taken, and the failure is reported.
 #[test]
 fn writes_that_fail_at_each_call(rt: HostRuntime) -> Result<(), Fail> {
     for talk in &TALKS {
@@ -260,7 +265,7 @@ fn writes_that_fail_at_each_call(rt: HostRuntime) -> Result<(), Fail> {
     Ok(())
 }
 
-// Runs a session whose output takes nothing.
+// Runs a session whose output takes no byte: that is a failed write.
 fn check_nothing_taken(rt: &impl Abort, host: &HostRuntime, talk: &Talk) -> Result<(), Fail> {
     let input = input_of(host.alloc(), talk.lines)?;
     let devices = Devices { taken: 0, ..SOUND };
@@ -273,7 +278,7 @@ fn check_nothing_taken(rt: &impl Abort, host: &HostRuntime, talk: &Talk) -> Resu
     Ok(())
 }
 
-// A writer that takes nothing has failed.
+// Runs each session so.
 #[test]
 fn writers_that_take_nothing(rt: HostRuntime) -> Result<(), Fail> {
     for talk in &TALKS {
@@ -282,7 +287,7 @@ fn writers_that_take_nothing(rt: HostRuntime) -> Result<(), Fail> {
     Ok(())
 }
 
-// Two games, each with its line.
+// A text of one game, one of two games, and the lines that `verify` writes of them.
 const FIRST: &[u8] = b"1. e4 *\n";
 
 const BOTH: &[u8] = b"1. e4 *\n1. f3 e5 2. g4 Qh4# 0-1\n";
@@ -291,13 +296,15 @@ const FIRST_LINE: &[u8] = b"game 1: 1 half-moves, *\n";
 
 const LINES: &[u8] = b"game 1: 1 half-moves, *\ngame 2: 4 half-moves, 0-1\n";
 
+// The lines are the same however the text is cut.
 #[test]
 fn games_in_all_pieces(rt: HostRuntime) {
     let wanted = Wanted::without_errors(LINES, 0);
     check_in_all_pieces(&rt, &rt, &["verify"], BOTH, wanted);
 }
 
-// Asserts what comes of that many bytes of both games.
+// Asserts what comes of the first `given` bytes of BOTH. There is no fault where they end after a game, with or without
+// the line end after it, or before the first; and once the first game is whole its line is written.
 fn check_front(rt: &impl Abort, outcome: &Outcome, given: usize) {
     let is_whole = given == 0
         || given == FIRST.len() - 1
@@ -310,14 +317,14 @@ fn check_front(rt: &impl Abort, outcome: &Outcome, given: usize) {
     is_equal(rt, &outcome.errors.as_slice(), &b"".as_slice());
 }
 
-// Verifies that many bytes of both games.
+// Verifies the first `given` bytes of BOTH.
 fn verify_front(rt: &impl Abort, host: &HostRuntime, given: usize) -> Result<(), Fail> {
     let front = BOTH.get(..given).ok_or("a beginning")?;
     check_front(rt, &run(host, &["verify"], front, SOUND), given);
     Ok(())
 }
 
-// A text is verified where it ends after a game, or after the spaces that follow it.
+// Verifies each beginning of the text.
 #[test]
 fn texts_cut_after_each_byte(rt: HostRuntime) -> Result<(), Fail> {
     for given in 0..=BOTH.len() {
@@ -326,7 +333,7 @@ fn texts_cut_after_each_byte(rt: HostRuntime) -> Result<(), Fail> {
     Ok(())
 }
 
-// Verifies both games where the input fails at that call.
+// Verifies both games, read byte by byte, where the read numbered `call` fails.
 fn verify_failed_read(rt: &impl Abort, host: &HostRuntime, call: usize) {
     let devices = Devices {
         piece: 1,
@@ -341,7 +348,7 @@ fn verify_failed_read(rt: &impl Abort, host: &HostRuntime, call: usize) {
     run(host, &["verify"], BOTH, devices).check(rt, wanted);
 }
 
-// Without all of its text, `verify` reports nothing.
+// Without `--keep-going` nothing is written before the whole text was read.
 #[test]
 fn reads_of_games_that_fail(rt: HostRuntime) {
     for call in 1..=BOTH.len() {
@@ -349,7 +356,7 @@ fn reads_of_games_that_fail(rt: HostRuntime) {
     }
 }
 
-// Verifies both games where the output fails after so many bytes.
+// Verifies both games on an output that takes a byte at a time and fails after `taken` of them.
 fn verify_failed_write(rt: &impl Abort, host: &HostRuntime, taken: usize) -> Result<(), Fail> {
     let devices = Devices {
         taken: 1,
@@ -365,7 +372,7 @@ fn verify_failed_write(rt: &impl Abort, host: &HostRuntime, taken: usize) -> Res
     Ok(())
 }
 
-// Each write in turn, and the flush after them.
+// Lets each write fail, and at last the flush after them.
 #[test]
 fn writes_of_games_that_fail(rt: HostRuntime) -> Result<(), Fail> {
     for taken in 0..=LINES.len() {

@@ -1,4 +1,4 @@
-//! Matches between engines that run as processes: the program itself, as a stub.
+//! Matches between engines that run as processes, which are mostly this program itself, as a stub.
 
 use crate::runs::{Devices, Outcome, ProgramRun, SOUND, Wanted, is_equal, is_text, run};
 use byte_devices::Counted;
@@ -9,8 +9,8 @@ use std::process::Abort;
 use std::test::Fail;
 use std::{env, fs};
 
-// What a child of a test runs: the program, with the arguments after this test's name. It also runs by
-// itself, with no arguments.
+// The engine of the tests below: they start this test program with the name of this test, and with the arguments that
+// it hands to the arbiter program. Among the other tests it runs too, with no arguments.
 #[test]
 fn acts_as_the_program(rt: HostRuntime) -> Result<(), Fail> {
     let owned = env::args(&rt)?.skip(2).collect::<Vec<String>>(rt.alloc())?;
@@ -29,7 +29,7 @@ fn acts_as_the_program(rt: HostRuntime) -> Result<(), Fail> {
     Ok(())
 }
 
-// The command of a stub that plays these arguments.
+// The command of an engine: the program as a stub that plays these arguments, such as `f2f3 g2g4`.
 fn stub(rt: &HostRuntime, arguments: &str) -> Result<String, Fail> {
     let program = env::args(rt)?.next().ok_or("the program's name")?;
     Ok(format!(in rt.alloc(); "{program} engines::acts_as_the_program stub {arguments}")?)
@@ -45,6 +45,7 @@ struct Played {
     status: u8,
 }
 
+// Matches that end by mate, by a fault and by other ends, in one game or several, and in both variants.
 const PLAYED: [Played; 7] = [
     Played {
         white: "f2f3 g2g4",
@@ -112,7 +113,7 @@ const PLAYED: [Played; 7] = [
     },
 ];
 
-// The arguments of a match between these commands.
+// The arguments of a match between the engines with these commands, and then the `others`.
 fn arguments_of<'a>(
     alloc: Global,
     white: &'a str,
@@ -129,7 +130,7 @@ fn arguments_of<'a>(
     Ok(arguments)
 }
 
-// Plays a match over processes between stubs that play these arguments.
+// Plays a match over processes between stubs that play the arguments `white` and `black`.
 fn play_stubs(
     rt: &HostRuntime,
     white: &str,
@@ -144,7 +145,7 @@ fn play_stubs(
     Ok(run(rt, arguments.as_slice(), input, devices))
 }
 
-// Plays a match over processes.
+// Plays the match of a row over processes.
 fn play(
     rt: &HostRuntime,
     played: &Played,
@@ -161,7 +162,7 @@ fn play(
     )
 }
 
-// Asserts that this came of a match.
+// Asserts that the row's output, errors and status came of a match.
 fn check_match(rt: &impl Abort, outcome: &Outcome, played: &Played) -> Result<(), Fail> {
     is_text(rt, outcome.output.as_slice(), played.output)?;
     is_text(rt, outcome.errors.as_slice(), played.errors)?;
@@ -169,7 +170,8 @@ fn check_match(rt: &impl Abort, outcome: &Outcome, played: &Played) -> Result<()
     Ok(())
 }
 
-// Plays a match, and asserts what comes of it.
+// Plays the match of a row, and asserts what comes of it. (The input of the program would fail, but a match doesn't
+// read it.)
 fn play_out(rt: &impl Abort, host: &HostRuntime, played: &Played) -> Result<(), Fail> {
     // The input is not read, so its failure is not met.
     let devices = Devices {
@@ -180,6 +182,7 @@ fn play_out(rt: &impl Abort, host: &HostRuntime, played: &Played) -> Result<(), 
     check_match(rt, &outcome, played)
 }
 
+// Plays each row.
 #[test]
 fn stubs_play(rt: HostRuntime) -> Result<(), Fail> {
     for played in &PLAYED {
@@ -188,7 +191,8 @@ fn stubs_play(rt: HostRuntime) -> Result<(), Fail> {
     Ok(())
 }
 
-// Plays a match with a log on an error output that fails at that call, 0 for none.
+// Plays a match with a log, where the call numbered `errors_fail` of the error output, on which the log is, fails (0:
+// none).
 fn play_logged(
     rt: &HostRuntime,
     played: &Played,
@@ -202,7 +206,8 @@ fn play_logged(
     play_stubs(rt, played.white, played.black, others, b"", devices)
 }
 
-// Texts that the log of both games contains, whatever the moments are.
+// Texts that the log of both games must contain. The whole of it isn't compared, since its times differ from run to
+// run.
 const LOGGED: [&str; 8] = [
     "0 >first : xboard\n0 >first : protover 2\n",
     " <first : feature ping=1 setboard=1 usermove=1 myname=\"stub\" done=1\n",
@@ -215,11 +220,13 @@ const LOGGED: [&str; 8] = [
     " >second: result 0-1 {White makes an illegal move}\n",
 ];
 
+// Asserts that a log contains this text.
 fn is_in_log(rt: &impl Abort, log: &[u8], text: &str) -> Result<(), Fail> {
     assert!(rt; std::str::from_utf8(log)?.contains(text));
     Ok(())
 }
 
+// Plays two games with a log: its output is as without, and each text is in the log.
 #[test]
 fn a_log_over_processes(rt: HostRuntime) -> Result<(), Fail> {
     let played = &PLAYED[1];
@@ -233,7 +240,7 @@ fn a_log_over_processes(rt: HostRuntime) -> Result<(), Fail> {
     Ok(())
 }
 
-// A match is played, and has its status, whatever becomes of its log.
+// A match is played to its end, with its own status, also where its log can't be written.
 #[test]
 fn a_log_on_a_failed_error_output(rt: HostRuntime) -> Result<(), Fail> {
     let played = &PLAYED[3];
@@ -245,11 +252,12 @@ fn a_log_on_a_failed_error_output(rt: HostRuntime) -> Result<(), Fail> {
     Ok(())
 }
 
-// The second engine reads its first lines, and ends.
+// What is written of the match below, whose second engine ends after it has read a line.
 const DECIDED: &str =
     "[Event \"CECP match\"]\n[Site \"?\"]\n[Date \"????.??.??\"]\n[Round \"1\"]\n[White \"stub\"]\n[Black \"head -n 1\"]\n[Result \"1-0\"]\n[FEN \"7k/6Q1/6K1/8/8/8/8/8 b - - 0 1\"]\n[SetUp \"1\"]\n[Termination \"normal\"]\n\n1-0\n\nscore first 1 second 0 drawn 0 unfinished 0\n";
 
-// A mate on the board at the start is the result of the game, in its PGN and in the score, also if an engine fails.
+// The start is mate. That is the game's result in its PGN and in the score, though Black's engine fails; the failure is
+// reported.
 #[test]
 fn a_verdict_on_the_start_stands(rt: HostRuntime) -> Result<(), Fail> {
     let white = stub(&rt, "")?;
@@ -266,19 +274,19 @@ fn a_verdict_on_the_start_stands(rt: HostRuntime) -> Result<(), Fail> {
     Ok(())
 }
 
-// How many descriptors this process holds open, and which processes it started that still run.
+// What a process holds: how many descriptors are open, and which of the processes that it started still run.
 fn held(rt: &HostRuntime) -> Result<(usize, Vec<u8>), Fail> {
     let open = fs::read_dir(rt, "/proc/self/fd")?.count();
     Ok((open, fs::read(rt, "/proc/thread-self/children")?))
 }
 
-// Asserts that a process holds what it held.
+// Asserts that this process holds what it held before.
 fn check_held(rt: &impl Abort, now: &(usize, Vec<u8>), before: &(usize, Vec<u8>)) {
     is_equal(rt, &now.0, &before.0);
     is_equal(rt, &now.1.as_slice(), &before.1.as_slice());
 }
 
-// Plays a match, after which this process holds what it held.
+// Plays the match of a row, after which this process holds no more than before.
 fn play_and_leave(rt: &impl Abort, host: &HostRuntime, played: &Played) -> Result<(), Fail> {
     let before = held(host)?;
     let _outcome = play(host, played, b"", SOUND)?;
@@ -286,6 +294,7 @@ fn play_and_leave(rt: &impl Abort, host: &HostRuntime, played: &Played) -> Resul
     Ok(())
 }
 
+// However a match ends, its pipes are closed and its engines have ended.
 #[test]
 fn engines_leave_nothing_behind(rt: HostRuntime) -> Result<(), Fail> {
     for played in &PLAYED {
@@ -294,7 +303,7 @@ fn engines_leave_nothing_behind(rt: HostRuntime) -> Result<(), Fail> {
     Ok(())
 }
 
-// Asserts that a match ends before a game, with that report.
+// Asserts that a match with these arguments ends before its first game, with this report and status.
 fn check_early_end(
     rt: &impl Abort,
     host: &HostRuntime,
@@ -310,12 +319,13 @@ fn check_early_end(
     run(host, arguments, b"", SOUND).check(rt, wanted);
 }
 
-// Asserts that a match between these commands can not start, with that report.
+// Asserts that an engine of this match can't be started, with this report and status 1.
 fn check_no_start(rt: &impl Abort, host: &HostRuntime, white: &str, black: &str, errors: &[u8]) {
     let arguments = ["match", "--white", white, "--black", black];
     check_early_end(rt, host, &arguments, errors, 1);
 }
 
+// White's command names no program, then Black's, and then Black's is blank.
 #[test]
 fn engines_that_can_not_start(rt: HostRuntime) -> Result<(), Fail> {
     let stub = stub(&rt, "e2e4")?;
@@ -343,7 +353,7 @@ fn engines_that_can_not_start(rt: HostRuntime) -> Result<(), Fail> {
     Ok(())
 }
 
-// Arguments of matches out of form, and what is reported.
+// Arguments of matches with a value that is not in its form, and what is reported.
 const OUT_OF_FORM: [(&[&str], &[u8]); 4] = [
     (
         &["match", "--white", "x", "--black", "y", "--level", "40 5"],
@@ -373,6 +383,7 @@ const OUT_OF_FORM: [(&[&str], &[u8]); 4] = [
     ),
 ];
 
+// Each of them ends before its first game, with status 2.
 #[test]
 fn matches_out_of_form(rt: HostRuntime) {
     for (arguments, errors) in &OUT_OF_FORM {
@@ -380,7 +391,8 @@ fn matches_out_of_form(rt: HostRuntime) {
     }
 }
 
-// Asserts that a match whose whole output this is ended at a failed write.
+// Asserts that a match stopped at a failed write: it wrote a beginning of `whole`, its output when nothing fails, and
+// reported the failure.
 fn check_broken(rt: &impl Abort, broken: &Outcome, whole: &[u8]) {
     assert!(rt; whole.starts_with(broken.output.as_slice()));
     is_equal(
@@ -391,7 +403,7 @@ fn check_broken(rt: &impl Abort, broken: &Outcome, whole: &[u8]) {
     is_equal(rt, &broken.status, &1);
 }
 
-// Plays a match whose output fails at that call.
+// Plays a match where the call numbered `write_fails` of the output fails.
 fn play_failed(
     rt: &impl Abort,
     host: &HostRuntime,
@@ -407,14 +419,14 @@ fn play_failed(
     check_broken(rt, &run(host, arguments, b"", devices), whole);
 }
 
-// Plays a match whose output fails at each of its calls.
+// Plays a match once for each of six calls of its output, which then fails.
 fn play_broken(rt: &impl Abort, host: &HostRuntime, arguments: &[&str], whole: &[u8]) {
     for write_fails in 1..=6 {
         play_failed(rt, host, arguments, whole, write_fails);
     }
 }
 
-// The output fails at the calls of a match of two games: at most this number.
+// A match of two games makes at least six calls of its output. At whichever it fails, the match ends.
 #[test]
 fn a_match_on_a_failed_output(rt: HostRuntime) -> Result<(), Fail> {
     let stub = stub(&rt, "")?;
@@ -425,7 +437,7 @@ fn a_match_on_a_failed_output(rt: HostRuntime) -> Result<(), Fail> {
     Ok(())
 }
 
-// A game's fault is not reported where the output fails in that game.
+// Where the output fails in a game that has a fault, the failed write is reported instead of the fault.
 #[test]
 fn a_failed_output_after_a_fault(rt: HostRuntime) -> Result<(), Fail> {
     let white = stub(&rt, "end")?;
@@ -444,15 +456,17 @@ fn a_failed_output_after_a_fault(rt: HostRuntime) -> Result<(), Fail> {
     Ok(())
 }
 
-// An engine that has no name, says something on its standard error, and answers pings alone.
+// The command of an engine that has no `myname`, writes to its standard error, and answers nothing but pings. (`${IFS}`
+// stands for a blank, by which the arbiter would split the command.)
 const NAMELESS: &str =
     "sh -c N=é;echo${IFS}feature${IFS}ping=1${IFS}done=1;echo${IFS}noise>&2;exec${IFS}sed${IFS}-un${IFS}s/ping/pong/p";
 
-// The name is the first 60 bytes of the command, those outside 32 to 126 as `?`; what the engine writes to its standard
-// error is not on the error output.
+// The match with it. As its name stand the first 60 bytes of its command, with `?` for each byte outside 32 to 126;
+// what it writes to its standard error is nowhere.
 const BY_NAMELESS: &str =
     "[Event \"CECP match\"]\n[Site \"?\"]\n[Date \"????.??.??\"]\n[Round \"1\"]\n[White \"stub\"]\n[Black \"sh -c N=??;echo${IFS}feature${IFS}ping=1${IFS}done=1;echo${I\"]\n[Result \"0-1\"]\n[Termination \"normal\"]\n\n0-1\n\nscore first 0 second 1 drawn 0 unfinished 0\n";
 
+// Plays that match: nothing is on the error output.
 #[test]
 fn an_engine_without_a_name(rt: HostRuntime) -> Result<(), Fail> {
     let white = stub(&rt, "")?;
@@ -462,7 +476,7 @@ fn an_engine_without_a_name(rt: HostRuntime) -> Result<(), Fail> {
     Ok(())
 }
 
-// White takes its time to end once its input is closed; its end is waited for where Black can't be started.
+// Black can't be started. White, which takes 0.2 seconds to end once its input is closed, is waited for.
 #[test]
 fn white_is_ended_where_black_can_not_start(rt: HostRuntime) -> Result<(), Fail> {
     let before = held(&rt)?;
@@ -477,6 +491,7 @@ fn white_is_ended_where_black_can_not_start(rt: HostRuntime) -> Result<(), Fail>
     Ok(())
 }
 
+// The clock of matches, which counts milliseconds from its start, gets to 50 at some time.
 #[test]
 fn moments_rise(rt: HostRuntime) {
     let mut moments = SinceStart::new(&rt);
@@ -488,7 +503,7 @@ fn moments_rise(rt: HostRuntime) {
     assert!(rt; false);
 }
 
-// Runs of a stub over memory.
+// Runs of a stub over memory: what it is sent, and what it says.
 const STUB_RUNS: [ProgramRun; 13] = [
     ProgramRun {
         arguments: &["stub", "e2e4", "offer"],
@@ -601,6 +616,7 @@ const STUB_RUNS: [ProgramRun; 13] = [
     },
 ];
 
+// Runs each row.
 #[test]
 fn stubs_say(rt: HostRuntime) {
     for row in &STUB_RUNS {

@@ -6,11 +6,13 @@ use crate::runs::{SOUND, Wanted, check_in_all_pieces, check_output};
 use std::process::Abort;
 use std::test::Fail;
 
+// The arguments of the runs below, for a text and for a collection.
 const EXPLAIN: &[&str] = &["verify", "--explain"];
 
 const KEEP_GOING: &[&str] = &["verify", "--keep-going", "--explain"];
 
-// A fault of each kind but one, and each reason: arguments, the text, what is written of it, and the status.
+// Each reason of a fault, and a fault of each kind but one: the arguments, the text, what is written of it, and the
+// status. A line with `#` gives the place, the text there, the position and the reason.
 const KINDS: [(&[&str], &[u8], &[u8], u8); 23] = [
     (
         &["verify", "--explain"],
@@ -152,6 +154,7 @@ const KINDS: [(&[&str], &[u8], &[u8], u8); 23] = [
     ),
 ];
 
+// Runs each row.
 #[test]
 fn faults_are_explained(rt: HostRuntime) {
     for (arguments, text, lines, status) in &KINDS {
@@ -159,7 +162,8 @@ fn faults_are_explained(rt: HostRuntime) {
     }
 }
 
-// Where faults are, and what is shown of them: arguments, the text, what is written of it, and the status.
+// How lines and columns are counted, and how much of a text is shown: the arguments, the text, what is written of it,
+// and the status.
 const PLACES: [(&[&str], &[u8], &[u8], u8); 23] = [
     // Lines count from the input's beginning, columns from the line's.
     (
@@ -310,6 +314,7 @@ const PLACES: [(&[&str], &[u8], &[u8], u8); 23] = [
     ),
 ];
 
+// Runs each row, however its bytes are cut by reads and writes.
 #[test]
 fn places_in_all_pieces(rt: HostRuntime) {
     for (arguments, text, lines, status) in &PLACES {
@@ -318,8 +323,8 @@ fn places_in_all_pieces(rt: HostRuntime) {
     }
 }
 
-// Collections with a piece that is too long: the text before its bytes `a`, how many these are, the text after them,
-// and what is written.
+// Collections with a piece that is too long, in three parts: the text before, how many bytes `a`, and the text after
+// them; and what is written.
 const LONG: [(&[u8], usize, &[u8], &[u8]); 2] = [
     // Line ends count, in it and after it.
     (
@@ -337,11 +342,12 @@ const LONG: [(&[u8], usize, &[u8], &[u8]); 2] = [
     ),
 ];
 
-// Verifies a collection with a piece that is too long.
+// Verifies such a collection, and asserts what is written; the status is 1.
 fn check_long(rt: &impl Abort, host: &HostRuntime, text: Parts, lines: &[u8]) {
     run_on(host, KEEP_GOING, text).check(rt, Wanted::without_errors(lines, 1));
 }
 
+// Verifies each row.
 #[test]
 fn pieces_that_are_too_long_are_explained(rt: HostRuntime) {
     for (front, inner, back, lines) in &LONG {
@@ -354,7 +360,7 @@ fn pieces_that_are_too_long_are_explained(rt: HostRuntime) {
     }
 }
 
-// The same, by the word that is shown of the piece: none, and one of more than 40 bytes.
+// The same, where the word that is shown of the piece is unusual: there is none, or it has more than 40 bytes.
 const LONG_WORDS: [(&[u8], usize, &[u8], &[u8]); 2] = [
     // A line end comes first.
     (
@@ -372,6 +378,7 @@ const LONG_WORDS: [(&[u8], usize, &[u8], &[u8]); 2] = [
     ),
 ];
 
+// Verifies each row.
 #[test]
 fn words_of_pieces_that_are_too_long(rt: HostRuntime) {
     for (front, inner, back, lines) in &LONG_WORDS {
@@ -389,6 +396,7 @@ fn words_of_pieces_that_are_too_long(rt: HostRuntime) {
 const COLLECTION: &[u8] =
     b"[Event \"a\"]\n1. e4\n e4\n\n[Site \"b\"]\n[Event \"b\"]\n1. d4 d5 *\n[Event \"c\"]\n\n1. e4 {x";
 
+// What is written of the first piece, of the first two, and of all.
 const FIRST_LINES: &[u8] =
     b"game 1: illegal move at byte 19\n# line 3 column 2 e4 | rnbqkbnr/pppppppp/8/8/4P3/8/PPPP1PPP/RNBQKBNR b KQkq e3 0 1 | bytes 19 to 23 not read\n";
 
@@ -398,13 +406,14 @@ const MORE_LINES: &[u8] =
 const ALL_LINES: &[u8] =
     b"game 1: illegal move at byte 19\n# line 3 column 2 e4 | rnbqkbnr/pppppppp/8/8/4P3/8/PPPP1PPP/RNBQKBNR b KQkq e3 0 1 | bytes 19 to 23 not read\ngame 2: 2 half-moves, *\ngame 3: unclosed comment at byte 76\n# line 10 column 7 {x | rnbqkbnr/pppppppp/8/8/4P3/8/PPPP1PPP/RNBQKBNR b KQkq e3 0 1 | bytes 76 to 78 not read\ngames 1 half-moves 2 faults 2\n";
 
+// A collection that comes in two reads is explained as one that comes in one, wherever it is cut.
 #[test]
 fn explanations_cut_at_each_byte(rt: HostRuntime) -> Result<(), Fail> {
     let wanted = Wanted::without_errors(ALL_LINES, 1);
     check_each_cut(&rt, &rt, KEEP_GOING, COLLECTION, wanted)
 }
 
-// The lines of the pieces whose end is among so many bytes.
+// The lines that can be written once `given` bytes were read: those of the pieces whose end is known.
 fn lines_known(given: usize) -> &'static [u8] {
     if given < 30 {
         b""
@@ -415,6 +424,7 @@ fn lines_known(given: usize) -> &'static [u8] {
     }
 }
 
+// Lets the read after each number of bytes fail: the lines known by then are written.
 #[test]
 fn explanations_whose_reads_fail(rt: HostRuntime) {
     for given in 0..=COLLECTION.len() {
@@ -423,6 +433,7 @@ fn explanations_whose_reads_fail(rt: HostRuntime) {
     }
 }
 
+// Lets the output fail after each number of bytes.
 #[test]
 fn explanations_whose_writes_fail(rt: HostRuntime) -> Result<(), Fail> {
     for taken in 0..=ALL_LINES.len() {
@@ -434,10 +445,11 @@ fn explanations_whose_writes_fail(rt: HostRuntime) -> Result<(), Fail> {
 // Two games of a text, the second with a fault.
 const GAMES: &[u8] = b"1. e4 *\n1. d4 d5\n2. Ke2 *";
 
+// What `verify --explain` writes of them.
 const GAME_LINES: &[u8] =
     b"game 1: 1 half-moves, *\ngame 2: illegal move at byte 20\n# line 3 column 4 Ke2 | rnbqkbnr/ppp1pppp/8/3p4/3P4/8/PPP1PPPP/RNBQKBNR w KQkq d6 0 2\n";
 
-// Of a text nothing is written before its end was read.
+// Without `--keep-going` nothing is written before the whole text was read; then each write may fail.
 #[test]
 fn games_explained_on_devices_that_fail(rt: HostRuntime) -> Result<(), Fail> {
     for given in 0..=GAMES.len() {

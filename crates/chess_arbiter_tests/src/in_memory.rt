@@ -1,4 +1,5 @@
-//! Matches of the program from bytes to bytes: what the engines say and when, and all that then is written and sent.
+//! Matches of the whole program over memory. What the engines say and what the clock shows is given; all that is then
+//! written, logged and sent is compared.
 
 use crate::runs::{is_equal, is_text};
 use byte_devices::{Counted, PieceReader, PieceWriter};
@@ -8,8 +9,10 @@ use std::alloc::Global;
 use std::process::Abort;
 use std::test::Fail;
 
-/// A match between the engines with the commands `A` and `B`: what each says in its games, whether `B` falls silent
-/// then, what the clock shows, and the arguments after `match --white A --black B --log`; and what comes of it.
+/// A match between the engines with the commands `A` and `B`. What each says, one text for each of its games; whether
+/// `B` falls silent after that, instead of ending its output; the moments that the clock shows, one for each time it is
+/// read (then the last one again, and 0 if there is none); and the arguments after `match --white A --black B --log`.
+/// Then what comes of it: the output, the log and the status.
 struct MatchRun {
     a_says: &'static [&'static [u8]],
     b_says: &'static [&'static [u8]],
@@ -29,7 +32,8 @@ struct Outcome {
     status: u8,
 }
 
-// Runs the program with this host. Its contract stays in here: tests compare values.
+// Runs `match` with this host, and gives what it wrote. (The big contract of `run_program` stays in here: tests compare
+// values.)
 fn run_with(
     host: &mut MemoryHost<'_>,
     alloc: Global,
@@ -70,7 +74,7 @@ fn joined(alloc: Global, parts: &[&'static str]) -> Result<Vec<u8>, Fail> {
     Ok(text)
 }
 
-// Asserts that this came of a match.
+// Asserts that the row's output, log and status came of a match.
 fn is_outcome(
     rt: &impl Abort,
     alloc: Global,
@@ -202,6 +206,7 @@ const TWO_GAMES: MatchRun = MatchRun {
     status: 0,
 };
 
+// What the engines are sent in them.
 const TWO_GAMES_SENT: [Sent; 2] = [
     Sent {
         white: "xboard\nprotover 2\naccepted ping\naccepted usermove\naccepted myname\naccepted done\nnew\nlevel 40 5 0\nnopost\neasy\nforce\nping 1\ntime 30000\notim 30000\ngo\nping 2\ntime 29900\notim 29950\nusermove e7e5\nping 3\nusermove d8h4\nresult 0-1 {Black mates}\nquit\n",
@@ -213,12 +218,13 @@ const TWO_GAMES_SENT: [Sent; 2] = [
     },
 ];
 
+// Plays these two games.
 #[test]
 fn two_games(rt: HostRuntime) -> Result<(), Fail> {
     play_out(&rt, rt.alloc(), &TWO_GAMES, &TWO_GAMES_SENT)
 }
 
-// What both engines of the matches below say first.
+// What an engine of the matches below says first.
 const READY: &[u8] = b"feature ping=1 done=1\npong 1\n";
 
 // What both are sent up to White's first turn, at the level `0 0:10 0`, and the log of it at moment 0.
@@ -249,21 +255,23 @@ const ILLEGAL_MOVE: MatchRun = MatchRun {
     status: 0,
 };
 
+// What the engines are sent in it.
 const ILLEGAL_MOVE_SENT: [Sent; 1] = [Sent {
     white: "xboard\nprotover 2\naccepted ping\naccepted done\nnew\nlevel 0 0:10 0\nnopost\neasy\nforce\nping 1\ntime 1000\notim 1000\ngo\nresult 0-1 {White makes an illegal move}\nquit\n",
     black: "xboard\nprotover 2\naccepted ping\naccepted done\nnew\nlevel 0 0:10 0\nnopost\neasy\nforce\nping 1\nresult 0-1 {White makes an illegal move}\nquit\n",
 }];
 
+// Plays this match.
 #[test]
 fn an_illegal_move(rt: HostRuntime) -> Result<(), Fail> {
     play_out(&rt, rt.alloc(), &ILLEGAL_MOVE, &ILLEGAL_MOVE_SENT)
 }
 
-// The game that Black loses on time at its first move, and the score.
+// The output of the two matches below, in which Black loses on time at its first move: the PGN and the score.
 const TIME_FORFEIT: &str =
     "[Event \"CECP match\"]\n[Site \"?\"]\n[Date \"????.??.??\"]\n[Round \"1\"]\n[White \"A\"]\n[Black \"B\"]\n[Result \"1-0\"]\n[Termination \"time forfeit\"]\n\n1. f3 1-0\n\nscore first 1 second 0 drawn 0 unfinished 0\n";
 
-// Black has ten seconds from its turn's opening at 500, and its move comes a millisecond later than that.
+// Black's turn begins at 500 with ten seconds left, and its move comes at 10,501: a millisecond too late.
 const LATE_MOVE: MatchRun = MatchRun {
     a_says: &[b"feature ping=1 done=1\npong 1\nmove f2f3\npong 2\n"],
     b_says: &[b"feature ping=1 done=1\npong 1\nmove e7e5\n"],
@@ -281,18 +289,20 @@ const LATE_MOVE: MatchRun = MatchRun {
     status: 0,
 };
 
+// What the engines are sent in it, and in the match after it.
 const FLAG_SENT: [Sent; 1] = [Sent {
     white: "xboard\nprotover 2\naccepted ping\naccepted done\nnew\nlevel 0 0:10 0\nnopost\neasy\nforce\nping 1\ntime 1000\notim 1000\ngo\nping 2\nresult 1-0 {Black forfeits on time}\nquit\n",
     black: "xboard\nprotover 2\naccepted ping\naccepted done\nnew\nlevel 0 0:10 0\nnopost\neasy\nforce\nping 1\nf2f3\ntime 1000\notim 1000\ngo\nresult 1-0 {Black forfeits on time}\nquit\n",
 }];
 
+// Plays this match.
 #[test]
 fn a_late_move(rt: HostRuntime) -> Result<(), Fail> {
     play_out(&rt, rt.alloc(), &LATE_MOVE, &FLAG_SENT)
 }
 
-// Black says nothing on its turn. With `--flag` it loses at the first look at the clock that shows that its ten seconds
-// are over: at 10,500 they are not.
+// Black says nothing on its turn. With `--flag` it loses at the first look at the clock that shows more than ten
+// seconds after 500: not at 10,500, but at 10,501.
 const SILENCE: MatchRun = MatchRun {
     a_says: &[b"feature ping=1 done=1\npong 1\nmove f2f3\npong 2\n"],
     b_says: &[READY],
@@ -310,6 +320,7 @@ const SILENCE: MatchRun = MatchRun {
     status: 0,
 };
 
+// Plays this match.
 #[test]
 fn a_silence(rt: HostRuntime) -> Result<(), Fail> {
     play_out(&rt, rt.alloc(), &SILENCE, &FLAG_SENT)
@@ -333,11 +344,13 @@ const OUTPUT_ENDS: MatchRun = MatchRun {
     status: 1,
 };
 
+// What the engines are sent in it.
 const OUTPUT_ENDS_SENT: [Sent; 1] = [Sent {
     white: "xboard\nprotover 2\naccepted ping\naccepted done\nnew\nlevel 0 0:10 0\nnopost\neasy\nforce\nping 1\ntime 1000\notim 1000\ngo\nresult * {White ended its output}\nquit\n",
     black: "xboard\nprotover 2\naccepted ping\naccepted done\nnew\nlevel 0 0:10 0\nnopost\neasy\nforce\nping 1\nresult * {White ended its output}\nquit\n",
 }];
 
+// Plays this match.
 #[test]
 fn an_output_ends(rt: HostRuntime) -> Result<(), Fail> {
     play_out(&rt, rt.alloc(), &OUTPUT_ENDS, &OUTPUT_ENDS_SENT)
@@ -355,6 +368,7 @@ const NO_ENGINE: MatchRun = MatchRun {
     status: 1,
 };
 
+// Starts this match: there is no game whose engines are sent anything.
 #[test]
 fn no_engine(rt: HostRuntime) -> Result<(), Fail> {
     play_out(&rt, rt.alloc(), &NO_ENGINE, &[])
@@ -378,6 +392,7 @@ const NO_SECOND_GAME: MatchRun = MatchRun {
     status: 1,
 };
 
+// Plays this match, whose only game is that of the illegal move above.
 #[test]
 fn no_second_game(rt: HostRuntime) -> Result<(), Fail> {
     play_out(&rt, rt.alloc(), &NO_SECOND_GAME, &ILLEGAL_MOVE_SENT)
@@ -390,11 +405,12 @@ const A_KNIGHT: &[u8] =
 const B_KNIGHT: &[u8] =
     b"feature ping=1 done=1\npong 1\nmove g8f6\npong 2\nmove f6g8\npong 3\nmove g8f6\npong 4\nmove f6g8\n";
 
-// A line from one engine and one to the other, for each move and its `pong`.
+// The log of all their moves: each move, its `ping` and `pong`, and the lines that then pass the move and the times to
+// the other engine.
 const KNIGHTS_LOG: &str =
     "0 <first : move g1f3\n0 >first : ping 2\n0 <first : pong 2\n0 >second: g1f3\n0 >second: time 1000\n0 >second: otim 1000\n0 >second: go\n0 <second: move g8f6\n0 >second: ping 2\n0 <second: pong 2\n0 >first : time 1000\n0 >first : otim 1000\n0 >first : g8f6\n0 <first : move f3g1\n0 >first : ping 3\n0 <first : pong 3\n0 >second: time 1000\n0 >second: otim 1000\n0 >second: f3g1\n0 <second: move f6g8\n0 >second: ping 3\n0 <second: pong 3\n0 >first : time 1000\n0 >first : otim 1000\n0 >first : f6g8\n0 <first : move g1f3\n0 >first : ping 4\n0 <first : pong 4\n0 >second: time 1000\n0 >second: otim 1000\n0 >second: g1f3\n0 <second: move g8f6\n0 >second: ping 4\n0 <second: pong 4\n0 >first : time 1000\n0 >first : otim 1000\n0 >first : g8f6\n0 <first : move f3g1\n0 >first : ping 5\n0 <first : pong 5\n0 >second: time 1000\n0 >second: otim 1000\n0 >second: f3g1\n";
 
-// With automatic draws the game ends when its start is there for the third time.
+// With `--draws automatic` the game ends when its initial position is there for the third time.
 const AUTOMATIC_DRAW: MatchRun = MatchRun {
     a_says: &[A_KNIGHT],
     b_says: &[B_KNIGHT],
@@ -412,17 +428,20 @@ const AUTOMATIC_DRAW: MatchRun = MatchRun {
     status: 0,
 };
 
+// What the engines are sent in it.
 const AUTOMATIC_DRAW_SENT: [Sent; 1] = [Sent {
     white: "xboard\nprotover 2\naccepted ping\naccepted done\nnew\nlevel 0 0:10 0\nnopost\neasy\nforce\nping 1\ntime 1000\notim 1000\ngo\nping 2\ntime 1000\notim 1000\ng8f6\nping 3\ntime 1000\notim 1000\nf6g8\nping 4\ntime 1000\notim 1000\ng8f6\nping 5\nf6g8\nresult 1/2-1/2 {Threefold repetition}\nquit\n",
     black: "xboard\nprotover 2\naccepted ping\naccepted done\nnew\nlevel 0 0:10 0\nnopost\neasy\nforce\nping 1\ng1f3\ntime 1000\notim 1000\ngo\nping 2\ntime 1000\notim 1000\nf3g1\nping 3\ntime 1000\notim 1000\ng1f3\nping 4\ntime 1000\notim 1000\nf3g1\nresult 1/2-1/2 {Threefold repetition}\nquit\n",
 }];
 
+// Plays this match.
 #[test]
 fn an_automatic_draw(rt: HostRuntime) -> Result<(), Fail> {
     play_out(&rt, rt.alloc(), &AUTOMATIC_DRAW, &AUTOMATIC_DRAW_SENT)
 }
 
-// Two games in which White moves illegally. Each engine has its own level in both games, whichever side it has.
+// Two games, in each of which White loses by an illegal move. Each engine has its own level in both, whichever side it
+// has.
 const OWN_LEVELS: MatchRun = MatchRun {
     a_says: &[ILLEGAL, READY],
     b_says: &[READY, ILLEGAL],
@@ -450,6 +469,7 @@ const OWN_LEVELS: MatchRun = MatchRun {
     status: 0,
 };
 
+// What the engines are sent in them.
 const OWN_LEVELS_SENT: [Sent; 2] = [
     Sent {
         white: "xboard\nprotover 2\naccepted ping\naccepted done\nnew\nlevel 0 0:10 0\nnopost\neasy\nforce\nping 1\ntime 1000\notim 6000\ngo\nresult 0-1 {White makes an illegal move}\nquit\n",
@@ -461,6 +481,7 @@ const OWN_LEVELS_SENT: [Sent; 2] = [
     },
 ];
 
+// Plays these two games.
 #[test]
 fn engines_keep_their_levels(rt: HostRuntime) -> Result<(), Fail> {
     play_out(&rt, rt.alloc(), &OWN_LEVELS, &OWN_LEVELS_SENT)

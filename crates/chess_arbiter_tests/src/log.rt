@@ -1,4 +1,4 @@
-//! The log of a match, over memory.
+//! The log of a match, played over memory.
 
 use crate::runs::{is_equal, is_text};
 use byte_devices::{Counted, PieceReader, PieceWriter, SilentAfter};
@@ -12,7 +12,7 @@ use std::alloc::Global;
 use std::process::Abort;
 use std::test::Fail;
 
-/// Moments in a list, and then zeros.
+/// A clock that shows these moments, one for each time it is read, and then zeros.
 #[derive(Drop)]
 struct Listed<'a> {
     rest: &'a [u64],
@@ -35,8 +35,10 @@ impl Moments for Listed<'_> {
     }
 }
 
-/// What two engines send, the side of the first engine, the calls of the devices that fail, 0 for none, after how many
-/// bytes White falls silent and for how many waits, and the moments. Both limits are two seconds.
+/// What a match gets: what both engines send; which side the first engine has, as the log names it; which call of
+/// White's reader, of Black's writer and of the log's output fails (0: none); after how many bytes White falls silent,
+/// and for how many waits; and the moments of the clock. If there are silences, flags fall by themselves and a reply
+/// has two seconds.
 #[derive(Clone, Copy)]
 struct MatchInput<'a> {
     white: &'a [u8],
@@ -51,6 +53,7 @@ struct MatchInput<'a> {
 }
 
 impl<'a> MatchInput<'a> {
+    // A match in which nothing fails, no one is silent and the clock stays at 0.
     fn of(white: &'a [u8], black: &'a [u8]) -> Self {
         MatchInput {
             white,
@@ -75,6 +78,7 @@ struct Logged {
     log: Vec<u8>,
 }
 
+// Plays a match of ten seconds for each side, and gives what came of it.
 fn play(rt: &impl Abort, alloc: Global, input: &MatchInput<'_>) -> Result<Logged, Fail> {
     let Some(level) = Level::read(b"0 0:10 0") else {
         panic!(rt; "level");
@@ -126,19 +130,24 @@ fn play(rt: &impl Abort, alloc: Global, input: &MatchInput<'_>) -> Result<Logged
     })
 }
 
+// What the engines send in a match that ends by fool's mate.
 const WHITE: &[u8] =
     b"feature ping=1 usermove=1 done=1\npong 1\nmove f2f3\npong 2\nmove g2g4\npong 3\n";
 
 const BLACK: &[u8] = b"feature ping=1 done=1\npong 1\nmove e7e5\npong 2\nmove d8h4\n";
 
-// A moment each 10 milliseconds: at each line of an engine, and at the end of each block that gives the turn to one.
+// The clock goes on by 10 milliseconds each time it is read: at each line of an engine, and at the end of each block
+// that gives the turn to one.
 const EACH_10: &[u64] = &[
     10, 20, 30, 40, 50, 60, 70, 80, 90, 100, 110, 120, 130, 140, 150,
 ];
 
+// The log of that match on this clock: the time, `>` for a line that the engine was sent or `<` for one that it sent,
+// which engine, and the line.
 const FOOLS_MATE: &str =
     "0 >first : xboard\n0 >first : protover 2\n10 <first : feature ping=1 usermove=1 done=1\n10 >first : accepted ping\n10 >first : accepted usermove\n10 >first : accepted done\n10 >second: xboard\n10 >second: protover 2\n20 <second: feature ping=1 done=1\n20 >second: accepted ping\n20 >second: accepted done\n20 >first : new\n20 >first : level 0 0:10 0\n20 >first : nopost\n20 >first : easy\n20 >first : force\n20 >first : ping 1\n30 <first : pong 1\n30 >second: new\n30 >second: level 0 0:10 0\n30 >second: nopost\n30 >second: easy\n30 >second: force\n30 >second: ping 1\n40 <second: pong 1\n40 >first : time 1000\n40 >first : otim 1000\n40 >first : go\n60 <first : move f2f3\n60 >first : ping 2\n70 <first : pong 2\n70 >second: f2f3\n70 >second: time 1000\n70 >second: otim 999\n70 >second: go\n90 <second: move e7e5\n90 >second: ping 2\n100 <second: pong 2\n100 >first : time 999\n100 >first : otim 999\n100 >first : usermove e7e5\n120 <first : move g2g4\n120 >first : ping 3\n130 <first : pong 3\n130 >second: time 999\n130 >second: otim 998\n130 >second: g2g4\n150 <second: move d8h4\n150 >first : usermove d8h4\n150 >first : result 0-1 {Black mates}\n150 >first : quit\n150 >second: result 0-1 {Black mates}\n150 >second: quit\n";
 
+// Compares the whole log of that match.
 #[test]
 fn a_whole_log(rt: HostRuntime) -> Result<(), Fail> {
     let mut input = MatchInput::of(WHITE, BLACK);
@@ -151,6 +160,7 @@ fn a_whole_log(rt: HostRuntime) -> Result<(), Fail> {
 const WITH_BLACK_FIRST: &str =
     "0 >second: xboard\n0 >second: protover 2\n10 <second: feature ping=1 usermove=1 done=1\n10 >second: accepted ping\n10 >second: accepted usermove\n10 >second: accepted done\n10 >first : xboard\n10 >first : protover 2\n20 <first : feature ping=1 done=1\n20 >first : accepted ping\n20 >first : accepted done\n20 >second: new\n20 >second: level 0 0:10 0\n20 >second: nopost\n20 >second: easy\n20 >second: force\n20 >second: ping 1\n30 <second: pong 1\n30 >first : new\n30 >first : level 0 0:10 0\n30 >first : nopost\n30 >first : easy\n30 >first : force\n30 >first : ping 1\n40 <first : pong 1\n40 >second: time 1000\n40 >second: otim 1000\n40 >second: go\n60 <second: move f2f3\n60 >second: ping 2\n70 <second: pong 2\n70 >first : f2f3\n70 >first : time 1000\n70 >first : otim 999\n70 >first : go\n90 <first : move e7e5\n90 >first : ping 2\n100 <first : pong 2\n100 >second: time 999\n100 >second: otim 999\n100 >second: usermove e7e5\n120 <second: move g2g4\n120 >second: ping 3\n130 <second: pong 3\n130 >first : time 999\n130 >first : otim 998\n130 >first : g2g4\n150 <first : move d8h4\n150 >second: usermove d8h4\n150 >second: result 0-1 {Black mates}\n150 >second: quit\n150 >first : result 0-1 {Black mates}\n150 >first : quit\n";
 
+// The log names engines by their order, so White is `second` here.
 #[test]
 fn the_first_engine_has_black(rt: HostRuntime) -> Result<(), Fail> {
     let mut input = MatchInput::of(WHITE, BLACK);
@@ -160,7 +170,7 @@ fn the_first_engine_has_black(rt: HostRuntime) -> Result<(), Fail> {
     is_text(&rt, logged.log.as_slice(), WITH_BLACK_FIRST)
 }
 
-// What both engines of most matches below send first, and the log of it at moment 0.
+// What both engines of most matches below send first, and the log of it up to White's first turn, at moment 0.
 const HANDSHAKE: &str = "feature ping=1 done=1\npong 1\n";
 
 const HANDSHAKE_LOG: &str =
@@ -174,6 +184,7 @@ struct After {
     log: &'static str,
 }
 
+// Matches that end in different ways, with what their log has after the handshake.
 const ENDS: [After; 9] = [
     After {
         white: "move e2e5\n",
@@ -245,7 +256,7 @@ fn joined(alloc: Global, parts: &[&[u8]]) -> Result<Vec<u8>, Fail> {
     Ok(text)
 }
 
-// Plays a match in which both engines begin with the handshake.
+// Plays a match in which each engine sends the handshake, and then `white` or `black`; all else is as `input` has it.
 fn play_after(
     rt: &impl Abort,
     alloc: Global,
@@ -269,12 +280,13 @@ fn play_after(
     play(rt, alloc, &input)
 }
 
-// A log is that of the handshake and this.
+// Asserts that a log is that of the handshake, followed by `after`.
 fn is_log(rt: &impl Abort, alloc: Global, log: &[u8], after: &str) -> Result<(), Fail> {
     let wanted = joined(alloc, &[HANDSHAKE_LOG.as_bytes(), after.as_bytes()])?;
     is_text(rt, log, std::str::from_utf8(wanted.as_slice())?)
 }
 
+// Plays the match of a row, and asserts what its log has after the handshake.
 fn is_logged(rt: &impl Abort, alloc: Global, after: &After) -> Result<(), Fail> {
     let mut input = MatchInput::of(b"", b"");
     input.moments = after.moments;
@@ -288,6 +300,7 @@ fn is_logged(rt: &impl Abort, alloc: Global, after: &After) -> Result<(), Fail> 
     is_log(rt, alloc, logged.log.as_slice(), after.log)
 }
 
+// Plays each row.
 #[test]
 fn ends_are_logged(rt: HostRuntime) -> Result<(), Fail> {
     for after in &ENDS {
@@ -296,8 +309,8 @@ fn ends_are_logged(rt: HostRuntime) -> Result<(), Fail> {
     Ok(())
 }
 
-/// A silence after the handshake: after how many further bytes White falls silent and for how many waits, what it
-/// sends, the moments, and what the log then adds.
+/// A match in which White falls silent: after how many bytes beyond the handshake, for how many waits, what it sends,
+/// the moments, and what the log then adds.
 struct Silence {
     after: usize,
     silences: u64,
@@ -306,6 +319,7 @@ struct Silence {
     log: &'static str,
 }
 
+// Silences that end a match, and silences that a line ends in time.
 const SILENCES: [Silence; 4] = [
     // Before the move, in the middle of its line: the flag falls at 10,001 milliseconds and not at 10,000.
     Silence {
@@ -341,6 +355,7 @@ const SILENCES: [Silence; 4] = [
     },
 ];
 
+// Plays the match of a row, and asserts what its log has after the handshake.
 fn is_silence_logged(rt: &impl Abort, alloc: Global, silence: &Silence) -> Result<(), Fail> {
     let mut input = MatchInput::of(b"", b"");
     input.silent_after = HANDSHAKE.len().saturating_add(silence.after);
@@ -350,6 +365,7 @@ fn is_silence_logged(rt: &impl Abort, alloc: Global, silence: &Silence) -> Resul
     is_log(rt, alloc, logged.log.as_slice(), silence.log)
 }
 
+// Plays each row.
 #[test]
 fn silences_are_logged(rt: HostRuntime) -> Result<(), Fail> {
     for silence in &SILENCES {
@@ -358,9 +374,11 @@ fn silences_are_logged(rt: HostRuntime) -> Result<(), Fail> {
     Ok(())
 }
 
+// The log of the match below after the handshake: the long line is noted but not shown.
 const TOO_LONG: &str =
     "0 !first : line too long\n0 <first : resign\n0 >first : result 0-1 {White resigns}\n0 >first : quit\n0 >second: result 0-1 {White resigns}\n0 >second: quit\n";
 
+// White sends a line of 8,193 bytes, which is too long, and then resigns.
 #[test]
 fn a_line_that_is_too_long(rt: HostRuntime) -> Result<(), Fail> {
     let mut white = Vec::new(rt.alloc());
@@ -378,7 +396,7 @@ fn a_line_that_is_too_long(rt: HostRuntime) -> Result<(), Fail> {
     is_log(&rt, rt.alloc(), logged.log.as_slice(), TOO_LONG)
 }
 
-// The log of a flood: ten thousand lines after White's turn began, and the end.
+// The log of a flood: the 10,000 lines that White may send in its turn, and then the end.
 fn flooded(alloc: Global) -> Result<Vec<u8>, Fail> {
     let mut log = joined(alloc, &[HANDSHAKE_LOG.as_bytes()])?;
     for _ in 0..10_000 {
@@ -390,6 +408,7 @@ fn flooded(alloc: Global) -> Result<Vec<u8>, Fail> {
     Ok(log)
 }
 
+// White sends one line more than that.
 #[test]
 fn a_flood_is_logged(rt: HostRuntime) -> Result<(), Fail> {
     let mut white = Vec::new(rt.alloc());
@@ -411,7 +430,7 @@ fn a_flood_is_logged(rt: HostRuntime) -> Result<(), Fail> {
     Ok(())
 }
 
-// A read that fails is a line of the log.
+// The first read from White fails: a line of the log says so, and the match ends.
 #[test]
 fn a_failed_read_is_logged(rt: HostRuntime) -> Result<(), Fail> {
     let mut input = MatchInput::of(WHITE, BLACK);
@@ -425,7 +444,8 @@ fn a_failed_read_is_logged(rt: HostRuntime) -> Result<(), Fail> {
     )
 }
 
-// A log whose output fails at a call is a beginning, and the match is played as without.
+// Where the call numbered `log_write` of the log's output fails, the log stops short of its whole; the match is played
+// as without the failure.
 fn is_beginning(rt: &impl Abort, alloc: Global, log_write: u64) -> Result<(), Fail> {
     let mut input = MatchInput::of(WHITE, BLACK);
     input.moments = EACH_10;
@@ -440,6 +460,7 @@ fn is_beginning(rt: &impl Abort, alloc: Global, log_write: u64) -> Result<(), Fa
     Ok(())
 }
 
+// Lets calls near the beginning, in the middle and at the end fail.
 #[test]
 fn logs_that_break_off(rt: HostRuntime) -> Result<(), Fail> {
     for log_write in [1, 2, 3, 10, 20, 41, 42, 43] {
@@ -448,7 +469,8 @@ fn logs_that_break_off(rt: HostRuntime) -> Result<(), Fail> {
     Ok(())
 }
 
-// A write to Black fails: the line that says so comes after what was to be written, and White is sent the end.
+// The first write to Black fails. The line that says so comes after the block that was to be written, and White is sent
+// the end lines.
 #[test]
 fn a_failed_write_is_logged(rt: HostRuntime) -> Result<(), Fail> {
     let mut input = MatchInput::of(WHITE, BLACK);

@@ -6,6 +6,8 @@ use chess_arbiter::{Log, ProcessHost, ProgramFault, run_program};
 use std::process::{Abort, ExitCode};
 use std::test::Fail;
 
+// Runs of the program over memory, by arguments of each kind. `fails` has the numbers of the calls of the input and of
+// the output that fail.
 const RUNS: [ProgramRun; 26] = [
     ProgramRun {
         arguments: &[],
@@ -222,6 +224,7 @@ const RUNS: [ProgramRun; 26] = [
     },
 ];
 
+// Runs each row.
 #[test]
 fn runs_of_the_program(rt: HostRuntime) {
     for row in &RUNS {
@@ -229,6 +232,7 @@ fn runs_of_the_program(rt: HostRuntime) {
     }
 }
 
+// Wrong arguments are reported on an error output that takes three bytes and then fails: the status is 2 all the same.
 #[test]
 fn a_failed_error_output_changes_no_status(rt: HostRuntime) {
     let mut input = Counted::reading(b"".as_slice());
@@ -247,7 +251,7 @@ fn a_failed_error_output_changes_no_status(rt: HostRuntime) {
     is_equal(&rt, &status, &2);
 }
 
-// Asserts that a run was refused since this argument is missing, with nothing on the output.
+// Asserts that a run was refused since this argument is missing. Nothing is on the output.
 fn check_lacking(rt: &impl Abort, outcome: &Outcome, argument: &str) -> Result<(), Fail> {
     let errors = std::str::from_utf8(outcome.errors.as_slice())?;
     assert!(rt; errors.starts_with("error: the following required arguments were not provided:\n"));
@@ -256,6 +260,7 @@ fn check_lacking(rt: &impl Abort, outcome: &Outcome, argument: &str) -> Result<(
     Ok(())
 }
 
+// A match without one of its engines is refused.
 #[test]
 fn a_match_needs_both_engines(rt: HostRuntime) -> Result<(), Fail> {
     check_lacking(
@@ -270,7 +275,7 @@ fn a_match_needs_both_engines(rt: HostRuntime) -> Result<(), Fail> {
     )
 }
 
-// Arguments that ask for help, and what their help must name.
+// Arguments that ask for help, and words that their help must contain.
 const HELP: [(&[&str], &[&str]); 4] = [
     (&["--help"], &["session", "verify", "--help", "--version"]),
     (
@@ -320,7 +325,7 @@ const HELP: [(&[&str], &[&str]); 4] = [
     ),
 ];
 
-// Asserts that a run wrote help that names each of these words, and nothing else.
+// Asserts that a run wrote a help text with each of these words, no error, and status 0.
 fn check_help(rt: &impl Abort, outcome: &Outcome, named: &[&str]) -> Result<(), Fail> {
     let help = std::str::from_utf8(outcome.output.as_slice())?;
     for name in named {
@@ -331,6 +336,7 @@ fn check_help(rt: &impl Abort, outcome: &Outcome, named: &[&str]) -> Result<(), 
     Ok(())
 }
 
+// Each kind of help names the commands or options that it is about.
 #[test]
 fn help_names_the_options(rt: HostRuntime) -> Result<(), Fail> {
     for (arguments, named) in &HELP {
@@ -339,6 +345,7 @@ fn help_names_the_options(rt: HostRuntime) -> Result<(), Fail> {
     Ok(())
 }
 
+// Help on an output that takes three bytes and then fails is a failed write.
 #[test]
 fn help_on_a_failed_output(rt: HostRuntime) {
     let devices = Devices {
@@ -362,6 +369,7 @@ const FAULTS: [(ProgramFault, &str, u8); 4] = [
     (ProgramFault::InvalidArguments, "wrong words", 2),
 ];
 
+// Each fault is shown by its text, and has its status.
 #[test]
 fn faults_have_texts(rt: HostRuntime) -> Result<(), Fail> {
     for (fault, text, status) in &FAULTS {
@@ -372,7 +380,7 @@ fn faults_have_texts(rt: HostRuntime) -> Result<(), Fail> {
     Ok(())
 }
 
-// The tests' program has arguments of its own: a test's name.
+// The arguments of this test's own process are the name of a test, which the arbiter program refuses.
 #[test]
 fn the_arguments_of_the_process_are_read(rt: HostRuntime) {
     assert!(rt; chess_arbiter::run(&rt) == ExitCode::from(2));

@@ -1,4 +1,4 @@
-//! Readers that make their bytes, for tests.
+//! Readers that make their bytes as they are read, for tests of long inputs.
 
 ghost use Rattle.std.specs.Prelude.{◌≤◌, length};
 
@@ -7,7 +7,7 @@ use byte_devices::Counted;
 use chess_arbiter::{Log, ProcessHost, run_program};
 use std::io::{self, Read};
 
-/// Spaces without an end.
+/// An input of spaces without an end.
 #[derive(Drop)]
 pub struct Spaces;
 
@@ -22,7 +22,7 @@ impl Read for Spaces {
     }
 }
 
-/// A text in three parts, none of which shares a read with another: the middle one has so many bytes `a`.
+/// A text in three parts: `front`, then `inner` bytes `a`, then `back`. No read gives bytes of two parts.
 #[derive(Drop)]
 pub struct Parts {
     pub front: &'static [u8],
@@ -30,7 +30,8 @@ pub struct Parts {
     pub back: &'static [u8],
 }
 
-// Puts the beginning of a text into the front of `buf`, as much as has room there, and takes it off the text.
+// Puts as much of a text's front into the front of `buf` as has room there, takes it off the text, and gives its
+// length.
 fn give(text: &mut &'static [u8], buf: &mut [u8]) -> usize
     ensures { result ≤ length buf.old }
 {
@@ -60,7 +61,7 @@ impl Read for Parts {
     }
 }
 
-/// Runs the program on what a reader gives, with output and error output in memory.
+/// Runs the program on what a reader gives, with all that it writes in memory.
 pub fn run_on<R: Read + Drop>(rt: &HostRuntime, arguments: &[&str], reader: R) -> Outcome {
     let mut input = Counted::reading(reader);
     let mut output = Counted::writing(Vec::<u8>::new(rt.alloc()));

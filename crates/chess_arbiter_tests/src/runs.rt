@@ -1,4 +1,4 @@
-//! The program over memory, for tests.
+//! Runs of the program over memory, and assertions of what comes of them, for the other tests.
 
 use byte_devices::{Counted, PieceReader, PieceWriter};
 use chess_arbiter::{Log, ProcessHost, run_program};
@@ -26,7 +26,7 @@ pub struct Devices {
     pub errors_fail: u64,
 }
 
-/// Nothing fails.
+/// Devices of which nothing fails, with pieces of up to 1,024 bytes.
 pub const SOUND: Devices = Devices {
     piece: 1024,
     read_fails: 0,
@@ -62,7 +62,8 @@ pub struct Outcome {
     pub status: u8,
 }
 
-/// Runs the program over memory. Its contract stays in here: tests compare values.
+/// Runs the program on an input over such devices. (The big contract of `run_program` stays in here: tests compare
+/// values.)
 pub fn run(rt: &HostRuntime, arguments: &[&str], input: &[u8], devices: Devices) -> Outcome {
     let mut reader = Counted::reading(PieceReader::new(
         input,
@@ -116,8 +117,8 @@ pub fn check_output(
     run(host, arguments, input, devices).check(rt, Wanted::without_errors(output, status));
 }
 
-/// A run of the program over memory: its arguments and its input, the calls of the input and of the output that fail
-/// (0: none does), what it is to write, and its status.
+/// A run of the program over memory: its arguments and its input; which call of the input and which of the output fails
+/// (0: none); and what it is to write on the output and the error output, and its status.
 pub struct ProgramRun {
     pub arguments: &'static [&'static str],
     pub input: &'static [u8],
@@ -144,13 +145,14 @@ impl ProgramRun {
     }
 }
 
-/// Asserts that a text is this one.
+/// Asserts that a text is `wanted`, so that a failure shows both as texts.
 pub fn is_text(rt: &impl Abort, text: &[u8], wanted: &str) -> Result<(), Fail> {
     is_equal(rt, &std::str::from_utf8(text)?, &wanted);
     Ok(())
 }
 
-/// Runs the program over memory that is read and written in pieces of each length, and asserts what comes of it.
+/// Runs the program with each of several lengths of what a read gives and a write takes, and asserts what comes of it
+/// each time.
 pub fn check_in_all_pieces(
     rt: &impl Abort,
     host: &HostRuntime,

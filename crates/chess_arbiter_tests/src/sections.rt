@@ -1,12 +1,14 @@
-//! Collections whose pieces begin at their sections of tags.
+//! Collections whose pieces begin at their sections of tags: the tags before a game, of which Event need not be the
+//! first.
 
 use crate::collection::check_each_cut;
 use crate::runs::{Wanted, check_in_all_pieces};
 use std::test::Fail;
 
+// The arguments of the runs below.
 const KEEP_GOING: &[&str] = &["verify", "--keep-going"];
 
-// Collections, what is written of them, and the status.
+// Collections, what `verify --keep-going` writes of them, and the status.
 const SECTIONS: [(&[u8], &[u8], u8); 20] = [
     // Tags in any order: Event need not be the first.
     (
@@ -123,6 +125,7 @@ const SECTIONS: [(&[u8], &[u8], u8); 20] = [
     ),
 ];
 
+// Verifies each row, however its bytes are cut by reads and writes.
 #[test]
 fn sections_in_all_pieces(rt: HostRuntime) {
     for (text, lines, status) in &SECTIONS {
@@ -140,9 +143,11 @@ fn sections_in_all_pieces(rt: HostRuntime) {
 const MIXED: &[u8] =
     b"\xef\xbb\xbf[Site \"s\"]\n[Event \"a\"]\n{x\n[%clk 1]\n} 1. e4 e4 *\r\n\r\n[Variant \"Chess960\"]\r\n[FEN \"4k3/8/8/8/8/8/8/RK5R w HA - 0 1\"]\r\n[Event \"b\"]\r\n1. O-O-O *\n\xef\xbb\xbf% x\n[Event \t\"c\"] 1. e5 *\n[Event \"d\"] *\n[Site \"e\"] *\n1. d4\n\n[Round \"1\"]\n; x\n\n";
 
+// What is written of it.
 const MIXED_LINES: &[u8] =
     b"game 1: illegal move at byte 46\ngame 2: 1 half-moves, *\ngame 3: bad token at byte 141\ngame 4: illegal move at byte 164\ngame 5: 0 half-moves, *\ngame 6: 0 half-moves, *\ngame 7: no result at byte 203\ngame 8: no result at byte 220\ngames 3 half-moves 1 faults 5\n";
 
+// A collection that comes in two reads is verified as one that comes in one, wherever it is cut.
 #[test]
 fn sections_cut_at_each_byte(rt: HostRuntime) -> Result<(), Fail> {
     let wanted = Wanted::without_errors(MIXED_LINES, 1);

@@ -1,13 +1,14 @@
-//! `verify --strict`: the result compared with the tag Result and the final position.
+//! `verify --strict`: a game's termination is compared with its tag Result and with the verdict of its final position.
 
 use crate::runs::{SOUND, check_output};
 use std::process::Abort;
 use std::test::Fail;
 
+// The arguments of most runs below.
 const STRICT: &[&str] = &["verify", "--strict"];
 
-// Games that end by a verdict, mate, stalemate, bare material, fivefold repetition and 75 moves: the text before the
-// termination, its half-moves, and the verdict's outcome.
+// Games that end by mate, stalemate, bare material, fivefold repetition and 75 moves: the text before the termination,
+// how many half-moves it has, and the outcome by the verdict.
 const VERDICTS: [(&str, usize, &str); 5] = [
     ("1. f3 e5 2. g4 Qh4 ", 4, "0-1"),
     (
@@ -32,10 +33,11 @@ const VERDICTS: [(&str, usize, &str); 5] = [
     ),
 ];
 
+// Each termination that a game may have.
 const TERMINATIONS: [&str; 4] = ["1-0", "0-1", "1/2-1/2", "*"];
 
-// Verifies a game with this termination, which contradicts the verdict unless the outcome is the same; without
-// `--strict` there is no fault.
+// Verifies a game of VERDICTS with this termination. With `--strict` that is a fault unless it is the verdict's
+// outcome; without, it never is.
 fn check_verdict(
     rt: &impl Abort,
     host: &HostRuntime,
@@ -58,6 +60,7 @@ fn check_verdict(
     Ok(())
 }
 
+// Verifies each game with each termination.
 #[test]
 fn verdicts_beside_terminations(rt: HostRuntime) -> Result<(), Fail> {
     for verdict in &VERDICTS {
@@ -68,7 +71,7 @@ fn verdicts_beside_terminations(rt: HostRuntime) -> Result<(), Fail> {
     Ok(())
 }
 
-// Texts with tags Result: what is written of them, and the status.
+// Texts with tags Result, what `verify --strict` writes of them, and the status.
 const RESULT_TAGS: [(&[u8], &[u8], u8); 18] = [
     // The tag has another text than the termination.
     (
@@ -163,6 +166,7 @@ const RESULT_TAGS: [(&[u8], &[u8], u8); 18] = [
     ),
 ];
 
+// Verifies each row.
 #[test]
 fn result_tags_beside_terminations(rt: HostRuntime) {
     for (text, lines, status) in &RESULT_TAGS {
@@ -174,7 +178,7 @@ fn result_tags_beside_terminations(rt: HostRuntime) {
 const COLLECTION: &[u8] =
     b"[Event \"a\"]\n[Result \"1-0\"]\n1. e4 0-1 1. d4 *\n[Event \"b\"]\n1. f3 e5 2. g4 Qh4 * 1. d4 *\n[Event \"c\"]\n1. d4 *\n";
 
-// Arguments, and what is written of the collection.
+// Arguments, and what they write of that collection.
 const BY_ARGUMENTS: [(&[&str], &[u8]); 4] = [
     (
         &["verify", "--strict", "--keep-going"],
@@ -194,6 +198,7 @@ const BY_ARGUMENTS: [(&[&str], &[u8]); 4] = [
     ),
 ];
 
+// Runs each row; the status is 1.
 #[test]
 fn contradictions_end_their_piece(rt: HostRuntime) {
     for (arguments, lines) in &BY_ARGUMENTS {
@@ -204,7 +209,8 @@ fn contradictions_end_their_piece(rt: HostRuntime) {
 // A game with each of the three faults: of its variant, of its result by the tag, and of its result by the board.
 const EACH_KIND: &[u8] = b"[Variant \"Atomic\"] [Result \"1-0\"] 1. f3 e5 2. g4 Qh4 *";
 
-// Values of `--ignore`, and what is written of this game and the status: the first fault that is not ignored.
+// Values of `--ignore`; what is written of that game with them, which is its first fault that isn't ignored; and the
+// status.
 const IGNORED: [(&str, &[u8], u8); 6] = [
     ("board", b"game 1: unknown variant at byte 10\n", 1),
     ("variant", b"game 1: result differs at byte 28\n", 1),
@@ -218,6 +224,7 @@ const IGNORED: [(&str, &[u8], u8); 6] = [
     ("board,variant,result", b"game 1: 4 half-moves, *\n", 0),
 ];
 
+// Verifies that game with each value.
 #[test]
 fn ignored_kinds_are_left_out(rt: HostRuntime) {
     for (kinds, lines, status) in &IGNORED {
@@ -234,8 +241,8 @@ fn ignored_kinds_are_left_out(rt: HostRuntime) {
     }
 }
 
-// Games that go on after an end by the board: what is written of them; the same with `--ignore after-end`, and the
-// status then.
+// Games that go on after the board ended them: what is written of them, then what is written with `--ignore after-end`,
+// and the status then. Only the draws of 2014 (fivefold repetition, 75 moves) can be ignored.
 const AFTER_END: [(&[u8], &[u8], &[u8], u8); 6] = [
     // The draws of 2014: five times the same position, and 75 moves of each side.
     (
@@ -278,6 +285,7 @@ const AFTER_END: [(&[u8], &[u8], &[u8], u8); 6] = [
     ),
 ];
 
+// Verifies each game in both ways; without the option the status is 1.
 #[test]
 fn games_go_on_after_draws_of_2014(rt: HostRuntime) {
     for (text, lines, ignoring, status) in &AFTER_END {
@@ -295,10 +303,10 @@ fn games_go_on_after_draws_of_2014(rt: HostRuntime) {
     }
 }
 
-// A game that a position ends which is there for the fifth time, with a result that it doesn't have.
+// A game that ends where its position is there for the fifth time: a draw, but its termination says `1-0`.
 const FIVE_TIMES: &[u8] = b"Nf3 Nf6 Ng1 Ng8 Nf3 Nf6 Ng1 Ng8 Nf3 Nf6 Ng1 Ng8 Nf3 Nf6 Ng1 Ng8 1-0";
 
-// Arguments, and what is written of that game, and the status.
+// Arguments, what they write of that game, and the status.
 const FIVE_TIMES_BY_ARGUMENTS: [(&[&str], &[u8], u8); 4] = [
     (&["verify"], b"game 1: 16 half-moves, 1-0\n", 0),
     (
@@ -324,6 +332,7 @@ const FIVE_TIMES_BY_ARGUMENTS: [(&[&str], &[u8], u8); 4] = [
     ),
 ];
 
+// With `--ignore after-end` such a draw isn't compared with the termination either.
 #[test]
 fn ignored_draws_are_not_compared_with_the_result(rt: HostRuntime) {
     for (arguments, lines, status) in &FIVE_TIMES_BY_ARGUMENTS {

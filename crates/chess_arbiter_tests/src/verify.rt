@@ -8,7 +8,7 @@ use chess_arbiter::{Log, ProcessHost, run_program};
 use std::cell::Cell;
 use std::process::Abort;
 
-// Games as they are verified: the text, what is reported, and the status.
+// Texts, what `verify` writes of them, and the status.
 const GAMES: [(&[u8], &[u8], u8); 17] = [
     (
         b"1.e4 {a} e5 (1...c5 2.Nf3) 2.Nf3 $1 *",
@@ -71,6 +71,7 @@ const GAMES: [(&[u8], &[u8], u8); 17] = [
     (b"", b"", 0),
 ];
 
+// Verifies each row, in reads of at most 7 and writes of at most 5 bytes.
 #[test]
 fn games_are_verified(rt: HostRuntime) {
     let devices = Devices {
@@ -83,7 +84,8 @@ fn games_are_verified(rt: HostRuntime) {
     }
 }
 
-// The gate is open once nothing is unflushed.
+// The output's gate is shut by each write and opened by each flush. It is open at the end, so nothing is left
+// unflushed.
 #[test]
 fn lines_on_games_are_flushed(rt: HostRuntime) {
     let open = Cell::new(true);
@@ -107,6 +109,7 @@ fn lines_on_games_are_flushed(rt: HostRuntime) {
     assert!(rt; open.get());
 }
 
+// An input that doesn't end within 16 MiB is refused, and no game of it reported.
 #[test]
 fn more_than_16_mebibytes_are_too_long(rt: HostRuntime) {
     let wanted = Wanted {
@@ -117,7 +120,7 @@ fn more_than_16_mebibytes_are_too_long(rt: HostRuntime) {
     run_on(&rt, &["verify"], Spaces).check(&rt, wanted);
 }
 
-// Texts as they are verified by options of `verify`: what is reported, and the status.
+// Arguments of `verify`, a text, what is written of it, and the status.
 const BY_ARGUMENTS: [(&[&str], &[u8], &[u8], u8); 13] = [
     (
         &["verify", "--keep-going"],
@@ -198,6 +201,7 @@ const BY_ARGUMENTS: [(&[&str], &[u8], &[u8], u8); 13] = [
     ),
 ];
 
+// Verifies each row in reads of several lengths.
 #[test]
 fn games_verified_by_arguments(rt: HostRuntime) {
     for (arguments, text, output, status) in &BY_ARGUMENTS {
@@ -208,8 +212,8 @@ fn games_verified_by_arguments(rt: HostRuntime) {
     }
 }
 
-// Texts with a long comment: arguments, the text before it, its bytes, the text after it, what is written, and the
-// status.
+// Texts with a long comment of bytes `a`: the arguments, the text before these, how many they are, the text after them,
+// what is written, and the status.
 const LONG: [(&[&str], &[u8], usize, &[u8], &[u8], u8); 7] = [
     // The text has 16,777,216 bytes.
     (
@@ -269,7 +273,7 @@ const LONG: [(&[&str], &[u8], usize, &[u8], &[u8], u8); 7] = [
     ),
 ];
 
-// Verifies a text with a long comment.
+// Verifies such a text, and asserts what is written, and the status.
 fn check_long(
     rt: &impl Abort,
     host: &HostRuntime,
@@ -282,6 +286,7 @@ fn check_long(
     assert!(rt; outcome.output.as_slice() == lines && outcome.status == status);
 }
 
+// Verifies each row.
 #[test]
 fn texts_with_long_comments(rt: HostRuntime) {
     for (arguments, front, inner, back, lines, status) in &LONG {

@@ -1,11 +1,13 @@
+//! Castling in Chess960, from single positions and from all 960 starts.
+
 use crate::playing::{is_equal, leaves};
 use chess_base::{Colour, ColourRights, Kind, Man, Move, Position, Rights, Setup, Square, Variant};
 use chess_fen::read_fen_as;
 use std::test::Fail;
 
-// A position, the squares of king and rook, and the FEN after castling; nothing where it is illegal. The king stays,
-// the rook stays, and they change places, on both sides; then out of, through and into attacked squares, with b1
-// attacked, and off a pin.
+// A position of Chess960, the squares of its king and rook, and the FEN after castling, or nothing where that is
+// illegal. The king stays, the rook stays, and they change places, on both sides; then out of, through and into
+// attacked squares, with b1 attacked, and off a pin.
 const CASTLINGS: [(&[u8], &[u8; 4], &[u8]); 12] = [
     (
         b"4k3/8/8/8/8/8/8/6KR w H - 0 1",
@@ -49,6 +51,7 @@ const CASTLINGS: [(&[u8], &[u8; 4], &[u8]); 12] = [
     (b"4k3/8/8/8/8/8/8/2NRK3 w D - 0 1", b"e1d1", b""),
 ];
 
+// Castles in each position: the move takes the king to its rook.
 #[test]
 fn castling_leaves_its_positions(rt: HostRuntime) -> Result<(), Fail> {
     for (start, squares, fen) in &CASTLINGS {
@@ -60,7 +63,7 @@ fn castling_leaves_its_positions(rt: HostRuntime) -> Result<(), Fail> {
     Ok(())
 }
 
-// Puts a piece on the free square of that number.
+// Puts a piece on the free square (`-`) with this number, counted from the left and from 0.
 fn put_on_free(rank: &mut [u8; 8], place: usize, man: u8) {
     let mut left = place;
     for index in 0..8 {
@@ -74,9 +77,10 @@ fn put_on_free(rank: &mut [u8; 8], place: usize, man: u8) {
     }
 }
 
-// The first rank of the start with that number, 0 to 959, by the usual numbering: the bishops, the queen, then the
-// knights by a table; a rook, the king and a rook on what is left.
+// White's first rank at the start with this number, 0 to 959, by the usual numbering: both bishops, the queen, then the
+// knights by a table; and a rook, the king and a rook on the squares that are left.
 fn start_rank(number: usize) -> [u8; 8] {
+    // Which two of the five free squares the knights are on, counted from 0.
     const KNIGHTS: [(usize, usize); 10] = [
         (0, 1),
         (0, 2),
@@ -102,6 +106,7 @@ fn start_rank(number: usize) -> [u8; 8] {
     rank
 }
 
+// The first file that has this piece, from 0.
 fn place_of(rank: &[u8; 8], man: u8) -> Option<u8> {
     for index in 0..8 {
         if rank[index as usize] == man {
@@ -111,6 +116,7 @@ fn place_of(rank: &[u8; 8], man: u8) -> Option<u8> {
     None
 }
 
+// The last file that has this piece, from 0.
 fn last_place_of(rank: &[u8; 8], man: u8) -> Option<u8> {
     let mut last = None;
     for index in 0..8 {
@@ -121,11 +127,12 @@ fn last_place_of(rank: &[u8; 8], man: u8) -> Option<u8> {
     last
 }
 
+// A square's content: this piece.
 const fn man(colour: Colour, kind: Kind) -> Option<Man> {
     Some(Man { colour, kind })
 }
 
-// The start with its kings, rooks and pawns alone.
+// A start of Chess960 that has no pieces but kings, rooks and pawns, with all rights; the arguments are files.
 fn start(king: u8, left: u8, right: u8) -> Setup {
     let mut men = [None; 64];
     for file in 0..8 {
@@ -157,7 +164,8 @@ fn start(king: u8, left: u8, right: u8) -> Setup {
     }
 }
 
-// Whether castling with that rook is legal; then king and rook are on those squares.
+// Whether White may castle from this king's file with the rook on that file. Where it may, king and rook must then be
+// on the files `ends`, else it is an error.
 fn castles(position: Position, king: u8, rook: u8, ends: (u8, u8)) -> Result<bool, Fail> {
     let m = Move {
         from: Square::new(king % 8),
@@ -177,8 +185,8 @@ fn castles(position: Position, king: u8, rook: u8, ends: (u8, u8)) -> Result<boo
     Ok(true)
 }
 
-// Whether castling to the king's side and to the queen's side is legal from the start with that number, its other
-// pieces gone.
+// Whether White may castle on the king's side, and on the queen's side, at the start with this number, of which only
+// kings, rooks and pawns are left.
 fn castlings_from(number: usize) -> Result<(bool, bool), Fail> {
     let rank = start_rank(number);
     let king = place_of(&rank, b'k').ok_or("a king")?;
@@ -191,7 +199,8 @@ fn castlings_from(number: usize) -> Result<(bool, bool), Fail> {
     ))
 }
 
-// From each of the 960 starts with its other pieces gone. How often each castling is legal was counted by Stockfish.
+// At how many of the 960 starts, with only kings, rooks and pawns left, each castling is legal; Stockfish counted the
+// same. Start 518 is that of normal chess.
 #[test]
 fn kings_castle_from_every_start(rt: HostRuntime) -> Result<(), Fail> {
     let mut king_side: u32 = 0;
@@ -206,6 +215,7 @@ fn kings_castle_from_every_start(rt: HostRuntime) -> Result<(), Fail> {
     Ok(())
 }
 
+// At the initial position a3 (16) is attacked by White and not by Black, and a4 (24) not by White.
 #[test]
 fn squares_are_attacked(rt: HostRuntime) -> Result<(), Fail> {
     let position = Position::initial();

@@ -1,3 +1,5 @@
+//! Setups and positions of normal chess: their legal moves, counted one by one, what moves leave, and faults.
+
 use crate::playing::{is_equal, leaves, play};
 use chess_base::{
     Colour, ColourRights, FenFault, Kind, Man, Move, Position, Rights, Setup, Square, Variant,
@@ -8,6 +10,7 @@ use std::alloc::Global;
 use std::process::Abort;
 use std::test::Fail;
 
+// The piece of a FEN's letter; none for any other byte.
 fn man(letter: u8) -> Option<Man> {
     let kind = match letter.to_ascii_lowercase() {
         b'k' => Kind::King,
@@ -26,7 +29,7 @@ fn man(letter: u8) -> Option<Man> {
     Some(Man { colour, kind })
 }
 
-// The pieces of a board, given from the eighth rank down, with all rights.
+// A setup with these pieces, given from the eighth rank down, and all castling rights of normal chess.
 fn setup(rows: &[u8; 64], side: Colour) -> Setup {
     let mut men = [None; 64];
     for (place, letter) in rows.iter().enumerate() {
@@ -51,6 +54,7 @@ fn setup(rows: &[u8; 64], side: Colour) -> Setup {
     }
 }
 
+// What a move may be written with: no promotion, or one to each kind.
 const PROMOTIONS: [Option<Kind>; 5] = [
     None,
     Some(Kind::Queen),
@@ -59,7 +63,7 @@ const PROMOTIONS: [Option<Kind>; 5] = [
     Some(Kind::Knight),
 ];
 
-// The positions after each legal move, asked for each of the 64 * 64 * 5 that can be written.
+// The positions after each legal move: `is_legal` is asked for each move that can be written, 64 * 64 * 5 in all.
 fn positions_after(alloc: Global, position: &Position) -> Result<Vec<Position>, Fail> {
     let mut reached = Vec::new(alloc);
     for from in 0..64 {
@@ -95,7 +99,7 @@ fn legal_pairs(alloc: Global, position: &Position) -> Result<usize, Fail> {
     Ok(count)
 }
 
-// Counts the moves of the position of each row.
+// Asserts that the position of each row has as many legal moves as the row says.
 fn count_moves(rt: &impl Abort, alloc: Global, rows: &[Perft]) -> Result<(), Fail> {
     for row in rows {
         let position = read_fen(row.fen).ok().ok_or("sound")?;
@@ -105,12 +109,14 @@ fn count_moves(rt: &impl Abort, alloc: Global, rows: &[Perft]) -> Result<(), Fai
     Ok(())
 }
 
+// The pieces of the initial position, from the eighth rank down.
 const INITIAL: &[u8; 64] = b"rnbqkbnrpppppppp................................PPPPPPPPRNBQKBNR";
 
 // A sound position whose FEN is as long as one can be: no two empty squares are side by side.
 const LONGEST: &[u8] =
     b"r1b1k1n1/1p1p1p1p/p1p1p1p1/1q1r1b1n/P1P1P1P1/1Q1R1B1N/1P1P1P1P/R1B1K1N1 b Qq e3 999999 999999";
 
+// The initial position is that of its setup, and has 20 legal moves and 400 pairs of a move and an answer.
 #[test]
 fn initial_position_has_20_moves(rt: HostRuntime) -> Result<(), Fail> {
     let position = Position::initial();
@@ -122,11 +128,13 @@ fn initial_position_has_20_moves(rt: HostRuntime) -> Result<(), Fail> {
     Ok(())
 }
 
+// The positions of perft_positions have as many legal moves as other programs counted.
 #[test]
 fn test_positions_have_their_moves(rt: HostRuntime) -> Result<(), Fail> {
     count_moves(&rt, rt.alloc(), NORMAL.as_slice())
 }
 
+// One of them has 2,039 pairs of a legal move and a legal answer.
 #[test]
 fn a_test_position_has_its_pairs_of_moves(rt: HostRuntime) -> Result<(), Fail> {
     let kiwipete = read_fen(KIWIPETE).ok().ok_or("sound")?;
@@ -134,8 +142,9 @@ fn a_test_position_has_its_pairs_of_moves(rt: HostRuntime) -> Result<(), Fail> {
     Ok(())
 }
 
+// A position, a move as its squares and its promotion, and the FEN after it, which is empty where the move is illegal.
 type Row = (&'static [u8], &'static [u8; 4], Option<Kind>, &'static [u8]);
-// A position, a move, and the FEN after it; empty where the move is illegal.
+// Moves of different kinds, legal and illegal.
 const MADE: [Row; 9] = [
     (
         b"rnbqkbnr/pppppppp/8/8/8/8/PPPPPPPP/RNBQKBNR w KQkq - 0 1",
@@ -183,6 +192,7 @@ const MADE: [Row; 9] = [
     ),
 ];
 
+// Plays the move of each row.
 #[test]
 fn moves_leave_their_positions(rt: HostRuntime) -> Result<(), Fail> {
     for (start, squares, promotion, fen) in &MADE {
@@ -216,6 +226,7 @@ const EN_PASSANT: [(&[u8; 4], &[u8]); 5] = [
     ),
 ];
 
+// Plays these moves, and compares each FEN.
 #[test]
 fn pawn_taken_en_passant_is_gone(rt: HostRuntime) -> Result<(), Fail> {
     let mut position = Position::initial();
@@ -226,7 +237,7 @@ fn pawn_taken_en_passant_is_gone(rt: HostRuntime) -> Result<(), Fail> {
     Ok(())
 }
 
-// Each setup has the later fault too.
+// Setups with two faults: that which is looked for first is named.
 #[test]
 fn first_fault_is_named(rt: HostRuntime) -> Result<(), Fail> {
     let mut faulty = setup(INITIAL, Colour::White);

@@ -4,6 +4,7 @@ use crate::playing::is_equal;
 use chess_base::{Colour, FenFault, Kind, Move, Position, Square};
 use std::test::Fail;
 
+// Names of squares, and their numbers, which count files first.
 const NAMES: [(&[u8], u8); 6] = [
     (b"a1", 0),
     (b"h1", 7),
@@ -13,8 +14,10 @@ const NAMES: [(&[u8], u8); 6] = [
     (b"h8", 63),
 ];
 
+// Texts that name no square.
 const NO_NAMES: [&[u8]; 9] = [b"", b"e", b"E4", b"4e", b"i1", b"a0", b"a9", b"e4 ", b"-"];
 
+// Each name is read as its square, and is how that is shown.
 #[test]
 fn squares_have_their_names(rt: HostRuntime) -> Result<(), Fail> {
     for (name, number) in &NAMES {
@@ -26,6 +29,7 @@ fn squares_have_their_names(rt: HostRuntime) -> Result<(), Fail> {
     Ok(())
 }
 
+// None of these is read as a square.
 #[test]
 fn other_texts_name_no_square(rt: HostRuntime) {
     for name in &NO_NAMES {
@@ -33,6 +37,7 @@ fn other_texts_name_no_square(rt: HostRuntime) {
     }
 }
 
+// A colour, a kind of piece and a fault are shown by their names.
 #[test]
 fn values_are_shown(rt: HostRuntime) -> Result<(), Fail> {
     let shown = format!(in rt.alloc(); "{} {}: {}", Colour::White, Kind::Knight, FenFault::Men)?;
@@ -44,13 +49,14 @@ fn values_are_shown(rt: HostRuntime) -> Result<(), Fail> {
     Ok(())
 }
 
-// Moves, each with its text.
+// Moves as their start and end squares and promotion, each with its text.
 const MOVES: [(&[u8], &[u8], Option<Kind>, &[u8]); 3] = [
     (b"e2", b"e4", None, b"e2e4"),
     (b"e7", b"e8", Some(Kind::Queen), b"e7e8q"),
     (b"a2", b"a1", Some(Kind::Knight), b"a2a1n"),
 ];
 
+// Each move is shown by its text.
 #[test]
 fn moves_are_shown_by_their_squares(rt: HostRuntime) -> Result<(), Fail> {
     for (from, to, promotion, text) in &MOVES {
@@ -67,6 +73,7 @@ fn moves_are_shown_by_their_squares(rt: HostRuntime) -> Result<(), Fail> {
     Ok(())
 }
 
+// Texts are parsed as squares, and the text of each move as that move.
 #[test]
 fn texts_are_parsed_as_squares_and_moves(rt: HostRuntime) -> Result<(), Fail> {
     let square: Square = "e4".parse()?;
@@ -83,11 +90,12 @@ fn texts_are_parsed_as_squares_and_moves(rt: HostRuntime) -> Result<(), Fail> {
     Ok(())
 }
 
-// Texts of no move: the letter is no promotion's, or more or less is written than a move.
+// Texts of no move: the last letter isn't that of a promotion, or there is more or less than a move's text.
 const NO_MOVES: [&[u8]; 8] = [
     b"e7e8k", b"e7e8p", b"e7e8Q", b"e7e8=q", b"e7e8qq", b"e7e9", b"e7e", b"",
 ];
 
+// None of these is parsed as a move.
 #[test]
 fn other_texts_denote_no_move(rt: HostRuntime) {
     for text in &NO_MOVES {
@@ -95,11 +103,13 @@ fn other_texts_denote_no_move(rt: HostRuntime) {
     }
 }
 
-// Moves in the order of the list of legal moves.
+// Moves in the order of the list of legal moves: by start square, end square and promotion.
 const RISING: [&[u8]; 8] = [
     b"e2e4", b"f2f3", b"e7d8q", b"e7e8", b"e7e8q", b"e7e8r", b"e7e8b", b"e7e8n",
 ];
 
+// Squares are ordered by their numbers, White comes before Black, a king before a pawn, and moves are ordered as
+// RISING.
 #[test]
 fn values_are_ordered(rt: HostRuntime) -> Result<(), Fail> {
     assert!(rt;
@@ -114,6 +124,7 @@ fn values_are_ordered(rt: HostRuntime) -> Result<(), Fail> {
     Ok(())
 }
 
+// The debug text of a position is that of its setup.
 #[test]
 fn positions_are_shown_by_their_setups(rt: HostRuntime) -> Result<(), Fail> {
     let shown = format!(in rt.alloc(); "{:?}", Position::initial())?;

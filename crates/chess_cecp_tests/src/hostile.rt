@@ -1,4 +1,5 @@
-//! What the rows come to, however their inputs are cut and wherever a device fails: each row on both boards.
+//! Runs each session of the rows in several ways, over inputs that are cut and devices that fail, on both boards. The
+//! row says what is to be written; where something fails, it is a beginning of that.
 
 ghost use Rattle.std.specs.Prelude.{◌≤◌};
 
@@ -13,7 +14,7 @@ use std::alloc::Global;
 use std::process::Abort;
 use std::test::Fail;
 
-/// How a row is run.
+/// How the session of a row is run.
 #[derive(Clone, Copy)]
 pub enum Way {
     /// Read and written in pieces of 1, 2, 3, 7 and 1,024 bytes.
@@ -33,13 +34,14 @@ pub enum Way {
 }
 
 impl Way {
-    /// A gate gives no line that needs several reads.
+    /// Whether the rows with lines of 1,024 bytes and more can be run so. A gated reader gives each line by one read,
+    /// so it can't give these.
     pub fn takes_long_lines(self) -> bool {
         !matches!(self, Way::Gated)
     }
 }
 
-/// Runs each row in that way on both boards, in sessions of so many half-moves.
+/// Runs the session of each row in this way on both boards. `limit` is the most half-moves that its games have.
 pub fn check(
     rt: &impl Abort,
     alloc: Global,
@@ -55,6 +57,7 @@ pub fn check(
     check_on_bits(rt, alloc, way, rows, limit)
 }
 
+// The same on bit sets alone.
 fn check_on_bits(
     rt: &impl Abort,
     alloc: Global,
@@ -72,6 +75,7 @@ fn check_on_bits(
     check_rows(rt, alloc, way, &mut bits, rows)
 }
 
+// Reads each row as a transcript, and runs it in this session.
 fn check_rows<B: Board>(
     rt: &impl Abort,
     alloc: Global,
@@ -86,6 +90,7 @@ fn check_rows<B: Board>(
     Ok(())
 }
 
+// Runs one transcript in this way.
 fn check_row<B: Board>(
     rt: &impl Abort,
     alloc: Global,
@@ -105,7 +110,7 @@ fn check_row<B: Board>(
     Ok(())
 }
 
-// Runs a session whose input and output go in pieces of 1,024 bytes.
+// Runs a session on this input over healthy devices, in pieces of up to 1,024 bytes.
 fn run_whole<B: Board>(alloc: Global, session: &mut Session<B>, input: &[u8]) -> Outcome {
     run(
         alloc,
@@ -115,12 +120,14 @@ fn run_whole<B: Board>(alloc: Global, session: &mut Session<B>, input: &[u8]) ->
     )
 }
 
+// The answers are the same, however many bytes each read gives and each write takes.
 fn in_pieces<B: Board>(rt: &impl Abort, alloc: Global, session: &mut Session<B>, row: &Transcript) {
     for cut in [1, 2, 3, 7, 1024] {
         in_pieces_of(rt, alloc, session, row, cut);
     }
 }
 
+// The same with at most `cut` bytes at a time.
 fn in_pieces_of<B: Board>(
     rt: &impl Abort,
     alloc: Global,
@@ -134,6 +141,7 @@ fn in_pieces_of<B: Board>(
     came_to(rt, &outcome, end, row.answers.as_slice());
 }
 
+// Lets the input end after each number of bytes.
 fn cut_after_each_byte<B: Board>(
     rt: &impl Abort,
     alloc: Global,
@@ -146,7 +154,8 @@ fn cut_after_each_byte<B: Board>(
     Ok(())
 }
 
-// A last line is answered as with the byte 10 that it lacks, after the answers to the whole lines.
+// Lets the input end after `read` bytes. The whole lines are answered as ever, and what is left is answered like a line
+// with these bytes that ends with byte 10: the same is written as for the input with that byte added.
 fn cut_after<B: Board>(
     rt: &impl Abort,
     alloc: Global,
@@ -163,8 +172,9 @@ fn cut_after<B: Board>(
     Ok(())
 }
 
-// What was written for a row that is cut and ended after so many bytes begins with the answers to its whole lines.
-// Where the last line lacks byte 10 alone, or is empty, the row has its answer too.
+// Asserts that `written`, which came of the first `read` bytes and a byte 10, begins with the row's answers to the
+// lines that are whole by then. Where these bytes end after a whole line, or where the row goes on with byte 10, that
+// is one more line of the row, and all of `written` is in the row too.
 fn begins_as_the_row(rt: &impl Abort, written: &[u8], row: &Transcript, read: usize) {
     let begun = row.at_byte(read);
     let answers = row.answers.as_slice();
@@ -179,6 +189,7 @@ fn begins_as_the_row(rt: &impl Abort, written: &[u8], row: &Transcript, read: us
     }
 }
 
+// Lets the read after each number of bytes fail, and the read at the input's end.
 fn failing_reads<B: Board>(
     rt: &impl Abort,
     alloc: Global,
@@ -201,7 +212,8 @@ fn failing_reads<B: Board>(
     );
 }
 
-// The lines that are whole were answered.
+// Runs the row with this reader, which fails after `read` bytes: the lines that were whole by then were answered, and
+// the fault is reported.
 fn failing_read<B: Board>(
     rt: &impl Abort,
     alloc: Global,
@@ -215,7 +227,8 @@ fn failing_read<B: Board>(
     came_to(rt, &outcome, row.fault_at(read), answers);
 }
 
-// Each line's answer takes a call for each byte, and then a flush.
+// Lets each call of the writer fail in turn; it makes one for each byte of an answer, and one to flush it. At last the
+// call after all of these would fail, which isn't made.
 fn failing_writes<B: Board>(
     rt: &impl Abort,
     alloc: Global,
@@ -238,6 +251,8 @@ fn failing_writes<B: Board>(
     is_equal(rt, &outcome.calls, &(calls as u64));
 }
 
+// Lets the call numbered `call` fail, counted from 0. What was taken by then are the answers to the lines before, and
+// of this line's answer a byte for each call since.
 fn failing_write<B: Board>(
     rt: &impl Abort,
     alloc: Global,
@@ -258,7 +273,7 @@ fn failing_write<B: Board>(
     );
 }
 
-// The first answer fails; where no line is answered none does.
+// With a writer that takes no byte the first answer fails; nothing is written. A row without answers ends as ever.
 fn full_writer<B: Board>(
     rt: &impl Abort,
     alloc: Global,
@@ -275,6 +290,8 @@ fn full_writer<B: Board>(
     came_to(rt, &outcome, end, b"");
 }
 
+// Runs the row behind a gate that opens where an answer is flushed: no read came too early (which the outcome has as
+// its `calls`).
 fn gated<B: Board>(rt: &impl Abort, alloc: Global, session: &mut Session<B>, row: &Transcript) {
     let outcome = run_gated(alloc, session, row.input.as_slice());
     came_to(
@@ -286,6 +303,7 @@ fn gated<B: Board>(rt: &impl Abort, alloc: Global, session: &mut Session<B>, row
     is_equal(rt, &outcome.calls, &0);
 }
 
+// The row has only a beginning of what is written.
 fn begun<B: Board>(rt: &impl Abort, alloc: Global, session: &mut Session<B>, row: &Transcript) {
     let outcome = run_whole(alloc, session, row.input.as_slice());
     let answers = row.answers.as_slice();

@@ -1,7 +1,7 @@
 //! The sessions of the specification, and others from outside, as they look in a terminal: after `> ` comes a line
 //! that is read, and below it are the lines of its answer. `@` is 64 letters `z` in both.
 
-/// Lines and commands.
+/// Commands and lines of all kinds, apart from moves.
 pub const COMMANDS: &[&[u8]] = &[
     // The first session. Nothing after `quit` is answered.
     b"> new
@@ -150,7 +150,7 @@ pong 2
 ",
 ];
 
-/// Lines of 1,024 bytes and more.
+/// Lines of 1,024 bytes, the most that is read, and longer ones.
 pub const LONG: &[&[u8]] = &[
     // One of 1,024 bytes; one byte more; a carriage return more.
     b"> @@@@@@@@@@@@@@@@
@@ -166,7 +166,7 @@ pong 4
 ",
 ];
 
-/// Moves in coordinates and in SAN.
+/// Moves in coordinates and in SAN, legal and not.
 pub const MOVES: &[&[u8]] = &[
     // All legal moves, in order.
     b"> new
@@ -369,7 +369,7 @@ Error (unknown command): e4 e5
 ",
 ];
 
-/// Starts by FEN.
+/// Starts that are set by a FEN, and FENs that are refused.
 pub const STARTS: &[&[u8]] = &[
     // A start with a verdict.
     b"> setboard 7k/5Q2/6K1/8/8/8/8/8 b - - 0 1
@@ -438,7 +438,7 @@ tellusererror Illegal position (fields)
 ",
 ];
 
-/// Verdicts, claims and declared results.
+/// Ends of games: verdicts of the board, claimed draws and declared results; and games as PGN.
 pub const ENDS: &[&[u8]] = &[
     // Black mates in two moves; the game is over until the move is taken back.
     b"> new
@@ -736,7 +736,7 @@ Error (bad result): result 1-0 }
 ",
 ];
 
-/// Chess960.
+/// Sessions that play Chess960, by `variant fischerandom`.
 pub const CHESS960: &[&[u8]] = &[
     // Its initial position, castling by its rook and by its side.
     b"> variant fischerandom
@@ -846,7 +846,7 @@ Illegal move: Kh1
 ",
 ];
 
-/// Sessions of three half-moves.
+/// Sessions whose games have at most three half-moves.
 pub const LIMITED: &[&[u8]] = &[
     b"> e2e4
 > e7e5

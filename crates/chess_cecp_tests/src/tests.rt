@@ -1,3 +1,5 @@
+//! The rows of sessions, run in each way; and sessions that are looked into after a fault.
+
 ghost use Rattle.std.specs.Prelude.{◌≤◌};
 
 use crate::hostile::{Way, check};
@@ -16,7 +18,7 @@ use std::io::{Read, Write};
 use std::process::Abort;
 use std::test::Fail;
 
-// A session of so many half-moves on plain boards.
+// A session on plain boards, whose games have at most `limit` half-moves.
 fn open(alloc: Global, limit: u32) -> Result<Session<Plain>, AllocError>
     requires some { 1 ≤ limit }
     requires few { limit ≤ 20000 }
@@ -24,7 +26,7 @@ fn open(alloc: Global, limit: u32) -> Result<Session<Plain>, AllocError>
     Session::open(alloc, Plain::new(), Plain::new(), Tags::default(), limit)
 }
 
-// Runs a session, which ends so.
+// Runs a session over these devices, and asserts how it ends.
 fn ends_so<R: Read, W: Write>(
     rt: &impl Abort,
     session: &mut Session<Plain>,
@@ -35,10 +37,12 @@ fn ends_so<R: Read, W: Write>(
     is_equal(rt, &run_on(session, reader, writer), &end);
 }
 
+// An input of which each read gives at most `cut` bytes, and the read numbered `fails_at` fails (0: none).
 fn pieces(input: &[u8], cut: usize, fails_at: u64) -> Counted<PieceReader<'_>> {
     Counted::reading(PieceReader::new(input, cut.max(1), fails_at))
 }
 
+// An output of which each write takes at most `cut` bytes, and the call numbered `fails_at` fails (0: none).
 fn taking(alloc: Global, cut: usize, fails_at: u64) -> Counted<PieceWriter> {
     Counted::writing(PieceWriter::new(alloc, cut, fails_at))
 }
@@ -73,7 +77,7 @@ fn check_limited(rt: &impl Abort, alloc: Global, way: Way) -> Result<(), Fail> {
     check(rt, alloc, way, LIMITED, 3)
 }
 
-// Runs each row in one way.
+// Runs the sessions of all tables in this way.
 fn check_all(rt: &impl Abort, alloc: Global, way: Way) -> Result<(), Fail> {
     check_commands(rt, alloc, way)?;
     if way.takes_long_lines() {
@@ -116,7 +120,7 @@ fn rows_by_a_gate_that_each_flush_opens(rt: HostRuntime) -> Result<(), Fail> {
     check_all(&rt, rt.alloc(), Way::Gated)
 }
 
-// A position is that after 1. e4.
+// Asserts that a position is that after 1. e4.
 fn is_after_e4(rt: &impl Abort, position: &Position) {
     is_equal(rt, &position.at(Square::new(12)), &None);
     is_equal(
@@ -126,6 +130,8 @@ fn is_after_e4(rt: &impl Abort, position: &Position) {
     );
 }
 
+// After e2e4 the answer to `showfen` fails once three bytes of it were taken. The session is at the position after the
+// move all the same.
 #[test]
 fn a_move_is_kept_where_writing_fails(rt: HostRuntime) -> Result<(), Fail> {
     let mut session = open(rt.alloc(), 100)?;
@@ -143,7 +149,8 @@ fn a_move_is_kept_where_writing_fails(rt: HostRuntime) -> Result<(), Fail> {
     Ok(())
 }
 
-// The whole text of a game is taken by one write, and then the flush fails.
+// The writer takes the whole text of a game by one call, and fails at the flush, its second call. The session ends
+// there.
 #[test]
 fn the_flush_after_a_game_may_fail(rt: HostRuntime) -> Result<(), Fail> {
     let mut session = open(rt.alloc(), 1)?;
@@ -161,6 +168,7 @@ fn the_flush_after_a_game_may_fail(rt: HostRuntime) -> Result<(), Fail> {
     Ok(())
 }
 
+// Lines, and the commands that they are read as.
 const NAMED: &[(&[u8], Command)] = &[
     (b"", Command::Silent),
     (b"new game", Command::New),
@@ -181,6 +189,7 @@ const NAMED: &[(&[u8], Command)] = &[
     (b"newgame", Command::Unknown),
 ];
 
+// Reads each line, of which only `ping` and `protover` have an argument in their command.
 #[test]
 fn commands_are_named_by_their_first_word(rt: HostRuntime) {
     for (text, command) in NAMED {
@@ -188,7 +197,8 @@ fn commands_are_named_by_their_first_word(rt: HostRuntime) {
     }
 }
 
-// A session that sets up a position and asks for its moves, with the beginning of the answer.
+// A transcript that sets up the position of a row and asks for its moves. Of the answer it has the beginning, with
+// their number.
 fn moves_row(alloc: Global, row: &Perft) -> Result<Vec<u8>, AllocError> {
     let moves = row.lines[0];
     let mut text = Vec::new(alloc);
@@ -200,7 +210,7 @@ fn moves_row(alloc: Global, row: &Perft) -> Result<Vec<u8>, AllocError> {
     Ok(text)
 }
 
-// Sets up the position of each row, and asks for its moves.
+// Runs such a session for each row.
 fn check_counts(rt: &impl Abort, alloc: Global, rows: &[Perft]) -> Result<(), Fail> {
     for row in rows {
         let text = moves_row(alloc, row)?;
@@ -209,11 +219,13 @@ fn check_counts(rt: &impl Abort, alloc: Global, rows: &[Perft]) -> Result<(), Fa
     Ok(())
 }
 
+// A session finds as many legal moves at the positions of perft_positions as other programs.
 #[test]
 fn moves_of_test_positions_are_counted(rt: HostRuntime) -> Result<(), Fail> {
     check_counts(&rt, rt.alloc(), NORMAL.as_slice())
 }
 
+// A session opened on a board that is elsewhere, after 1. e4, begins at the initial position.
 #[test]
 fn a_session_opens_at_the_initial_position(rt: HostRuntime) -> Result<(), Fail> {
     let mut board = Plain::new();

@@ -1,10 +1,10 @@
-//! Sessions as they look in a terminal.
+//! Reads a session as it looks in a terminal, and says for each place in its input or output what was done by then.
 
 use chess_cecp::{End, Fault};
 use std::alloc::{AllocError, Global};
 
-/// Where a line begins: how many bytes were read before it and how many were written, and how many calls a writer had
-/// by then that takes one byte at a time.
+/// The place where a line begins: how many bytes were read before it, how many were written, and how many calls a
+/// writer had by then that takes one byte at a time.
 #[derive(Clone, Copy)]
 pub struct Turn {
     pub read: usize,
@@ -12,13 +12,14 @@ pub struct Turn {
     pub calls: usize,
 }
 
+// The place before the first line.
 const START: Turn = Turn {
     read: 0,
     written: 0,
     calls: 0,
 };
 
-/// A session: what is read, what is written, and where each line begins.
+/// A session: what is read, what is written, and the place where each line begins, and at last where the input ends.
 #[derive(Drop)]
 pub struct Transcript {
     pub input: Vec<u8>,
@@ -27,7 +28,7 @@ pub struct Transcript {
     quit: Option<Quit>,
 }
 
-// The line `quit`: where it begins in the input, and how many lines are answered with it.
+// The line `quit`: where it begins in the input, and how many lines are before it, which are all that are answered.
 #[derive(Clone, Copy)]
 struct Quit {
     read: usize,
@@ -35,7 +36,7 @@ struct Quit {
 }
 
 impl Transcript {
-    /// The session of a text: the lines after `> ` are read, and the others are written.
+    /// Reads the session of a text: what is after `> ` is a line of the input, and other lines are written.
     pub fn read(alloc: Global, text: &[u8]) -> Result<Self, AllocError> {
         let mut transcript = Transcript {
             input: Vec::new(alloc),
@@ -50,6 +51,7 @@ impl Transcript {
         Ok(transcript)
     }
 
+    // Adds a line of the text: to the answers, or without its `> ` to the input.
     fn add(&mut self, line: &[u8]) -> Result<(), AllocError> {
         let Some(line) = line.strip_prefix(b"> ") else {
             return add_text(&mut self.answers, line);
@@ -64,7 +66,7 @@ impl Transcript {
         add_text(&mut self.input, line)
     }
 
-    // How many of the lines so far are answered.
+    // How many of the lines so far are answered: all, or those before `quit`.
     fn answered(&self) -> usize {
         match self.quit {
             Some(quit) => quit.lines,
@@ -72,7 +74,8 @@ impl Transcript {
         }
     }
 
-    // Each answer was written by one call for each byte and by a flush.
+    // Notes the place where the next line begins. Each answer before it took a call for each byte, and each line that
+    // is answered a flush.
     fn begin_line(&mut self) -> Result<(), AllocError> {
         let begun = Turn {
             read: self.input.len(),
@@ -83,7 +86,7 @@ impl Transcript {
         Ok(())
     }
 
-    /// Where the line begins at which so many bytes are read: all lines before it are whole.
+    /// The place of the line that is being read after `read` bytes: all lines before it are whole.
     pub fn at_byte(&self, read: usize) -> Turn {
         let mut found = START;
         for turn in self.turns.as_slice() {
@@ -94,7 +97,7 @@ impl Transcript {
         found
     }
 
-    /// The line in which the writer's call of that number comes, counted from 0.
+    /// The place of the line in whose answer the writer's call of this number comes, counted from 0.
     pub fn at_call(&self, calls: usize) -> Turn {
         let mut found = START;
         for turn in self.turns.as_slice() {
@@ -105,7 +108,8 @@ impl Transcript {
         found
     }
 
-    /// How a session ends of which so many bytes were read before the end: a last line needs no byte 10.
+    /// How a session ends whose input ends after `read` bytes: by `quit` if these four bytes are among them, since a
+    /// last line needs no byte 10.
     pub fn end_at(&self, read: usize) -> End {
         match self.quit {
             Some(quit) if quit.read.saturating_add(4) <= read => End::Quit,
@@ -113,7 +117,8 @@ impl Transcript {
         }
     }
 
-    /// How a session ends of which so many bytes were read before a read failed: only whole lines count.
+    /// How a session ends of which a read fails after `read` bytes: by `quit` if its line is whole by then, else with
+    /// the fault.
     pub fn fault_at(&self, read: usize) -> Result<End, Fault> {
         match self.quit {
             Some(quit) if quit.read < self.at_byte(read).read => Ok(End::Quit),
@@ -122,7 +127,7 @@ impl Transcript {
     }
 }
 
-// Adds a text, `@` as 64 letters `z`.
+// Adds a text, in which `@` stands for 64 letters `z`.
 fn add_text(texts: &mut Vec<u8>, text: &[u8]) -> Result<(), AllocError> {
     for byte in text {
         if *byte == b'@' {

@@ -1,8 +1,11 @@
+//! FENs of Chess960, whose castling rights are named by the files of the rooks.
+
 use crate::judging::{Wanted, check_all};
 use chess_base::{FenFault, Variant};
 use chess_fen::{read_fen, read_fen_as};
 
-// FENs in Chess960.
+// FENs, and what is written of their positions: a right is read as K, Q or a file, and written as a file. The one that
+// names two rooks twice is refused.
 const RIGHTS: &[(&[u8], Wanted)] = &[
     (
         b"rnbqkbnr/pppppppp/8/8/8/8/PPPPPPPP/RNBQKBNR w KQkq - 0 1",
@@ -32,14 +35,15 @@ const RIGHTS: &[(&[u8], Wanted)] = &[
     (b"4k3/8/8/8/8/8/8/rRK5 w B - 0 1", Wanted::Same),
 ];
 
+// Reads each FEN as one of Chess960.
 #[test]
 fn rights_are_read_and_written_by_files(rt: HostRuntime) {
     check_all(&rt, Variant::Fischerandom, RIGHTS);
 }
 
-// Each field of rights but the last two's names no rook, one right twice, two on one side, or is no such field. The
-// last two have a fault that is reported before the squares of the rights, and one that is reported after their
-// letters.
+// FENs whose field of castling rights is at fault: it names no rook, or one right twice, or two rooks on one side of
+// the king, or it has another form. The last three have a second fault as well: the side to move is looked at before
+// the rights, the kings before the rooks of the rights, and the letters of the rights before the target.
 const BAD_RIGHTS: &[(&[u8], Wanted)] = &[
     (
         b"4k3/8/8/8/8/8/8/RK5R w C - 0 1",
@@ -107,11 +111,13 @@ const BAD_RIGHTS: &[(&[u8], Wanted)] = &[
     ),
 ];
 
+// Each is refused with its fault.
 #[test]
 fn bad_rights_are_refused(rt: HostRuntime) {
     check_all(&rt, Variant::Fischerandom, BAD_RIGHTS);
 }
 
+// Rights named by files are refused in a FEN of normal chess, and read in one of Chess960.
 #[test]
 fn normal_chess_knows_no_letters_of_files(rt: HostRuntime) {
     let text = b"r3k2r/8/8/8/8/8/8/R3K2R w HAha - 0 1".as_slice();

@@ -20,10 +20,12 @@ fn after_e4(rt: &impl Abort, position: &Position) -> Position {
     position.after(m)
 }
 
+// A FEN, and that of a position after it, as the example writes them.
 fn shown(alloc: Global, fen: &Fen, after: &Position) -> Result<String, Fail> {
     Ok(format!(in alloc; "{fen} and then {}", Fen::from(after))?)
 }
 
+// A FEN is shown in the form in which it is written, whatever form it was read in; one that is refused is a fault.
 #[test]
 fn fens_are_parsed_and_shown(rt: HostRuntime) -> Result<(), Fail> {
     let fen: Fen = " 4k3/8/8/8/8/8/4P3/4K3  w - - ".parse()?;
@@ -39,13 +41,15 @@ fn fens_are_parsed_and_shown(rt: HostRuntime) -> Result<(), Fail> {
     Ok(())
 }
 
+// The hash of a FEN by `Hash`.
 fn hash_of(fen: &Fen) -> u64 {
     let mut state = DefaultHasher::new();
     fen.hash(&mut state);
     state.finish()
 }
 
-// The same FEN of a position of normal chess and of Chess960, since there is no castling right.
+// The same text is a FEN of normal chess and of Chess960, since there is no castling right. These two differ, have
+// different hashes, and are in order.
 #[test]
 fn fens_of_two_variants_differ(rt: HostRuntime) -> Result<(), Fail> {
     let text = b"4k3/8/8/8/8/8/4P3/4K3 w - - 0 1";
@@ -60,6 +64,7 @@ fn fens_of_two_variants_differ(rt: HostRuntime) -> Result<(), Fail> {
     Ok(())
 }
 
+// FENs are ordered by their texts first, whatever their variants.
 #[test]
 fn fens_are_ordered_by_their_texts(rt: HostRuntime) -> Result<(), Fail> {
     let first = Fen::read_as(Variant::Fischerandom, b"4k3/8/8/8/8/8/4P3/4K3 b - - 0 1")?;
@@ -68,6 +73,7 @@ fn fens_are_ordered_by_their_texts(rt: HostRuntime) -> Result<(), Fail> {
     Ok(())
 }
 
+// The debug text of a FEN has its text, as it is written, in quotes.
 #[test]
 fn fens_are_debugged_in_quotes(rt: HostRuntime) -> Result<(), Fail> {
     let fen: Fen = "4k3/8/8/8/8/8/4P3/4K3 w - -".parse()?;

@@ -1,3 +1,5 @@
+//! FENs of normal chess: what is written of their positions, or their faults.
+
 use crate::judging::{Wanted, check, check_all};
 use chess_base::{FenFault, Position, Variant};
 use chess_fen::write_fen;
@@ -5,7 +7,7 @@ use chess_fen::write_fen;
 // Below are positions of well-known test suites and games, and some that each change one of them. Each table has a
 // test of its own, since a check's length grows with the square of the rows that one function names.
 
-// The usual positions of move generators.
+// The usual positions that move generators are tested on.
 const USUAL: &[(&[u8], Wanted)] = &[
     (
         b"rnbqkbnr/pppppppp/8/8/8/8/PPPPPPPP/RNBQKBNR w KQkq - 0 1",
@@ -52,12 +54,13 @@ const USUAL: &[(&[u8], Wanted)] = &[
     (b"8/8/2k5/5q2/5n2/8/5K2/8 b - - 0 1", Wanted::Same),
 ];
 
+// Reads each FEN of the table.
 #[test]
 fn usual_positions_are_judged(rt: HostRuntime) {
     check_all(&rt, Variant::Normal, USUAL);
 }
 
-// En passant, and castling.
+// Positions around en passant and castling.
 const SPECIAL: &[(&[u8], Wanted)] = &[
     (b"8/8/1k6/2b5/2pP4/8/5K2/8 b - d3 0 1", Wanted::Same),
     (b"8/8/8/2k5/2pP4/8/B7/4K3 b - d3 0 3", Wanted::Same),
@@ -82,12 +85,14 @@ const SPECIAL: &[(&[u8], Wanted)] = &[
     (b"r3k3/1R6/8/8/8/8/8/4K3 b q - 0 1", Wanted::Same),
 ];
 
+// Reads each FEN of the table.
 #[test]
 fn positions_of_special_moves_are_judged(rt: HostRuntime) {
     check_all(&rt, Variant::Normal, SPECIAL);
 }
 
-// Endgames, mates and stalemates; then Win at Chess, Bratko and Kopec: four fields.
+// Endgames, mates and stalemates; then positions of the suites Win at Chess and Bratko-Kopec, which have only four
+// fields.
 const LATE: &[(&[u8], Wanted)] = &[
     (b"1K1k4/1P6/8/8/8/8/r7/2R5 w - - 0 1", Wanted::Same),
     (b"4k3/1R6/r7/3KP3/8/8/8/8 w - - 0 1", Wanted::Same),
@@ -127,12 +132,13 @@ const LATE: &[(&[u8], Wanted)] = &[
     ),
 ];
 
+// Reads each FEN of the table.
 #[test]
 fn late_positions_are_judged(rt: HostRuntime) {
     check_all(&rt, Variant::Normal, LATE);
 }
 
-// Each is one change away from one of those.
+// FENs that are each one change away from one of those above.
 const CHANGED: &[(&[u8], Wanted)] = &[
     (
         b"r3k2r/p1ppqpb1/bn2pnp1/3PN3/1p2P3/2N2Q1p/PPPBBPPP/R3K1R1 w KQkq - 0 1",
@@ -204,6 +210,7 @@ const CHANGED: &[(&[u8], Wanted)] = &[
     ),
 ];
 
+// Reads each FEN of the table.
 #[test]
 fn changed_positions_are_judged(rt: HostRuntime) {
     check_all(&rt, Variant::Normal, CHANGED);
@@ -212,7 +219,8 @@ fn changed_positions_are_judged(rt: HostRuntime) {
 // Below are texts in other forms than those that are written, and texts with each fault, and of several the
 // first.
 
-// What is read in addition to what is written.
+// Texts that are read though their positions are written otherwise: with more blanks, other digits, rights in another
+// order, zeros before a counter, 0 as the number of the move, or no counters.
 const SPELLINGS: &[(&[u8], Wanted)] = &[
     (
         b"4k3/8/8/8/8/8/8/4K2R  w  K -",
@@ -236,12 +244,13 @@ const SPELLINGS: &[(&[u8], Wanted)] = &[
     ),
 ];
 
+// Reads each text of the table.
 #[test]
 fn other_denotations_are_read(rt: HostRuntime) {
     check_all(&rt, Variant::Normal, SPELLINGS);
 }
 
-// Faults of one field.
+// Texts of which a field is at fault, and the fault; of several faults it is the first.
 const FIELDS: &[(&[u8], Wanted)] = &[
     (b"", Wanted::Refused(FenFault::Fields)),
     (b"   ", Wanted::Refused(FenFault::Fields)),
@@ -327,12 +336,13 @@ const FIELDS: &[(&[u8], Wanted)] = &[
     ),
 ];
 
+// Reads each text of the table.
 #[test]
 fn faults_of_fields_are_named(rt: HostRuntime) {
     check_all(&rt, Variant::Normal, FIELDS);
 }
 
-// Faults of the position.
+// FENs whose fields are in order, but whose position has a fault, of several the first.
 const POSITIONS: &[(&[u8], Wanted)] = &[
     (
         b"4k3/8/8/8/8/8/8/K3K3 w - - 0 1",
@@ -380,11 +390,13 @@ const POSITIONS: &[(&[u8], Wanted)] = &[
     ),
 ];
 
+// Reads each text of the table.
 #[test]
 fn faults_of_positions_are_named(rt: HostRuntime) {
     check_all(&rt, Variant::Normal, POSITIONS);
 }
 
+// Texts of 10,000 bytes, all blanks or all digits, have too few fields.
 #[test]
 fn long_texts_are_refused(rt: HostRuntime) {
     check(
@@ -405,6 +417,7 @@ fn long_texts_are_refused(rt: HostRuntime) {
 const LONGEST: &[u8] =
     b"r1b1k1n1/1p1p1p1p/p1p1p1p1/1q1r1b1n/P1P1P1P1/1Q1R1B1N/1P1P1P1P/R1B1K1N1 b Qq e3 999999 999999";
 
+// The initial position has its FEN, and the longest FEN is written as it is read.
 #[test]
 fn positions_are_written(rt: HostRuntime) {
     assert_eq!(rt;

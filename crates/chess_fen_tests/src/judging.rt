@@ -1,10 +1,11 @@
-//! How texts are judged in a variant, for tests.
+//! Reading a FEN in a variant, and asserting what comes of it, for the other tests.
 
 use chess_base::{FenFault, Variant};
 use chess_fen::{FenText, read_fen, read_fen_as, write_fen};
 use std::process::Abort;
 
-/// What is to come of a text: it is what is written of its position, another text is, or it is refused.
+/// What is to come of a text: `Same`, what is written of its position is this text; `Written`, it is another one; or
+/// the text is refused with this fault.
 #[derive(Clone, Copy)]
 pub enum Wanted {
     Same,
@@ -12,7 +13,7 @@ pub enum Wanted {
     Refused(FenFault),
 }
 
-// What is read: the variant and what is written of the position, or the fault.
+// What comes of a text: its position's variant and what is written of it, or the fault.
 fn reading(variant: Variant, text: &[u8]) -> Result<(Variant, FenText), FenFault> {
     let position = match variant {
         Variant::Normal => read_fen(text)?,
@@ -21,6 +22,7 @@ fn reading(variant: Variant, text: &[u8]) -> Result<(Variant, FenText), FenFault
     Ok((position.variant(), write_fen(&position)))
 }
 
+// Whether that is what was wanted of this text in this variant.
 fn is_wanted(
     found: &Result<(Variant, FenText), FenFault>,
     variant: Variant,
@@ -36,7 +38,7 @@ fn is_wanted(
     }
 }
 
-/// Asserts what comes of a text.
+/// Reads a text in this variant, and asserts what comes of it.
 pub fn check(rt: &impl Abort, variant: Variant, text: &[u8], wanted: Wanted) {
     let found = reading(variant, text);
     assert!(rt;
@@ -45,7 +47,7 @@ pub fn check(rt: &impl Abort, variant: Variant, text: &[u8], wanted: Wanted) {
     );
 }
 
-/// Asserts what comes of each text.
+/// The same for each row of a table.
 pub fn check_all(rt: &impl Abort, variant: Variant, rows: &[(&[u8], Wanted)]) {
     for (text, wanted) in rows {
         check(rt, variant, text, *wanted);

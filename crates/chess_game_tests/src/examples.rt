@@ -9,6 +9,7 @@ use std::fmt::Debug;
 use std::process::Abort;
 use std::test::Fail;
 
+// Asserts that two values are equal. One function for all types, since an assertion for each costs much to prove.
 fn is_equal<T: PartialEq + Debug>(rt: &impl Abort, found: &T, wanted: &T) {
     assert_eq!(rt; *found, *wanted);
 }
@@ -32,7 +33,7 @@ fn shown_moves<B: Board>(alloc: Global, game: &Game<B>) -> Result<String, Fail> 
     Ok(text)
 }
 
-// The FENs of the game's positions, each in a line.
+// The FENs of the game's positions from the start on, each in a line.
 fn shown_positions<B: Board>(alloc: Global, game: &Game<B>) -> Result<String, Fail> {
     let mut text = String::new(alloc);
     for position in game.positions() {
@@ -41,7 +42,7 @@ fn shown_positions<B: Board>(alloc: Global, game: &Game<B>) -> Result<String, Fa
     Ok(text)
 }
 
-// The same from the last position back to the start.
+// The same from the current position back to the start.
 fn shown_backwards<B: Board>(alloc: Global, game: &Game<B>) -> Result<String, Fail> {
     let mut text = String::new(alloc);
     for position in game.positions().rev() {
@@ -50,6 +51,7 @@ fn shown_backwards<B: Board>(alloc: Global, game: &Game<B>) -> Result<String, Fa
     Ok(text)
 }
 
+// The positions of the game 1. e4 e5, forward and backwards.
 const POSITIONS: &str = "rnbqkbnr/pppppppp/8/8/8/8/PPPPPPPP/RNBQKBNR w KQkq - 0 1
 rnbqkbnr/pppppppp/8/8/4P3/8/PPPP1PPP/RNBQKBNR b KQkq e3 0 1
 rnbqkbnr/pppp1ppp/8/4p3/4P3/8/PPPP1PPP/RNBQKBNR w KQkq e6 0 2
@@ -60,6 +62,7 @@ rnbqkbnr/pppppppp/8/8/4P3/8/PPPP1PPP/RNBQKBNR b KQkq e3 0 1
 rnbqkbnr/pppppppp/8/8/8/8/PPPPPPPP/RNBQKBNR w KQkq - 0 1
 ";
 
+// The moves and positions of 1. e4 e5, forward and backwards, and how many they are.
 #[test]
 fn moves_and_positions_of_a_game(rt: HostRuntime) -> Result<(), Fail> {
     let mut game = Game::open(rt.alloc(), Plain::new(), 300)?;
@@ -85,16 +88,19 @@ fn moves_and_positions_of_a_game(rt: HostRuntime) -> Result<(), Fail> {
     Ok(())
 }
 
+// How the outcome of this text is shown.
 fn shown_outcome(alloc: Global, text: &str) -> Result<String, Fail> {
     let outcome: Outcome = text.parse()?;
     Ok(format!(in alloc; "{outcome}")?)
 }
 
+// How a comment is shown.
 fn shown_comment(alloc: Global) -> Result<String, Fail> {
     let comment = Comment::cut(b"White resigns");
     Ok(format!(in alloc; "{comment}")?)
 }
 
+// How a declared result is shown: its outcome, and its comment in braces.
 fn shown_declared(alloc: Global) -> Result<String, Fail> {
     let declared = Declared {
         outcome: Outcome::BlackWins,
@@ -103,6 +109,7 @@ fn shown_declared(alloc: Global) -> Result<String, Fail> {
     Ok(format!(in alloc; "{declared}")?)
 }
 
+// An outcome is parsed and shown by its text, another text is none; comments and declared results are shown too.
 #[test]
 fn results_are_parsed_and_shown(rt: HostRuntime) -> Result<(), Fail> {
     is_equal(
@@ -120,12 +127,13 @@ fn results_are_parsed_and_shown(rt: HostRuntime) -> Result<(), Fail> {
     Ok(())
 }
 
+// The debug text of a comment.
 fn debugged_comment(alloc: Global) -> Result<String, Fail> {
     let comment = Comment::cut(b"White resigns");
     Ok(format!(in alloc; "{comment:?}")?)
 }
 
-// The moves and positions that are left after the first of each.
+// The debug texts of a game's moves and of its positions, once the first of each was taken.
 fn debugged_rest<B: Board>(alloc: Global, game: &Game<B>) -> Result<String, Fail> {
     let mut moves = game.moves();
     let _first = moves.next();
@@ -134,10 +142,12 @@ fn debugged_rest<B: Board>(alloc: Global, game: &Game<B>) -> Result<String, Fail
     Ok(format!(in alloc; "{moves:?} {positions:?}")?)
 }
 
+// These texts for 1. e4 e5: the second move, and two positions.
 const REST: &str =
     "[Move { from: Square { number: 52 }, to: Square { number: 36 }, promotion: None }] \
     Positions { left: 2 }";
 
+// Compares the debug texts of a comment, and of the moves and positions that are left.
 #[test]
 fn comments_moves_and_positions_are_debugged(rt: HostRuntime) -> Result<(), Fail> {
     is_equal(
@@ -152,18 +162,22 @@ fn comments_moves_and_positions_are_debugged(rt: HostRuntime) -> Result<(), Fail
     Ok(())
 }
 
+// The debug text of a game after 1. e4 in which White resigned, without the start before it.
 const AFTER_THE_START: &str =
     "moves: [Move { from: Square { number: 12 }, to: Square { number: 28 }, \
     promotion: None }], declared: Some(Declared { outcome: BlackWins, comment: \"White resigns\" }), limit: 300 }";
 
+// The debug text of a game.
 fn debugged_game<B: Board>(alloc: Global, game: &Game<B>) -> Result<String, Fail> {
     Ok(format!(in alloc; "{game:?}")?)
 }
 
+// What it should be: the game's start, and then that text.
 fn wanted_game<B: Board>(alloc: Global, game: &Game<B>) -> Result<String, Fail> {
     Ok(format!(in alloc; "Game {{ start: {:?}, {AFTER_THE_START}", game.start())?)
 }
 
+// Plays 1. e4, lets White resign, and compares the debug text.
 #[test]
 fn a_game_is_debugged(rt: HostRuntime) -> Result<(), Fail> {
     let mut game = Game::open(rt.alloc(), Plain::new(), 300)?;

@@ -1,3 +1,6 @@
+//! Games of chess, driven step by step on three boards: ends, claims and declared results; how moves are kept and taken
+//! back; and how often a game calls its board.
+
 use chess_base::{Colour, Kind, Move, Position, Saved, Setup, Square, Variant};
 use chess_bits::{AttackTables, Bits};
 use chess_fen::{read_fen, read_fen_as, write_fen};
@@ -11,7 +14,7 @@ use std::fmt::Debug;
 use std::process::Abort;
 use std::test::Fail;
 
-/// How often each call that changes a board was made, and how often its hash was asked for.
+/// How often each call of a board was made that changes it, and how often its hash (`word`) was asked for.
 #[derive(Drop)]
 struct Calls {
     set: Cell<u32>,
@@ -21,6 +24,7 @@ struct Calls {
 }
 
 impl Calls {
+    // Counts of a board that was not called yet.
     fn none() -> Self {
         Calls {
             set: Cell::new(0),
@@ -30,7 +34,7 @@ impl Calls {
         }
     }
 
-    // How often `set`, `make` and `take_back` were called since this was last asked.
+    // How often `set`, `make` and `take_back` were called since the last time that this was called.
     fn since(&self) -> (u32, u32, u32) {
         (
             self.set.replace(0),
@@ -39,18 +43,19 @@ impl Calls {
         )
     }
 
-    // How often the hash was asked for since this was last asked.
+    // How often the hash was asked for since the last time that this was called.
     fn hashes_since(&self) -> u32 {
         self.word.replace(0)
     }
 }
 
+// Counts one more call.
 fn count_up(count: &Cell<u32>) {
     count.set(count.get().wrapping_add(1));
 }
 
-/// A board whose hashes are all 0, so that they distinguish no positions. It counts the calls that change it, and those
-/// that ask for its hash.
+/// The plain board with 0 as the hash of each position. A game then has to tell all positions apart by comparing them.
+/// It counts the calls that change it, and those that ask for its hash.
 #[derive(Drop)]
 struct ZeroHashBoard<'a> {
     plain: Plain,
@@ -123,6 +128,7 @@ impl Board for ZeroHashBoard<'_> {
     }
 }
 
+// Such a board at the initial position, which counts its calls here.
 fn zero_hash_board(calls: &Calls) -> ZeroHashBoard<'_> {
     ZeroHashBoard {
         plain: Plain::new(),
@@ -130,6 +136,7 @@ fn zero_hash_board(calls: &Calls) -> ZeroHashBoard<'_> {
     }
 }
 
+// The square with this letter and digit, such as `e` and `4`.
 fn square(file: u8, rank: u8) -> Square {
     Square::new(rank.wrapping_sub(b'1') % 8 * 8 + file.wrapping_sub(b'a') % 8)
 }
@@ -144,9 +151,11 @@ fn by_squares(squares: &[u8; 4]) -> Move {
     }
 }
 
-// The calls of a game whose contracts are big, without clauses: the facts stay in here, and tests compare values. So do
-// the loops and the comparisons below, each in a function of its own: a long body costs much to prove.
+// The calls of a game whose contracts are big, each in a function without clauses: the tests that call it then have no
+// such facts to carry, and compare values. The loops and comparisons below have functions of their own for the same
+// reason: a long body costs much to prove.
 
+// Opens a game of at most `limit` half-moves on this board.
 fn opened<B: Board + Drop>(
     rt: &impl Abort,
     alloc: Global,
@@ -157,33 +166,39 @@ fn opened<B: Board + Drop>(
     Ok(Game::open(alloc, board, limit)?)
 }
 
+// Begins anew from the position of a FEN of normal chess.
 fn restart<B: Board>(game: &mut Game<B>, fen: &[u8]) -> Result<(), Fail> {
     game.restart(&read_fen(fen)?);
     Ok(())
 }
 
-// Begins anew from a position of Chess960.
+// The same of Chess960.
 fn restart_960<B: Board>(game: &mut Game<B>, fen: &[u8]) -> Result<(), Fail> {
     game.restart(&read_fen_as(Variant::Fischerandom, fen)?);
     Ok(())
 }
 
+// The same from the initial position.
 fn restart_initial<B: Board>(game: &mut Game<B>) {
     game.restart(&Position::initial());
 }
 
+// Takes a declared result away.
 fn clear_declared<B: Board>(game: &mut Game<B>) {
     game.clear_declared();
 }
 
+// Plays a move given by its squares, or is refused.
 fn play<B: Board>(game: &mut Game<B>, squares: &[u8; 4]) -> Result<(), PlayRefusal> {
     game.play(by_squares(squares))
 }
 
+// Takes the last move back and returns it, if there is one.
 fn take_back<B: Board>(game: &mut Game<B>) -> Result<Move, NoMove> {
     game.take_back()
 }
 
+// Declares a result, or is refused since the board has another verdict.
 fn declare<B: Board>(
     game: &mut Game<B>,
     outcome: Outcome,
@@ -192,14 +207,14 @@ fn declare<B: Board>(
     game.declare(outcome, Comment::cut(comment))
 }
 
-// Declares a result where the game has no verdict.
+// Declares a result of a game without a verdict, by the call that requires this; with a verdict, does nothing.
 fn declare_open<B: Board>(game: &mut Game<B>, outcome: Outcome, comment: &[u8]) {
     if game.verdict().is_none() {
         game.declare_open(outcome, Comment::cut(comment));
     }
 }
 
-// Plays one move, after which more may be current.
+// Plays the move whose squares are the first four bytes; the fifth is a blank, if there is one.
 fn play_first<B: Board>(game: &mut Game<B>, moves: &[u8]) -> Result<(), Fail> {
     let [from_file, from_rank, to_file, to_rank, ..] = *moves else {
         return Err("no move".into());
@@ -208,7 +223,7 @@ fn play_first<B: Board>(game: &mut Game<B>, moves: &[u8]) -> Result<(), Fail> {
     Ok(())
 }
 
-// Plays moves, as `e2e4 e7e5`, none of which is refused.
+// Plays moves written as `e2e4 e7e5`, one for each five bytes. That one is refused is an error.
 fn play_all<B: Board>(game: &mut Game<B>, moves: &[u8]) -> Result<(), Fail> {
     for word in moves.chunks(5) {
         play_first(game, word)?;
@@ -216,7 +231,7 @@ fn play_all<B: Board>(game: &mut Game<B>, moves: &[u8]) -> Result<(), Fail> {
     Ok(())
 }
 
-// What was declared: the outcome and the comment.
+// What was declared, if anything: the outcome and the comment.
 fn said<B: Board>(game: &Game<B>) -> Option<(Outcome, &[u8])> {
     let declared = game.declared()?;
     Some((declared.outcome, declared.comment.as_bytes()))
@@ -232,7 +247,8 @@ fn is_equal_at<T: PartialEq + Debug>(rt: &impl Abort, place: &[u8], found: &T, w
     assert_eq!(rt; *found, *wanted, "at {place:?}");
 }
 
-// What a call of a game answers, and what is returned of the game: one comparison each.
+// Below, each function makes a call of a game and asserts its answer, or asserts one thing that is returned of the
+// game.
 
 fn is_played<B: Board>(rt: &impl Abort, game: &mut Game<B>, squares: &[u8; 4]) {
     is_equal_at(rt, squares, &play(game, squares), &Ok(()));
@@ -267,7 +283,7 @@ fn says_nothing<B: Board>(rt: &impl Abort, game: &Game<B>) {
     assert!(rt; game.declared().is_none());
 }
 
-// The verdict, found with the help of a legal move where there is one.
+// The verdict, by the call that is given a legal move and so needn't look for one; without a legal move, by `verdict`.
 fn verdict_of_moving<B: Board>(game: &Game<B>) -> Option<Verdict> {
     let board = game.board();
     let moves = board.legal_moves();
@@ -280,6 +296,7 @@ fn verdict_of_moving<B: Board>(game: &Game<B>) -> Option<Verdict> {
     game.verdict_of_moving(m)
 }
 
+// Asserts the verdict, found in both ways.
 fn has_verdict<B: Board>(rt: &impl Abort, game: &Game<B>, verdict: Option<Verdict>) {
     is_equal(rt, &game.verdict(), &verdict);
     is_equal(rt, &verdict_of_moving(game), &verdict);
@@ -351,7 +368,7 @@ fn is_move_at<B: Board>(rt: &impl Abort, game: &Game<B>, ply: usize, squares: &[
     is_equal(rt, &game.move_at(ply), &by_squares(squares));
 }
 
-// The board says otherwise, and nothing is declared.
+// Asserts that this outcome can't be declared, since the board says otherwise, and that nothing is declared then.
 fn is_not_declared<B: Board>(rt: &impl Abort, game: &mut Game<B>, outcome: Outcome) {
     is_equal(rt, &declare(game, outcome, b"x"), &Err(BoardSaysOtherwise));
     says_nothing(rt, game);
@@ -365,7 +382,8 @@ fn is_promoted_to_a_knight<B: Board>(rt: &impl Abort, game: &mut Game<B>, square
     is_equal(rt, &game.play(promotion), &Ok(()));
 }
 
-/// What is returned of a game.
+/// A thing that is returned of a game, and what it is to be. FENs are of the start, of the position of game and board,
+/// and of the position after so many half-moves.
 #[derive(Clone, Copy)]
 enum State {
     Says(Outcome, &'static [u8]),
@@ -389,6 +407,7 @@ enum State {
     MoveAt(usize, &'static [u8; 4]),
 }
 
+// Asserts that a game has this state.
 fn is_so<B: Board>(rt: &impl Abort, game: &Game<B>, state: State) {
     match state {
         State::Says(outcome, comment) => says(rt, game, outcome, comment),
@@ -412,7 +431,7 @@ fn is_so<B: Board>(rt: &impl Abort, game: &Game<B>, state: State) {
     }
 }
 
-/// A call of a game with its answer, or what is returned of the game then.
+/// A call of a game with the answer that it is to have, or something that the game must return then.
 #[derive(Clone, Copy)]
 enum Step {
     Restarts(&'static [u8]),
@@ -432,6 +451,7 @@ enum Step {
     Is(State),
 }
 
+// Takes one step.
 fn goes<B: Board>(rt: &impl Abort, game: &mut Game<B>, step: Step) -> Result<(), Fail> {
     match step {
         Step::Restarts(fen) => return restart(game, fen),
@@ -452,6 +472,7 @@ fn goes<B: Board>(rt: &impl Abort, game: &mut Game<B>, step: Step) -> Result<(),
     Ok(())
 }
 
+// Takes the steps in order.
 fn all_go<B: Board>(rt: &impl Abort, game: &mut Game<B>, steps: &[Step]) -> Result<(), Fail> {
     for step in steps {
         goes(rt, game, *step)?;
@@ -471,7 +492,7 @@ fn game_goes_on<B: Board + Drop>(
     all_go(rt, &mut game, steps)
 }
 
-// The same on both boards, and on the one whose hashes are all 0.
+// The same in a game on the plain board, on the board of bit sets, and on the one whose hashes are all 0.
 fn game_goes(rt: &impl Abort, alloc: Global, limit: u32, steps: &[Step]) -> Result<(), Fail> {
     game_goes_on(rt, alloc, Plain::new(), limit, steps)?;
     let tables = AttackTables::open(alloc)?;
@@ -479,8 +500,10 @@ fn game_goes(rt: &impl Abort, alloc: Global, limit: u32, steps: &[Step]) -> Resu
     game_goes_on(rt, alloc, zero_hash_board(&Calls::none()), limit, steps)
 }
 
+// The FEN of the initial position.
 const INITIAL: &[u8] = b"rnbqkbnr/pppppppp/8/8/8/8/PPPPPPPP/RNBQKBNR w KQkq - 0 1";
 
+// Starts, and the verdict on each.
 const STARTS: [(&[u8], Option<Verdict>); 24] = [
     // The order: mate and stalemate before the rest, bare material before 75 moves.
     (b"7k/6Q1/6K1/8/8/8/8/8 b - - 0 1", Some(Verdict::WhiteMates)),
@@ -544,7 +567,7 @@ const STARTS: [(&[u8], Option<Verdict>); 24] = [
     (b"4k3/8/8/8/8/8/8/Q3K3 w - - 0 1", None),
 ];
 
-// What may be claimed.
+// What may be claimed: nothing, one of the two draws, or both.
 const NONE: Claims = Claims {
     threefold: false,
     fifty_moves: false,
@@ -565,7 +588,8 @@ const BOTH: Claims = Claims {
     fifty_moves: true,
 };
 
-/// A start, moves from there, and what the game returns after them.
+/// A start, moves from there, and what the game returns after them: the verdict, how often the position has occurred,
+/// the halfmove clock, and what may be claimed.
 struct PlayedLine {
     start: &'static [u8],
     moves: &'static [u8],
@@ -575,6 +599,7 @@ struct PlayedLine {
     claims: Claims,
 }
 
+// Lines that lead to repetitions, to 50 and 75 moves and to mate, or nearly.
 const LINES: [PlayedLine; 27] = [
     // The third, the fourth and the fifth time.
     PlayedLine {
@@ -805,7 +830,7 @@ const LINES: [PlayedLine; 27] = [
     },
 ];
 
-// The outcome where nothing was declared.
+// The outcome that this verdict, or none, gives where nothing was declared.
 fn undeclared(verdict: Option<Verdict>) -> Outcome {
     match verdict {
         None => Outcome::Unfinished,
@@ -825,7 +850,8 @@ fn ending<B: Board>(game: &Game<B>) -> (Option<Verdict>, Outcome, bool, u32) {
     )
 }
 
-// Compares how a game ends, with nothing declared, at a start or after moves.
+// Asserts how a game without a declared result ends, by this verdict or not at all, and how often its position has
+// occurred. `place`, the start or the moves, is shown if that fails.
 fn ends_by<B: Board>(
     rt: &impl Abort,
     game: &Game<B>,
@@ -842,7 +868,7 @@ fn ends_by<B: Board>(
     );
 }
 
-// A start, and why the game is over there.
+// Begins at a start, and asserts the verdict there.
 fn check_start<B: Board>(
     rt: &impl Abort,
     game: &mut Game<B>,
@@ -854,7 +880,7 @@ fn check_start<B: Board>(
     Ok(())
 }
 
-// Compares the clock, and what may be claimed, after moves.
+// Asserts the halfmove clock and what may be claimed; a failure shows the moves.
 fn may_claim<B: Board>(
     rt: &impl Abort,
     game: &Game<B>,
@@ -870,6 +896,7 @@ fn may_claim<B: Board>(
     );
 }
 
+// Plays a line, and asserts all that it has.
 fn check_line<B: Board>(
     rt: &impl Abort,
     game: &mut Game<B>,
@@ -882,6 +909,7 @@ fn check_line<B: Board>(
     Ok(())
 }
 
+// Checks each start.
 fn check_starts<B: Board>(
     rt: &impl Abort,
     game: &mut Game<B>,
@@ -893,6 +921,7 @@ fn check_starts<B: Board>(
     Ok(())
 }
 
+// Checks each line.
 fn check_lines<B: Board>(
     rt: &impl Abort,
     game: &mut Game<B>,
@@ -904,12 +933,14 @@ fn check_lines<B: Board>(
     Ok(())
 }
 
+// Checks all starts and lines in one game on this board.
 fn check_ends<B: Board + Drop>(rt: &impl Abort, alloc: Global, board: B) -> Result<(), Fail> {
     let mut game = opened(rt, alloc, board, 100)?;
     check_starts(rt, &mut game, &STARTS)?;
     check_lines(rt, &mut game, &LINES)
 }
 
+// Verdicts, repetitions, clocks and claims are the same on all three boards.
 #[test]
 fn ends_and_claims(rt: HostRuntime) -> Result<(), Fail> {
     check_ends(&rt, rt.alloc(), Plain::new())?;
@@ -918,6 +949,7 @@ fn ends_and_claims(rt: HostRuntime) -> Result<(), Fail> {
     check_ends(&rt, rt.alloc(), zero_hash_board(&Calls::none()))
 }
 
+// Fool's mate, then what is refused and what may be declared, and the last move taken back.
 const MATE: &[Step] = &[
     Step::PlaysAll(b"f2f3 e7e5 g2g4 d8h4"),
     Step::IsRefused(b"a2a3", PlayRefusal::Over),
@@ -943,6 +975,7 @@ fn mate_overrules_declared_results(rt: HostRuntime) -> Result<(), Fail> {
     game_goes(&rt, rt.alloc(), 100, MATE)
 }
 
+// A result is declared and ends the game; others take its place, and it is cleared.
 const RESULTS: &[Step] = &[
     Step::IsDeclared(Outcome::Draw, b"a{b}c"),
     Step::Is(State::Says(Outcome::Draw, b"a?b?c")),
@@ -977,6 +1010,7 @@ fn declared_results_end_the_game(rt: HostRuntime) -> Result<(), Fail> {
     game_goes(&rt, rt.alloc(), 100, RESULTS)
 }
 
+// The knights go out and back until the position is there for the third time, and then for the fifth.
 const FIVE_TIMES: &[Step] = &[
     Step::PlaysAll(b"g1f3 g8f6 f3g1 f6g8 g1f3 g8f6 f3g1 f6g8"),
     Step::Is(State::HasClaims(THREEFOLD)),
@@ -994,13 +1028,15 @@ const FIVE_TIMES: &[Step] = &[
     Step::Is(State::HasClaims(THREEFOLD)),
 ];
 
-// A claim at the third time ends the game; without it, the fifth time does.
+// A draw claimed at the third time ends the game; without the claim it goes on to the fifth time, which is a verdict
+// until the last move is taken back.
 #[test]
 fn fifth_time_is_taken_back(rt: HostRuntime) -> Result<(), Fail> {
     game_goes(&rt, rt.alloc(), 100, FIVE_TIMES)
 }
 
-// On a board whose hashes are all 0, all positions are in one bucket.
+// Repetitions in a game that begins anew. On the board whose hashes are all 0, all positions are in one bucket of the
+// game's table.
 const RESTARTED: &[Step] = &[
     Step::PlaysAll(b"g1f3 g8f6 f3g1 f6g8 g1f3 g8f6 f3g1 f6g8"),
     Step::Is(State::HasRepetitions(3)),
@@ -1031,11 +1067,13 @@ const RESTARTED: &[Step] = &[
     Step::Is(State::HasRepetitions(2)),
 ];
 
+// What occurred before a new start, or was taken back, isn't counted.
 #[test]
 fn a_game_that_begins_anew_counts_anew(rt: HostRuntime) -> Result<(), Fail> {
     game_goes(&rt, rt.alloc(), 100, RESTARTED)
 }
 
+// A game of at most three half-moves, and what it refuses when it is full.
 const THREE_MOVES: &[Step] = &[
     Step::IsRefused(b"e2e5", PlayRefusal::Illegal),
     Step::PlaysAll(b"e2e4 e7e5"),
@@ -1054,13 +1092,14 @@ const THREE_MOVES: &[Step] = &[
     Step::Is(State::HasRoom),
 ];
 
-// A game over comes before the limit, and the limit before an illegal move.
+// Of the reasons to refuse a move, that the game is over comes first, then that it is full, and then that the move is
+// illegal.
 #[test]
 fn no_more_moves_than_the_limit(rt: HostRuntime) -> Result<(), Fail> {
     game_goes(&rt, rt.alloc(), 3, THREE_MOVES)
 }
 
-// A position, and the positions after each of four half-moves from there.
+// The start of the line below, and the position after each of its four half-moves.
 const AFTER_E4: &[u8] = b"rnbqkbnr/pppppppp/8/8/4P3/8/PPPP1PPP/RNBQKBNR b KQkq e3 0 1";
 
 const AFTER_NF6: &[u8] = b"rnbqkb1r/pppppppp/5n2/8/4P3/8/PPPP1PPP/RNBQKBNR w KQkq - 1 2";
@@ -1071,6 +1110,7 @@ const AFTER_NG8: &[u8] = b"rnbqkbnr/pppppppp/8/8/4P3/5N2/PPPP1PPP/RNBQKB1R w KQk
 
 const AFTER_NG1: &[u8] = b"rnbqkbnr/pppppppp/8/8/4P3/8/PPPP1PPP/RNBQKBNR b KQkq - 4 3";
 
+// The line, and what its positions and moves are by their numbers.
 const LINE: &[Step] = &[
     Step::HasNoMove,
     Step::Restarts(AFTER_E4),
@@ -1090,17 +1130,18 @@ const LINE: &[Step] = &[
     Step::Is(State::IsAt(AFTER_NG8)),
 ];
 
-// The FEN after each half-move.
+// A game gives the position after each half-move, and each move.
 #[test]
 fn positions_of_a_line(rt: HostRuntime) -> Result<(), Fail> {
     game_goes(&rt, rt.alloc(), 100, LINE)
 }
 
-// A position of Chess960 with each side on move.
+// Positions of Chess960 with White and with Black on move.
 const WHITE_IN_960: &[u8] = b"bqnb1rkr/pp3ppp/3ppn2/2p5/5P2/P2P4/NPP1P1PP/BQ1BNRKR w HFhf - 2 9";
 
 const BLACK_IN_960: &[u8] = b"bqnb1rkr/pp3ppp/3ppn2/2p5/5P2/P2P3P/NPP1P1P1/BQ1BNRKR b HFhf - 0 9";
 
+// Starts of both variants with each side on move, and moves from there.
 const FIRST_SIDES: &[Step] = &[
     Step::Is(State::StartsIn(Variant::Normal, Colour::White)),
     Step::IsPlayed(b"e2e4"),
@@ -1122,6 +1163,7 @@ fn variant_and_first_side_of_a_start(rt: HostRuntime) -> Result<(), Fail> {
     game_goes(&rt, rt.alloc(), 100, FIRST_SIDES)
 }
 
+// What a game is to return when it has just been opened.
 const AT_FIRST: &[Step] = &[
     Step::Is(State::IsAt(INITIAL)),
     Step::Is(State::StartsAt(INITIAL)),
@@ -1131,7 +1173,7 @@ const AT_FIRST: &[Step] = &[
     Step::Is(State::HasRoom),
 ];
 
-// Opens a game on a board that is elsewhere.
+// Opens a game on a board that is at another position, and asserts that it is at the initial one.
 fn game_opens<B: Board + Drop>(rt: &impl Abort, alloc: Global, mut board: B) -> Result<(), Fail> {
     board.set(&read_fen(b"4k3/8/8/8/8/8/8/R3K3 w - - 99 80")?);
     game_goes_on(rt, alloc, board, 20_000, AT_FIRST)
@@ -1145,6 +1187,7 @@ fn game_opens_at_the_initial_position(rt: HostRuntime) -> Result<(), Fail> {
     game_opens(&rt, rt.alloc(), Bits::new(&tables))
 }
 
+// A pawn must be promoted, here to a knight, which leaves too few pieces to mate.
 const PROMOTION: &[Step] = &[
     Step::Restarts(b"8/4P3/8/8/8/2k5/8/4K3 w - - 0 1"),
     Step::IsRefused(b"e7e8", PlayRefusal::Illegal),
@@ -1152,20 +1195,23 @@ const PROMOTION: &[Step] = &[
     Step::Is(State::HasVerdict(Some(Verdict::InsufficientMaterial))),
 ];
 
+// King and knight against a king are a draw.
 #[test]
 fn promotion_to_a_knight_leaves_too_few_pieces(rt: HostRuntime) -> Result<(), Fail> {
     game_goes(&rt, rt.alloc(), 100, PROMOTION)
 }
 
+// Asserts how often `set`, `make` and `take_back` were called since the last time.
 fn were_called(rt: &impl Abort, calls: &Calls, times: (u32, u32, u32)) {
     is_equal(rt, &calls.since(), &times);
 }
 
+// Asserts that a move is refused.
 fn is_refused_again<B: Board>(rt: &impl Abort, game: &mut Game<B>, squares: &[u8; 4]) {
     assert!(rt; play(game, squares).is_err());
 }
 
-// A move is made by one call; where it is refused, as it is at once again, nothing is called.
+// A move is played by one `make` of the board. Asked for at once again it is refused, and the board isn't changed.
 fn is_made_once(
     rt: &impl Abort,
     game: &mut Game<ZeroHashBoard<'_>>,
@@ -1178,6 +1224,7 @@ fn is_made_once(
     were_called(rt, calls, (0, 0, 0));
 }
 
+// A move is taken back by one `take_back` of the board.
 fn is_taken_back_once(
     rt: &impl Abort,
     game: &mut Game<ZeroHashBoard<'_>>,
@@ -1188,6 +1235,7 @@ fn is_taken_back_once(
     were_called(rt, calls, (0, 0, 1));
 }
 
+// Plays these moves so.
 fn are_made_once(
     rt: &impl Abort,
     game: &mut Game<ZeroHashBoard<'_>>,
@@ -1199,6 +1247,7 @@ fn are_made_once(
     }
 }
 
+// Takes these moves back so, the last one first.
 fn are_taken_back_once(
     rt: &impl Abort,
     game: &mut Game<ZeroHashBoard<'_>>,
@@ -1210,7 +1259,7 @@ fn are_taken_back_once(
     }
 }
 
-// What is asked of the game asks for none of the three.
+// What is asked of a game after MOVES: none of it calls `set`, `make` or `take_back`.
 const ASKED: &[Step] = &[
     Step::Is(State::HasRepetitions(1)),
     Step::Is(State::HasPly(9)),
@@ -1222,11 +1271,13 @@ const ASKED: &[Step] = &[
     Step::IsRefused(b"e7e5", PlayRefusal::Over),
 ];
 
+// The knights go out and back twice, and then the pawn to e4.
 const MOVES: [&[u8; 4]; 9] = [
     b"g1f3", b"g8f6", b"f3g1", b"f6g8", b"g1f3", b"g8f6", b"f3g1", b"f6g8", b"e2e4",
 ];
 
-// Nothing is replayed: how often `set`, `make` and `take_back` of the board are called.
+// A game sets its board when it opens and begins anew, and then makes and takes back each move once: nothing is
+// replayed.
 #[test]
 fn each_move_is_made_once(rt: HostRuntime) -> Result<(), Fail> {
     let calls = Calls::none();
@@ -1243,11 +1294,12 @@ fn each_move_is_made_once(rt: HostRuntime) -> Result<(), Fail> {
     Ok(())
 }
 
+// Asserts how often the hash was asked for since the last time.
 fn was_asked(rt: &impl Abort, calls: &Calls, times: u32) {
     is_equal(rt, &calls.hashes_since(), &times);
 }
 
-// The hash is asked for where a move is played, and not where it is refused.
+// A game asks its board for the hash once where a move is played, and not where one is refused.
 fn is_asked_for_its_hash_once(
     rt: &impl Abort,
     game: &mut Game<ZeroHashBoard<'_>>,
@@ -1260,6 +1312,7 @@ fn is_asked_for_its_hash_once(
     was_asked(rt, calls, 0);
 }
 
+// Plays these moves so.
 fn are_asked_for_their_hashes_once(
     rt: &impl Abort,
     game: &mut Game<ZeroHashBoard<'_>>,
@@ -1271,13 +1324,14 @@ fn are_asked_for_their_hashes_once(
     }
 }
 
+// Takes these moves back, the last one first.
 fn are_taken_back<B: Board>(rt: &impl Abort, game: &mut Game<B>, moves: &[&[u8; 4]]) {
     for squares in moves.iter().rev() {
         is_taken_back(rt, game, squares);
     }
 }
 
-// None of these asks for a hash.
+// What is asked of a game after eight of MOVES: none of it asks for a hash.
 const NOT_ASKED: &[Step] = &[
     Step::Is(State::HasRepetitions(3)),
     Step::Is(State::HasClaims(THREEFOLD)),
@@ -1285,7 +1339,8 @@ const NOT_ASKED: &[Step] = &[
     Step::Is(State::GoesOn),
 ];
 
-// A game keeps the hashes of its positions: each is asked for once, when the position is reached.
+// A game keeps the hashes of its positions: it asks for each once, when the position is reached, and not when moves are
+// taken back.
 #[test]
 fn each_position_is_asked_for_its_hash_once(rt: HostRuntime) -> Result<(), Fail> {
     let calls = Calls::none();
@@ -1302,6 +1357,7 @@ fn each_position_is_asked_for_its_hash_once(rt: HostRuntime) -> Result<(), Fail>
     Ok(())
 }
 
+// Outcomes and their texts.
 const OUTCOMES: [(Outcome, &[u8]); 4] = [
     (Outcome::WhiteWins, b"1-0"),
     (Outcome::BlackWins, b"0-1"),
@@ -1309,6 +1365,7 @@ const OUTCOMES: [(Outcome, &[u8]); 4] = [
     (Outcome::Unfinished, b"*"),
 ];
 
+// Verdicts, the text of the outcome of each, and its comment.
 const VERDICTS: [(Verdict, &[u8], &[u8]); 6] = [
     (Verdict::WhiteMates, b"1-0", b"White mates"),
     (Verdict::BlackMates, b"0-1", b"Black mates"),
@@ -1326,20 +1383,24 @@ const VERDICTS: [(Verdict, &[u8], &[u8]); 6] = [
     (Verdict::SeventyFiveMoves, b"1/2-1/2", b"75-move rule"),
 ];
 
+// Asserts an outcome's text.
 fn outcome_is_written(rt: &impl Abort, outcome: Outcome, text: &[u8]) {
     is_equal(rt, &outcome.text(), &text);
 }
 
+// Does so for each row.
 fn outcomes_are_written(rt: &impl Abort, outcomes: &[(Outcome, &[u8])]) {
     for row in outcomes {
         outcome_is_written(rt, row.0, row.1);
     }
 }
 
+// Asserts a verdict's comment.
 fn verdict_is_written(rt: &impl Abort, verdict: Verdict, comment: &[u8]) {
     is_equal(rt, &verdict.comment(), &comment);
 }
 
+// Asserts, for each row, the text of the verdict's outcome, and its comment.
 fn verdicts_are_written(rt: &impl Abort, verdicts: &[(Verdict, &[u8], &[u8])]) {
     for row in verdicts {
         outcome_is_written(rt, row.0.outcome(), row.1);
@@ -1347,20 +1408,24 @@ fn verdicts_are_written(rt: &impl Abort, verdicts: &[(Verdict, &[u8], &[u8])]) {
     }
 }
 
+// All outcomes and verdicts have their texts.
 #[test]
 fn results_are_written(rt: HostRuntime) {
     outcomes_are_written(&rt, &OUTCOMES);
     verdicts_are_written(&rt, &VERDICTS);
 }
 
+// An outcome, and a verdict in braces, as they are shown.
 fn shown_result(alloc: Global) -> Result<String, Fail> {
     Ok(format!(in alloc; "{} {{{}}}", Outcome::WhiteWins, Verdict::WhiteMates)?)
 }
 
+// A refused move and a missing one, as they are shown.
 fn shown_refusals(alloc: Global) -> Result<String, Fail> {
     Ok(format!(in alloc; "{}, {}", PlayRefusal::Illegal, NoMove)?)
 }
 
+// Outcomes and verdicts are shown by their texts, refusals in words.
 #[test]
 fn results_are_shown(rt: HostRuntime) -> Result<(), Fail> {
     let shown = shown_result(rt.alloc())?;
@@ -1395,12 +1460,14 @@ fn is_cut(rt: &impl Abort, text: &[u8], cut: &[u8]) {
     is_equal_at(rt, text, &Comment::cut(text).as_bytes(), &cut);
 }
 
+// Asserts the comment of each row.
 fn are_cut(rt: &impl Abort, texts: &[(&[u8], &[u8])]) {
     for text in texts {
         is_cut(rt, text.0, text.1);
     }
 }
 
+// Makes a comment of each text.
 #[test]
 fn comments_are_cut(rt: HostRuntime) {
     are_cut(&rt, &CUT);

@@ -1,4 +1,5 @@
-//! Starts on which the board has a verdict: it is the result, also if an engine fails before the first turn.
+//! Starts on which the board has a verdict, such as mate: it is the result, also if an engine fails before the first
+//! turn.
 
 use crate::plays::{
     BOARDS, Listed, On, check_end, ends, is_text, pgn_over, play_over, position_of, setup_of,
@@ -10,8 +11,8 @@ use std::alloc::Global;
 use std::process::Abort;
 use std::test::Fail;
 
-/// A start, what both engines say, the call of White's writer that fails, 0 for none; the end, and what both engines
-/// are sent.
+/// A match from such a start: the start, what both engines say, and which call of White's writer fails (0: none). Then
+/// what comes of it: outcome, comment, the engine that failed and how, and what both engines are sent.
 struct Decided {
     start: &'static [u8],
     white: &'static [u8],
@@ -24,6 +25,7 @@ struct Decided {
     to_black: &'static [u8],
 }
 
+// Engines that fail in the handshake, by a feature that is missing, in the setup, or at a write.
 const DECIDED: &[Decided] = &[
     // Black's output ends in its handshake.
     Decided {
@@ -75,7 +77,7 @@ const DECIDED: &[Decided] = &[
     },
 ];
 
-// Plays the match of a row on such a board, and asserts what comes of it.
+// Plays the match of a row on this board, and asserts what comes of it.
 fn stands(rt: &impl Abort, alloc: Global, on: On, decided: &Decided) -> Result<(), Fail> {
     let start = position_of(rt, Variant::Normal, decided.start);
     let setup = setup_of(rt, b"0 0:10 0", start);
@@ -98,6 +100,7 @@ fn stands(rt: &impl Abort, alloc: Global, on: On, decided: &Decided) -> Result<(
     Ok(())
 }
 
+// Plays each row on both boards.
 #[test]
 fn verdicts_on_the_start_stand(rt: HostRuntime) -> Result<(), Fail> {
     for decided in DECIDED {
@@ -108,9 +111,11 @@ fn verdicts_on_the_start_stand(rt: HostRuntime) -> Result<(), Fail> {
     Ok(())
 }
 
+// The PGN of the first row's game: it has the verdict's result.
 const WRITTEN: &[u8] =
     b"[Event \"?\"]\n[Site \"?\"]\n[Date \"????.??.??\"]\n[Round \"?\"]\n[White \"?\"]\n[Black \"?\"]\n[Result \"1-0\"]\n[FEN \"7k/6Q1/6K1/8/8/8/8/8 b - - 0 1\"]\n[SetUp \"1\"]\n[Termination \"normal\"]\n\n1-0\n\n";
 
+// Plays the match of a row on this board, and asserts the PGN of its game.
 fn writes(rt: &impl Abort, alloc: Global, on: On, decided: &Decided) -> Result<(), Fail> {
     let start = position_of(rt, Variant::Normal, decided.start);
     let setup = setup_of(rt, b"0 0:10 0", start);
@@ -121,6 +126,7 @@ fn writes(rt: &impl Abort, alloc: Global, on: On, decided: &Decided) -> Result<(
     Ok(())
 }
 
+// Does so for the first row on both boards.
 #[test]
 fn a_verdict_on_the_start_in_pgn(rt: HostRuntime) -> Result<(), Fail> {
     for on in BOARDS {

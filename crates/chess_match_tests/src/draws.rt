@@ -1,4 +1,5 @@
-//! Draws by threefold repetition and by 50 moves, which must be claimed or end the game by themselves.
+//! Draws by threefold repetition and by 50 moves, which a side must claim (`Draws::Claimed`) or which end the game by
+//! themselves (`Draws::Automatic`).
 
 use crate::plays::{
     BOARDS, Listed, On, check_end, ends, is_text, play_over, position_of, setup_of,
@@ -10,7 +11,8 @@ use std::alloc::Global;
 use std::process::Abort;
 use std::test::Fail;
 
-/// A start, what both engines say, and how a match with such draws ends, after how many half-moves.
+/// A match: its start, what both engines say, and its kind of draws. Then how it ends: outcome, comment, and after how
+/// many half-moves.
 struct DrawRow {
     start: &'static [u8],
     white: &'static [u8],
@@ -21,23 +23,25 @@ struct DrawRow {
     moves: usize,
 }
 
+// The FEN of the initial position.
 const INITIAL: &[u8] = b"rnbqkbnr/pppppppp/8/8/8/8/PPPPPPPP/RNBQKBNR w KQkq - 0 1";
 
-// White's knight goes out and back twice, then White resigns.
+// White's knight goes out and back twice, and then White resigns.
 const WHITE_KNIGHT: &[u8] =
     b"feature ping=1 setboard=1 done=1\npong 1\nmove g1f3\npong 2\nmove f3g1\npong 3\nmove g1f3\npong 4\nmove f3g1\npong 5\nresign\n";
 
-// Black's knight does too.
+// Black's knight goes out and back twice.
 const BLACK_KNIGHT: &[u8] =
     b"feature ping=1 setboard=1 done=1\npong 1\nmove g8f6\npong 2\nmove f6g8\npong 3\nmove g8f6\npong 4\nmove f6g8\npong 5\n";
 
-// A rook and a king that move to and fro, without a position for the third time.
+// White's rook and Black's king move so that no position comes for the third time; then White resigns.
 const WHITE_ROOK: &[u8] =
     b"feature ping=1 setboard=1 done=1\npong 1\nmove a2a3\npong 2\nmove a3a4\npong 3\nresign\n";
 
 const BLACK_KING: &[u8] =
     b"feature ping=1 setboard=1 done=1\npong 1\nmove h8g8\npong 2\nmove g8h8\npong 3\n";
 
+// Lines of play just at a limit or just before it, with both kinds of draws.
 const ROWS: &[DrawRow] = &[
     // The initial position is there for the third time after 8 half-moves, for the second time after 4.
     DrawRow {
@@ -118,7 +122,7 @@ const ROWS: &[DrawRow] = &[
     },
 ];
 
-// The setup of a row.
+// The setup of a row's match: its start and its kind of draws, with ten seconds for each side.
 fn setup_for(rt: &impl Abort, row: &DrawRow) -> Setup {
     let start = position_of(rt, Variant::Normal, row.start);
     let mut setup = setup_of(rt, b"0 0:10 0", start);
@@ -126,7 +130,7 @@ fn setup_for(rt: &impl Abort, row: &DrawRow) -> Setup {
     setup
 }
 
-// Plays the match of a row on such a board, and asserts how it ends.
+// Plays the match of a row on this board, and asserts how it ends.
 fn ends_so(rt: &impl Abort, alloc: Global, on: On, row: &DrawRow) -> Result<(), Fail> {
     let setup = setup_for(rt, row);
     let mut white = ends(alloc, row.white, 1024, 0, 0);
@@ -138,6 +142,7 @@ fn ends_so(rt: &impl Abort, alloc: Global, on: On, row: &DrawRow) -> Result<(), 
     Ok(())
 }
 
+// Plays each row on both boards.
 #[test]
 fn draws_that_need_a_claim_or_none(rt: HostRuntime) -> Result<(), Fail> {
     for row in ROWS {
@@ -148,13 +153,15 @@ fn draws_that_need_a_claim_or_none(rt: HostRuntime) -> Result<(), Fail> {
     Ok(())
 }
 
-// What both are sent of the first row: White still gets the last move, and Black no ping for it.
+// What both are sent in the first row's match: White still gets the move by which the game is drawn, and Black no ping
+// for it.
 const TO_WHITE: &[u8] =
     b"xboard\nprotover 2\naccepted ping\naccepted setboard\naccepted done\nnew\nlevel 0 0:10 0\nnopost\neasy\nforce\nping 1\ntime 1000\notim 1000\ngo\nping 2\ntime 1000\notim 1000\ng8f6\nping 3\ntime 1000\notim 1000\nf6g8\nping 4\ntime 1000\notim 1000\ng8f6\nping 5\nf6g8\nresult 1/2-1/2 {Threefold repetition}\nquit\n";
 
 const TO_BLACK: &[u8] =
     b"xboard\nprotover 2\naccepted ping\naccepted setboard\naccepted done\nnew\nlevel 0 0:10 0\nnopost\neasy\nforce\nping 1\ng1f3\ntime 1000\notim 1000\ngo\nping 2\ntime 1000\notim 1000\nf3g1\nping 3\ntime 1000\notim 1000\ng1f3\nping 4\ntime 1000\notim 1000\nf3g1\nresult 1/2-1/2 {Threefold repetition}\nquit\n";
 
+// Plays that match, and compares what both were sent.
 #[test]
 fn lines_of_an_automatic_draw(rt: HostRuntime) -> Result<(), Fail> {
     let setup = setup_for(&rt, &ROWS[0]);

@@ -1,3 +1,6 @@
+//! Matches of which each line is known: what both engines say, when, and what they are sent; also over devices that
+//! fail, and in which order blocks are flushed and the clock is read.
+
 use crate::plays::{
     BOARDS, Listed, On, TestEnds, check_end, ends, is_text, play_over, position_of, setup_of,
 };
@@ -11,8 +14,8 @@ use std::io::{Error, ErrorKind, Read, Write};
 use std::process::Abort;
 use std::test::Fail;
 
-/// A match: its level and start, how many half-moves there is room for, what the engines say, the moments, and what the
-/// engines are sent.
+/// A match: its level, its start as a FEN (empty: the initial position), for how many half-moves there is room, what
+/// the engines say, the moments of the clock, and what the engines are sent.
 #[derive(Clone, Copy)]
 pub struct Row {
     pub level: &'static [u8],
@@ -25,14 +28,14 @@ pub struct Row {
     pub to_black: &'static [u8],
 }
 
-// What both are sent in the first match; Black also where the end lines to White fail.
+// What both engines are sent in fool's mate, the first match; Black is sent the same where the end lines to White fail.
 const MATE_TO_WHITE: &[u8] =
     b"xboard\nprotover 2\naccepted ping\naccepted usermove\naccepted done\nnew\nlevel 0 0:10 0\nnopost\neasy\nforce\nping 1\ntime 1000\notim 1000\ngo\nping 2\ntime 1000\notim 1000\nusermove e7e5\nping 3\nusermove d8h4\nresult 0-1 {Black mates}\nquit\n";
 
 const MATE_TO_BLACK: &[u8] =
     b"xboard\nprotover 2\naccepted ping\naccepted done\nnew\nlevel 0 0:10 0\nnopost\neasy\nforce\nping 1\nf2f3\ntime 1000\notim 1000\ngo\nping 2\ntime 1000\notim 1000\ng2g4\nresult 0-1 {Black mates}\nquit\n";
 
-/// Fool's mate in ten seconds each.
+/// Fool's mate, with ten seconds for each side.
 pub const FOOLS_MATE: Row = Row {
     level: b"0 0:10 0",
     start: b"",
@@ -44,6 +47,7 @@ pub const FOOLS_MATE: Row = Row {
     to_black: MATE_TO_BLACK,
 };
 
+// That match, and others that end otherwise or use time.
 const ROWS: &[Row] = &[
     FOOLS_MATE,
     Row {
@@ -176,7 +180,7 @@ const ROWS: &[Row] = &[
     },
 ];
 
-// What two engines were sent.
+// Asserts what two engines were sent.
 fn are_sent(
     rt: &impl Abort,
     white: &TestEnds<'_>,
@@ -198,7 +202,8 @@ fn are_sent(
     );
 }
 
-/// Calls of the devices that fail in the first match, 0 for none: the end, and what both engines are sent.
+/// Failures in the first match: which call of White's reader, of White's writer and of Black's writer fails (0: none).
+/// Then its outcome, comment and fault, and what both engines are sent.
 struct Broken {
     white_read: u64,
     white_write: u64,
@@ -210,6 +215,7 @@ struct Broken {
     to_black: &'static [u8],
 }
 
+// A device fails at its first call, in the middle, or at the end lines.
 const BROKEN: &[Broken] = &[
     Broken {
         white_read: 1,
@@ -265,7 +271,7 @@ const BROKEN: &[Broken] = &[
     },
 ];
 
-// Plays the first match over devices that fail so.
+// Plays the first match on this board with the failures of a row, and asserts what comes of it.
 fn breaks(rt: &impl Abort, alloc: Global, on: On, broken: &Broken) -> Result<(), Fail> {
     let row = &FOOLS_MATE;
     let setup = setup_of(rt, row.level, Position::initial());
@@ -292,6 +298,7 @@ fn breaks(rt: &impl Abort, alloc: Global, on: On, broken: &Broken) -> Result<(),
     Ok(())
 }
 
+// Plays each row on both boards.
 #[test]
 fn devices_that_fail(rt: HostRuntime) -> Result<(), Fail> {
     for broken in BROKEN {
@@ -302,7 +309,7 @@ fn devices_that_fail(rt: HostRuntime) -> Result<(), Fail> {
     Ok(())
 }
 
-// The position of a FEN; of none, the initial one.
+// The position of a FEN, or the initial one if the FEN is empty.
 fn start_of(rt: &impl Abort, fen: &[u8]) -> Position {
     if fen.is_empty() {
         return Position::initial();
@@ -310,8 +317,8 @@ fn start_of(rt: &impl Abort, fen: &[u8]) -> Position {
     position_of(rt, Variant::Normal, fen)
 }
 
-// Plays the match of a row on such a board, where the lines of the engines come in pieces of so many bytes: both are
-// sent what the row says.
+// Plays the match of a row on this board, where each read gives at most `cut` bytes of what an engine says, and asserts
+// what both are sent.
 fn check(rt: &impl Abort, alloc: Global, on: On, row: &Row, cut: usize) -> Result<(), Fail> {
     let setup = setup_of(rt, row.level, start_of(rt, row.start));
     let mut white = ends(alloc, row.white, cut, 0, 0);
@@ -330,9 +337,10 @@ fn check(rt: &impl Abort, alloc: Global, on: On, row: &Row, cut: usize) -> Resul
     Ok(())
 }
 
+// How many bytes a read gives at most.
 const CUTS: &[usize] = &[1, 7, 1024];
 
-/// The same on both boards, in pieces of each of some lengths.
+/// The same on both boards and with reads of several lengths.
 pub fn check_cuts(rt: &impl Abort, alloc: Global, row: &Row) -> Result<(), Fail> {
     for cut in CUTS {
         for on in BOARDS {
@@ -342,6 +350,7 @@ pub fn check_cuts(rt: &impl Abort, alloc: Global, row: &Row) -> Result<(), Fail>
     Ok(())
 }
 
+// Plays each row.
 #[test]
 fn worked_matches(rt: HostRuntime) -> Result<(), Fail> {
     for row in ROWS {
@@ -350,7 +359,8 @@ fn worked_matches(rt: HostRuntime) -> Result<(), Fail> {
     Ok(())
 }
 
-/// What two engines' devices see of one another: how many lines were flushed to each, and how many were read.
+/// What the devices of two engines count together: how many lines were flushed to each, and how many were read from
+/// both.
 #[derive(Drop)]
 struct Shared {
     white: Cell<u64>,
@@ -359,6 +369,7 @@ struct Shared {
 }
 
 impl Shared {
+    // The count of the lines that were flushed to this side.
     fn flushed(&self, side: Colour) -> &Cell<u64> {
         match side {
             Colour::White => &self.white,
@@ -367,7 +378,8 @@ impl Shared {
     }
 }
 
-/// Gives one line at a call, where so many lines were flushed; it counts its reads with the other engine's.
+/// An engine's output. Each line has a number, and is given by one read, which fails unless that many lines were
+/// flushed to the engine before. The reads of both engines are counted together.
 #[derive(Drop)]
 struct Scripted<'a> {
     lines: &'static [(u64, &'static [u8])],
@@ -410,7 +422,7 @@ fn line_count(text: &[u8]) -> u64 {
     count
 }
 
-/// Takes all bytes, and reports at a flush how many lines it took.
+/// An engine's input. It takes all bytes, and a flush notes how many lines it has taken by then.
 #[derive(Drop)]
 struct Flushed<'a> {
     bytes: Vec<u8>,
@@ -436,8 +448,8 @@ impl Write for Flushed<'_> {
     }
 }
 
-/// A second for each read of a line, and for each line that was flushed: so a moment that is asked for before the line
-/// that it follows is read, or before its opening is flushed, is an earlier one.
+/// A clock that goes on by a second with each line that is read and each that is flushed. So if it is read too early,
+/// before a line was read or a block was flushed, it shows too little.
 #[derive(Drop)]
 struct Ticks<'a> {
     shared: &'a Shared,
@@ -459,6 +471,7 @@ impl Moments for Ticks<'_> {
     }
 }
 
+// What each engine says, each line with the number of lines that must have been flushed to the engine before it.
 const WHITE_SAYS: [(u64, &'static [u8]); 6] = [
     (2, b"feature ping=1 usermove=1 done=1\n"),
     (11, b"pong 1\n"),
@@ -476,9 +489,10 @@ const BLACK_SAYS: [(u64, &'static [u8]); 5] = [
     (18, b"move d8h4\n"),
 ];
 
+// An engine of such devices.
 type ScriptedEnds<'a> = Ends<Counted<Scripted<'a>>, Counted<Flushed<'a>>>;
 
-// An engine that says these lines, each in its time.
+// An engine of this side that says these lines, each once it has been sent enough.
 fn scripted_ends<'a>(
     alloc: Global,
     lines: &'static [(u64, &'static [u8])],
@@ -499,6 +513,8 @@ fn scripted_ends<'a>(
     }
 }
 
+// Plays fool's mate between such engines. The times that both are sent show that the clock was read after each line and
+// after each flush of an opening, and no read fails.
 #[test]
 fn blocks_are_flushed_and_moments_asked_in_time(rt: HostRuntime) -> Result<(), Fail> {
     let shared = Shared {

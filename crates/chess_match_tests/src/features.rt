@@ -1,8 +1,9 @@
-//! Engines with other features, and ends that the first matches don't show.
+//! Engines with other features than those of the first matches, and other ends.
 
 use crate::engines::{Row, check_cuts};
 use std::test::Fail;
 
+// Matches, and what both engines are sent in them.
 const ROWS: &[Row] = &[
     // Both take moves in SAN; White with `usermove` before them.
     Row {
@@ -83,6 +84,7 @@ const ROWS: &[Row] = &[
     },
 ];
 
+// Plays each row on both boards and with reads of several lengths.
 #[test]
 fn other_features_and_ends(rt: HostRuntime) -> Result<(), Fail> {
     for row in ROWS {

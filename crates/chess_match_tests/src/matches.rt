@@ -1,4 +1,5 @@
-//! Engines that flood or fail, Chess960, and what is reported of an end.
+//! Matches that end in other ways: by floods and long lines, by reads and writes that fail, by features that are
+//! missing in Chess960; and the order of the end lines.
 
 use crate::plays::{
     BOARDS, Listed, On, check_end, ends, is_text, play_over, position_of, setup_of,
@@ -13,7 +14,8 @@ use std::io::Write;
 use std::process::Abort;
 use std::test::Fail;
 
-/// What two engines say, the calls of their readers and writers that fail, 0 for none, and the moments.
+/// What a match gets: what both engines say, which calls of their readers and writers fail (0: none), and the moments
+/// of the clock.
 #[derive(Clone, Copy)]
 struct MatchInput<'a> {
     white: &'a [u8],
@@ -26,6 +28,7 @@ struct MatchInput<'a> {
 }
 
 impl<'a> MatchInput<'a> {
+    // Engines that say this, over devices that don't fail, while the clock stays at 0.
     fn of(white: &'a [u8], black: &'a [u8]) -> Self {
         MatchInput {
             white,
@@ -39,7 +42,7 @@ impl<'a> MatchInput<'a> {
     }
 }
 
-/// What came of a match.
+/// What came of a match: its end, what both engines were sent, and how many half-moves the game has.
 #[derive(Drop)]
 struct Played {
     end: MatchEnd,
@@ -48,6 +51,7 @@ struct Played {
     moves: usize,
 }
 
+// Plays a match of ten seconds for each side from this start on this board.
 fn play(
     rt: &impl Abort,
     alloc: Global,
@@ -70,7 +74,8 @@ fn play(
     })
 }
 
-/// How a match ends.
+/// How a match ends: outcome, comment, the kind of end that its PGN names, and which engine failed in which way, if one
+/// did.
 struct Ending {
     outcome: Outcome,
     comment: &'static [u8],
@@ -78,6 +83,7 @@ struct Ending {
     fault: Option<(Colour, MatchFault)>,
 }
 
+// Asserts that a match ended so.
 fn is_end(rt: &impl Abort, played: &Played, ending: &Ending) {
     check_end(
         rt,
@@ -89,12 +95,12 @@ fn is_end(rt: &impl Abort, played: &Played, ending: &Ending) {
     assert_eq!(rt; played.end.ended, ending.ended);
 }
 
-// So many half-moves are current.
+// Asserts that a game has so many half-moves.
 fn is_number(rt: &impl Abort, moves: usize, wanted: usize) {
     assert_eq!(rt; moves, wanted, "half-moves");
 }
 
-// Plays a match from the initial position on such a board, which ends so, with so many current half-moves.
+// Plays a match from the initial position on this board, and asserts how it ends, and with how many half-moves.
 fn ends_so_on(
     rt: &impl Abort,
     alloc: Global,
@@ -109,7 +115,7 @@ fn ends_so_on(
     Ok(())
 }
 
-// The same on each board.
+// The same on both boards.
 fn ends_so(
     rt: &impl Abort,
     alloc: Global,
@@ -123,7 +129,7 @@ fn ends_so(
     Ok(())
 }
 
-// These texts, each so many times, one after the other.
+// These texts one after another, each as often as its number says.
 fn repeated(alloc: Global, parts: &[(&[u8], usize)]) -> Result<Vec<u8>, Fail> {
     let mut text = Vec::new(alloc);
     for (part, count) in parts {
@@ -134,9 +140,11 @@ fn repeated(alloc: Global, parts: &[(&[u8], usize)]) -> Result<Vec<u8>, Fail> {
     Ok(text)
 }
 
+// What Black says in most matches: its half of fool's mate.
 const BLACK: &[u8] =
     b"feature ping=1 myname=\"second\" done=1\npong 1\nmove e7e5\npong 2\nmove d8h4\n";
 
+// The end of fool's mate.
 const BLACK_MATES: Ending = Ending {
     outcome: Outcome::BlackWins,
     comment: b"Black mates",
@@ -144,6 +152,7 @@ const BLACK_MATES: Ending = Ending {
     fault: None,
 };
 
+// The end where White says `resign`.
 const WHITE_RESIGNS: Ending = Ending {
     outcome: Outcome::BlackWins,
     comment: b"White resigns",
@@ -151,6 +160,7 @@ const WHITE_RESIGNS: Ending = Ending {
     fault: None,
 };
 
+// Plays fool's mate between engines with names on this board: the end has both names.
 fn mates_with_names(rt: &impl Abort, alloc: Global, on: On) -> Result<(), Fail> {
     let input = MatchInput::of(
         b"feature ping=1 usermove=1 myname=\"first\" done=1\npong 1\nmove f2f3\npong 2\nmove g2g4\npong 3\n",
@@ -164,6 +174,7 @@ fn mates_with_names(rt: &impl Abort, alloc: Global, on: On) -> Result<(), Fail> 
     Ok(())
 }
 
+// Does so on both boards.
 #[test]
 fn mate_and_names(rt: HostRuntime) -> Result<(), Fail> {
     for on in BOARDS {
@@ -172,6 +183,7 @@ fn mate_and_names(rt: HostRuntime) -> Result<(), Fail> {
     Ok(())
 }
 
+// The end by an illegal first move.
 const ILLEGAL: Ending = Ending {
     outcome: Outcome::BlackWins,
     comment: b"White makes an illegal move",
@@ -179,6 +191,7 @@ const ILLEGAL: Ending = Ending {
     fault: None,
 };
 
+// The end by a move of White that comes too late.
 const LATE: Ending = Ending {
     outcome: Outcome::BlackWins,
     comment: b"White forfeits on time",
@@ -186,6 +199,7 @@ const LATE: Ending = Ending {
     fault: None,
 };
 
+// White moves illegally, and then, in another match, 10,001 ms after its turn began.
 #[test]
 fn kinds_of_ends(rt: HostRuntime) -> Result<(), Fail> {
     let illegal = MatchInput::of(b"feature ping=1 done=1\npong 1\nmove e2e5\n", BLACK);
@@ -195,6 +209,7 @@ fn kinds_of_ends(rt: HostRuntime) -> Result<(), Fail> {
     ends_so(&rt, rt.alloc(), &late, &LATE, 0)
 }
 
+// The end where White's handshake has too many lines.
 const NO_DONE: Ending = Ending {
     outcome: Outcome::Unfinished,
     comment: b"White did not send done=1",
@@ -202,12 +217,13 @@ const NO_DONE: Ending = Ending {
     fault: Some((Colour::White, MatchFault::NoDone)),
 };
 
-// White's text after so many lines `x`.
+// White's half of fool's mate after `count` lines `x`.
 fn white_after_lines(alloc: Global, count: usize) -> Result<Vec<u8>, Fail> {
     repeated(alloc, &[(b"x\n", count), (WHITE, 1)])
 }
 
-// 999 lines before the handshake change nothing in a game to its mate.
+// 999 lines before the handshake are ignored: the match ends by its mate, and both engines are sent what they are sent
+// without them.
 fn long_handshake_on(rt: &impl Abort, alloc: Global, on: On) -> Result<(), Fail> {
     let start = Position::initial();
     let white = white_after_lines(alloc, 999)?;
@@ -235,6 +251,7 @@ fn long_handshake_on(rt: &impl Abort, alloc: Global, on: On) -> Result<(), Fail>
     Ok(())
 }
 
+// With 999 lines the handshake is awaited, with 1,000 the match ends without it.
 #[test]
 fn handshakes_of_many_lines(rt: HostRuntime) -> Result<(), Fail> {
     for on in BOARDS {
@@ -245,6 +262,7 @@ fn handshakes_of_many_lines(rt: HostRuntime) -> Result<(), Fail> {
     ends_so(&rt, rt.alloc(), &input, &NO_DONE, 0)
 }
 
+// The end where White sends too many lines in its turn.
 const FLOOD: Ending = Ending {
     outcome: Outcome::Unfinished,
     comment: b"White sent too many lines",
@@ -252,7 +270,7 @@ const FLOOD: Ending = Ending {
     fault: Some((Colour::White, MatchFault::Flood)),
 };
 
-// A text after 9,999 lines `x`.
+// White sends 9,999 lines `x` in its turn, and then `back`: the match ends so, after one half-move.
 fn flood(rt: &impl Abort, alloc: Global, on: On, back: &[u8], ending: &Ending) -> Result<(), Fail> {
     let front = b"feature ping=1 done=1\npong 1\n".as_slice();
     let white = repeated(alloc, &[(front, 1), (b"x\n", 9999), (back, 1)])?;
@@ -260,29 +278,32 @@ fn flood(rt: &impl Abort, alloc: Global, on: On, back: &[u8], ending: &Ending) -
     ends_so_on(rt, alloc, on, &input, ending, 1)
 }
 
-// The move after them is taken; with one more line there are too many.
+// The move after these lines is the 10,000th and is taken. With one more line before the `pong` there are too many.
 fn floods_on(rt: &impl Abort, alloc: Global, on: On) -> Result<(), Fail> {
     flood(rt, alloc, on, b"move f2f3\nresign\n", &WHITE_RESIGNS)?;
     flood(rt, alloc, on, b"move f2f3\nx\npong 2\n", &FLOOD)
 }
 
+// On the plain board.
 #[test]
 fn floods(rt: HostRuntime) -> Result<(), Fail> {
     floods_on(&rt, rt.alloc(), On::Plain)
 }
 
+// On the board of bit sets.
 #[test]
 fn floods_on_sets_of_squares(rt: HostRuntime) -> Result<(), Fail> {
     floods_on(&rt, rt.alloc(), On::Bits)
 }
 
-// What White says, with a move of 8,193 bytes, as parts and how often each is repeated.
+// What White says, as parts for `repeated`: its move is on a line of 8,193 bytes.
 const LONG_LINE: &[(&[u8], usize)] = &[
     (b"feature ping=1 done=1\npong 1\nmove f2f3", 1),
     (b" ", 8184),
     (b"\nresign\n", 1),
 ];
 
+// The line is ignored, so no move is played before White resigns.
 #[test]
 fn lines_that_are_too_long(rt: HostRuntime) -> Result<(), Fail> {
     let white = repeated(rt.alloc(), LONG_LINE)?;
@@ -290,6 +311,7 @@ fn lines_that_are_too_long(rt: HostRuntime) -> Result<(), Fail> {
     ends_so(&rt, rt.alloc(), &input, &WHITE_RESIGNS, 0)
 }
 
+// The end where White ends its output.
 const OUTPUT_ENDED: Ending = Ending {
     outcome: Outcome::Unfinished,
     comment: b"White ended its output",
@@ -297,6 +319,7 @@ const OUTPUT_ENDED: Ending = Ending {
     fault: Some((Colour::White, MatchFault::Ended)),
 };
 
+// White's output ends in the middle of its second move: the part of a line isn't read as a move.
 #[test]
 fn outputs_that_end(rt: HostRuntime) -> Result<(), Fail> {
     let input = MatchInput::of(
@@ -306,9 +329,11 @@ fn outputs_that_end(rt: HostRuntime) -> Result<(), Fail> {
     ends_so(&rt, rt.alloc(), &input, &OUTPUT_ENDED, 2)
 }
 
+// What White says in a match of Chess960: it castles on the queen's side.
 const CASTLES: &[u8] =
     b"feature ping=1 setboard=1 usermove=1 variants=\"normal,fischerandom\" done=1\npong 1\nmove O-O-O\npong 2\n";
 
+// The start of that match.
 fn castling_start(rt: &impl Abort) -> Position {
     position_of(
         rt,
@@ -317,6 +342,7 @@ fn castling_start(rt: &impl Abort) -> Position {
     )
 }
 
+// The end where Black says `resign`.
 const BLACK_RESIGNS: Ending = Ending {
     outcome: Outcome::WhiteWins,
     comment: b"Black resigns",
@@ -324,6 +350,7 @@ const BLACK_RESIGNS: Ending = Ending {
     fault: None,
 };
 
+// Plays that match on this board, in which Black resigns, and asserts what both engines are sent.
 fn castles(rt: &impl Abort, alloc: Global, on: On) -> Result<(), Fail> {
     let input = MatchInput::of(
         CASTLES,
@@ -346,6 +373,7 @@ fn castles(rt: &impl Abort, alloc: Global, on: On) -> Result<(), Fail> {
     Ok(())
 }
 
+// Does so on both boards.
 #[test]
 fn a_match_of_chess960(rt: HostRuntime) -> Result<(), Fail> {
     for on in BOARDS {
@@ -354,6 +382,7 @@ fn a_match_of_chess960(rt: HostRuntime) -> Result<(), Fail> {
     Ok(())
 }
 
+// The end where Black's `variants` has no Chess960.
 const NO_VARIANT: Ending = Ending {
     outcome: Outcome::Unfinished,
     comment: b"Black has no fischerandom",
@@ -361,6 +390,7 @@ const NO_VARIANT: Ending = Ending {
     fault: Some((Colour::Black, MatchFault::NoVariant)),
 };
 
+// The end where Black can't be sent a start.
 const NO_SETBOARD: Ending = Ending {
     outcome: Outcome::Unfinished,
     comment: b"Black has no setboard",
@@ -368,6 +398,8 @@ const NO_SETBOARD: Ending = Ending {
     fault: Some((Colour::Black, MatchFault::NoSetboard)),
 };
 
+// Handshakes of Black, and how each ends a match of Chess960. A missing `setboard` is reported before a missing
+// variant.
 const UNFIT: &[(&[u8], Ending)] = &[
     (
         b"feature ping=1 setboard=1 variants=\"normal, suicide\" done=1\n",
@@ -376,7 +408,7 @@ const UNFIT: &[(&[u8], Ending)] = &[
     (b"feature ping=1 variants=\"normal\" done=1\n", NO_SETBOARD),
 ];
 
-// In a match of Chess960 on such a board, Black's handshake ends it so.
+// Plays the match of Chess960 on this board with this handshake of Black, and asserts its end.
 fn is_unfit(
     rt: &impl Abort,
     alloc: Global,
@@ -390,6 +422,7 @@ fn is_unfit(
     Ok(())
 }
 
+// Plays each row on both boards.
 #[test]
 fn engines_without_chess960(rt: HostRuntime) -> Result<(), Fail> {
     for (black, ending) in UNFIT {
@@ -400,10 +433,11 @@ fn engines_without_chess960(rt: HostRuntime) -> Result<(), Fail> {
     Ok(())
 }
 
+// What White says in most matches: its half of fool's mate.
 const WHITE: &[u8] =
     b"feature ping=1 usermove=1 done=1\npong 1\nmove f2f3\npong 2\nmove g2g4\npong 3\n";
 
-// Whether a text is a beginning of another, and then an end of one line, `quit` after it.
+// Whether a text is a beginning of `whole`, followed by `end`.
 fn is_cut_off(text: &[u8], whole: &[u8], end: &[u8]) -> bool {
     if text.len() < end.len() {
         return false;
@@ -412,10 +446,12 @@ fn is_cut_off(text: &[u8], whole: &[u8], end: &[u8]) -> bool {
     &text[front..] == end && is_beginning(&text[..front], whole)
 }
 
+// Whether a text is a beginning of `whole`.
 fn is_beginning(text: &[u8], whole: &[u8]) -> bool {
     text.len() <= whole.len() && text == &whole[..text.len()]
 }
 
+// The end where White can't be read.
 const WHITE_UNREAD: Ending = Ending {
     outcome: Outcome::Unfinished,
     comment: b"White can not be read",
@@ -423,6 +459,7 @@ const WHITE_UNREAD: Ending = Ending {
     fault: Some((Colour::White, MatchFault::Read)),
 };
 
+// The end where Black can't be read.
 const BLACK_UNREAD: Ending = Ending {
     outcome: Outcome::Unfinished,
     comment: b"Black can not be read",
@@ -430,7 +467,7 @@ const BLACK_UNREAD: Ending = Ending {
     fault: Some((Colour::Black, MatchFault::Read)),
 };
 
-// A game to its mate, in which this call of that side's reader fails.
+// Fool's mate, where this call of that side's reader fails.
 fn unread(side: Colour, call: u64) -> MatchInput<'static> {
     let mut input = MatchInput::of(WHITE, BLACK);
     match side {
@@ -440,7 +477,8 @@ fn unread(side: Colour, call: u64) -> MatchInput<'static> {
     input
 }
 
-// What comes of a read that failed: its end, and White is sent a beginning of the whole match and the end lines.
+// Asserts what comes of a failed read: the end that names that side; and if it is White, then White was sent a
+// beginning of what it is sent in the whole match, and the end lines.
 fn is_unread(rt: &impl Abort, side: Colour, played: &Played, whole: &Played) {
     match side {
         Colour::White => {
@@ -457,7 +495,8 @@ fn is_unread(rt: &impl Abort, side: Colour, played: &Played, whole: &Played) {
     }
 }
 
-// Each read of a side fails in turn, until the match ends without a fault: the number of the last that failed.
+// Lets the reads of a side fail in turn, until the match ends without a fault, and gives the number of the last one
+// that failed.
 fn unread_calls(rt: &impl Abort, alloc: Global, on: On, side: Colour) -> Result<u64, Fail> {
     let whole = play(
         rt,
@@ -478,6 +517,7 @@ fn unread_calls(rt: &impl Abort, alloc: Global, on: On, side: Colour) -> Result<
     Ok(failures)
 }
 
+// Does so for both sides on both boards: each side is read more than five times.
 #[test]
 fn reads_that_fail_in_turn(rt: HostRuntime) -> Result<(), Fail> {
     for on in BOARDS {
@@ -488,6 +528,7 @@ fn reads_that_fail_in_turn(rt: HostRuntime) -> Result<(), Fail> {
     Ok(())
 }
 
+// The end where White can't be written, before the game has ended.
 const WHITE_UNWRITTEN: Ending = Ending {
     outcome: Outcome::Unfinished,
     comment: b"White can not be written",
@@ -495,6 +536,7 @@ const WHITE_UNWRITTEN: Ending = Ending {
     fault: Some((Colour::White, MatchFault::Write)),
 };
 
+// The end where it is the end lines to White that can't be written: the mate stays the result.
 const MATE_UNWRITTEN: Ending = Ending {
     outcome: Outcome::BlackWins,
     comment: b"Black mates",
@@ -502,6 +544,7 @@ const MATE_UNWRITTEN: Ending = Ending {
     fault: Some((Colour::White, MatchFault::Write)),
 };
 
+// The same two ends where Black can't be written.
 const BLACK_UNWRITTEN: Ending = Ending {
     outcome: Outcome::Unfinished,
     comment: b"Black can not be written",
@@ -516,7 +559,7 @@ const MATE_UNWRITTEN_TO_BLACK: Ending = Ending {
     fault: Some((Colour::Black, MatchFault::Write)),
 };
 
-// What White is sent in the match to its mate, block by block.
+// What White is sent in fool's mate, block by block.
 const BLOCKS_TO_WHITE: &[&[u8]] = &[
     b"xboard\nprotover 2\n",
     b"accepted ping\naccepted usermove\naccepted done\n",
@@ -528,7 +571,7 @@ const BLOCKS_TO_WHITE: &[&[u8]] = &[
     b"usermove d8h4\nresult 0-1 {Black mates}\nquit\n",
 ];
 
-// And what Black is sent.
+// What Black is sent in it, block by block.
 const BLOCKS_TO_BLACK: &[&[u8]] = &[
     b"xboard\nprotover 2\n",
     b"accepted ping\naccepted myname\naccepted done\n",
@@ -539,12 +582,14 @@ const BLOCKS_TO_BLACK: &[&[u8]] = &[
     b"result 0-1 {Black mates}\nquit\n",
 ];
 
+// The end lines to one engine where the other one can't be written.
 const TO_WHITE_AT_THE_END: &[u8] = b"result * {Black can not be written}\nquit\n";
 
 const TO_BLACK_AT_THE_END: &[u8] = b"result * {White can not be written}\nquit\n";
 
-// Where each of White's blocks fails: how many blocks Black is sent, and then what. A block that is due to it after
-// White's isn't sent; a move that it wasn't sent is.
+// What Black is sent where one of White's blocks fails, a row for each of these blocks: how many of Black's blocks,
+// then a move or nothing, then the end lines. A block to Black at the same event that would come after White's isn't
+// sent; but a move of White that Black doesn't know yet is.
 const BESIDE_WHITE: &[(usize, &[u8], &[u8])] = &[
     (0, b"", TO_BLACK_AT_THE_END),
     (0, b"", TO_BLACK_AT_THE_END),
@@ -556,7 +601,7 @@ const BESIDE_WHITE: &[(usize, &[u8], &[u8])] = &[
     (7, b"", b""),
 ];
 
-// Where each of Black's blocks fails: the same of White.
+// The same with the sides exchanged.
 const BESIDE_BLACK: &[(usize, &[u8], &[u8])] = &[
     (2, b"", TO_WHITE_AT_THE_END),
     (2, b"", TO_WHITE_AT_THE_END),
@@ -567,7 +612,7 @@ const BESIDE_BLACK: &[(usize, &[u8], &[u8])] = &[
     (8, b"", b""),
 ];
 
-// A text is so many of these blocks, and then two more texts.
+// Asserts that a text is the first `count` of these blocks, then `more`, and then `end`. A failure shows `name`.
 fn is_blocks(
     rt: &impl Abort,
     name: &str,
@@ -585,7 +630,7 @@ fn is_blocks(
     is_text(rt, name, rest, end);
 }
 
-// What follows that front.
+// What follows `front` in a text, which must begin with it.
 fn rest_after<'a>(rt: &impl Abort, name: &str, text: &'a [u8], front: &[u8]) -> &'a [u8] {
     match text.strip_prefix(front) {
         Some(rest) => rest,
@@ -593,7 +638,9 @@ fn rest_after<'a>(rt: &impl Abort, name: &str, text: &'a [u8], front: &[u8]) -> 
     }
 }
 
-// White's block with that number, from 0 on, fails: at its write, or at its flush, by which all of it was taken.
+// Lets White's block of this number, counted from 0, fail: at its write, or at its flush, before which all of it was
+// taken. Asserts the end, that White was sent the blocks that were taken and nothing more, and that Black was sent
+// `beside`.
 fn is_unwritten_to_white(
     rt: &impl Abort,
     alloc: Global,
@@ -633,7 +680,7 @@ fn is_unwritten_to_white(
     Ok(())
 }
 
-// The same of Black's block.
+// The same with the sides exchanged.
 fn is_unwritten_to_black(
     rt: &impl Abort,
     alloc: Global,
@@ -673,16 +720,18 @@ fn is_unwritten_to_black(
     Ok(())
 }
 
-// The number of the call by which that block is written, or flushed: each block is one of both.
+// The number of a writer's call by which the block of this number is written or flushed. Each block is one write and
+// one flush.
 fn call_of(number: usize, flush: bool) -> u64 {
     (2 * number.min(100) + 1) as u64 + u64::from(flush)
 }
 
-// How many blocks were taken where that one fails.
+// How many blocks a writer took if that call of the block of this number fails.
 fn blocks_taken(number: usize, flush: bool) -> usize {
     number.min(100) + usize::from(flush)
 }
 
+// Lets each block of both sides fail in turn, at its write or at its flush.
 fn all_unwritten(rt: &impl Abort, alloc: Global, on: On, flush: bool) -> Result<(), Fail> {
     for (number, beside) in BESIDE_WHITE.iter().enumerate() {
         is_unwritten_to_white(rt, alloc, on, number, flush, beside)?;
@@ -693,6 +742,7 @@ fn all_unwritten(rt: &impl Abort, alloc: Global, on: On, flush: bool) -> Result<
     Ok(())
 }
 
+// Does so in both ways on both boards.
 #[test]
 fn writes_that_fail_in_turn(rt: HostRuntime) -> Result<(), Fail> {
     for on in BOARDS {
@@ -702,6 +752,7 @@ fn writes_that_fail_in_turn(rt: HostRuntime) -> Result<(), Fail> {
     Ok(())
 }
 
+// Writes to both engines fail at one event.
 #[test]
 fn writes_that_fail_at_one_event(rt: HostRuntime) -> Result<(), Fail> {
     // White's answers are taken and the flush fails; then Black's end lines fail.
@@ -716,7 +767,7 @@ fn writes_that_fail_at_one_event(rt: HostRuntime) -> Result<(), Fail> {
     ends_so(&rt, rt.alloc(), &input, &MATE_UNWRITTEN, 4)
 }
 
-/// The calls of both engines' writers: how many, and the number of each one's last.
+/// Writes to both engines are numbered together: how many there were, and the number of the last one to each.
 #[derive(Drop)]
 struct Calls {
     count: Cell<u64>,
@@ -724,7 +775,7 @@ struct Calls {
     black: Cell<u64>,
 }
 
-/// Takes all bytes, and numbers its calls among those of both engines' writers.
+/// An engine's input that takes all bytes and numbers its writes among those to both engines.
 #[derive(Drop)]
 struct Numbered<'a> {
     calls: &'a Calls,
@@ -751,9 +802,10 @@ impl Write for Numbered<'_> {
     }
 }
 
+// An engine with such an input.
 type NumberedEnds<'a> = Ends<Counted<PieceReader<'a>>, Counted<Numbered<'a>>>;
 
-// An engine that says this, with its calls numbered.
+// An engine of this side that says these bytes, and whose writes are numbered.
 fn numbered_ends<'a>(bytes: &'a [u8], calls: &'a Calls, side: Colour) -> NumberedEnds<'a> {
     Ends {
         reader: Counted::reading(PieceReader::new(bytes, 1024, 0)),
@@ -761,6 +813,7 @@ fn numbered_ends<'a>(bytes: &'a [u8], calls: &'a Calls, side: Colour) -> Numbere
     }
 }
 
+// In fool's mate the last write of all is that of the end lines to Black, and the one before is that to White.
 #[test]
 fn end_lines_to_white_first(rt: HostRuntime) -> Result<(), Fail> {
     let calls = Calls {
@@ -786,7 +839,7 @@ fn end_lines_to_white_first(rt: HostRuntime) -> Result<(), Fail> {
     Ok(())
 }
 
-// What White says, as parts and how often each is repeated.
+// What White says, as parts for `repeated`: a `feature` line with 1,700 unknown items, a long name and few others.
 const MANY_ITEMS: &[(&[u8], usize)] = &[
     (b"feature ", 1),
     (b"a=1 ", 1700),
@@ -794,7 +847,7 @@ const MANY_ITEMS: &[(&[u8], usize)] = &[
     (b"=1 b=\"\" ping=1 done=1\npong 1\n\0\nresign\n", 1),
 ];
 
-// And what White is sent.
+// What White is sent then: an answer to each item.
 const MANY_ANSWERS: &[(&[u8], usize)] = &[
     (b"xboard\nprotover 2\n", 1),
     (b"rejected a\n", 1700),
@@ -806,6 +859,7 @@ const MANY_ANSWERS: &[(&[u8], usize)] = &[
     ),
 ];
 
+// Plays this match, and compares what White is sent.
 #[test]
 fn feature_lines_of_many_items(rt: HostRuntime) -> Result<(), Fail> {
     let white = repeated(rt.alloc(), MANY_ITEMS)?;

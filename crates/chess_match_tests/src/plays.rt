@@ -1,4 +1,4 @@
-//! Matches on both boards, for tests.
+//! Plays matches on both boards, and asserts what comes of them, for the other tests.
 
 use byte_devices::{Counted, Input, Output, PieceReader, PieceWriter};
 use cecp_engine::Level;
@@ -13,7 +13,7 @@ use std::alloc::Global;
 use std::process::Abort;
 use std::test::Fail;
 
-/// Moments in a list, and then zeros.
+/// A clock that shows these moments, one for each time it is read, and then zeros.
 #[derive(Drop)]
 pub struct Listed<'a> {
     pub rest: &'a [u64],
@@ -36,7 +36,7 @@ impl Moments for Listed<'_> {
     }
 }
 
-/// A start with a level of both sides that is in its form, and this patience.
+/// A match from this start, with this level for both sides and this patience. Draws must be claimed.
 pub fn setup_within(rt: &impl Abort, level: &[u8], start: Position, patience: Patience) -> Setup {
     match Level::read(level) {
         Some(level) => Setup {
@@ -52,12 +52,12 @@ pub fn setup_within(rt: &impl Abort, level: &[u8], start: Position, patience: Pa
     }
 }
 
-/// A start with a level that is in its form; engines are waited for as long as it takes.
+/// The same where engines are waited for as long as it takes.
 pub fn setup_of(rt: &impl Abort, level: &[u8], start: Position) -> Setup {
     setup_within(rt, level, start, Patience::ENDLESS)
 }
 
-/// The position of a FEN of this variant.
+/// The position of a FEN of this variant, which must be sound.
 pub fn position_of(rt: &impl Abort, variant: Variant, fen: &[u8]) -> Position {
     match read_fen_as(variant, fen) {
         Ok(position) => position,
@@ -65,11 +65,11 @@ pub fn position_of(rt: &impl Abort, variant: Variant, fen: &[u8]) -> Position {
     }
 }
 
-/// An engine over memory.
+/// An engine over memory: what it says is read from a slice, what it is sent is kept.
 pub type TestEnds<'a> = Ends<Counted<PieceReader<'a>>, Counted<PieceWriter>>;
 
-/// An engine that sends these bytes in pieces of so many, with the calls of its reader and of its writer that fail, 0
-/// for none.
+/// An engine that says these bytes, at most `piece` of them for each read. The read and the call of its writer with
+/// these numbers fail (0: none).
 pub fn ends(
     alloc: Global,
     bytes: &[u8],
@@ -95,7 +95,8 @@ pub enum On {
 /// Each of the boards.
 pub const BOARDS: &[On] = &[On::Plain, On::Bits];
 
-// Plays a match of at most so many half-moves, at least 1 and at most 100, on such a board.
+// Plays a match on this board. The game has room for `limit` half-moves, but at least 1 and at most 100. Gives the end,
+// and how many half-moves the game has.
 fn play_with<R: Input, W: Output, M: Moments, B: Board + Drop>(
     alloc: Global,
     board: B,
@@ -110,7 +111,7 @@ fn play_with<R: Input, W: Output, M: Moments, B: Board + Drop>(
     Ok((end, game.ply()))
 }
 
-// The same on sets of squares.
+// The same on a board of bit sets.
 fn play_with_bits<R: Input, W: Output, M: Moments>(
     alloc: Global,
     limit: u32,
@@ -131,8 +132,7 @@ fn play_with_bits<R: Input, W: Output, M: Moments>(
     )
 }
 
-/// Plays a match of at most so many half-moves: its end, and how many half-moves are current. Its contract stays in
-/// here: tests compare values.
+/// The same on the board that `on` names. (The big contract of `run_match` stays in here: tests compare values.)
 pub fn play_over<R: Input, W: Output, M: Moments>(
     alloc: Global,
     on: On,
@@ -148,7 +148,8 @@ pub fn play_over<R: Input, W: Output, M: Moments>(
     }
 }
 
-// The PGN of a game after its match, with all tags but that of its end as they are by default.
+// Plays a match on this board, and gives the PGN of its game; of the tags only that of its end isn't as it is by
+// default.
 fn pgn_with<R: Input, W: Output, B: Board + Drop>(
     alloc: Global,
     board: B,
@@ -167,7 +168,7 @@ fn pgn_with<R: Input, W: Output, B: Board + Drop>(
     Ok(writer.into_writer().bytes)
 }
 
-/// The PGN of a game after its match, on such a board.
+/// The same on the board that `on` names.
 pub fn pgn_over<R: Input, W: Output>(
     alloc: Global,
     on: On,
@@ -185,12 +186,12 @@ pub fn pgn_over<R: Input, W: Output>(
     }
 }
 
-/// A text with such a name is this one.
+/// Asserts that a text is `wanted`; a failure shows `name`.
 pub fn is_text(rt: &impl Abort, name: &str, text: &[u8], wanted: &[u8]) {
     assert_eq!(rt; text, wanted, "{name}");
 }
 
-/// An end has this outcome and comment, and this fault or none.
+/// Asserts the outcome, the comment and the fault, if any, of a match's end.
 pub fn check_end(
     rt: &impl Abort,
     end: &MatchEnd,

@@ -1,4 +1,5 @@
-//! Engines that fall silent, at each byte of what they send.
+//! Engines that fall silent at any byte of what they send, or whose lines come late; and how long a match waits for
+//! them.
 
 use crate::engines::{FOOLS_MATE, Row};
 use crate::plays::{BOARDS, On, check_end, is_text, play_over, setup_within};
@@ -11,8 +12,8 @@ use std::cell::Cell;
 use std::process::Abort;
 use std::test::Fail;
 
-/// Gives bytes in pieces: the first `before` at once, the others when the clock shows `comes`. A wait takes the clock
-/// to that moment, or to its own end if that comes first.
+/// An engine's output. It gives the first `before` bytes at once, and the others when the clock shows `comes`. A wait
+/// takes the clock to that moment, or to the end of the wait if that is earlier; a read takes it to that moment.
 #[derive(Drop)]
 struct Late<'a> {
     input: Counted<PieceReader<'a>>,
@@ -22,7 +23,7 @@ struct Late<'a> {
 }
 
 impl Late<'_> {
-    // Lets the time pass up to this moment, if it is still to come.
+    // Sets the clock to this moment, unless it shows a later one.
     fn pass_to(&self, moment: u64) {
         self.clock.set(self.clock.get().max(moment));
     }
@@ -56,7 +57,7 @@ impl<'a> Input for Late<'a> {
     }
 }
 
-/// The clock that the engines' waits move.
+/// The clock of the match, which only the engines' waits and reads move.
 #[derive(Drop)]
 struct Hand<'a> {
     clock: &'a Cell<u64>,
@@ -72,8 +73,8 @@ impl Moments for Hand<'_> {
     }
 }
 
-/// An engine that sends these bytes in pieces of so many, and from the byte `before` on only when the clock shows
-/// `comes`. When the match begins, the clock shows `begins`.
+/// Which side is late in a match: from the byte `before` on its bytes come when the clock shows `comes`. When the match
+/// begins the clock shows `begins`, and each read gives at most `cut` bytes.
 #[derive(Clone, Copy)]
 struct Lateness {
     side: Colour,
@@ -83,7 +84,7 @@ struct Lateness {
     cut: usize,
 }
 
-/// What a match comes to: how it ended, and what the clock shows then.
+/// What a match comes to: its outcome, comment and fault, and what the clock shows at its end.
 #[derive(Clone, Copy)]
 struct Came {
     outcome: Outcome,
@@ -92,7 +93,7 @@ struct Came {
     clock: u64,
 }
 
-// An engine over memory.
+// The engine of this side, which says these bytes: late if it is the late one, or else at once.
 fn late_ends<'a>(
     alloc: Global,
     bytes: &'a [u8],
@@ -112,7 +113,7 @@ fn late_ends<'a>(
     }
 }
 
-// Plays fool's mate with this patience, where one engine is late.
+// Plays fool's mate with this patience, where one engine is late, and asserts what it comes to.
 fn plays_late(
     rt: &impl Abort,
     alloc: Global,
@@ -141,15 +142,16 @@ fn plays_late(
     Ok(())
 }
 
-/// Both limits: the clocks of ten seconds, and seven seconds for a reply.
+/// Both limits: flags fall by themselves after ten seconds, and a reply has seven.
 const BOTH: Patience = Patience {
     flag: true,
     reply: Some(7000),
 };
 
+// The moment at which a line comes that never comes.
 const NEVER: u64 = u64::MAX;
 
-/// The match as it is played when each line comes.
+/// The match where no line is late.
 const MATE: Came = Came {
     outcome: Outcome::BlackWins,
     comment: b"Black mates",
@@ -157,6 +159,7 @@ const MATE: Came = Came {
     clock: 0,
 };
 
+// A flag falls at the first moment beyond the ten seconds.
 const WHITE_FORFEITS: Came = Came {
     outcome: Outcome::BlackWins,
     comment: b"White forfeits on time",
@@ -171,7 +174,7 @@ const BLACK_FORFEITS: Came = Came {
     clock: 10001,
 };
 
-/// White sent too little of its handshake.
+/// White didn't end its handshake within the limit of a reply.
 const WHITE_NO_HANDSHAKE: Came = Came {
     outcome: Outcome::Unfinished,
     comment: b"White sent no done=1 (a UCI engine needs polyglot)",
@@ -179,7 +182,7 @@ const WHITE_NO_HANDSHAKE: Came = Came {
     clock: 7001,
 };
 
-/// White sent no `pong`.
+/// White sent no `pong` within that limit.
 const WHITE_NO_ANSWER: Came = Came {
     outcome: Outcome::Unfinished,
     comment: b"White did not answer",
@@ -187,7 +190,7 @@ const WHITE_NO_ANSWER: Came = Came {
     clock: 7001,
 };
 
-/// Black sent too little of its handshake.
+/// Black didn't end its handshake within the limit of a reply.
 const BLACK_NO_HANDSHAKE: Came = Came {
     outcome: Outcome::Unfinished,
     comment: b"Black sent no done=1 (a UCI engine needs polyglot)",
@@ -195,7 +198,7 @@ const BLACK_NO_HANDSHAKE: Came = Came {
     clock: 7001,
 };
 
-/// Black sent no `pong`.
+/// Black sent no `pong` within that limit.
 const BLACK_NO_ANSWER: Came = Came {
     outcome: Outcome::Unfinished,
     comment: b"Black did not answer",
@@ -203,7 +206,7 @@ const BLACK_NO_ANSWER: Came = Came {
     clock: 7001,
 };
 
-/// What a match comes to where White falls silent for ever, by how many whole lines it sent before.
+/// What the match comes to where White falls silent for ever: a row for each number of whole lines that it sent before.
 const WHITE_HANGS: &[Came] = &[
     WHITE_NO_HANDSHAKE,
     WHITE_NO_ANSWER,
@@ -214,7 +217,7 @@ const WHITE_HANGS: &[Came] = &[
     MATE,
 ];
 
-/// The same where Black does.
+/// The same where Black falls silent.
 const BLACK_HANGS: &[Came] = &[
     BLACK_NO_HANDSHAKE,
     BLACK_NO_ANSWER,
@@ -224,7 +227,7 @@ const BLACK_HANGS: &[Came] = &[
     MATE,
 ];
 
-// How many whole lines the first `place` of these bytes have.
+// How many whole lines are among the first `place` of these bytes.
 fn whole_lines(bytes: &[u8], place: usize) -> usize {
     let mut count: usize = 0;
     for byte in &bytes[..place.min(bytes.len())] {
@@ -235,9 +238,11 @@ fn whole_lines(bytes: &[u8], place: usize) -> usize {
     count
 }
 
+// How many bytes a read gives at most.
 const CUTS: &[usize] = &[1, 7, 1024];
 
-// Lets this engine fall silent for ever at each of its bytes.
+// Lets this engine, which says these bytes, fall silent for ever after each number of them: the match comes to the row
+// of `table` for the whole lines that it sent.
 fn hangs_anywhere(
     rt: &impl Abort,
     alloc: Global,
@@ -263,6 +268,7 @@ fn hangs_anywhere(
     Ok(())
 }
 
+// White falls silent.
 #[test]
 fn white_hangs_anywhere(rt: HostRuntime) -> Result<(), Fail> {
     hangs_anywhere(
@@ -274,6 +280,7 @@ fn white_hangs_anywhere(rt: HostRuntime) -> Result<(), Fail> {
     )
 }
 
+// Black falls silent.
 #[test]
 fn black_hangs_anywhere(rt: HostRuntime) -> Result<(), Fail> {
     hangs_anywhere(
@@ -285,10 +292,11 @@ fn black_hangs_anywhere(rt: HostRuntime) -> Result<(), Fail> {
     )
 }
 
-// Where White's lines begin: its handshake, `pong 1`, two moves and their `pong`s.
+// At which byte each of White's lines begins: its handshake, `pong 1`, and two moves, each with its `pong`.
 const WHITE_LINES: &[usize] = &[0, 33, 40, 50, 57, 67];
 
-// The same match, in which White's next line comes after so many milliseconds, from the line of this number on.
+// Plays fool's mate, where White's lines from that of this number on come when the clock shows `comes`, and asserts
+// what it comes to.
 fn is_late_at(
     rt: &impl Abort,
     alloc: Global,
@@ -311,7 +319,7 @@ fn is_late_at(
     plays_late(rt, alloc, on, patience, late, came)
 }
 
-// The match in which a line comes late, but in time.
+// The match whose only late line comes at this moment, and in time.
 fn mate_at(clock: u64) -> Came {
     Came {
         outcome: Outcome::BlackWins,
@@ -321,12 +329,13 @@ fn mate_at(clock: u64) -> Came {
     }
 }
 
-/// The lines of White that are replies, and those that are moves.
+/// Which of White's lines are replies, and which are moves.
 const REPLIES: &[usize] = &[0, 1, 3, 5];
 
 const MOVES: &[usize] = &[2, 4];
 
-// A reply in just its limit, and when it is looked for for the last time; a move in just the time that is left.
+// A reply may come just within its limit, and also at the last look for it, a millisecond later. A move may come just
+// when the time is used up.
 #[test]
 fn lines_in_time(rt: HostRuntime) -> Result<(), Fail> {
     for on in BOARDS {
@@ -344,7 +353,7 @@ fn lines_in_time(rt: HostRuntime) -> Result<(), Fail> {
 // What the clock shows when a match begins: far more than the limit of a reply.
 const BEGINS: u64 = 1_000_000;
 
-// The match that begins at this moment, in which White's first line comes when the clock shows `comes`.
+// Plays the match that begins at this moment, in which White's first line comes when the clock shows `comes`.
 fn begins_late(
     rt: &impl Abort,
     alloc: Global,
@@ -381,7 +390,7 @@ fn time_runs_from_the_first_silence(rt: HostRuntime) -> Result<(), Fail> {
     Ok(())
 }
 
-// What the match comes to where White hangs from the line of this number on.
+// What the match comes to where White falls silent before its line of this number.
 fn white_hangs_at(rt: &impl Abort, line: usize) -> Came {
     match WHITE_HANGS.get(line) {
         Some(came) => *came,
@@ -405,9 +414,10 @@ fn lines_too_late(rt: HostRuntime) -> Result<(), Fail> {
     Ok(())
 }
 
+// The moment of a line that comes very late.
 const LATE: u64 = 900_000;
 
-/// A move that comes very late, where flags fall only with a line.
+/// A move that comes then loses on time, where flags fall only with a line.
 const WHITE_FORFEITS_LATE: Came = Came {
     outcome: Outcome::BlackWins,
     comment: b"White forfeits on time",
@@ -415,6 +425,7 @@ const WHITE_FORFEITS_LATE: Came = Came {
     clock: LATE,
 };
 
+// Only the clocks are a limit, or only the time for a reply.
 const FLAG: Patience = Patience {
     flag: true,
     reply: None,
@@ -425,8 +436,8 @@ const REPLY: Patience = Patience {
     reply: Some(7000),
 };
 
-// Only flags fall, or there is no limit: a reply may come at any time. Only replies have a limit, or there is none: a
-// move that comes too late loses on time, but only when it comes.
+// Where replies have no limit, a reply may come at any time. Where flags don't fall by themselves, a move that comes
+// too late loses on time, but only when it comes.
 #[test]
 fn one_limit_alone(rt: HostRuntime) -> Result<(), Fail> {
     for patience in [FLAG, Patience::ENDLESS] {

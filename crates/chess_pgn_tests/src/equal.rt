@@ -1,7 +1,10 @@
+//! Comparisons, for the other tests.
+
 use std::fmt::Debug;
 use std::process::Abort;
 
-// Assert that two values are equal. Functions for all types, since an assertion for each costs much to prove.
+// Both assert that two values are equal, the second with the offset and the text that a failure shows. They are
+// functions for all types, since an assertion for each costs much to prove.
 
 pub fn is_equal<T: PartialEq + Debug>(rt: &impl Abort, found: &T, wanted: &T) {
     assert_eq!(rt; *found, *wanted);

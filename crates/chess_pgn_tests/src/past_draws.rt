@@ -1,3 +1,5 @@
+//! Games that `read_past_draws` reads on after fivefold repetition or 75 moves, as games before 2014 may go on.
+
 use crate::equal::{is_equal, is_equal_at};
 use chess_game::{Game, MOST_MOVES, Outcome};
 use chess_moves::Plain;
@@ -6,7 +8,8 @@ use std::alloc::Global;
 use std::process::Abort;
 use std::test::Fail;
 
-// What is to be answered.
+// The answer that reading is to have: the game's outcome and where it ends, a fault and its offset, or that there is no
+// game.
 #[derive(Clone, Copy)]
 enum Wanted {
     Ended(Outcome, usize),
@@ -15,6 +18,7 @@ enum Wanted {
 }
 
 impl Wanted {
+    // The same as a value of the reader's type.
     fn answer(self) -> Result<Option<PgnEnd>, PgnFault> {
         match self {
             Wanted::Ended(outcome, offset) => Ok(Some(PgnEnd {
@@ -28,8 +32,8 @@ impl Wanted {
     }
 }
 
-// A text, the answer, how many half-moves a game without a fault has, and whether mate, stalemate or a dead position
-// ends the game.
+// A text, the answer, how many half-moves its game has (0 where there is none or a fault), and whether mate, stalemate
+// or a dead position ends the game.
 struct Row {
     text: &'static [u8],
     wanted: Wanted,
@@ -37,6 +41,7 @@ struct Row {
     is_ended: bool,
 }
 
+// Games with such a draw, and one without.
 const ROWS: [Row; 20] = [
     // A position is there for the fifth time, and for the sixth.
     Row {
@@ -167,6 +172,8 @@ const ROWS: [Row; 20] = [
     },
 ];
 
+// Reads a row's text, and asserts the answer, the number of half-moves, and whether the board ends the game when these
+// draws are ignored.
 fn is_read(rt: &impl Abort, alloc: Global, row: &Row) -> Result<(), Fail> {
     let mut game = Game::open(alloc, Plain::new(), MOST_MOVES)?;
     let (answer, plies) = match read_past_draws(row.text, 0, &mut game) {
@@ -180,6 +187,7 @@ fn is_read(rt: &impl Abort, alloc: Global, row: &Row) -> Result<(), Fail> {
     Ok(())
 }
 
+// Reads each row.
 #[test]
 fn games_go_on_after_draws_of_2014(rt: HostRuntime) -> Result<(), Fail> {
     for row in &ROWS {

@@ -1,3 +1,6 @@
+//! Reading PGN: the answers to whole games and to texts with a fault, what is left of the game then, tags, comments of
+//! any length, and where games end.
+
 use crate::equal::{is_equal, is_equal_at};
 use chess_base::{FenFault, Position};
 use chess_bits::{AttackTables, Bits};
@@ -12,7 +15,8 @@ use std::alloc::Global;
 use std::process::Abort;
 use std::test::Fail;
 
-// What is to be answered.
+// The answer that reading is to have: the game's outcome and where it ends, also with how it ended by its tag
+// Termination; a fault and its offset; or that there is no game.
 #[derive(Clone, Copy)]
 enum Wanted {
     Ended(Outcome, usize),
@@ -22,6 +26,7 @@ enum Wanted {
 }
 
 impl Wanted {
+    // The same as a value of the reader's type.
     fn answer(self) -> Result<Option<PgnEnd>, PgnFault> {
         match self {
             Wanted::Ended(outcome, offset) => Ok(Some(PgnEnd {
@@ -40,7 +45,7 @@ impl Wanted {
     }
 }
 
-// A text, the answer, how many half-moves are current then, and the outcome that is declared.
+// A text, the answer, how many half-moves the game has then, and the outcome that is declared.
 struct Row {
     text: &'static [u8],
     wanted: Wanted,
@@ -48,6 +53,7 @@ struct Row {
     declared: Option<Outcome>,
 }
 
+// Texts of each form and with each fault.
 const ROWS: [Row; 77] = [
     // The two rows of the command `verify`.
     Row {
@@ -541,8 +547,8 @@ const ROWS: [Row; 77] = [
     },
 ];
 
-// Reads a game, without clauses: what its contract says stays in here, and tests compare values. So does what a loop
-// below does in each round: a loop in a long body costs much to prove.
+// Reads a game from the offset `at` on. The contract of `read_pgn` stays in here, and tests compare values. Rounds of
+// loops have functions of their own too, since a loop in a long body costs much to prove.
 fn read<B: Board>(
     rt: &impl Abort,
     text: &[u8],
@@ -553,7 +559,7 @@ fn read<B: Board>(
     read_pgn(text, at, game)
 }
 
-// Reads a text from an offset on, and compares the answer and how many half-moves are current then.
+// Reads a text from the offset `at` on, and asserts the answer and how many half-moves the game has then.
 fn is_read_on<B: Board>(
     rt: &impl Abort,
     text: &[u8],
@@ -571,26 +577,27 @@ fn is_read_on<B: Board>(
     );
 }
 
-// Reads a row's text, and compares the answer, the current half-moves and what is declared.
+// Reads a row's text, and asserts the answer, the number of half-moves and what is declared.
 fn is_read<B: Board>(rt: &impl Abort, game: &mut Game<B>, row: &Row) {
     is_read_on(rt, row.text, game, 0, row.wanted, row.ply);
     is_equal_at(rt, 0, row.text, &declared(rt, game), &row.declared);
 }
 
-// The outcome that is declared with an empty comment.
+// The outcome that is declared, if any; its comment must be empty.
 fn declared<B: Board>(rt: &impl Abort, game: &Game<B>) -> Option<Outcome> {
     let declared = game.declared()?;
     is_equal(rt, &declared.comment.as_bytes(), &b"".as_slice());
     Some(declared.outcome)
 }
 
+// Reads each row into the same game.
 fn are_read<B: Board>(rt: &impl Abort, game: &mut Game<B>, rows: &[Row]) {
     for row in rows {
         is_read(rt, game, row);
     }
 }
 
-// Reads all rows in one game on a board.
+// Reads all rows into one game on this board.
 fn rows_are_read<B: Board + Drop>(
     rt: &impl Abort,
     alloc: Global,
@@ -602,6 +609,7 @@ fn rows_are_read<B: Board + Drop>(
     Ok(())
 }
 
+// Reads the rows on both boards.
 #[test]
 fn games_are_read(rt: HostRuntime) -> Result<(), Fail> {
     rows_are_read(&rt, rt.alloc(), Plain::new(), &ROWS)?;
@@ -692,6 +700,7 @@ const RUNS: [Row; 12] = [
     },
 ];
 
+// Reads the rows on both boards.
 #[test]
 fn runs_of_words_are_read(rt: HostRuntime) -> Result<(), Fail> {
     rows_are_read(&rt, rt.alloc(), Plain::new(), &RUNS)?;
@@ -699,7 +708,7 @@ fn runs_of_words_are_read(rt: HostRuntime) -> Result<(), Fail> {
     rows_are_read(&rt, rt.alloc(), Bits::new(&tables), &RUNS)
 }
 
-// Texts of both variants, and what is read of them.
+// Texts with tags Variant and Termination, and what is read of them.
 const VARIANTS: [Row; 14] = [
     Row {
         text: b"[Variant \"Chess960\"] [FEN \"4k3/8/8/8/8/8/8/RK5R w HA - 0 1\"] 1. O-O-O *",
@@ -791,6 +800,7 @@ const VARIANTS: [Row; 14] = [
     },
 ];
 
+// Reads the rows on both boards.
 #[test]
 fn variants_and_terminations_are_read(rt: HostRuntime) -> Result<(), Fail> {
     rows_are_read(&rt, rt.alloc(), Plain::new(), &VARIANTS)?;
@@ -798,10 +808,12 @@ fn variants_and_terminations_are_read(rt: HostRuntime) -> Result<(), Fail> {
     rows_are_read(&rt, rt.alloc(), Bits::new(&tables), &VARIANTS)
 }
 
+// Asserts the outcome of a game.
 fn has_outcome<B: Board>(rt: &impl Abort, game: &Game<B>, outcome: Outcome) {
     is_equal(rt, &game.outcome(), &outcome);
 }
 
+// Reads a text whose second move, at byte 6, has no room: it is too long, and the first move stays.
 fn is_too_long<B: Board>(rt: &impl Abort, text: &[u8], game: &mut Game<B>) {
     is_read_on(
         rt,
@@ -814,6 +826,8 @@ fn is_too_long<B: Board>(rt: &impl Abort, text: &[u8], game: &mut Game<B>) {
     has_outcome(rt, game, Outcome::Unfinished);
 }
 
+// In a game of at most one half-move a second one is too long, whether it is legal or not; one move and a termination
+// are read.
 fn one_move_is_read<B: Board + Drop>(rt: &impl Abort, alloc: Global, board: B) -> Result<(), Fail> {
     let mut game = Game::open(alloc, board, 1)?;
     is_too_long(rt, b"1. e4 e5 *", &mut game);
@@ -824,6 +838,7 @@ fn one_move_is_read<B: Board + Drop>(rt: &impl Abort, alloc: Global, board: B) -
     Ok(())
 }
 
+// Does so on both boards.
 #[test]
 fn a_game_of_one_move_is_full(rt: HostRuntime) -> Result<(), Fail> {
     one_move_is_read(&rt, rt.alloc(), Plain::new())?;
@@ -831,6 +846,7 @@ fn a_game_of_one_move_is_full(rt: HostRuntime) -> Result<(), Fail> {
     one_move_is_read(&rt, rt.alloc(), Bits::new(&tables))
 }
 
+// Reads a text from each of these offsets on.
 fn are_read_on<B: Board>(
     rt: &impl Abort,
     text: &[u8],
@@ -842,8 +858,8 @@ fn are_read_on<B: Board>(
     }
 }
 
-// Three games in a text, with the offsets that they are read from, what is answered, and how many half-moves are
-// current.
+// A text of three games; and offsets in it, what is answered where reading begins there, and how many half-moves the
+// game has then.
 const THREE_GAMES: &[u8] = b"* 1. d4 1/2-1/2[White \"x\"]\ne4 0-1 {end}\n";
 
 const PLACES: [(usize, Wanted, usize); 5] = [
@@ -854,10 +870,12 @@ const PLACES: [(usize, Wanted, usize); 5] = [
     (40, Wanted::NoGame, 0),
 ];
 
+// Asserts the FEN of a position.
 fn has_fen(rt: &impl Abort, position: &Position, fen: &[u8]) {
     is_equal(rt, &write_fen(position).as_slice(), &fen);
 }
 
+// Reads the three games, and finds no fourth, on this board.
 fn three_games_are_read<B: Board + Drop>(
     rt: &impl Abort,
     alloc: Global,
@@ -872,6 +890,7 @@ fn three_games_are_read<B: Board + Drop>(
     Ok(())
 }
 
+// Does so on both boards.
 #[test]
 fn games_are_read_one_after_the_other(rt: HostRuntime) -> Result<(), Fail> {
     three_games_are_read(&rt, rt.alloc(), Plain::new())?;
@@ -879,6 +898,7 @@ fn games_are_read_one_after_the_other(rt: HostRuntime) -> Result<(), Fail> {
     three_games_are_read(&rt, rt.alloc(), Bits::new(&tables))
 }
 
+// Of two tags FEN the second is bad: the fault is at its text, and the game is at the first one's position.
 fn bad_fen_is_read<B: Board + Drop>(rt: &impl Abort, alloc: Global, board: B) -> Result<(), Fail> {
     let mut game = Game::open(alloc, board, 100)?;
     let text = b"[FEN \"4k3/8/8/8/8/8/4P3/4K3 w - - 0 1\"]\n[FEN \"x\"] e4 *";
@@ -890,6 +910,7 @@ fn bad_fen_is_read<B: Board + Drop>(rt: &impl Abort, alloc: Global, board: B) ->
     Ok(())
 }
 
+// Does so on both boards.
 #[test]
 fn a_bad_fen_leaves_the_start_before_it(rt: HostRuntime) -> Result<(), Fail> {
     bad_fen_is_read(&rt, rt.alloc(), Plain::new())?;
@@ -913,7 +934,7 @@ dxe5 5. Qxd8+ Kxd8 6. Nxe5) 5. Qxf3 dxe5 6. Bc4 Nf6 ; 6... Qf6 is better
 15. Bxd7+ Nxd7 16. Qb8+!! Nxb8 17. Rd8# 1-0
 ";
 
-// Compares where the opera's game ends: by mate, with nothing declared.
+// Asserts where that game ends: by mate, at this position, with nothing declared.
 fn white_mates_in_the_opera<B: Board>(rt: &impl Abort, game: &Game<B>) {
     is_equal(rt, &game.verdict(), &Some(Verdict::WhiteMates));
     assert!(rt; game.declared().is_none());
@@ -924,6 +945,7 @@ fn white_mates_in_the_opera<B: Board>(rt: &impl Abort, game: &Game<B>) {
     );
 }
 
+// Reads that game of 33 half-moves on this board.
 fn the_opera_is_read<B: Board + Drop>(
     rt: &impl Abort,
     alloc: Global,
@@ -936,6 +958,7 @@ fn the_opera_is_read<B: Board + Drop>(
     Ok(())
 }
 
+// Does so on both boards.
 #[test]
 fn a_whole_game_is_read(rt: HostRuntime) -> Result<(), Fail> {
     the_opera_is_read(&rt, rt.alloc(), Plain::new())?;
@@ -976,8 +999,8 @@ fn comments_of_up_to_99_bytes_are_skipped(rt: HostRuntime) -> Result<(), Fail> {
     Ok(())
 }
 
-// What may follow the first bytes of a tag's string, which are plain; and how many bytes more the string then has, or
-// `None` where it has no end, so that this is no tag.
+// What may follow the plain bytes that a tag's string begins with; and how many bytes the string has more than these,
+// or `None` where it has no end, so that there is no tag.
 const STRING_ENDS: [(&[u8], Option<usize>); 8] = [
     (b"\"] ", Some(0)),
     (b"\\\"\"] ", Some(2)),
@@ -989,7 +1012,8 @@ const STRING_ENDS: [(&[u8], Option<usize>); 8] = [
     (b"\\\n\"] ", None),
 ];
 
-// A tag whose string begins with `len` plain bytes, which are followed by `end`, is read.
+// Reads a tag whose string begins with `len` plain bytes, followed by `end`, and asserts the length of its string, or
+// that it is a bad tag.
 fn string_is_read<B: Board>(
     rt: &impl Abort,
     alloc: Global,
@@ -1025,7 +1049,7 @@ fn string_is_read<B: Board>(
     Ok(())
 }
 
-// Each of the ends after so many plain bytes is found.
+// Does so with each of the ends.
 fn strings_are_read<B: Board>(
     rt: &impl Abort,
     alloc: Global,
@@ -1049,7 +1073,7 @@ fn strings_of_any_length_are_read(rt: HostRuntime) -> Result<(), Fail> {
     Ok(())
 }
 
-// A game with tags, and the tags of the next game after its moves.
+// A game with three tags, and the tag of the next game after its move.
 const TAGGED: &[u8] =
     b"\xEF\xBB\xBF{x} [Event \"a\\\"b\"]\n!?\n[ Site\n\"\"] [Event \"c\"]\n1. e4 [White \"w\"] *";
 

@@ -1,9 +1,9 @@
-//! Tests of tags Variant that name no variant that is known.
+//! Tags Variant that name neither normal chess nor Chess960.
 
 use crate::equal::is_equal_at;
 use chess_pgn::unknown_variant;
 
-// Texts, where reading begins, and the offset of the text of an unknown variant.
+// Texts, where reading begins, and the offset of the name if the game's variant is unknown.
 const VARIANTS: [(&[u8], usize, Option<usize>); 14] = [
     (b"", 0, None),
     (b"[Event \"Atomic\"] e4 *", 0, None),
@@ -22,6 +22,7 @@ const VARIANTS: [(&[u8], usize, Option<usize>); 14] = [
     (b"e4 * [Variant \"FRC\"] e4 *", 4, Some(15)),
 ];
 
+// Looks for the unknown variant of each row.
 #[test]
 fn unknown_variants_are_found(rt: HostRuntime) {
     for (text, at, wanted) in &VARIANTS {

@@ -1,4 +1,4 @@
-//! Tests of reading variations.
+//! Reading variations, each of which replaces the move before it.
 
 use crate::equal::is_equal_at;
 use chess_base::Position;
@@ -8,7 +8,8 @@ use std::alloc::Global;
 use std::process::Abort;
 use std::test::Fail;
 
-// Texts of a game with no fault of its own, where it begins, and the first fault in its variations.
+// Texts of a game that has no fault of its own, the offset where it begins, and the first fault in its variations, with
+// its offset.
 const VARIATIONS: [(&[u8], usize, Option<(PgnFaultKind, usize)>); 17] = [
     (b"1. e4 *", 0, None),
     (b"1. e4 {(} e5 *", 0, None),
@@ -58,7 +59,7 @@ const VARIATIONS: [(&[u8], usize, Option<(PgnFaultKind, usize)>); 17] = [
     ),
 ];
 
-// Whether this is the first fault in the variations of the game from the offset `at` on.
+// Reads the variations of the game from the offset `at` on, and asserts that this is the first fault in them.
 fn is_found(rt: &impl Abort, text: &[u8], at: usize, wanted: Option<(PgnFaultKind, usize)>) {
     let mut board = Plain::new();
     let start = Position::initial();
@@ -71,6 +72,7 @@ fn is_found(rt: &impl Abort, text: &[u8], at: usize, wanted: Option<(PgnFaultKin
     is_equal_at(rt, at, text, &found, &wanted);
 }
 
+// Reads the variations of each row.
 #[test]
 fn variations_are_read(rt: HostRuntime) {
     for (text, at, wanted) in &VARIATIONS {
@@ -78,7 +80,7 @@ fn variations_are_read(rt: HostRuntime) {
     }
 }
 
-// A move, and so many variations, each of which replaces the move of the one around it.
+// A move, and `depth` variations in one another, each of which replaces the move of the one around it.
 fn nested(alloc: Global, depth: usize) -> Result<Vec<u8>, Fail> {
     let mut text = vec![in alloc; b' '; 0]?;
     text.extend_from_slice(b"e4 ")?;
@@ -92,6 +94,7 @@ fn nested(alloc: Global, depth: usize) -> Result<Vec<u8>, Fail> {
     Ok(text)
 }
 
+// MOST_NESTED of them are read; the `(` of one more is the fault.
 #[test]
 fn variations_may_be_nested(rt: HostRuntime) -> Result<(), Fail> {
     let deepest = nested(rt.alloc(), MOST_NESTED)?;
@@ -116,6 +119,7 @@ const WITH_OR_WITHOUT: [(&[u8], bool); 5] = [
     (b"[Event \"a (b)\"]\n1. e4 {(1. d4)} e5 (1... c5) *", true),
 ];
 
+// Asserts for each row whether there is a variation.
 #[test]
 fn variations_are_found(rt: HostRuntime) {
     for (text, wanted) in &WITH_OR_WITHOUT {

@@ -1,3 +1,5 @@
+//! Writing PGN: tags, moves and results, over writers that fail at some call, and texts of tags.
+
 use crate::equal::is_equal;
 use byte_devices::{Counted, PieceWriter, WriteFault};
 use chess_base::Variant;
@@ -17,7 +19,7 @@ use std::alloc::Global;
 use std::process::Abort;
 use std::test::Fail;
 
-// Plays a move, where the word is one. Without clauses: what the contracts say stays in here.
+// Plays the move that a word denotes; another word is passed over. The big contracts stay in here.
 fn play<B: Board>(game: &mut Game<B>, word: &[u8]) -> Result<(), Fail> {
     if let Reading::Move(m) = read_move(game.board(), word) {
         game.play(m).or(Err("played"))?;
@@ -25,13 +27,15 @@ fn play<B: Board>(game: &mut Game<B>, word: &[u8]) -> Result<(), Fail> {
     Ok(())
 }
 
+// Declares a result.
 fn declare<B: Board>(game: &mut Game<B>, outcome: Outcome, comment: &[u8]) -> Result<(), Fail> {
     game.declare(outcome, Comment::cut(comment))
         .or(Err("declared"))?;
     Ok(())
 }
 
-// A game from a position, or from the initial one, with the moves between spaces.
+// A game from the position of a FEN, or from the initial one if that is empty, with these moves, which have blanks
+// between them.
 fn played<B: Board + Drop>(
     alloc: Global,
     board: B,
@@ -48,7 +52,7 @@ fn played<B: Board + Drop>(
     Ok(game)
 }
 
-// Its text, by a writer that takes so many bytes at a time.
+// The text of a game, by a writer that takes at most `cut` bytes at a time.
 fn written<B: Board>(
     alloc: Global,
     game: &Game<B>,
@@ -62,7 +66,8 @@ fn written<B: Board>(
     Ok(writer.into_writer().bytes)
 }
 
-/// A game that has no tags but the seven with `?`, and its text without the first six lines, each after `# `.
+/// A game whose tags are those by default: its start (empty: the initial position), its moves, and its text from the
+/// seventh line on, with `# ` before each line.
 #[derive(Drop)]
 struct GameRow {
     fen: &'static [u8],
@@ -70,6 +75,7 @@ struct GameRow {
     text: &'static [u8],
 }
 
+// The first six lines of the text of such a game.
 const FIRST_LINES: &[u8] =
     b"# [Event \"?\"]\n# [Site \"?\"]\n# [Date \"????.??.??\"]\n# [Round \"?\"]\n# [White \"?\"]\n# [Black \"?\"]\n";
 
@@ -80,6 +86,7 @@ const PROMOTION: GameRow = GameRow {
     text: b"# [Result \"*\"]\n# [FEN \"4k3/8/8/8/8/8/4p3/K7 b - - 0 1\"]\n# [SetUp \"1\"]\n# [Termination \"unterminated\"]\n# \n# 1... e1=Q+ *\n# \n",
 };
 
+// Games, and their texts.
 const GAMES: [GameRow; 10] = [
     GameRow {
         fen: b"",
@@ -137,7 +144,7 @@ const GAMES: [GameRow; 10] = [
     },
 ];
 
-// Writes a game so many bytes at a time, and compares its text.
+// Writes a game, at most `cut` bytes at a time, and asserts its text.
 fn is_written<B: Board>(
     rt: &impl Abort,
     alloc: Global,
@@ -151,7 +158,7 @@ fn is_written<B: Board>(
     Ok(())
 }
 
-// The text of a game that has no tags but the seven with `?`.
+// The text of a game of which a row has the text from the seventh line on.
 fn whole_text(alloc: Global, text: &[u8]) -> Result<Vec<u8>, Fail> {
     let mut whole = Vec::new(alloc);
     whole.extend_from_slice(FIRST_LINES)?;
@@ -159,6 +166,7 @@ fn whole_text(alloc: Global, text: &[u8]) -> Result<Vec<u8>, Fail> {
     Ok(whole)
 }
 
+// Plays the game of a row on this board, and writes it in one piece and byte by byte.
 fn game_is_written<B: Board + Drop>(
     rt: &impl Abort,
     alloc: Global,
@@ -172,13 +180,14 @@ fn game_is_written<B: Board + Drop>(
     is_written(rt, alloc, &game, scratch, 1, text.as_slice())
 }
 
-// Writes a game of each board.
+// Does so on both boards.
 fn is_written_on_both(rt: &impl Abort, alloc: Global, row: &GameRow) -> Result<(), Fail> {
     game_is_written(rt, alloc, Plain::new(), &mut Plain::new(), row)?;
     let tables = AttackTables::open(alloc)?;
     game_is_written(rt, alloc, Bits::new(&tables), &mut Bits::new(&tables), row)
 }
 
+// Does so for each row.
 fn are_written(rt: &impl Abort, alloc: Global, rows: &[GameRow]) -> Result<(), Fail> {
     for row in rows {
         is_written_on_both(rt, alloc, row)?;
@@ -186,11 +195,13 @@ fn are_written(rt: &impl Abort, alloc: Global, rows: &[GameRow]) -> Result<(), F
     Ok(())
 }
 
+// Writes all games.
 #[test]
 fn games_are_written(rt: HostRuntime) -> Result<(), Fail> {
     are_written(&rt, rt.alloc(), &GAMES)
 }
 
+// Writes a game with tags and a declared result: quotes and backslashes are escaped, and what isn't printable is `?`.
 fn tags_are_written<B: Board + Drop>(
     rt: &impl Abort,
     alloc: Global,
@@ -217,6 +228,7 @@ fn tags_are_written<B: Board + Drop>(
     Ok(())
 }
 
+// Does so on both boards.
 #[test]
 fn tags_and_declared_results_are_written(rt: HostRuntime) -> Result<(), Fail> {
     tags_are_written(&rt, rt.alloc(), Plain::new(), &mut Plain::new())?;
@@ -224,7 +236,7 @@ fn tags_and_declared_results_are_written(rt: HostRuntime) -> Result<(), Fail> {
     tags_are_written(&rt, rt.alloc(), Bits::new(&tables), &mut Bits::new(&tables))
 }
 
-// Writes a game, whose text ends so.
+// Writes a game with these tags, and asserts the end of its text.
 fn ends_with<B: Board>(
     rt: &impl Abort,
     alloc: Global,
@@ -238,7 +250,8 @@ fn ends_with<B: Board>(
     Ok(())
 }
 
-// The tag of how a game ended comes after those of its start and before that of its variant.
+// Writes a game of Chess960, unfinished and then drawn. The tag Termination comes after those of the start and before
+// Variant.
 fn chess960_is_written<B: Board + Drop>(
     rt: &impl Abort,
     alloc: Global,
@@ -262,6 +275,7 @@ fn chess960_is_written<B: Board + Drop>(
     ends_with(rt, alloc, &game, scratch, &tags, ended)
 }
 
+// Does so on both boards.
 #[test]
 fn the_end_of_a_game_of_chess960_is_written(rt: HostRuntime) -> Result<(), Fail> {
     chess960_is_written(&rt, rt.alloc(), Plain::new(), &mut Plain::new())?;
@@ -269,13 +283,14 @@ fn the_end_of_a_game_of_chess960_is_written(rt: HostRuntime) -> Result<(), Fail>
     chess960_is_written(&rt, rt.alloc(), Bits::new(&tables), &mut Bits::new(&tables))
 }
 
-// What is declared, and the line that is written then.
+// Outcomes that are declared, and the line of moves that is written then.
 const DECLARED: [(Outcome, &[u8]); 3] = [
     (Outcome::BlackWins, b"\n1. e4 0-1\n\n"),
     (Outcome::Draw, b"\n1. e4 1/2-1/2\n\n"),
     (Outcome::Unfinished, b"\n1. e4 *\n\n"),
 ];
 
+// Declares an outcome, and asserts the end of the text.
 fn ends_as_declared<B: Board>(
     rt: &impl Abort,
     alloc: Global,
@@ -288,6 +303,7 @@ fn ends_as_declared<B: Board>(
     ends_with(rt, alloc, game, scratch, &Tags::default(), line)
 }
 
+// Does so after 1. e4 for each row.
 fn all_end_as_declared<B: Board + Drop>(
     rt: &impl Abort,
     alloc: Global,
@@ -302,6 +318,7 @@ fn all_end_as_declared<B: Board + Drop>(
     Ok(())
 }
 
+// Does so on both boards.
 #[test]
 fn each_declared_result_is_written(rt: HostRuntime) -> Result<(), Fail> {
     all_end_as_declared(&rt, rt.alloc(), Plain::new(), &mut Plain::new(), &DECLARED)?;
@@ -310,7 +327,8 @@ fn each_declared_result_is_written(rt: HostRuntime) -> Result<(), Fail> {
     all_end_as_declared(&rt, rt.alloc(), board, &mut Bits::new(&tables), &DECLARED)
 }
 
-// Writes a game by seven bytes at a time, where one call may fail: the answer, and what was taken.
+// Writes a game by seven bytes at a time, where the call with this number fails (0: none). Gives the answer, and what
+// was taken.
 fn failing_at<B: Board>(
     alloc: Global,
     game: &Game<B>,
@@ -323,7 +341,7 @@ fn failing_at<B: Board>(
     (result, writer.into_writer().bytes)
 }
 
-// Compares what is answered where that call fails, and what was taken, with the call's number.
+// Asserts what is answered where that call fails, and what was taken; a failure of this test shows the call's number.
 fn leaves<B: Board>(
     rt: &impl Abort,
     alloc: Global,
@@ -341,7 +359,8 @@ fn leaves<B: Board>(
     );
 }
 
-// Each call fails in turn, and then one after the last.
+// Lets each call fail in turn, before which only whole sevens of bytes were taken, and then the call after the last,
+// which isn't made.
 fn each_call_fails<B: Board>(
     rt: &impl Abort,
     alloc: Global,
@@ -374,6 +393,7 @@ fn each_call_fails<B: Board>(
     Ok(())
 }
 
+// Does so for a short game on this board.
 fn failures_leave_one<B: Board + Drop>(
     rt: &impl Abort,
     alloc: Global,
@@ -384,7 +404,7 @@ fn failures_leave_one<B: Board + Drop>(
     each_call_fails(rt, alloc, &game, scratch)
 }
 
-// However the writer fails, a beginning was taken, and the fault is returned exactly then.
+// Wherever the writer fails, a beginning of the text was taken, and just then the fault is returned.
 #[test]
 fn failures_leave_a_beginning(rt: HostRuntime) -> Result<(), Fail> {
     failures_leave_one(&rt, rt.alloc(), Plain::new(), &mut Plain::new())?;
@@ -392,11 +412,12 @@ fn failures_leave_a_beginning(rt: HostRuntime) -> Result<(), Fail> {
     failures_leave_one(&rt, rt.alloc(), Bits::new(&tables), &mut Bits::new(&tables))
 }
 
+// Asserts a tag's text.
 fn is_tag_text(rt: &impl Abort, found: &TagText, text: &[u8]) {
     is_equal(rt, &found.as_bytes(), &text);
 }
 
-// All texts of the tags by default.
+// Asserts that the texts of all tags are those by default.
 fn are_unknown(rt: &impl Abort, tags: &Tags) {
     for text in [
         &tags.event,
@@ -410,6 +431,7 @@ fn are_unknown(rt: &impl Abort, tags: &Tags) {
     is_tag_text(rt, &tags.date, b"????.??.??");
 }
 
+// A tag's text is cut to 60 bytes, with `?` for each that isn't printable; the texts by default are unknown.
 #[test]
 fn tag_texts_are_cut(rt: HostRuntime) {
     let long = b"123456789012345678901234567890123456789012345678901234567890X";
@@ -418,7 +440,7 @@ fn tag_texts_are_cut(rt: HostRuntime) {
     are_unknown(&rt, &Tags::default());
 }
 
-// The lines of a game without moves.
+// The lines of the text of a game without moves.
 const NO_MOVES: [&[u8]; 11] = [
     b"[Event \"?\"]\n",
     b"[Site \"?\"]\n",
@@ -433,7 +455,7 @@ const NO_MOVES: [&[u8]; 11] = [
     b"\n",
 ];
 
-// Lines, each after a prefix.
+// These lines, each after this prefix.
 fn prefixed(alloc: Global, prefix: &[u8], lines: &[&[u8]]) -> Result<Vec<u8>, Fail> {
     let mut text = Vec::new(alloc);
     for line in lines {
@@ -443,6 +465,7 @@ fn prefixed(alloc: Global, prefix: &[u8], lines: &[&[u8]]) -> Result<Vec<u8>, Fa
     Ok(text)
 }
 
+// Writes a game without moves on this board, each line after this prefix.
 fn is_written_after<B: Board + Drop>(
     rt: &impl Abort,
     alloc: Global,
@@ -457,6 +480,7 @@ fn is_written_after<B: Board + Drop>(
     Ok(())
 }
 
+// Does so on both boards.
 fn is_written_after_on_both(rt: &impl Abort, alloc: Global, prefix: &[u8]) -> Result<(), Fail> {
     is_written_after(rt, alloc, Plain::new(), &mut Plain::new(), prefix)?;
     let tables = AttackTables::open(alloc)?;
@@ -469,12 +493,14 @@ fn is_written_after_on_both(rt: &impl Abort, alloc: Global, prefix: &[u8]) -> Re
     )
 }
 
+// The buffer of the text has 4,096 bytes; a prefix may have more.
 #[test]
 fn a_prefix_longer_than_the_buffer_is_written(rt: HostRuntime) -> Result<(), Fail> {
     let prefix = vec![in rt.alloc(); b'p'; 5000]?;
     is_written_after_on_both(&rt, rt.alloc(), prefix.as_slice())
 }
 
+// Each law of chess_pgn and of chess_pgn_laws can be called, without a condition.
 #[test]
 fn laws_are_called() {
     a_game_is_tags_and_moves();

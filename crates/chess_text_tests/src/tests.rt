@@ -1,3 +1,5 @@
+//! Texts of moves: which move each denotes at a position, if any, and how moves are written.
+
 use chess_base::{Kind, Move, Position, Square, Variant};
 use chess_bits::{AttackTables, Bits};
 use chess_fen::{read_fen_as, write_fen};
@@ -14,7 +16,7 @@ use std::alloc::Global;
 use std::process::Abort;
 use std::test::Fail;
 
-// What a text denotes: the move with this coordinate text, or none.
+// What a text is to denote: the move with this coordinate text, several legal moves, no legal move, or no move at all.
 #[derive(Clone, Copy)]
 enum Wanted {
     Move(&'static [u8]),
@@ -23,12 +25,13 @@ enum Wanted {
     NotAMove,
 }
 
+// Sets a board to the position of a FEN.
 fn set<B: Board>(board: &mut B, variant: Variant, fen: &[u8]) -> Result<(), Fail> {
     board.set(&read_fen_as(variant, fen).ok().ok_or("sound")?);
     Ok(())
 }
 
-// Whether a text was read as it should be.
+// Whether what a text was read as is what was wanted.
 fn is_wanted(found: Reading, wanted: Wanted) -> bool {
     match (found, wanted) {
         (Reading::Move(m), Wanted::Move(name)) => coordinate(m).as_slice() == name,
@@ -39,6 +42,8 @@ fn is_wanted(found: Reading, wanted: Wanted) -> bool {
     }
 }
 
+// Reads a text at the board's position, and asserts what it denotes. It has the shape of a move unless it is no move at
+// all.
 fn check<B: Board>(rt: &impl Abort, board: &B, text: &[u8], wanted: Wanted) {
     let found = read_move(board, text);
     assert!(rt; is_wanted(found, wanted), "{text:?} is {found:?}");
@@ -49,6 +54,7 @@ fn check<B: Board>(rt: &impl Abort, board: &B, text: &[u8], wanted: Wanted) {
     );
 }
 
+// Reads each text at the position of a FEN on this board.
 fn check_on<B: Board>(
     rt: &impl Abort,
     board: &mut B,
@@ -62,7 +68,7 @@ fn check_on<B: Board>(
     Ok(())
 }
 
-// Reads texts in a position, on both boards.
+// The same on both boards.
 fn check_all(
     rt: &impl Abort,
     alloc: Global,
@@ -74,9 +80,11 @@ fn check_all(
     check_on(rt, &mut Bits::new(&tables), fen, rows)
 }
 
-// Both castlings, a capture en passant, a pinned knight on c3 and one that may move.
+// A position where White may castle on both sides and capture en passant; its knight on c3 is pinned, that on f3 may
+// move.
 const MIDDLE_GAME: &[u8] = b"r3k2r/ppp2ppp/2n2n2/3pP3/1b6/2N2N2/PPP2PPP/R3K2R w KQkq d6 0 8";
 
+// Texts of pawn moves there, and what they denote.
 const PAWN_TEXTS: &[(&[u8], Wanted)] = &[
     (b"e6", Wanted::Move(b"e5e6")),
     (b"e5e6", Wanted::Move(b"e5e6")),
@@ -106,11 +114,13 @@ const PAWN_TEXTS: &[(&[u8], Wanted)] = &[
     (b"4e5", Wanted::NotAMove),
 ];
 
+// Reads each text of the table.
 #[test]
 fn pawn_moves_in_a_middle_game(rt: HostRuntime) -> Result<(), Fail> {
     check_all(&rt, rt.alloc(), MIDDLE_GAME, PAWN_TEXTS)
 }
 
+// Texts of castling and other king moves there.
 const KING_TEXTS: &[(&[u8], Wanted)] = &[
     (b"O-O", Wanted::Move(b"e1g1")),
     (b"0-0", Wanted::Move(b"e1g1")),
@@ -137,11 +147,13 @@ const KING_TEXTS: &[(&[u8], Wanted)] = &[
     (b"Ke2", Wanted::Move(b"e1e2")),
 ];
 
+// Reads each text of the table.
 #[test]
 fn king_moves_in_a_middle_game(rt: HostRuntime) -> Result<(), Fail> {
     check_all(&rt, rt.alloc(), MIDDLE_GAME, KING_TEXTS)
 }
 
+// Texts of knight moves there, of which the pinned knight has none.
 const KNIGHT_TEXTS: &[(&[u8], Wanted)] = &[
     (b"Nd2", Wanted::Move(b"f3d2")),
     (b"Nd4", Wanted::Move(b"f3d4")),
@@ -165,11 +177,13 @@ const KNIGHT_TEXTS: &[(&[u8], Wanted)] = &[
     (b"N5", Wanted::NotAMove),
 ];
 
+// Reads each text of the table.
 #[test]
 fn knight_moves_in_a_middle_game(rt: HostRuntime) -> Result<(), Fail> {
     check_all(&rt, rt.alloc(), MIDDLE_GAME, KNIGHT_TEXTS)
 }
 
+// Texts of rook moves and others there.
 const OTHER_TEXTS: &[(&[u8], Wanted)] = &[
     (b"Rd1", Wanted::Move(b"a1d1")),
     (b"Rad1", Wanted::Move(b"a1d1")),
@@ -200,11 +214,13 @@ const OTHER_TEXTS: &[(&[u8], Wanted)] = &[
     (b"Qxd5", Wanted::NoSuch),
 ];
 
+// Reads each text of the table.
 #[test]
 fn other_moves_in_a_middle_game(rt: HostRuntime) -> Result<(), Fail> {
     check_all(&rt, rt.alloc(), MIDDLE_GAME, OTHER_TEXTS)
 }
 
+// Texts of which most don't have the form of a move.
 const BROKEN_TEXTS: &[(&[u8], Wanted)] = &[
     (b"", Wanted::NotAMove),
     (b"+", Wanted::NotAMove),
@@ -231,14 +247,16 @@ const BROKEN_TEXTS: &[(&[u8], Wanted)] = &[
     (b"Pxd6", Wanted::NotAMove),
 ];
 
+// Reads each text of the table.
 #[test]
 fn broken_texts_in_a_middle_game(rt: HostRuntime) -> Result<(), Fail> {
     check_all(&rt, rt.alloc(), MIDDLE_GAME, BROKEN_TEXTS)
 }
 
-// A pawn on e7 may go on or capture on either side.
+// A position where a pawn on e7 may be promoted straight on or by a capture on either side.
 const PROMOTION: &[u8] = b"3r1n1k/4P3/8/8/8/8/8/4K3 w - - 0 1";
 
+// Texts of the promotion on e8.
 const PROMOTION_TEXTS: &[(&[u8], Wanted)] = &[
     (b"e8=Q", Wanted::Move(b"e7e8q")),
     (b"e8Q", Wanted::Move(b"e7e8q")),
@@ -263,11 +281,13 @@ const PROMOTION_TEXTS: &[(&[u8], Wanted)] = &[
     (b"e8=Q=", Wanted::NotAMove),
 ];
 
+// Reads each text of the table.
 #[test]
 fn texts_of_promotions(rt: HostRuntime) -> Result<(), Fail> {
     check_all(&rt, rt.alloc(), PROMOTION, PROMOTION_TEXTS)
 }
 
+// Texts of the promotions by a capture.
 const PROMOTING_CAPTURE_TEXTS: &[(&[u8], Wanted)] = &[
     (b"exd8=N+", Wanted::Move(b"e7d8n")),
     (b"ed8=N", Wanted::Move(b"e7d8n")),
@@ -292,14 +312,16 @@ const PROMOTING_CAPTURE_TEXTS: &[(&[u8], Wanted)] = &[
     (b"8=Q", Wanted::NotAMove),
 ];
 
+// Reads each text of the table.
 #[test]
 fn texts_of_promoting_captures(rt: HostRuntime) -> Result<(), Fail> {
     check_all(&rt, rt.alloc(), PROMOTION, PROMOTING_CAPTURE_TEXTS)
 }
 
-// Three queens attack e1.
+// A position where three queens may move to e1.
 const QUEENS: &[u8] = b"8/k7/8/8/4Q2Q/8/K7/7Q w - - 0 1";
 
+// Texts that name the queen by nothing, by its file, its rank or both.
 const QUEENS_TEXTS: &[(&[u8], Wanted)] = &[
     (b"Qe1", Wanted::Ambiguous),
     (b"Qee1", Wanted::Move(b"e4e1")),
@@ -326,12 +348,14 @@ const QUEENS_TEXTS: &[(&[u8], Wanted)] = &[
     (b"qe1", Wanted::NotAMove),
 ];
 
+// Reads each text of the table.
 #[test]
 fn texts_of_three_queens(rt: HostRuntime) -> Result<(), Fail> {
     check_all(&rt, rt.alloc(), QUEENS, QUEENS_TEXTS)
 }
 
-// A text of marks, the same after a move, and that with a digit as its last byte.
+// Reads 1,024 bytes at the initial position: marks alone are no move, after a move they are passed over, and with a
+// digit at their end they are no move.
 fn check_runs<B: Board>(rt: &impl Abort, board: &B) {
     let mut text = [b'+'; 1024];
     check(rt, board, &text, Wanted::NotAMove);
@@ -342,6 +366,7 @@ fn check_runs<B: Board>(rt: &impl Abort, board: &B) {
     check(rt, board, &text, Wanted::NotAMove);
 }
 
+// Does so on both boards.
 #[test]
 fn long_runs_of_marks(rt: HostRuntime) -> Result<(), Fail> {
     check_runs(&rt, &Plain::new());
@@ -350,7 +375,7 @@ fn long_runs_of_marks(rt: HostRuntime) -> Result<(), Fail> {
     Ok(())
 }
 
-// Compares the SAN of the move that a text denotes.
+// Asserts the SAN of the move that a text denotes.
 fn is_written<B: Board>(
     rt: &impl Abort,
     board: &mut B,
@@ -373,11 +398,12 @@ fn make<B: Board>(board: &mut B, text: &[u8]) -> Result<(), Fail> {
     Ok(())
 }
 
+// Asserts the FEN of a board's position.
 fn is_at<B: Board>(rt: &impl Abort, board: &B, fen: &[u8]) {
     assert_eq!(rt; write_fen(&board.position()).as_slice(), fen);
 }
 
-// Writes a move from a position, at which the board stays.
+// Asserts the SAN of a move at the position of a FEN, at which the board still is after that.
 fn is_written_from<B: Board>(
     rt: &impl Abort,
     board: &mut B,
@@ -391,7 +417,7 @@ fn is_written_from<B: Board>(
     Ok(())
 }
 
-// A position, a move by coordinates, and its SAN.
+// A position, a move by its coordinates, and its SAN.
 const WRITTEN: [(&[u8], &[u8], &[u8]); 24] = [
     (
         b"rnbqkbnr/pppppppp/8/8/8/8/PPPPPPPP/RNBQKBNR w KQkq - 0 1",
@@ -443,6 +469,7 @@ const WRITTEN: [(&[u8], &[u8], &[u8]); 24] = [
     (b"7k/8/6K1/8/8/8/8/5Q2 w - - 0 1", b"f1f7", b"Qf7"),
 ];
 
+// Does so for each row.
 fn are_written<B: Board>(
     rt: &impl Abort,
     board: &mut B,
@@ -454,6 +481,7 @@ fn are_written<B: Board>(
     Ok(())
 }
 
+// Writes the move of each row on both boards.
 #[test]
 fn san_of_moves(rt: HostRuntime) -> Result<(), Fail> {
     are_written(&rt, &mut Plain::new(), &WRITTEN)?;
@@ -468,13 +496,13 @@ const OPERA_GAME: [&[u8]; 33] = [
     b"Rd8", b"Rxd7", b"Rxd7", b"Rd1", b"Qe6", b"Bxd7+", b"Nxd7", b"Qb8+", b"Nxb8", b"Rd8#",
 ];
 
-// Reads a move, writes it as it was read, and makes it.
+// Reads a SAN, asserts that its move is written so, and makes it.
 fn is_read_and_written<B: Board>(rt: &impl Abort, board: &mut B, text: &[u8]) -> Result<(), Fail> {
     is_written(rt, board, text, text)?;
     make(board, text)
 }
 
-// Reads, writes and makes moves, after which the board is there.
+// Reads, writes and makes these moves, and asserts the position after them.
 fn are_read_and_written<B: Board>(
     rt: &impl Abort,
     board: &mut B,
@@ -488,8 +516,10 @@ fn are_read_and_written<B: Board>(
     Ok(())
 }
 
+// The position at its end.
 const AFTER_THE_OPERA: &[u8] = b"1n1Rkb1r/p4ppp/4q3/4p1B1/4P3/8/PPP2PPP/2K5 b k - 1 17";
 
+// Reads and writes that game on both boards.
 #[test]
 fn a_game_is_read_and_written(rt: HostRuntime) -> Result<(), Fail> {
     are_read_and_written(&rt, &mut Plain::new(), &OPERA_GAME, AFTER_THE_OPERA)?;
@@ -497,11 +527,13 @@ fn a_game_is_read_and_written(rt: HostRuntime) -> Result<(), Fail> {
     are_read_and_written(&rt, &mut Bits::new(&tables), &OPERA_GAME, AFTER_THE_OPERA)
 }
 
+// Texts that denote no legal move at the initial position.
 const INITIAL_TEXTS: &[(&[u8], Wanted)] = &[(b"bc3", Wanted::NoSuch), (b"O-O", Wanted::NoSuch)];
 
+// A few moves from there, not all in the form of SAN.
 const FIRST_MOVES: [&[u8]; 3] = [b"e4!?", b"e5", b"Nge2"];
 
-// Makes moves, after which the board is there.
+// Makes these moves, and asserts the position after them.
 fn make_all<B: Board>(
     rt: &impl Abort,
     board: &mut B,
@@ -515,8 +547,10 @@ fn make_all<B: Board>(
     Ok(())
 }
 
+// The position after them.
 const AFTER_NGE2: &[u8] = b"rnbqkbnr/pppp1ppp/8/4p3/4P3/8/PPPPNPPP/RNBQKB1R b KQkq - 1 2";
 
+// Reads these texts, and makes these moves, on both boards.
 #[test]
 fn moves_from_the_initial_position(rt: HostRuntime) -> Result<(), Fail> {
     let initial = write_fen(&Position::initial());
@@ -526,11 +560,13 @@ fn moves_from_the_initial_position(rt: HostRuntime) -> Result<(), Fail> {
     make_all(&rt, &mut Bits::new(&tables), &FIRST_MOVES, AFTER_NGE2)
 }
 
+// Texts of a promotion, without and with the piece.
 const PAWN_ON_E7: &[(&[u8], Wanted)] = &[
     (b"e8", Wanted::NoSuch),
     (b"e8=N!?", Wanted::Move(b"e7e8n")),
 ];
 
+// Reads these, and asserts how a promotion is written by its coordinates.
 #[test]
 fn a_pawn_becomes_what_is_named(rt: HostRuntime) -> Result<(), Fail> {
     check_all(
@@ -548,7 +584,7 @@ fn a_pawn_becomes_what_is_named(rt: HostRuntime) -> Result<(), Fail> {
     Ok(())
 }
 
-// Compares how the move that a text denotes is shown.
+// Asserts how `move_text` shows the move that a text denotes.
 fn is_shown<B: Board>(rt: &impl Abort, board: &B, name: &[u8], wanted: &[u8]) -> Result<(), Fail> {
     let Reading::Move(m) = read_move(board, name) else {
         return Err("a legal move".into());
@@ -557,7 +593,7 @@ fn is_shown<B: Board>(rt: &impl Abort, board: &B, name: &[u8], wanted: &[u8]) ->
     Ok(())
 }
 
-// With the king on b1 and rooks on a1 and h1: the text of a move, and how the move is shown.
+// In Chess960, with the king on b1 and rooks on a1 and h1: the text of a move, and how the move is shown.
 const SHOWN: [(&[u8], &[u8]); 5] = [
     (b"b1a1", b"O-O-O"),
     (b"b1h1", b"O-O"),
@@ -569,7 +605,7 @@ const SHOWN: [(&[u8], &[u8]); 5] = [
 // In normal chess castling is shown by the king's squares.
 const SHOWN_IN_NORMAL_CHESS: [(&[u8], &[u8]); 1] = [(b"O-O", b"e1g1")];
 
-// Shows moves from a position.
+// Asserts how the moves of these texts are shown, at the position of a FEN of this variant.
 fn are_shown<B: Board>(
     rt: &impl Abort,
     board: &mut B,
@@ -584,6 +620,7 @@ fn are_shown<B: Board>(
     Ok(())
 }
 
+// Does so for both tables on this board.
 fn castlings_are_shown<B: Board>(rt: &impl Abort, board: &mut B) -> Result<(), Fail> {
     let fen = b"4k3/8/8/8/8/8/8/RK5R w KQ - 0 1";
     are_shown(rt, board, Variant::Fischerandom, fen, &SHOWN)?;
@@ -591,6 +628,7 @@ fn castlings_are_shown<B: Board>(rt: &impl Abort, board: &mut B) -> Result<(), F
     are_shown(rt, board, Variant::Normal, fen, &SHOWN_IN_NORMAL_CHESS)
 }
 
+// Does so on both boards.
 #[test]
 fn castling_is_shown_by_its_variant(rt: HostRuntime) -> Result<(), Fail> {
     castlings_are_shown(&rt, &mut Plain::new())?;
@@ -598,6 +636,7 @@ fn castling_is_shown_by_its_variant(rt: HostRuntime) -> Result<(), Fail> {
     castlings_are_shown(&rt, &mut Bits::new(&tables))
 }
 
+// Each law of chess_text and chess_text_laws can be called, without a condition.
 #[test]
 fn laws_do_nothing(_rt: HostRuntime) {
     san_denotes_its_move();
@@ -609,7 +648,7 @@ fn laws_do_nothing(_rt: HostRuntime) {
     normal_is_kept();
 }
 
-// The SAN of the only move to this square, shown and debugged.
+// The SAN of the move that a text denotes, shown and debugged.
 fn shown_san<B: Board>(alloc: Global, board: &mut B, text: &[u8]) -> Result<String, Fail> {
     let Reading::Move(m) = read_move(board, text) else {
         return Err("no move".into());
@@ -618,6 +657,7 @@ fn shown_san<B: Board>(alloc: Global, board: &mut B, text: &[u8]) -> Result<Stri
     Ok(format!(in alloc; "{san} {san:?}")?)
 }
 
+// Castling with check is shown as it is written, and debugged in quotes.
 #[test]
 fn a_san_is_shown(rt: HostRuntime) -> Result<(), Fail> {
     let mut board = Plain::new();

@@ -1,5 +1,5 @@
-//! The examples of the crates that know no chess. The comment above each names the crate at the top of whose lib.rt it
-//! is.
+//! The examples of the crates that know no chess. The comment above each names the crate whose lib.rt begins with it,
+//! and says what it does.
 
 use anyhow::Result;
 use byte_devices::{Counted, Input, Output, PieceReader, put};
@@ -8,7 +8,7 @@ use pgn_tokens::game_tags;
 use std::alloc::Global;
 use text_lines::{Lines, split_word};
 
-// byte_devices
+// byte_devices: copies what one read gives to an output, and returns how many bytes these are.
 fn copied(alloc: Global) -> Result<usize> {
     let mut input = Counted::reading(PieceReader::new(b"new\n", 3, 0));
     let mut output = Counted::writing(Vec::<u8>::new(alloc));
@@ -18,7 +18,7 @@ fn copied(alloc: Global) -> Result<usize> {
     Ok(count)
 }
 
-// text_lines
+// text_lines: writes, for each line of an input, the lengths of its first word and of the rest.
 fn words<R: Input + Drop>(rt: &HostRuntime, mut input: R) -> Result<()> {
     let mut lines: Lines<1024> = Lines::new();
     for _ in 0..u64::MAX {
@@ -31,7 +31,7 @@ fn words<R: Input + Drop>(rt: &HostRuntime, mut input: R) -> Result<()> {
     Ok(())
 }
 
-// pgn_tokens
+// pgn_tokens: puts the name of each tag of a game on an output, one a line.
 fn tag_names<W: Output + Drop>(text: &[u8], mut output: W) -> Result<()> {
     for tag in game_tags(text, 0) {
         put(&mut output, tag.name)?;
@@ -40,7 +40,7 @@ fn tag_names<W: Output + Drop>(text: &[u8], mut output: W) -> Result<()> {
     Ok(())
 }
 
-// pgn_pieces
+// pgn_pieces: writes, for each piece of a collection, where it begins, and its length unless it is too long.
 fn pieces<R: Input + Drop>(rt: &HostRuntime, alloc: Global, mut input: R) -> Result<()> {
     let mut pieces = PgnPieces::open(alloc)?;
     for _ in 0..u64::MAX {
@@ -55,6 +55,7 @@ fn pieces<R: Input + Drop>(rt: &HostRuntime, alloc: Global, mut input: R) -> Res
     Ok(())
 }
 
+// Runs each example above once.
 pub(crate) fn run(rt: &HostRuntime) -> Result<()> {
     let alloc = rt.alloc();
     println!(rt; "{} bytes", copied(alloc)?)?;

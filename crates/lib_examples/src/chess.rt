@@ -1,5 +1,5 @@
 //! The examples of the crates about positions, boards, games, and their texts. The comment above each names the crate
-//! at the top of whose lib.rt it is.
+//! whose lib.rt begins with it, and says what it does.
 
 use anyhow::Result;
 use byte_devices::{Counted, Output};
@@ -13,7 +13,7 @@ use chess_text::{Reading, read_move};
 use pgn_writer::{Tags, write_pgn};
 use std::alloc::Global;
 
-// chess_base
+// chess_base: whether 1. e4 is legal at the initial position.
 fn is_legal(rt: &HostRuntime) -> Result<()> {
     let position = Position::initial();
     let m: Move = "e2e4".parse()?;
@@ -22,7 +22,7 @@ fn is_legal(rt: &HostRuntime) -> Result<()> {
     Ok(())
 }
 
-// chess_fen
+// chess_fen: reads a FEN, and writes it again.
 fn fen(rt: &HostRuntime) -> Result<()> {
     let position = read_fen(b"4k3/8/8/8/8/8/4P3/4K3 w - - 0 1")?;
     let text = write_fen(&position);
@@ -30,14 +30,14 @@ fn fen(rt: &HostRuntime) -> Result<()> {
     Ok(())
 }
 
-// chess_fen, the second one
+// chess_fen, the second one: the same with a FEN as a value of its own, which can be shown.
 fn fen_as_text(rt: &HostRuntime) -> Result<()> {
     let fen: Fen = "4k3/8/8/8/8/8/4P3/4K3 w - - 0 1".parse()?;
     println!(rt; "{fen}")?;
     Ok(())
 }
 
-// chess_moves
+// chess_moves: makes and takes back each legal move of a position.
 fn each_move(position: Position) {
     let mut board = Plain::new();
     board.set(&position);
@@ -51,14 +51,14 @@ fn each_move(position: Position) {
     }
 }
 
-// chess_bits
+// chess_bits: how many legal moves a new game has, on a board of bit sets.
 fn bits(alloc: Global) -> Result<usize> {
     let tables = AttackTables::open(alloc)?;
     let mut game = Game::open(alloc, Bits::new(&tables), 300)?;
     Ok(game.board().legal_move_count())
 }
 
-// chess_game
+// chess_game: plays a move, writes the verdict if the game is over, and takes the move back.
 fn game(rt: &HostRuntime, alloc: Global, m: Move) -> Result<Move> {
     let mut game = Game::open(alloc, Plain::new(), 300)?;
     game.play(m)?;
@@ -69,7 +69,7 @@ fn game(rt: &HostRuntime, alloc: Global, m: Move) -> Result<Move> {
     Ok(m)
 }
 
-// chess_text
+// chess_text: plays the move that a text denotes, or says why it denotes none.
 fn read_text(rt: &HostRuntime, game: &mut Game<Plain>) -> Result<()> {
     match read_move(game.board(), b"Nf3") {
         Reading::Move(m) => game.play(m)?,
@@ -80,7 +80,7 @@ fn read_text(rt: &HostRuntime, game: &mut Game<Plain>) -> Result<()> {
     Ok(())
 }
 
-// pgn_writer
+// pgn_writer: writes a game as PGN, with a name for White.
 fn written<W: Output + Drop>(game: Game<Plain>, mut output: W) -> Result<()> {
     let mut scratch = Plain::new();
     let tags = Tags {
@@ -91,7 +91,7 @@ fn written<W: Output + Drop>(game: Game<Plain>, mut output: W) -> Result<()> {
     Ok(())
 }
 
-// chess_pgn
+// chess_pgn: reads a game of PGN and writes it anew; it returns where the game ends.
 fn written_anew<W: Output + Drop>(alloc: Global, text: &[u8], mut output: W) -> Result<usize> {
     let mut game = Game::open(alloc, Plain::new(), 300)?;
     let mut scratch = Plain::new();
@@ -103,6 +103,7 @@ fn written_anew<W: Output + Drop>(alloc: Global, text: &[u8], mut output: W) -> 
     Ok(offset)
 }
 
+// Runs each example above once.
 pub(crate) fn run(rt: &HostRuntime) -> Result<()> {
     let alloc = rt.alloc();
     is_legal(rt)?;

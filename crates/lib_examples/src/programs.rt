@@ -1,5 +1,5 @@
-//! The examples of the crates that play, serve and verify. The comment above each names the crate at the top of whose
-//! lib.rt it is.
+//! The examples of the crates that play, serve and verify. The comment above each names the crate whose lib.rt begins
+//! with it, and says what it does.
 
 use anyhow::Result;
 use arbiter_cli::{Plan, read_words};
@@ -17,7 +17,7 @@ use pgn_verifier::{LENIENT, Verified, VerifyOptions, verify};
 use std::alloc::Global;
 use stub_engine::Stub;
 
-// cecp_engine
+// cecp_engine: reads a line of features item by item, and what time White's clock has at the beginning.
 fn features_and_clock() -> Result<(bool, u64)> {
     let mut features = Features::new();
     if let EngineLine::Features(text) = read_engine_line(b"feature ping=1 done=1") {
@@ -39,7 +39,7 @@ fn features_and_clock() -> Result<(bool, u64)> {
     Ok((features.ping, left))
 }
 
-// chess_match
+// chess_match: plays a match between two engines that are given as readers and writers.
 fn match_between<R: Input + Drop, W: Output + Drop, M: Moments + Drop>(
     rt: &HostRuntime,
     white_output: R,
@@ -71,7 +71,7 @@ fn match_between<R: Input + Drop, W: Output + Drop, M: Moments + Drop>(
     Ok(())
 }
 
-// match_runner
+// match_runner: plays two games between two engines that it starts as processes.
 fn match_of_processes(rt: &HostRuntime, alloc: Global) -> Result<()> {
     let plan = GamesPlan {
         white: "sjeng",
@@ -91,7 +91,7 @@ fn match_of_processes(rt: &HostRuntime, alloc: Global) -> Result<()> {
     Ok(())
 }
 
-// chess_cecp
+// chess_cecp: runs a session, which answers an interface, up to its end.
 fn session<R: Input + Drop, W: Output + Drop>(
     alloc: Global,
     mut input: R,
@@ -102,7 +102,7 @@ fn session<R: Input + Drop, W: Output + Drop>(
     Ok(end)
 }
 
-// stub_engine
+// stub_engine: runs an engine that plays these arguments in turn.
 fn stub<R: Input + Drop, W: Output + Drop>(mut input: R, mut output: W) -> Result<End> {
     let arguments = ["e2e4", "offer", "resign"];
     let mut stub = Stub::new(&arguments);
@@ -110,7 +110,7 @@ fn stub<R: Input + Drop, W: Output + Drop>(mut input: R, mut output: W) -> Resul
     Ok(end)
 }
 
-// pgn_verifier
+// pgn_verifier: verifies a text of PGN.
 fn verified(rt: &HostRuntime, alloc: Global) -> Result<()> {
     let mut input = Counted::reading(b"1. e4 *".as_slice());
     let mut output = Counted::writing(Vec::<u8>::new(alloc));
@@ -128,7 +128,7 @@ fn verified(rt: &HostRuntime, alloc: Global) -> Result<()> {
     Ok(())
 }
 
-// arbiter_cli
+// arbiter_cli: reads the arguments of a command line.
 fn arguments(rt: &HostRuntime, alloc: Global) -> Result<()> {
     let arguments = ["verify", "--quiet"];
     if let Ok(Plan::Verify { options, .. }) = read_words(alloc, &arguments) {
@@ -137,7 +137,7 @@ fn arguments(rt: &HostRuntime, alloc: Global) -> Result<()> {
     Ok(())
 }
 
-// chess_arbiter
+// chess_arbiter: runs the whole program with these arguments, and returns its status.
 fn program(rt: &HostRuntime, alloc: Global) -> u8 {
     let mut input = Counted::reading(b"1. e4 *".as_slice());
     let mut output = Counted::writing(Vec::<u8>::new(alloc));
@@ -154,6 +154,7 @@ fn program(rt: &HostRuntime, alloc: Global) -> u8 {
     status
 }
 
+// Runs each example above once, but for the match of two processes.
 pub(crate) fn run(rt: &HostRuntime) -> Result<()> {
     let alloc = rt.alloc();
     let (ping, left) = features_and_clock()?;

@@ -1,3 +1,6 @@
+//! The pieces of collections: where they begin and end, however their bytes are read; pieces that are too long; and
+//! memory.
+
 ghost use Rattle.std.specs.Prelude.{◌<◌};
 
 use byte_devices::{Counted, Input, PieceReader};
@@ -13,7 +16,7 @@ fn is_equal<T: PartialEq + Debug>(rt: &impl Abort, found: &T, wanted: &T) {
     assert_eq!(rt; *found, *wanted);
 }
 
-// The pieces go on to one that begins at an offset and has these bytes; `None` where it is too long.
+// Asks for the next piece, and asserts where it begins and which bytes it has (`None`: it is too long).
 fn gives<R: Input>(
     rt: &impl Abort,
     pieces: &mut PgnPieces,
@@ -26,7 +29,7 @@ fn gives<R: Input>(
     assert!(rt; pieces.text() == wanted, "the piece at {offset}");
 }
 
-// There are no more pieces, for this reason.
+// Asserts that there are no more pieces, since the input has ended or a read failed.
 fn ends<R: Input>(
     rt: &impl Abort,
     pieces: &mut PgnPieces,
@@ -36,7 +39,7 @@ fn ends<R: Input>(
     is_equal(rt, &pieces.next(input), &answer);
 }
 
-// A text that is read by at most `cut` bytes at a time has pieces of these lengths.
+// Cuts a text, of which a read gives at most `cut` bytes, and asserts the lengths of its pieces.
 fn check_cut(
     rt: &impl Abort,
     host: &HostRuntime,
@@ -128,6 +131,7 @@ const CUTS: [(&[u8], &[usize]); 33] = [
     ),
 ];
 
+// Cuts each text, read by 1 to 49 bytes at a time.
 #[test]
 fn pieces_begin_at_tags(rt: HostRuntime) -> Result<(), Fail> {
     for (text, lens) in &CUTS {
@@ -138,9 +142,11 @@ fn pieces_begin_at_tags(rt: HostRuntime) -> Result<(), Fail> {
     Ok(())
 }
 
+// A collection of two pieces.
 const COLLECTION: &[u8] = b"[Event \"a\"]\n*\n[Event \"b\"]\n*";
 
-// After a read that failed there is no piece whose end was not read.
+// The second read fails. The first piece is given if the first read had the `"` of the next tag, byte 22, and else
+// none.
 #[test]
 fn failed_reads_end_the_pieces(rt: HostRuntime) -> Result<(), Fail> {
     let mut input = Counted::reading(PieceReader::new(COLLECTION, 22, 2));
@@ -153,7 +159,7 @@ fn failed_reads_end_the_pieces(rt: HostRuntime) -> Result<(), Fail> {
     Ok(())
 }
 
-// A piece of so many bytes before one of 8 bytes.
+// Reads a piece of `len` bytes before one of 8. It has a text only if it is not too long (`is_short`).
 fn check_long(rt: &impl Abort, host: &HostRuntime, len: usize, is_short: bool) -> Result<(), Fail> {
     let mut text = vec![in host.alloc(); b'x'; len.saturating_sub(1)]?;
     text.push(b'\n')?;
@@ -167,7 +173,7 @@ fn check_long(rt: &impl Abort, host: &HostRuntime, len: usize, is_short: bool) -
     Ok(())
 }
 
-// A line of `len` bytes is before a piece that has `behind` bytes after its `[Event "`.
+// Finds a piece after a line of `len` bytes. It has `behind` bytes after its `[Event "`.
 fn check_line(rt: &impl Abort, host: &HostRuntime, len: usize, behind: usize) -> Result<(), Fail> {
     let mut text = vec![in host.alloc(); b'x'; len.saturating_sub(1)]?;
     text.extend_from_slice(b"\n[Event \"")?;
@@ -182,7 +188,7 @@ fn check_line(rt: &impl Abort, host: &HostRuntime, len: usize, behind: usize) ->
     Ok(())
 }
 
-// A line's end is looked for by blocks of bytes: it is found at each place in them, and near the text's last byte.
+// The end of a line is searched by blocks of bytes: it is found at each place in them, and near the text's last byte.
 #[test]
 fn lines_end_at_any_offset(rt: HostRuntime) -> Result<(), Fail> {
     for len in 2..132 {
@@ -193,7 +199,8 @@ fn lines_end_at_any_offset(rt: HostRuntime) -> Result<(), Fail> {
     Ok(())
 }
 
-// A line's first 256 bytes decide its kind: a tag's name of so many bytes begins a piece after moves, or doesn't.
+// Only the first 256 bytes of a line decide whether it is a tag's. After moves, a tag whose name has `len` bytes begins
+// a piece, or doesn't.
 fn check_name(rt: &impl Abort, host: &HostRuntime, len: usize, begins: bool) -> Result<(), Fail> {
     let mut text = vec![in host.alloc(); b'a'; len]?;
     text.insert(0, b'[')?;
@@ -211,14 +218,15 @@ fn check_name(rt: &impl Abort, host: &HostRuntime, len: usize, begins: bool) -> 
     Ok(())
 }
 
+// With the `[` and the `"` that are 256 bytes.
 #[test]
 fn names_have_at_most_254_bytes(rt: HostRuntime) -> Result<(), Fail> {
     check_name(&rt, &rt, 254, true)?;
     check_name(&rt, &rt, 255, false)
 }
 
-// Where the string of a tag goes on after these 256 bytes, it isn't known to be unclosed: a tag line of so many bytes,
-// which isn't closed, ends the piece before the next tag line, or doesn't.
+// A tag line of `len` bytes isn't closed. It ends its piece before the next tag line only if its end is among the first
+// 256 bytes: a longer one isn't known to be unclosed.
 fn check_unclosed(
     rt: &impl Abort,
     host: &HostRuntime,
@@ -242,6 +250,7 @@ fn check_unclosed(
     Ok(())
 }
 
+// Lines of 255 and 256 bytes, and longer ones.
 #[test]
 fn tags_are_unclosed_on_lines_of_at_most_256_bytes(rt: HostRuntime) -> Result<(), Fail> {
     check_unclosed(&rt, &rt, 255, true)?;
@@ -250,7 +259,7 @@ fn tags_are_unclosed_on_lines_of_at_most_256_bytes(rt: HostRuntime) -> Result<()
     check_unclosed(&rt, &rt, 400, false)
 }
 
-// Blanks before a tag are among these 256 bytes: after so many the tag begins a piece, or doesn't.
+// Blanks before a tag count among the 256 bytes. After moves, a tag after `len` blanks begins a piece, or doesn't.
 fn check_blanks(rt: &impl Abort, host: &HostRuntime, len: usize, begins: bool) -> Result<(), Fail> {
     let mut text = vec![in host.alloc(); b' '; len]?;
     text.insert(0, b'\n')?;
@@ -267,6 +276,7 @@ fn check_blanks(rt: &impl Abort, host: &HostRuntime, len: usize, begins: bool) -
     Ok(())
 }
 
+// With the `[a "` after them that are 256 bytes.
 #[test]
 fn tags_come_after_at_most_252_blanks(rt: HostRuntime) -> Result<(), Fail> {
     check_blanks(&rt, &rt, 252, true)?;
@@ -275,7 +285,7 @@ fn tags_come_after_at_most_252_blanks(rt: HostRuntime) -> Result<(), Fail> {
     check_blanks(&rt, &rt, 300, false)
 }
 
-// A piece has at most 16,777,216 bytes, or it has no text; the next one comes at its offset.
+// A piece of more than 16,777,216 bytes has no text; the next piece is given as ever.
 #[test]
 fn long_pieces_have_no_text(rt: HostRuntime) -> Result<(), Fail> {
     is_equal(&rt, &PIECE_LEN, &16_777_216);
@@ -283,7 +293,8 @@ fn long_pieces_have_no_text(rt: HostRuntime) -> Result<(), Fail> {
     check_long(&rt, &rt, 16_777_217, false)
 }
 
-// The pieces go on to one that begins where the one before ends, has this beginning, and in which so many lines end.
+// Asks for the next piece, and asserts that it begins where the one before ends, its first bytes, and how many lines
+// end in it.
 fn begins<R: Input>(
     rt: &impl Abort,
     pieces: &mut PgnPieces,
@@ -298,7 +309,7 @@ fn begins<R: Input>(
     is_equal(rt, &pieces.line_ends(), &line_ends);
 }
 
-// A text that is read by at most `cut` bytes at a time has pieces with these beginnings, in which so many lines end.
+// Cuts a text, of which a read gives at most `cut` bytes, and asserts this of each piece.
 fn check_beginnings(
     rt: &impl Abort,
     host: &HostRuntime,
@@ -319,7 +330,7 @@ fn check_beginnings(
     Ok(())
 }
 
-// Texts, and of each piece its first 40 bytes and how many lines end in it.
+// Texts, and for each piece its first 40 bytes, or all that it has, and how many lines end in it.
 const BEGINNINGS: [(&[u8], &[(&[u8], usize)]); 9] = [
     (b"*", &[(b"*", 0)]),
     (b"\n", &[(b"\n", 1)]),
@@ -363,6 +374,7 @@ const BEGINNINGS: [(&[u8], &[(&[u8], usize)]); 9] = [
     (b"", &[]),
 ];
 
+// Cuts each text, read by 1 to 49 bytes at a time.
 #[test]
 fn pieces_have_beginnings_and_line_ends(rt: HostRuntime) -> Result<(), Fail> {
     for (text, wanted) in &BEGINNINGS {
@@ -373,7 +385,8 @@ fn pieces_have_beginnings_and_line_ends(rt: HostRuntime) -> Result<(), Fail> {
     Ok(())
 }
 
-// Of a piece that is too long the beginning is known and the number of lines, wherever they end in it; and of the next.
+// Of a piece that is too long the first 40 bytes are known, and the number of its lines, wherever they end in it; the
+// same of the next piece.
 #[test]
 fn long_pieces_have_beginnings_and_line_ends(rt: HostRuntime) -> Result<(), Fail> {
     let mut text = vec![in rt.alloc(); b'x'; 17_000_000]?;
@@ -408,7 +421,7 @@ fn after_the_last_piece_there_is_none(rt: HostRuntime) -> Result<(), Fail> {
     Ok(())
 }
 
-// Gives so many pieces, each by one read.
+// An input of `left` reads, each of which gives a whole piece that fills the buffer.
 #[derive(Drop)]
 struct Sections {
     left: usize,
@@ -435,14 +448,15 @@ impl Read for Sections {
     }
 }
 
-// How many pages of memory the process has.
+// How many pages of memory this process has.
 fn pages(host: &HostRuntime) -> Result<usize, Fail> {
     let text = fs::read_to_string(host, "/proc/self/statm")?;
     let count = text.split(' ').next().ok_or("a number")?;
     Ok(count.parse::<usize>()?)
 }
 
-// What is held does not grow with what was read: of 64 MiB in pieces of 64 KiB no 16 MiB are held at the end.
+// What is held doesn't grow with what is read: after 64 MiB in pieces of 64 KiB the process has not 4,096 pages (16
+// MiB) more.
 #[test]
 fn pieces_are_let_go(rt: HostRuntime) -> Result<(), Fail> {
     let before = pages(&rt)?;

@@ -1,3 +1,6 @@
+//! What `verify` and `verify_collection` write of texts and collections, with options of each kind, however the bytes
+//! are cut by reads.
+
 ghost use Rattle.std.specs.Prelude.{◌<◌};
 
 use byte_devices::{Counted, PieceReader};
@@ -7,6 +10,7 @@ use pgn_verifier::{
 };
 use std::process::Abort;
 
+// Options: a line for each game, and only the faults that are looked for without `--strict`.
 const ALL: VerifyOptions = VerifyOptions {
     quiet: false,
     strict: LENIENT,
@@ -15,6 +19,7 @@ const ALL: VerifyOptions = VerifyOptions {
     explain: false,
 };
 
+// Options: lines for faults alone, and all faults of `--strict`.
 const STRICT: VerifyOptions = VerifyOptions {
     quiet: true,
     strict: STRICT_FAULTS,
@@ -23,6 +28,7 @@ const STRICT: VerifyOptions = VerifyOptions {
     explain: false,
 };
 
+// Options: a line for each game, and variations are read too.
 const VARIATIONS: VerifyOptions = VerifyOptions {
     quiet: false,
     strict: Strictness {
@@ -37,6 +43,7 @@ const VARIATIONS: VerifyOptions = VerifyOptions {
     explain: true,
 };
 
+// Options: games go on after fivefold repetition and 75 moves, and all other faults are looked for.
 const PAST_DRAWS: VerifyOptions = VerifyOptions {
     quiet: false,
     strict: Strictness {
@@ -51,6 +58,7 @@ const PAST_DRAWS: VerifyOptions = VerifyOptions {
     explain: true,
 };
 
+// Options: a line for each game, with its span of bytes.
 const SPANS: VerifyOptions = VerifyOptions {
     quiet: false,
     strict: LENIENT,
@@ -59,6 +67,7 @@ const SPANS: VerifyOptions = VerifyOptions {
     explain: false,
 };
 
+// Options: a line for each game, and names with each fault.
 const NAMES: VerifyOptions = VerifyOptions {
     quiet: false,
     strict: LENIENT,
@@ -67,6 +76,7 @@ const NAMES: VerifyOptions = VerifyOptions {
     explain: false,
 };
 
+// Options: lines for faults alone, each with an explanation, and all faults of `--strict`.
 const EXPLAINED: VerifyOptions = VerifyOptions {
     quiet: true,
     strict: STRICT_FAULTS,
@@ -75,7 +85,7 @@ const EXPLAINED: VerifyOptions = VerifyOptions {
     explain: true,
 };
 
-// A text that is read by at most `cut` bytes at a time, and of which the read numbered `fails_at` fails.
+// A text as it is read: at most `cut` bytes by each read, of which the one numbered `fails_at` fails (0: none).
 #[derive(Clone, Copy)]
 struct Given {
     text: &'static [u8],
@@ -84,7 +94,7 @@ struct Given {
     ghost cut_some: { 0 < cut },
 }
 
-// A text or a collection is verified with this answer, and these lines are written.
+// Verifies a text, or a collection piece by piece, and asserts the answer and the lines that are written.
 fn check(
     rt: &impl Abort,
     host: &HostRuntime,
@@ -105,7 +115,7 @@ fn check(
     assert!(rt; output.writer().as_slice() == lines, "other lines");
 }
 
-// The same of a text without a failed read, however it is cut.
+// The same for a text that can be read, by 1 to 5 bytes at a time.
 fn check_cuts(
     rt: &impl Abort,
     host: &HostRuntime,
@@ -125,6 +135,7 @@ fn check_cuts(
     }
 }
 
+// Without games nothing is written; else a line for each game, or with STRICT for each fault.
 #[test]
 fn texts_have_a_line_for_each_game(rt: HostRuntime) {
     check_cuts(&rt, &rt, false, ALL, b"", Verified::EachGame, b"");
@@ -181,6 +192,7 @@ const VARIANTS: [(&[u8], Verified, &[u8]); 8] = [
     ),
 ];
 
+// Verifies each row.
 #[test]
 fn unknown_variants_are_faults(rt: HostRuntime) {
     for (text, wanted, lines) in &VARIANTS {
@@ -323,6 +335,7 @@ const VARIATION_TEXTS: [(&[u8], Verified, &[u8]); 24] = [
     ),
 ];
 
+// Verifies each row.
 #[test]
 fn variations_are_read(rt: HostRuntime) {
     for (text, wanted, lines) in &VARIATION_TEXTS {
@@ -332,7 +345,7 @@ fn variations_are_read(rt: HostRuntime) {
 
 // Games that go on after a draw by fivefold repetition or by 75 moves, which are ignored, and what is written of them.
 const PAST_DRAW_TEXTS: [(&[u8], Verified, &[u8]); 10] = [
-    // They are read to their ends, and these are not compared with such a draw.
+    // These games are read to their ends, and their results are not compared with such a draw.
     (
         b"Nf3 Nf6 Ng1 Ng8 Nf3 Nf6 Ng1 Ng8 Nf3 Nf6 Ng1 Ng8 Nf3 Nf6 Ng1 Ng8 e4 *",
         Verified::EachGame,
@@ -348,7 +361,7 @@ const PAST_DRAW_TEXTS: [(&[u8], Verified, &[u8]); 10] = [
         Verified::EachGame,
         b"game 1: 2 half-moves, 0-1\n",
     ),
-    // But they are with mate, and with the tag.
+    // But their results are compared with mate, and with the tag Result.
     (
         b"Nf3 Nf6 Ng1 Ng8 Nf3 Nf6 Ng1 Ng8 Nf3 Nf6 Ng1 Ng8 Nf3 Nf6 Ng1 Ng8 f3 e5 g4 Qh4 1-0",
         Verified::FaultReported,
@@ -389,6 +402,7 @@ const PAST_DRAW_TEXTS: [(&[u8], Verified, &[u8]); 10] = [
     ),
 ];
 
+// Verifies each row, and the first one as a collection.
 #[test]
 fn games_go_on_after_ignored_draws(rt: HostRuntime) {
     for (text, wanted, lines) in &PAST_DRAW_TEXTS {
@@ -405,6 +419,7 @@ fn games_go_on_after_ignored_draws(rt: HostRuntime) {
     );
 }
 
+// A collection's second piece is read after a fault in the first, and the counts are written at the end.
 #[test]
 fn collections_go_on_after_a_fault(rt: HostRuntime) {
     check_cuts(
@@ -418,8 +433,8 @@ fn collections_go_on_after_a_fault(rt: HostRuntime) {
     );
 }
 
-// A game begins at its first byte that is no white space, and ends with its outcome; with a fault it ends with its
-// text.
+// A game's span begins at its first byte that is no white space, and ends with its termination; with a fault it ends
+// with its text.
 #[test]
 fn lines_end_with_spans(rt: HostRuntime) {
     check_cuts(
@@ -455,7 +470,8 @@ fn lines_end_with_spans(rt: HostRuntime) {
     );
 }
 
-// The last tags count; what is not printable is `?`, and so is a tag that is missing. A game's line stays.
+// A fault's line ends with players, event and date. Of several tags the last counts; what isn't printable is `?`, and
+// so is a tag that is missing. The line of a game without a fault has no names.
 #[test]
 fn faults_end_with_names(rt: HostRuntime) {
     check_cuts(
@@ -483,7 +499,8 @@ fn faults_end_with_names(rt: HostRuntime) {
     );
 }
 
-// With its `"` a tag's beginning ends the piece before it; without, it may be a line of moves.
+// The second read fails. Of a text nothing is written then. Of a collection the first game is, if the `"` of the next
+// tag line was read: without it, that may be a line of moves, and the piece may go on.
 #[test]
 fn failed_reads_leave_the_lines_that_are_known(rt: HostRuntime) {
     let given = Given {
@@ -503,6 +520,7 @@ fn failed_reads_leave_the_lines_that_are_known(rt: HostRuntime) {
     check(&rt, &rt, true, ALL, given, failed, line);
 }
 
+// A fault's explanation has its place, the text there, the position and the reason.
 #[test]
 fn faults_are_explained(rt: HostRuntime) {
     check_cuts(
@@ -534,6 +552,7 @@ fn faults_are_explained(rt: HostRuntime) {
     );
 }
 
+// In a collection lines count from its beginning, whatever piece the fault is in.
 #[test]
 fn faults_in_pieces_are_explained(rt: HostRuntime) {
     check_cuts(
@@ -547,7 +566,7 @@ fn faults_in_pieces_are_explained(rt: HostRuntime) {
     );
 }
 
-// A FEN of each fault: the text, and what is written of it.
+// Texts with a tag FEN that is refused, one for each fault at least, and what is written of them.
 const FENS: [(&[u8], &[u8]); 24] = [
     (
         b"[FEN \"4k3/8/8/8/8/8/8/4K3 w - - 0\"] *",
@@ -648,7 +667,7 @@ const FENS: [(&[u8], &[u8]); 24] = [
     ),
 ];
 
-// Each text of a table has a fault, which is explained by these lines.
+// Asserts that each text has a fault, which these lines explain.
 fn check_explained(rt: &impl Abort, host: &HostRuntime, rows: &[(&'static [u8], &[u8])]) {
     for (text, lines) in rows {
         let given = Given {
@@ -661,13 +680,13 @@ fn check_explained(rt: &impl Abort, host: &HostRuntime, rows: &[(&'static [u8], 
     }
 }
 
-// The field that is shown, and its offset.
+// The explanation shows the field that is at fault, and its place.
 #[test]
 fn fens_are_explained(rt: HostRuntime) {
     check_explained(&rt, &rt, &FENS);
 }
 
-// Bad tags, and what is written of them.
+// Texts with a bad tag, and what is written of them.
 const TAGS: [(&[u8], &[u8]); 18] = [
     (
         b"[",
@@ -743,13 +762,13 @@ const TAGS: [(&[u8], &[u8]); 18] = [
     ),
 ];
 
-// The first part that is missing is the reason.
+// The reason is the first part of the tag that is missing.
 #[test]
 fn tags_are_explained(rt: HostRuntime) {
     check_explained(&rt, &rt, &TAGS);
 }
 
-// Bad tokens, and what is written of them.
+// Texts with a bad token, and what is written of them.
 const TOKENS: [(&[u8], &[u8]); 15] = [
     (
         b"1. e4 & *",
@@ -814,12 +833,13 @@ const TOKENS: [(&[u8], &[u8]); 15] = [
     ),
 ];
 
+// The reason says why that is no token, or no move.
 #[test]
 fn tokens_are_explained(rt: HostRuntime) {
     check_explained(&rt, &rt, &TOKENS);
 }
 
-// What is known before a read fails is explained.
+// The second read fails. Of a text nothing is written; of a collection the fault before the second piece is explained.
 #[test]
 fn failed_reads_leave_the_explanations_that_are_known(rt: HostRuntime) {
     let given = Given {
@@ -862,7 +882,8 @@ fn texts_without_a_fault_have_the_same_games(rt: HostRuntime) {
     );
 }
 
-// A byte order mark at the front of a later piece is skipped there, but not within the text.
+// The second piece begins with a byte order mark. As a piece's front it is passed over, but in the middle of a text it
+// is a bad token.
 const MARKED: &[u8] = b"[Event \"a\"]\n1. e4 *\n\xEF\xBB\xBF[Event \"b\"]\n1. d4 *\n";
 
 // So the law `a_text_without_faults_is_reported_alike` needs its premise on such marks.
@@ -994,6 +1015,7 @@ const READ_ON: [(&[u8], &[u8]); 11] = [
     ),
 ];
 
+// Verifies each row, with spans.
 #[test]
 fn games_after_a_fault_are_read(rt: HostRuntime) {
     for (text, lines) in &READ_ON {
@@ -1001,7 +1023,8 @@ fn games_after_a_fault_are_read(rt: HostRuntime) {
     }
 }
 
-// What is not read since no end of the game is found is said, and only that.
+// Collections with a fault, and what is written of them. Bytes are named as not read only where no end of the game is
+// found.
 const UNREAD: [(&[u8], &[u8]); 4] = [
     // Lines and columns are counted from one fault to the next.
     (
@@ -1022,6 +1045,7 @@ const UNREAD: [(&[u8], &[u8]); 4] = [
     ),
 ];
 
+// Verifies each row.
 #[test]
 fn what_is_not_read_is_said(rt: HostRuntime) {
     for (text, lines) in &UNREAD {

@@ -9,6 +9,7 @@ use rules_laws::{
     repetitions_and_quiet_moves_end_a_game, results_are_worded, tags_are_in_order,
 };
 
+// Laws of how pieces move, of special moves, and of mirrored games.
 #[test]
 fn laws_of_moves_are_called() {
     pieces_reach_by_tables();
@@ -24,6 +25,7 @@ fn laws_of_moves_are_called() {
     moves_are_mirrored();
 }
 
+// Laws of how games end.
 #[test]
 fn laws_of_endings_are_called() {
     a_game_ends_where_no_move_is_legal();
@@ -32,6 +34,7 @@ fn laws_of_endings_are_called() {
     insufficient_material_never_mates();
 }
 
+// Laws of positions that are written out.
 #[test]
 fn laws_of_known_positions_are_called() {
     known_endings_are_judged();
@@ -41,6 +44,7 @@ fn laws_of_known_positions_are_called() {
     known_positions_have_so_many_moves();
 }
 
+// Laws of moves, results and tags as they are written.
 #[test]
 fn laws_of_texts_are_called() {
     known_moves_are_written();

@@ -7,8 +7,11 @@ use chess_moves::{Board, Plain};
 use chess_text::{Reading, read_move};
 use std::io;
 
+// The texts that are read in turn. Of those that denote no legal move the reading is shown, and the game goes on.
 const MOVES: [&str; 8] = ["e4", "e5", "Qh5", "Ke6", "Nc6", "Bc4", "Nf6", "Qxf7"];
 
+// Plays these moves from the initial position, and writes after each how many replies there are; then the verdict, the
+// outcome and the FEN.
 fn play(rt: &HostRuntime) -> io::Result<()> {
     let mut game = Game::open(rt.alloc(), Plain::new(), 100)?;
     for text in &MOVES {

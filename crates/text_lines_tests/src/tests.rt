@@ -1,3 +1,5 @@
+//! Lines of at most 64 bytes, read from inputs that are cut, fail or fall silent.
+
 use byte_devices::{Counted, Input, PieceReader, ReadFault, SilentAfter};
 use std::fmt::Debug;
 use std::process::Abort;
@@ -9,11 +11,12 @@ fn is_equal<T: PartialEq + Debug>(rt: &impl Abort, found: &T, wanted: &T) {
     assert_eq!(rt; *found, *wanted);
 }
 
+// An input of which each read gives at most `cut` bytes, and the read numbered `fails_at` fails (0: none).
 fn pieces(input: &[u8], cut: usize, fails_at: u64) -> Counted<PieceReader<'_>> {
     Counted::reading(PieceReader::new(input, cut.max(1), fails_at))
 }
 
-// The next line is this one: its text, and whether byte 10 ended it.
+// Asserts that the next line has this text, and whether byte 10 ended it. `name` is the error if there is no line.
 fn next_is(
     rt: &impl Abort,
     lines: &mut Lines<64>,
@@ -30,6 +33,8 @@ fn next_is(
     Ok(())
 }
 
+// The second read fails in the middle of a line. The next call reads the line on, with the bytes from before the
+// failure.
 #[test]
 fn what_was_read_stays_after_a_fault(rt: HostRuntime) -> Result<(), Fail> {
     lines_are_pieces();
@@ -42,8 +47,8 @@ fn what_was_read_stays_after_a_fault(rt: HostRuntime) -> Result<(), Fail> {
     Ok(())
 }
 
-// Reads the next line over the one before, with this answer: the line is then an ended one with this text, too long or
-// not.
+// Reads the next line over the one before. Asserts the answer, and that `line` is then ended, has this text, and is too
+// long or not.
 fn read_over(
     rt: &impl Abort,
     lines: &mut Lines<64>,
@@ -58,11 +63,11 @@ fn read_over(
     assert!(rt; line.is_ended() && line.is_too_long() == is_too_long);
 }
 
-// 70 bytes, of which a line of 64 shows 64, then 15 and then 3.
+// A line of 70 bytes, which is too long and of which the first 64 are kept, and two shorter ones.
 const LONG_THEN_SHORT: &[u8] =
     b"xxxxxxxxxxxxxxxxxxxxxxxxxxxxxxxxxxxxxxxxxxxxxxxxxxxxxxxxxxxxxxxxxxxxxx\n usermove e4 \r\ncd\n";
 
-// A read that fails, and the end, leave the line as it was.
+// A read that fails, and the input's end, leave the line as it was.
 #[test]
 fn a_line_is_read_over_the_one_before(rt: HostRuntime) {
     let mut reader = pieces(LONG_THEN_SHORT, 7, 13);
@@ -116,17 +121,18 @@ fn a_line_is_read_over_the_one_before(rt: HostRuntime) {
     );
 }
 
-// Three lines, of which the input's end ends the last one.
+// A text of three lines, of which the input's end ends the last one.
 const TEXT: &[u8] = b"new\nab\ncd";
 
+// The texts of its lines.
 const TEXTS: [&[u8]; 3] = [b"new", b"ab", b"cd"];
 
-// How many lines end in these bytes.
+// How many lines end among these bytes.
 fn ended_lines(bytes: &[u8]) -> usize {
     bytes.iter().filter(|byte| **byte == b'\n').count()
 }
 
-// Waits for the next line over the one before, with this answer: the line then has this text.
+// Waits for the next line over the one before, and asserts the answer (`None`: nothing came) and the line's text then.
 fn wait_over<R: Input>(
     rt: &impl Abort,
     lines: &mut Lines<64>,
@@ -139,7 +145,7 @@ fn wait_over<R: Input>(
     is_equal(rt, &line.text(), &text);
 }
 
-// Waits for lines with these texts.
+// Waits for lines, and asserts that each comes at once and has its text.
 fn wait_for_each<R: Input>(
     rt: &impl Abort,
     lines: &mut Lines<64>,
@@ -152,7 +158,7 @@ fn wait_for_each<R: Input>(
     }
 }
 
-// So many waits find no whole line, and leave the line as it was.
+// Asserts that so many waits find no whole line, and leave the line as it was, with this text.
 fn wait_in_vain<R: Input>(
     rt: &impl Abort,
     lines: &mut Lines<64>,
@@ -166,8 +172,8 @@ fn wait_in_vain<R: Input>(
     }
 }
 
-// The input gives so many bytes of the text and falls silent: first come the lines that have ended, then so many calls
-// find none, and then come the others.
+// The input gives the first `at` bytes of TEXT and then falls silent. The lines that have ended come, then so many
+// waits find none, and then the others come.
 fn lines_around_a_silence(rt: &impl Abort, at: usize, silences: u64, cut: usize) {
     let given = &TEXT[..at.min(TEXT.len())];
     let (before, after) = TEXTS.split_at(ended_lines(given).min(2));
@@ -191,6 +197,7 @@ fn lines_around_a_silence(rt: &impl Abort, at: usize, silences: u64, cut: usize)
     );
 }
 
+// Lets the input fall silent after each number of bytes, read byte by byte and in one piece.
 #[test]
 fn lines_are_read_around_a_silence_at_each_place(rt: HostRuntime) {
     for at in 0..10 {
@@ -201,7 +208,7 @@ fn lines_are_read_around_a_silence_at_each_place(rt: HostRuntime) {
     }
 }
 
-// The `a` of the second line comes, then nothing, then a read fails.
+// The first byte of the second line comes, then nothing, then a read fails: the line is read on after that.
 #[test]
 fn what_was_read_stays_after_a_silence_and_a_fault(rt: HostRuntime) {
     let mut reader = SilentAfter::new(PieceReader::new(TEXT, 4, 3), 5, 1);
@@ -228,7 +235,7 @@ fn what_was_read_stays_after_a_silence_and_a_fault(rt: HostRuntime) {
     );
 }
 
-// A silence that doesn't end within these calls: each finds no line.
+// An input that stays silent: each of 1,000 waits finds no line and returns.
 #[test]
 fn a_long_silence_is_not_waited_out(rt: HostRuntime) {
     let mut reader = SilentAfter::new(PieceReader::new(TEXT, 64, 0), 6, u64::MAX);
@@ -238,7 +245,7 @@ fn a_long_silence_is_not_waited_out(rt: HostRuntime) {
     wait_in_vain(&rt, &mut lines, &mut reader, &mut line, 1000, b"new");
 }
 
-// A reader of std has no clock, so no call ends without a line before the input does.
+// A plain reader of std has no clock, so each wait gives the next line, up to the input's end.
 #[test]
 fn lines_of_a_reader_without_a_clock_are_not_waited_for(rt: HostRuntime) {
     let mut reader = pieces(TEXT, 1, 0);
