@@ -2,6 +2,7 @@
 
 ghost use Rattle.std.specs.Prelude.{◌≡◌, ◌+◌, ◌*◌, ◌≤◌, ◌++◌, length};
 ghost use Rattle.arrayvec.specs.ArrayVec.{array_vec_len};
+ghost use Rattle.pgn_writer.specs.ties.Kept.{KeepsLine};
 ghost use Rattle.pgn_writer.specs.ties.Waiting.{Adds};
 ghost use Rattle.pgn_writer.specs.Written.{escaped, tag_line, ended};
 ghost use Rattle.pgn_writer.specs.ties.TagLines.{tag_lines_of};
@@ -56,9 +57,7 @@ pub(crate) fn put_tags<W: Output>(
 ) -> Result<(), WriteFault>
     ensures added { Adds (W.seen lines.old.writer.now) (W.seen lines.new.writer.now) lines.old.waiting
         lines.new.waiting result (ended lines.old.prefix.now (tag_lines_of tags.now)) }
-    ensures prefix { lines.new.prefix.now ≡ lines.old.prefix.now }
-    ensures writer { lines.new.writer.ghost_name ≡ lines.old.writer.ghost_name }
-    ensures column { lines.new.column ≡ lines.old.column }
+    ensures kept { KeepsLine lines.old lines.new }
 {
     for tag in tags {
         let line = tag_line(tag.name, tag.text);

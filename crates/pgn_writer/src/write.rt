@@ -17,6 +17,7 @@ ghost use Rattle.pgn_writer.specs.shared.NumberedMoves.{number_if_due, numbered_
 ghost use Rattle.chess_fen.specs.Writing.{is_initial};
 ghost use Rattle.pgn_writer.specs.PgnText.{IsPgn};
 ghost use Rattle.pgn_writer.specs.shared.Lines.{placed_all, column_after_all};
+ghost use Rattle.pgn_writer.specs.ties.Kept.{KeepsLine, KeepsWriter};
 ghost use Rattle.pgn_writer.specs.ties.Waiting.{Adds};
 ghost use Rattle.pgn_writer.specs.Written.{ended, lines_of};
 
@@ -93,9 +94,7 @@ fn put_tag_lines<B: Board, W: Output>(
     requires { outcome ≡ outcome_now game.now.state }
     ensures added { Adds (W.seen lines.old.writer.now) (W.seen lines.new.writer.now) lines.old.waiting
         lines.new.waiting result (ended lines.old.prefix.now (tag_lines tags.now game.now.state ++ [] ∷ [])) }
-    ensures prefix { lines.new.prefix.now ≡ lines.old.prefix.now }
-    ensures writer { lines.new.writer.ghost_name ≡ lines.old.writer.ghost_name }
-    ensures column { lines.new.column ≡ lines.old.column }
+    ensures kept { KeepsLine lines.old lines.new }
 {
     put_roster(lines, tags, outcome)?;
     let termination = Termination::of(tags.ended, outcome);
@@ -112,9 +111,7 @@ fn put_roster<W: Output>(
 ) -> Result<(), WriteFault>
     ensures added { Adds (W.seen lines.old.writer.now) (W.seen lines.new.writer.now) lines.old.waiting
         lines.new.waiting result (ended lines.old.prefix.now (roster_lines tags.now outcome)) }
-    ensures prefix { lines.new.prefix.now ≡ lines.old.prefix.now }
-    ensures writer { lines.new.writer.ghost_name ≡ lines.old.writer.ghost_name }
-    ensures column { lines.new.column ≡ lines.old.column }
+    ensures kept { KeepsLine lines.old lines.new }
 {
     let roster = [
         TagPair {
@@ -159,9 +156,7 @@ fn put_further<W: Output>(
 ) -> Result<(), WriteFault>
     ensures added { Adds (W.seen lines.old.writer.now) (W.seen lines.new.writer.now) lines.old.waiting
         lines.new.waiting result (ended lines.old.prefix.now (further_lines start.now termination)) }
-    ensures prefix { lines.new.prefix.now ≡ lines.old.prefix.now }
-    ensures writer { lines.new.writer.ghost_name ≡ lines.old.writer.ghost_name }
-    ensures column { lines.new.column ≡ lines.old.column }
+    ensures kept { KeepsLine lines.old lines.new }
 {
     put_start(lines, start)?;
     put_last(lines, start.variant(), termination)
@@ -175,9 +170,7 @@ fn put_start<W: Output>(
 ) -> Result<(), WriteFault>
     ensures added { Adds (W.seen lines.old.writer.now) (W.seen lines.new.writer.now) lines.old.waiting
         lines.new.waiting result (ended lines.old.prefix.now (start_lines_in start.now.variant start.now)) }
-    ensures prefix { lines.new.prefix.now ≡ lines.old.prefix.now }
-    ensures writer { lines.new.writer.ghost_name ≡ lines.old.writer.ghost_name }
-    ensures column { lines.new.column ≡ lines.old.column }
+    ensures kept { KeepsLine lines.old lines.new }
 {
     match start.variant() {
         Variant::Normal if is_initial(start) => Ok(()),
@@ -190,9 +183,7 @@ fn put_start<W: Output>(
 fn put_fen<W: Output>(lines: &mut LineWriter<'_, '_, W>, start: &Position) -> Result<(), WriteFault>
     ensures added { Adds (W.seen lines.old.writer.now) (W.seen lines.new.writer.now) lines.old.waiting
         lines.new.waiting result (ended lines.old.prefix.now (fen_lines start.now)) }
-    ensures prefix { lines.new.prefix.now ≡ lines.old.prefix.now }
-    ensures writer { lines.new.writer.ghost_name ≡ lines.old.writer.ghost_name }
-    ensures column { lines.new.column ≡ lines.old.column }
+    ensures kept { KeepsLine lines.old lines.new }
 {
     let fen = write_fen(start);
     let tags = [
@@ -217,9 +208,7 @@ fn put_last<W: Output>(
 ) -> Result<(), WriteFault>
     ensures added { Adds (W.seen lines.old.writer.now) (W.seen lines.new.writer.now) lines.old.waiting
         lines.new.waiting result (ended lines.old.prefix.now (last_lines variant termination)) }
-    ensures prefix { lines.new.prefix.now ≡ lines.old.prefix.now }
-    ensures writer { lines.new.writer.ghost_name ≡ lines.old.writer.ghost_name }
-    ensures column { lines.new.column ≡ lines.old.column }
+    ensures kept { KeepsLine lines.old lines.new }
 {
     let tags = [
         TagPair {
@@ -249,8 +238,7 @@ fn put_move_text<B: Board, W: Output>(
     requires column { lines.old.column ≡ 0 }
     ensures added { Adds (W.seen lines.old.writer.now) (W.seen lines.new.writer.now) lines.old.waiting
         lines.new.waiting result (ended lines.old.prefix.now (lines_of (game_tokens game.now.state))) }
-    ensures prefix { lines.new.prefix.now ≡ lines.old.prefix.now }
-    ensures writer { lines.new.writer.ghost_name ≡ lines.old.writer.ghost_name }
+    ensures kept { KeepsWriter lines.old lines.new }
 {
     put_moves(lines, game, scratch)?;
     lines.put_token(outcome.text())?;
@@ -273,8 +261,7 @@ fn put_moves<B: Board, W: Output>(
     ensures column { OnOk result
         (lines.new.column
         ≡ column_after_all lines.old.column (numbered_moves true game.now.state.start game.now.state.moves)) }
-    ensures prefix { lines.new.prefix.now ≡ lines.old.prefix.now }
-    ensures writer { lines.new.writer.ghost_name ≡ lines.old.writer.ghost_name }
+    ensures kept { KeepsWriter lines.old lines.new }
     ensures playable { IsPlayable game.now }
 {
     // The call is only for the prover, which needs a clause of it: each move of a game is legal where it is made.
@@ -301,10 +288,9 @@ fn put_move<B: Board, W: Output>(
         (B.position board.old) m)) }
     ensures column { OnOk result
         (lines.new.column ≡ column_after_all lines.old.column (numbered_move is_first (B.position board.old) m)) }
-    ensures prefix { lines.new.prefix.now ≡ lines.old.prefix.now }
-    ensures writer { lines.new.writer.ghost_name ≡ lines.old.writer.ghost_name }
+    ensures kept { KeepsWriter lines.old lines.new }
     ensures position { OnOk result (B.position board.new ≡ after (B.position board.old) m) }
-    ensures kept { OnErr result (B.position board.new ≡ B.position board.old) }
+    ensures same { OnErr result (B.position board.new ≡ B.position board.old) }
 {
     // This law is called only for the prover: the SAN of a legal move has some bytes, and is short enough for a line.
     san_is_a_word();
@@ -333,8 +319,7 @@ fn put_number<W: Output>(
         is_first setup.now.fullmove)) }
     ensures column { lines.new.column
         ≡ column_after_all lines.old.column (number_if_due setup.now.side is_first setup.now.fullmove) }
-    ensures prefix { lines.new.prefix.now ≡ lines.old.prefix.now }
-    ensures writer { lines.new.writer.ghost_name ≡ lines.old.writer.ghost_name }
+    ensures kept { KeepsWriter lines.old lines.new }
 {
     let dots = match (setup.side, is_first) {
         (Colour::White, _) => b".".as_slice(),

@@ -13,5 +13,5 @@ returns-in_err-put_start-clause-added g c =
 pub returns-clause-added : goal.returns-clause-added
 returns-clause-added g c =
     further_put _ _ _ c.put_last.result _ _ _ c.args.lines.now.prefix.now c.put_start.new.lines.prefix.now
-    c.args.start.now c.variant.result c.args.termination c.variant.ensures c.in_ok-put_start.ensures.prefix
+    c.args.start.now c.variant.result c.args.termination c.variant.ensures c.in_ok-put_start.ensures.kept.prefix
     c.in_ok-put_start.ensures.added c.put_last.ensures.added

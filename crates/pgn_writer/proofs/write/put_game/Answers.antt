@@ -19,7 +19,7 @@ returns-in_err-put_move_text-clause-added g c =
     adds_exit _ _ c.from_residual-in_err-put_move_text.result _ _ _
     (second_broke _ _ _ _ _ _ _ _ _
     (game_is prefix c.put_tag_lines.new.lines.prefix.now prefix c.args.tags.now c.args.game.now.state
-    c.in_ok-put_tag_lines.ensures.prefix refl) c.in_ok-put_tag_lines.ensures.added
+    c.in_ok-put_tag_lines.ensures.kept.prefix refl) c.in_ok-put_tag_lines.ensures.added
     c.in_err-put_move_text.ensures.added)
     c.from_residual-in_err-put_move_text.ensures.0
 
@@ -27,6 +27,6 @@ pub returns-clause-added : goal.returns-clause-added
 returns-clause-added g c =
     third_put _ _ _ _ c.put_line.result _ _ _ _ _ _ _ _
     (game_is c.args.lines.now.prefix.now c.put_tag_lines.new.lines.prefix.now c.put_move_text.new.lines.prefix.now
-    c.args.tags.now c.args.game.now.state c.in_ok-put_tag_lines.ensures.prefix
-    (c.in_ok-put_move_text.ensures.prefix ∙ c.in_ok-put_tag_lines.ensures.prefix))
+    c.args.tags.now c.args.game.now.state c.in_ok-put_tag_lines.ensures.kept.prefix
+    (c.in_ok-put_move_text.ensures.kept.prefix ∙ c.in_ok-put_tag_lines.ensures.kept.prefix))
     c.in_ok-put_tag_lines.ensures.added c.in_ok-put_move_text.ensures.added c.put_line.ensures.added

@@ -23,7 +23,7 @@ returns-in_err-put_token-clause-added g c =
     adds_exit _ _ c.from_residual-in_err-put_token.result _ _ _
     (second_broke _ _ _ _ _ _ _ _ _
     (moves_are lines.prefix.now before.prefix.now c.text.result.now lines.column before.column _ c.args.game.now
-    c.in_ok-put_moves.ensures.playable c.requires.column c.in_ok-put_moves.ensures.prefix
+    c.in_ok-put_moves.ensures.playable c.requires.column c.in_ok-put_moves.ensures.kept.prefix
     c.in_ok-put_moves.ensures.column
     (c.text.ensures.value ∙ ap outcome_text c.requires.outcome) refl)
     c.in_ok-put_moves.ensures.added c.in_err-put_token.ensures.added)
@@ -36,7 +36,7 @@ returns-clause-added g c =
     third_put _ _ _ _ c.end_line.result _ _ _ _ _ _ _ _
     (moves_are lines.prefix.now before.prefix.now c.text.result.now lines.column before.column
     c.put_token.new.self.column c.args.game.now c.in_ok-put_moves.ensures.playable c.requires.column
-    c.in_ok-put_moves.ensures.prefix
+    c.in_ok-put_moves.ensures.kept.prefix
     c.in_ok-put_moves.ensures.column (c.text.ensures.value ∙ ap outcome_text c.requires.outcome)
     c.in_ok-put_token.ensures.column)
     c.in_ok-put_moves.ensures.added c.in_ok-put_token.ensures.added c.end_line.ensures.added

@@ -48,8 +48,8 @@ loop-ply-preserved g c =
           c.in_ok-put_move.ensures.added;
       column = columns_more c.args.lines.now.prefix.now l.lines.prefix.now c.args.lines.now.column l.lines.column _
           s.start (g.B.Board.position l.scratch) s.moves l.ply _ c.move_at.result next c.in_ok-put_move.ensures.column;
-      prefix = c.in_ok-put_move.ensures.prefix ∙ l.invariant.prefix;
-      writer = c.in_ok-put_move.ensures.writer ∙ l.invariant.writer;
+      prefix = c.in_ok-put_move.ensures.kept.prefix ∙ l.invariant.prefix;
+      writer = c.in_ok-put_move.ensures.kept.writer ∙ l.invariant.writer;
       position = positions_more s.start (g.B.Board.position l.scratch) _ s.moves l.ply c.move_at.result
           l.invariant.position c.move_at.ensures c.in_ok-put_move.ensures.position;
     }

@@ -21,7 +21,7 @@ returns-in_err-put_further-clause-added g c =
     (second_broke _ _ _ _ _ _ _ _ _
     (tags_are prefix c.put_roster.new.lines.prefix.now prefix c.args.tags.now c.args.outcome
     c.start.result c.of-termination.result c.args.game.now.state c.requires c.start.ensures
-    c.of-termination.ensures c.in_ok-put_roster.ensures.prefix refl) c.in_ok-put_roster.ensures.added
+    c.of-termination.ensures c.in_ok-put_roster.ensures.kept.prefix refl) c.in_ok-put_roster.ensures.added
     c.in_err-put_further.ensures.added)
     c.from_residual-in_err-put_further.ensures.0
 
@@ -30,6 +30,6 @@ returns-clause-added g c =
     third_put _ _ _ _ c.put_line.result _ _ _ _ _ _ _ _
     (tags_are c.args.lines.now.prefix.now c.put_roster.new.lines.prefix.now c.put_further.new.lines.prefix.now
     c.args.tags.now c.args.outcome c.start.result c.of-termination.result c.args.game.now.state
-    c.requires c.start.ensures c.of-termination.ensures c.in_ok-put_roster.ensures.prefix
-    (c.in_ok-put_further.ensures.prefix ∙ c.in_ok-put_roster.ensures.prefix))
+    c.requires c.start.ensures c.of-termination.ensures c.in_ok-put_roster.ensures.kept.prefix
+    (c.in_ok-put_further.ensures.kept.prefix ∙ c.in_ok-put_roster.ensures.kept.prefix))
     c.in_ok-put_roster.ensures.added c.in_ok-put_further.ensures.added c.put_line.ensures.added
