@@ -4,7 +4,7 @@ use Rattle.std.specs.List.{list_all, position_or_len}
 use Rattle.std.specs.Option.{option_map}
 use Rattle.std.specs.Str.{bytes_eq}
 use Rattle.pgn_pieces.specs.Pieces.{drop_while, from_quote}
-use Rattle.byte_devices.specs.Bytes.{byte, is_blank}
+use Rattle.byte_devices.specs.Bytes.{byte, is_blank, after_byte}
 
 -- a text without the spaces and tabs at its beginning
 abbrev pub without_blanks : List ℕ → List ℕ
