@@ -40,4 +40,4 @@ pub use collection::verify_collection;
 pub use fault::VerifyFault;
 pub use game_fault::{FaultKind, GameFault};
 pub use options::{LENIENT, STRICT_FAULTS, Strictness, VerifyOptions};
-pub use tally::Verified;
+pub use tally::{Tally, Verified};

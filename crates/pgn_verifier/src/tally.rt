@@ -12,9 +12,9 @@ pub enum Verified {
     FaultReported,
 }
 
-/// Counts of what was reported.
+/// Counts of what was reported, as the last line of `verify_collection` has them.
 #[derive(Clone, Copy)]
-pub(crate) struct Tally {
+pub struct Tally {
     /// How many games have no fault.
     pub games: usize,
     /// How many half-moves these have.
