@@ -7,7 +7,7 @@ and a line with an empty comment where the second part would else not begin a pi
 that they had, and no fault. A comment or variation that belonged to no game, before one with a fault, then belongs to
 the next good one; if that has no move before it, `--variations` reports the variation."""
 
-from pgn_files import EMPTY_LINE, MARK, TAG_LINE, front, line_start
+from pgn_files import MARK, TAG_LINE, front, is_empty, line_start
 
 WHITE = b" \t\r\n"
 CUT = b"{}\n"  # a line of moves, after which a tag line begins a piece
@@ -39,13 +39,13 @@ class Copy:
         self.is_after_moves = self.ends_after_moves(part)
 
     def ends_after_moves(self, part):
-        """Returns whether the last line so far that is not empty is a line of moves, after a part."""
+        """Returns whether the last line so far that is not empty is a line of moves, after a part; false for a tag line,
+        though it may be one too."""
         end = len(part)
         while end > 0:
             start = line_start(part, end)
-            line = front(part, start)
-            if not EMPTY_LINE.match(line):
-                return not TAG_LINE.match(line)
+            if not is_empty(part, start):
+                return not TAG_LINE.match(front(part, start))
             end = start
         return self.is_after_moves
 

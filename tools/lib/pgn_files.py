@@ -17,7 +17,8 @@ import needed
 MEBIBYTE = 2**20
 UNCUT = 256 * MEBIBYTE  # a text is given up if it has no cut in so many bytes
 
-# The kinds of lines, as crates/pgn_pieces/specs/Pieces.antt defines them.
+# The kinds of lines, as crates/pgn_pieces/specs/Pieces.antt defines them. But a tag line that has moves, too, is no
+# line of moves here: so a text is cut less often than it might be.
 # The first FRONT bytes of a line decide its kind. A byte order mark of UTF-8 (MARK) at their start is left out.
 FRONT = 256
 MARK = b"\xef\xbb\xbf"
