@@ -64,7 +64,7 @@ fn check_cut(
 }
 
 // Texts, and the lengths of their pieces.
-const CUTS: [(&[u8], &[usize]); 33] = [
+const CUTS: [(&[u8], &[usize]); 37] = [
     (b"", &[]),
     (b"1. e4 *", &[7]),
     (b"[Event \"a\"]\n1. e4 *\n\n[Event \"b\"]\n*", &[21, 13]),
