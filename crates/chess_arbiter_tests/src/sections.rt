@@ -45,9 +45,10 @@ const SECTIONS: [(&[u8], &[u8], u8); 20] = [
         b"game 1: bad token at byte 11\ngame 2: 0 half-moves, *\ngames 1 half-moves 0 faults 1\n",
         1,
     ),
+    // After it `%` begins no escape: the line counts as one of moves, and the next tag line begins a piece.
     (
         b"[Event \"a\"]\n\xef\xbb\xbf% x\n[Site \"s\"]\n*\n",
-        b"game 1: bad token at byte 12\ngames 0 half-moves 0 faults 1\n",
+        b"game 1: bad token at byte 12\ngame 2: 0 half-moves, *\ngames 1 half-moves 0 faults 1\n",
         1,
     ),
     // Tags without games, before, between and after games.
