@@ -39,8 +39,9 @@ class Copy:
         self.is_after_moves = self.ends_after_moves(part)
 
     def ends_after_moves(self, part):
-        """Returns whether the last line so far that is not empty is a line of moves, after a part; false for a tag line, though
-        it may be one too."""
+        """Returns whether the last line so far that is not empty is a line of moves, after a part.
+
+        It is false for a tag line, though that may be a line of moves too."""
         end = len(part)
         while end > 0:
             start = line_start(part, end)
