@@ -1,6 +1,5 @@
--- Castling (Laws of Chess 2023, article 3.8.2): with which rook, between which squares, and when. In Chess960 (Laws of
--- Chess 2023, Guidelines II) king and rooks begin anywhere on the first rank, the king between the rooks; they end on
--- the same squares as in normal chess.
+-- Castling (Laws of Chess 2023, article 3.8.2). In Chess960 (Guidelines II of the Laws) king and rooks begin anywhere
+-- on the first rank, the king between the rooks; they end on the same squares as in normal chess.
 use Rattle.std.specs.Prelude.{ℕ, ◌+◌, ◌*◌, ◌==◌, nat_lt, Bool, true, false, not, ◌&&◌, ◌||◌, Option, is_none, [], ◌∷◌, find, position, option_and_then}
 use Rattle.std.specs.Option.{option_map, option_map_or}
 use Rattle.chess_base.specs.declared.castling.Castle.{Castle}
@@ -19,14 +18,14 @@ use Rattle.chess_base.specs.ByColour.{by_colour}
 use Rattle.chess_base.specs.Men.{Men, man_at, is_man, other, first_rank}
 use Rattle.chess_base.specs.Attacks.{is_attacked}
 
--- the value of the given castling side: the first argument is the king side's value, the second the queen side's
+-- of the king side's value and the queen side's, which are the first two arguments, the given side's
 abbrev pub by_side : {A : Type 0} → A → A → CastlingSide → A
 by_side king_side queen_side KingSide = king_side
 by_side king_side queen_side QueenSide = queen_side
 
 -- ---- squares
 
--- the square on file f (0 for a) of colour c's first rank: for White and file 4 that is e1
+-- the square on file f (0 for a) of colour c's first rank: e1 for White and 4
 abbrev pub home_square : Colour → ℕ → ℕ
 home_square c f = 8 * first_rank c + f
 
@@ -53,7 +52,7 @@ abbrev pub right_of : Rights → Colour → CastlingSide → Option ℕ
 right_of r c KingSide = (by_colour r.white r.black c).king_side
 right_of r c QueenSide = (by_colour r.white r.black c).queen_side
 
--- the four castling rights, where colour c's right on side w is `f c w`: the square of the rook, or none
+-- the four castling rights: colour c's on side w is `f c w`, the rook's square or none
 abbrev pub rights_by : (Colour → CastlingSide → Option ℕ) → Rights
 rights_by f = record {
   white = record { king_side = f White KingSide; queen_side = f White QueenSide };
@@ -64,7 +63,7 @@ rights_by f = record {
 unfoldable pub king_square : Men → Colour → Option ℕ
 king_square men c = position (λ o. is_man c King o) men
 
--- s lies on the given side of the square `king` of its rank: towards file h (king side) or a (queen side), not on it
+-- square s is on the given side of square `king` of its rank: towards file h (king side) or a (queen side)
 abbrev pub is_to_side : CastlingSide → ℕ → ℕ → Bool
 is_to_side w king s = by_side (nat_lt king s) (nat_lt s king) w
 
@@ -78,7 +77,7 @@ are_placed_for_castling Fischerandom men c w s =
     option_map_or (λ king. (rank king == first_rank c) && (rank s == first_rank c) && is_to_side w king s)
     (king_square men c) false && is_man c Rook (man_at men s)
 
--- if colour c has a castling right on side w, its king and the rook of that right are where castling on side w begins
+-- if colour c has a castling right on side w, its king and that right's rook are where this castling begins
 unfoldable pub right_is_sound : Setup → Colour → CastlingSide → Bool
 right_is_sound p c w = option_map_or (are_placed_for_castling p.variant p.men c w) (right_of p.rights c w) true
 
@@ -91,7 +90,7 @@ names_castling_with Normal c m w rook = (m.from == home_square c king_home_file)
     && (m.to == home_square c (castled_king_file w))
 names_castling_with Fischerandom c m w rook = (rank m.from == rank rook) && (m.to == rook)
 
--- move m is written as castling to side w, legal or not: the king of the side on move starts it, that side has this
+-- move m is written as castling to side w, legal or not: the king of the side on move makes it, that side has this
 -- right, and the squares of m name this castling
 unfoldable pub is_castling_to : Setup → Move → CastlingSide → Bool
 is_castling_to p m w = is_man p.side King (man_at p.men m.from)
@@ -104,7 +103,7 @@ castling p m = find (is_castling_to p m) (KingSide ∷ QueenSide ∷ [])
 
 -- ---- the squares of a castling
 
--- the four squares of colour c's castling on side w; `king` and `rook` are the squares where the two start
+-- the four squares of colour c's castling on side w, from the squares `king` and `rook` where the two start
 abbrev pub castle_from : Colour → CastlingSide → ℕ → ℕ → Castle
 castle_from c w king rook = record {
   king_from = king;
@@ -120,7 +119,7 @@ castle_of p m =
 
 -- ---- when castling may be played (3.8.2.2)
 
--- square x is a or b, or lies strictly between them
+-- square x is on the way from a to b, both included
 abbrev pub is_on_way : ℕ → ℕ → ℕ → Bool
 is_on_way a b x = (x == a) || (x == b) || is_between a b x
 
@@ -138,16 +137,16 @@ unfoldable pub castling_way_is_safe : Men → Colour → Castle → Bool
 castling_way_is_safe men c k = each_square
     (λ x. not (is_on_way k.king_from k.king_to x) || not (is_attacked men x (other c)))
 
--- castling k, as which move m is written, is pseudo-legal: m names no promotion, the squares that king and rook need
--- empty are so, and none on the king's way, both ends included, is attacked. Whether the king is in check after it is
--- not asked here: in Chess960 its rook may uncover an attack
+-- castling k, as which move m is written, is pseudo-legal: nothing is in the way, no square on the king's way is
+-- attacked, and m names no promotion. Whether the king is in check after it isn't asked here: in Chess960 the rook may
+-- uncover an attack
 unfoldable pub castles : Setup → Move → Castle → Bool
 castles p m k = is_none m.promotion && castling_way_is_empty p.men k && castling_way_is_safe p.men p.side k
 
--- ---- where mover and castling rook end, for the steps in which boards change the pieces
+-- ---- where mover and castling rook end
 
--- the mover's square after the move: the king's after castling, otherwise m.to. In normal chess it is always m.to,
--- since the king's squares name castling
+-- the mover's square after move m: m.to, or the king's end square if m is castling (in Chess960 m.to is then the rook's
+-- square)
 unfoldable pub mover_end : Setup → Move → ℕ
 mover_end p m = option_map_or (λ k. k.king_to) (castle_of p m) m.to
 

@@ -9,8 +9,7 @@ use Rattle.chess_base.specs.declared.man.Man.{Man}
 use Rattle.chess_base.specs.ByColour.{by_colour}
 use Rattle.chess_base.specs.Squares.{file, rank}
 
--- the code of a text's first character, 0 for the empty text: `byte "A"` is 65. (As `byte` of byte_devices, which this
--- crate doesn't use)
+-- the code of a text's first character, 0 for the empty text: `byte "A"` is 65
 abbrev pub byte : Text → ℕ
 byte text = slice_index_or (codes text) 0 0
 
@@ -24,7 +23,7 @@ white_letter Rook = byte "R"
 white_letter Queen = byte "Q"
 white_letter King = byte "K"
 
--- the letter of a kind of piece in a colour, as in FEN: Black's are small (byte + 32)
+-- the letter in FEN of a piece of colour c and kind k: Black's are small (byte + 32)
 abbrev pub letter_by : Colour → Kind → ℕ
 letter_by c k = by_colour (white_letter k) (white_letter k + 32) c
 
@@ -48,7 +47,7 @@ kind_with_letter c = find (λ k. white_letter k == c) kinds
 abbrev pub kind_with_small_letter : ℕ → Option Kind
 kind_with_small_letter c = find (λ k. letter_by Black k == c) kinds
 
--- the piece whose letter in FEN is the byte c, as a black knight by `n`; `None` for any other byte
+-- the piece whose letter in FEN is the byte c, if there is one: a black knight for n
 abbrev pub man_with_letter : ℕ → Option Man
 man_with_letter c = find (λ m. letter m == c) all_men
 
@@ -66,7 +65,7 @@ kind_word Bishop = codes "bishop"
 kind_word Knight = codes "knight"
 kind_word Pawn = codes "pawn"
 
--- the name of a square: the file's letter and the rank's digit, as e4 for square 28
+-- the name of a square, as e4 for square 28
 abbrev pub square_text : ℕ → List ℕ
 square_text square = (byte "a" + file square) ∷ (byte "1" + rank square) ∷ []
 
@@ -78,7 +77,7 @@ is_file_letter c = nat_le (byte "a") c && nat_le c (byte "h")
 abbrev pub is_rank_digit : ℕ → Bool
 is_rank_digit c = nat_le (byte "1") c && nat_le c (byte "8")
 
--- the square whose name is the bytes f and r, if there is one: the bytes of "e" and "4" give square 28
+-- the square whose name is the bytes f and r, if there is one: 28 for "e" and "4"
 abbrev pub square_with_letters : ℕ → ℕ → Option ℕ
 square_with_letters f r =
     if is_file_letter f && is_rank_digit r then Some (8 * (r - byte "1") + (f - byte "a")) else None

@@ -1,4 +1,4 @@
--- The moves: their pattern, the position after one, and which are legal (Laws of Chess 2023, article 3).
+-- Which moves are legal, and the position after a move (Laws of Chess 2023, article 3).
 use Rattle.std.specs.Prelude.{ℕ, ◌+◌, ◌==◌, nat_lt, min, Bool, false, not, ◌&&◌, ◌||◌, Option, Some, None, is_none, is_some, if◌then◌else◌, option_and_then, map}
 use Rattle.std.specs.Option.{option_map, option_map_or, unwrap_or}
 use Rattle.chess_base.specs.declared.castling.Castle.{Castle}
@@ -43,31 +43,29 @@ pawn_advances p m = is_none (man_at p.men m.to)
 unfoldable pub pawn_captures : Setup → Move → Bool
 pawn_captures p m = attacks p.men m.from m.to && (is_of (other p.side) (man_at p.men m.to) || is_at p.target m.to)
 
--- a pawn's move advances or captures; it names a promotion, to a queen, rook, bishop or knight, if it ends on the last
--- rank, and none otherwise (3.7)
+-- a pawn's move advances or captures, and names a promotion just if it ends on the last rank (3.7)
 unfoldable pub pawn_moves : Setup → Move → Bool
 pawn_moves p m =
     promotion_fits (rank m.to == first_rank (other p.side)) m.promotion && (pawn_advances p m || pawn_captures p m)
 
--- the move of a piece other than a pawn, unless it is castling: it goes to a square that the piece attacks and that
--- holds no own piece (3.1), and names no promotion
+-- a piece other than a pawn makes move m, not as castling: it goes to a square that the piece attacks and that holds no
+-- own piece (3.1), and names no promotion
 unfoldable pub man_moves : Setup → Move → Bool
 man_moves p m = is_none m.promotion && attacks p.men m.from m.to && not (is_of p.side (man_at p.men m.to))
 
--- move m, between two squares of the board, is pseudo-legal, given what is on its start square (the last argument): a
--- piece of the side on move, which can make it as a pawn, by castling or as another piece; false if there is none
+-- what is on move m's start square (the last argument) is a piece of the side on move that can make m: as a pawn, by
+-- castling or as another piece
 abbrev pub moves_as : Setup → Move → Option Man → Bool
 moves_as p m None = false
 moves_as p m (Some x) = same_colour p.side x.colour
     && (if same_kind Pawn x.kind then pawn_moves p m else option_map_or (castles p m) (castle_of p m) (man_moves p m))
 
--- move m is pseudo-legal: a piece of the side on move can make it (3.1 to 3.8), even if it leaves the own king in
--- check. Castling out of check, or across or onto an attacked square, is not pseudo-legal
+-- move m is pseudo-legal: a piece of the side on move can make it (3.1 to 3.8), even if it leaves its own king in
+-- check. Castling out of check, or across or onto an attacked square, is not
 unfoldable pub is_pseudo_legal : Setup → Move → Bool
 is_pseudo_legal p m = nat_lt m.from 64 && nat_lt m.to 64 && moves_as p m (man_at p.men m.from)
 
--- the moved piece as it arrives: what was on the move's start square (`o`), as a piece of kind k if the move promotes
--- to k; none if that square was empty. (In Chess960 a castling king may arrive elsewhere than on m.to)
+-- the moved piece as it arrives: `o`, which was on the start square, but of kind k if the move promotes to k
 abbrev pub arriving_man : Option Man → Option Kind → Option Man
 arriving_man o k = option_map (λ (x : Man). record x { kind = unwrap_or k x.kind }) o
 
@@ -78,16 +76,14 @@ captured_square p m = if is_en_passant p m then Some (forward (other p.side) m.t
     else if is_of (other p.side) (man_at p.men m.to) then Some m.to
     else None
 
--- what is on square s after castling k, as which m is written: the king on `king_to` (a legal castling names no
--- promotion), the rook on `rook_to`; unless one ends there (Chess960), nothing where they started; others as before
+-- what is on square s after castling k, as which m is written. A legal castling names no promotion
 abbrev pub after_castling : Setup → Move → Castle → ℕ → Option Man
 after_castling p m k s = if s == k.king_to then arriving_man (man_at p.men m.from) m.promotion
     else if s == k.rook_to then Some (record { colour = p.side; kind = Rook })
     else if (s == k.king_from) || (s == k.rook_from) then None
     else man_at p.men s
 
--- what is on square s after move m, if m is not castling: the moved piece on m's end square; nothing on its start
--- square and on that of a pawn captured en passant; elsewhere what was there
+-- what is on square s after move m, if m is not castling: a pawn captured en passant is gone too
 abbrev pub after_moving : Setup → Move → ℕ → Option Man
 after_moving p m s = if s == m.to then arriving_man (man_at p.men m.from) m.promotion
     else if (s == m.from) || is_at (captured_square p m) s then None
@@ -97,8 +93,8 @@ after_moving p m s = if s == m.to then arriving_man (man_at p.men m.from) m.prom
 unfoldable pub men_after : Setup → Move → Men
 men_after p m = map (λ s. option_map_or (λ k. after_castling p m k s) (castle_of p m) (after_moving p m s)) squares
 
--- the four castling rights after move m: each as before, but lost if its king makes the move, or if m starts or ends on
--- its rook's square (3.8.2.1)
+-- the castling rights after move m: one is lost if its king moves, or if m starts or ends on its rook's square
+-- (3.8.2.1)
 unfoldable pub rights_after : Setup → Move → Rights
 rights_after p m = rights_by (λ c w. option_and_then
     (λ rook. if is_man c King (man_at p.men m.from) || (m.from == rook) || (m.to == rook) then None else Some rook)
@@ -112,13 +108,11 @@ target_after p m = if is_double_advance p m then Some (forward p.side m.from) el
 unfoldable pub resets_clock : Setup → Move → Bool
 resets_clock p m = is_man p.side Pawn (man_at p.men m.from) || is_some (captured_square p m)
 
--- the halfmove clock after a move: 0 after a pawn move or a capture, otherwise one more than before, but at most
--- 999,999
+-- the halfmove clock after a move: 0 after a pawn move or a capture, otherwise one more, but at most 999,999
 unfoldable pub halfmove_after : Setup → Move → ℕ
 halfmove_after p m = if resets_clock p m then 0 else min (p.halfmove + 1) COUNTER_LIMIT
 
--- the fullmove number after a move of this colour, from the number n before it: n after White's, after Black's one
--- more, but at most 999,999
+-- the fullmove number after a move of colour c, n before it: one more after Black's, but at most 999,999
 abbrev pub fullmove_after : Colour → ℕ → ℕ
 fullmove_after c n = by_colour n (min (n + 1) COUNTER_LIMIT) c
 
@@ -138,18 +132,17 @@ after p m = record {
 unfoldable pub is_legal : Setup → Move → Bool
 is_legal p m = is_pseudo_legal p m && not (is_in_check (after p m).men p.side)
 
--- ---- what a move changes on the board, step by step. A law says that these steps give the pieces of `men_after`; no
--- claim about games rests on what follows
+-- ---- what a move changes on the board, step by step. By a law these steps give the pieces of `men_after`
 
 -- the square that a second piece leaves by move m: that of the pawn taken en passant, or the castling rook's start
--- square (in Chess960 the king may end there); none for any other move
+-- square; none for any other move
 unfoldable pub second_square_emptied : Setup → Move → Option ℕ
 second_square_emptied p m =
     if is_en_passant p m then Some (forward (other p.side) m.to) else option_map (λ k. k.rook_from) (castle_of p m)
 
--- what move m changes on the board: a piece leaves `from`, and `mover` arrives on `to`: in castling the king on its new
--- square, after a promotion the new piece. In castling the rook `second` goes from `second_from` to `second_to`. A pawn
--- taken en passant leaves `second_from`. If m is not castling, `second_to` is none and `second` means nothing
+-- what move m changes on the board: the mover goes from `from` to `to`; in castling the rook `second` goes from
+-- `second_from` to `second_to`; a pawn taken en passant leaves `second_from`. If m is not castling, `second` means
+-- nothing
 abbrev pub steps_of : Setup → Move → Steps
 steps_of p m = record {
   from = m.from;

@@ -24,8 +24,7 @@ is_between_on_file a b x = (file x == file a) && (file x == file b) && is_strict
 unfoldable pub is_between_on_rank : ℕ → ℕ → ℕ → Bool
 is_between_on_rank a b x = (rank x == rank a) && (rank x == rank b) && is_strictly_between (file a) (file b) (file x)
 
--- x lies strictly between a and b on their diagonal: it shares a diagonal with each of them, and lies between them by
--- rank and by file. False if a and b are on no common diagonal
+-- x lies strictly between a and b on their diagonal; false if they share none
 unfoldable pub is_between_on_diagonal : ℕ → ℕ → ℕ → Bool
 is_between_on_diagonal a b x =
     share_diagonal a x && share_diagonal x b && is_strictly_between (rank a) (rank b) (rank x)

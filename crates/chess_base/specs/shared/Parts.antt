@@ -23,23 +23,21 @@ kind_number Bishop = 3
 kind_number Knight = 4
 kind_number Pawn = 5
 
--- the rank that a colour's pawn crosses by a double advance: 2 (rank 3) for White, as e2e4 crosses e3, and 5 (rank 6)
--- for Black
+-- the rank that a colour's pawn crosses by a double advance: 2 (rank 3) for White, 5 (rank 6) for Black
 abbrev pub crossed_rank : Colour → ℕ
 crossed_rank = by_colour 2 5
 
--- square b is one rank further than square a in the direction of this colour's pawns, on any file: for White, each
--- square of rank 5 is one rank ahead of e4
+-- square b is one rank ahead of square a for this colour's pawns, on any file: for White, all of rank 5 is ahead of e4
 abbrev pub is_rank_ahead : Colour → ℕ → ℕ → Bool
 is_rank_ahead c a b = by_colour (rank b == rank a + 1) (rank a == rank b + 1) c
 
--- the square one step back from s for a pawn of colour c: when a black pawn takes en passant on e3, the pawn that it
--- takes is on e4, one step back from e3 for Black
+-- the square one step back from s for a pawn of colour c: for White e5 from e6, where it takes the pawn on e5 en
+-- passant
 abbrev pub one_rank_back : Colour → ℕ → ℕ
 one_rank_back c s = forward (other c) s
 
--- the king's square (`o`) and square s are on colour c's first rank, and s lies on side w of the king, at any distance;
--- false if there is no king
+-- the king's square (`o`) and square s are on colour c's first rank, and s is on side w of the king; false without a
+-- king
 abbrev pub is_on_side_of_king : Colour → CastlingSide → Option ℕ → ℕ → Bool
 is_on_side_of_king c w o s =
     option_map_or (λ king. (rank king == first_rank c) && (rank s == first_rank c) && is_to_side w king s) o false
@@ -49,9 +47,8 @@ abbrev pub pawn_is_allowed : Men → ℕ → Bool
 pawn_is_allowed men s = not ((is_man White Pawn (man_at men s) || is_man Black Pawn (man_at men s))
     && ((rank s == 0) || (rank s == 7)))
 
--- with colour c on move, the en passant target, if there is one, is a square t that an enemy pawn may just have
--- crossed: t is empty, on the rank that the enemy's double advance crosses; an enemy pawn is one step past t, and the
--- square one step before t is empty
+-- with colour c on move, the en passant target, if there is one, is a square that an enemy pawn may just have crossed
+-- by a double advance, as `target_is_sound` says
 abbrev pub target_is_sound_at : Men → Colour → Option ℕ → Bool
 target_is_sound_at men c None = true
 target_is_sound_at men c (Some t) =

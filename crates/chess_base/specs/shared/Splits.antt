@@ -17,18 +17,17 @@ use Rattle.chess_base.specs.Moves.{man_moves}
 abbrev pub could_capture_as : Men → Option Man → ℕ → ℕ → Bool
 could_capture_as men o a b = option_map_or (λ x. could_capture men x.colour x.kind a b) o false
 
--- colour c's castling right on side w, given as its rook's square (`o`), has its king and its rook where castling
--- begins; true if there is no right
+-- colour c's castling right on side w (`o`: its rook's square), if there is one, has its king and rook where castling
+-- begins
 abbrev pub right_is_sound_at : Variant → Men → Colour → CastlingSide → Option ℕ → Bool
 right_is_sound_at v men c w o = option_map_or (are_placed_for_castling v men c w) o true
 
--- colour c's castling right on side w, given as its rook's square (`o`), is there, and the squares of move m are those
--- of castling with that rook
+-- colour c has the castling right on side w (`o`: its rook's square), and the squares of move m name that castling
 abbrev pub names_castling : Variant → Colour → Move → CastlingSide → Option ℕ → Bool
 names_castling v c m w o = option_map_or (names_castling_with v c m w) o false
 
--- the four squares of colour c's castling on side w, with the king on square k and the rook on the given square (`o`)
--- before it; none if no square is given
+-- the four squares of colour c's castling on side w, with the king on k and the rook on `o` before it; none if `o` is
+-- none
 abbrev pub castle_with : Colour → CastlingSide → ℕ → Option ℕ → Option Castle
 castle_with c w k o = option_map (castle_from c w k) o
 
@@ -40,7 +39,6 @@ rook_from o = option_map (λ k. k.rook_from) o
 abbrev pub rook_to : Option Castle → Option ℕ
 rook_to o = option_map (λ k. k.rook_to) o
 
--- a piece other than a pawn can make move m: by the castling `o`, if m is one and nothing prevents it, otherwise as it
--- moves
+-- a piece other than a pawn can make move m: as the castling `o`, if m is one, otherwise as the piece moves
 abbrev pub castles_or_moves : Setup → Move → Option Castle → Bool
 castles_or_moves p m o = option_map_or (castles p m) o (man_moves p m)
