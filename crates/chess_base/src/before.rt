@@ -97,9 +97,9 @@ fn was_castling(
         )
 }
 
-// The side to which move `m` of this colour castled: king's side for `e1g1` of a king. `None` if it was not castling.
-// `men` are the pieces after the move, `saved` is what was saved of the position before it. `castling`
-// asks this of the position before the move, which is not at hand where a move is taken back.
+// The side to which move `m` of this colour castled: the king's side if its king went `e1g1`. `None` if it was not
+// castling. `men` are the pieces after the move, `saved` is what was saved of the position before it. `castling` asks
+// this of the position before the move, which is not at hand where a move is taken back.
 #[tactic(auto, unfolding(crate::specs::Before::castling_side_undone))]
 fn castled(
     variant: Variant,

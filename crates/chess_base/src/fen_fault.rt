@@ -20,7 +20,8 @@ pub enum FenFault {
     /// Chess960 also if a letter names no rook on that side of the king, or two letters name the same right.
     #[error("the castling rights are malformed or do not fit the pieces")]
     Castling,
-    /// The fourth field denotes no target, or the target is not the empty square behind an enemy pawn's double advance.
+    /// The fourth field denotes no target, or the target is not an empty square that an enemy pawn may just have
+    /// crossed by its double advance.
     #[error("the en passant target is malformed or does not fit the pieces")]
     EnPassant,
     /// A counter of the text is no number of one to six digits; or the halfmove clock of the setup is above 999,999, or

@@ -12,8 +12,7 @@ use crate::setup::Setup;
 use crate::square::{Square, is_at};
 
 // The number of the square straight ahead for a pawn of this colour: from `e2` (12) White's is `e3` (20). On its last
-// rank, where no pawn is, the result means nothing: White's is above 63, Black's 0. For captures
-// `is_rank_ahead` asks of two squares whether their ranks are so, whatever the files.
+// rank, where no pawn is, the result means nothing: White's is above 63, Black's 0.
 pub(crate) fn forward(colour: Colour, number: u8) -> u8
     requires { number < 248 }
     ensures { result ≡ forward colour number }

@@ -1,5 +1,5 @@
--- Which texts denote a position (PGN standard of 1994, section 16.1.3): what each field stands for, with relations for
--- the placement, the side and the target. One or more spaces separate the fields, and may be at both ends.
+-- Which texts denote a position as FEN, by relations (PGN standard of 1994, section 16.1.3). One or more spaces
+-- separate the fields, and may be at both ends.
 use Rattle.std.specs.Prelude.{◌≡◌, ℕ, ◌+◌, ◌<◌, ◌≤◌, ◌⊎◌, List, [], ◌∷◌, length, replicate, Option, Some, None, IfSome, IsTrue, max, ◌==◌}
 use Rattle.std.specs.List.{slice_split, flat_map, AllZip}
 use Rattle.chess_base.specs.declared.man.Man.{Man}
@@ -14,8 +14,7 @@ use Rattle.chess_fen.specs.RightNames.{names_rights_well, rights_in}
 use Rattle.chess_fen.specs.Texts.{from_top, is_castling_field, fields_of}
 use Rattle.chess_fen.specs.Writing.{side_text, target_text}
 
--- one byte of a rank's text denotes these squares: a piece's letter one square with that piece, a digit n from 1 to 8 n
--- empty squares
+-- a byte of a rank's text denotes these squares: a letter one with its piece, a digit n from 1 to 8 n empty ones
 abbrev pub StandsFor : ℕ → List (Option Man) → Type 0
 StandsFor c squares = ((man : Man) × (c ≡ letter man) × (squares ≡ Some man ∷ []))
     ⊎ ((n : ℕ) × (0 < n) × (n ≤ 8) × (c ≡ byte "0" + n) × (squares ≡ replicate n None))
@@ -25,23 +24,22 @@ abbrev pub DenotesSquares : List ℕ → List (Option Man) → Type 0
 DenotesSquares text squares = (parts : List (List (Option Man))) × AllZip StandsFor text parts
     × (squares ≡ flat_map (λ part. part) parts)
 
--- the text denotes these squares of one rank, from file a to file h, and they are eight
+-- the text denotes these eight squares of a rank, from file a to file h
 abbrev pub DenotesRank : List ℕ → List (Option Man) → Type 0
 DenotesRank text row = DenotesSquares text row × (length row ≡ 8)
 
--- the text, a FEN's first field, denotes these pieces: eight ranks, rank 8 first, with a slash between them
+-- a FEN's first field denotes these pieces: eight ranks, rank 8 first, with a slash between them
 abbrev pub DenotesPlacement : List ℕ → List (Option Man) → Type 0
 DenotesPlacement text men = (rows : List (List (Option Man))) × (length rows ≡ 8)
     × AllZip DenotesRank (slice_split (λ c. c == byte "/") text) rows × (men ≡ from_top rows)
 
--- the text, a FEN's fourth field, denotes this en passant target: a dash for none, otherwise the name of a square on
--- rank 3 or 6
+-- a FEN's fourth field denotes this en passant target: none by a dash, a square of rank 3 or 6 by its name
 abbrev pub DenotesTarget : List ℕ → Option ℕ → Type 0
 DenotesTarget text target = (text ≡ target_text target)
     × IfSome target (λ square. (rank square ≡ 2) ⊎ (rank square ≡ 5))
 
--- the fields after the target denote the halfmove clock and the fullmove number: there are none (then 0 and 1), or
--- both, each of 1 to 6 digits; a fullmove number of 0 is read as 1
+-- the fields after the target denote the halfmove clock and the fullmove number: none (then 0 and 1), or both, each of
+-- 1 to 6 digits; a fullmove number of 0 is read as 1
 abbrev pub DenotesCounters : List (List ℕ) → ℕ → ℕ → Type 0
 DenotesCounters [] halfmove fullmove = (halfmove ≡ 0) × (fullmove ≡ 1)
 DenotesCounters (a ∷ []) halfmove fullmove = ⊥
@@ -49,26 +47,24 @@ DenotesCounters (a ∷ b ∷ []) halfmove fullmove =
     (short_number 6 a ≡ Some halfmove) × ((n : ℕ) × (short_number 6 b ≡ Some n) × (fullmove ≡ max n 1))
 DenotesCounters (a ∷ b ∷ c ∷ more) halfmove fullmove = ⊥
 
--- the fields of a FEN of variant v denote position p, sound or not: a the pieces, b the side on move, c the castling
--- rights, d the en passant target, and `counters_text` the two counters (or none of them)
+-- the fields of a FEN of variant v denote position p, sound or not: a the pieces, b the side, c the rights, d the
+-- target, and `counters_text` the two counters, which may be left out
 pub record DenotesFields (v : Variant) (a b c d : List ℕ) (counters_text : List (List ℕ)) (p : Setup) : Type 0 where
   pub variant : p.variant ≡ v
   pub men : DenotesPlacement a p.men
   pub side : b ≡ side_text p.side
-  -- c has the form of a castling field; which rights it names depends on the pieces
+  -- the form of c; which rights it names depends on the pieces
   pub castling : IsTrue (is_castling_field v c)
   pub rights : p.rights ≡ rights_in v p.men c
   pub target : DenotesTarget d p.target
   pub counters : DenotesCounters counters_text p.halfmove p.fullmove
 
--- the text has four fields or six, of which the third, with the castling rights, is c; and as those of a FEN of variant
--- v they denote position p, sound or not
+-- the text's fields, of which c is that of castling, denote position p, sound or not, as a FEN of variant v
 abbrev pub DenotesText : Variant → List ℕ → List ℕ → Setup → Type 0
 DenotesText v text c p = (a : List ℕ) × (b : List ℕ) × (d : List ℕ) × (more : List (List ℕ))
     × (fields_of text ≡ a ∷ b ∷ c ∷ d ∷ more) × DenotesFields v a b c d more p
 
--- the text denotes position p, sound or not, as a FEN of variant v: its fields denote p, and the third names no
--- castling right wrongly (`names_rights_well`)
+-- the text denotes position p, sound or not, as a FEN of variant v, and names no castling right wrongly
 abbrev pub DenotesFenAs : Variant → List ℕ → Setup → Type 0
 DenotesFenAs v text p = (castling : List ℕ) × DenotesText v text castling p
     × IsTrue (names_rights_well p.variant p.men castling)

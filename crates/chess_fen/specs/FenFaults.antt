@@ -1,5 +1,5 @@
--- What the fault of a text says of the text, as a relation: a wrong number of fields; the first field that denotes
--- nothing; or, of what is denoted, the first condition that fails.
+-- What the fault of a text says of it, as a relation: a wrong number of fields; or the first field that denotes
+-- nothing; or the first condition that fails.
 use Rattle.std.specs.Prelude.{◌≡◌, ◌≢◌, ◌⊎◌, ℕ, false, List, ◌∷◌, length, Option, Some, IsTrue}
 use Rattle.chess_base.specs.declared.man.Colour.{Colour}
 use Rattle.chess_base.specs.declared.man.Variant.{Variant}
@@ -14,21 +14,20 @@ use Rattle.chess_fen.specs.Writing.{side_text}
 use Rattle.chess_fen.specs.Reading.{conditions_of}
 use Rattle.chess_fen.specs.Denotation.{DenotesPlacement, DenotesTarget, DenotesCounters, DenotesText}
 
--- the text, a FEN's first field, denotes the pieces of a board
+-- a FEN's first field denotes the pieces of a board
 abbrev pub DenotesSomeMen : List ℕ → Type 0
 DenotesSomeMen text = (men : Men) × DenotesPlacement text men
 
--- the text, a FEN's second field, denotes a side: it is w or b
+-- a FEN's second field denotes a side: it is w or b
 abbrev pub DenotesSomeSide : List ℕ → Type 0
 DenotesSomeSide text = (colour : Colour) × (text ≡ side_text colour)
 
--- the text, a FEN's fourth field, denotes an en passant target, or by a dash none
+-- a FEN's fourth field denotes an en passant target, or by a dash none
 abbrev pub DenotesSomeTarget : List ℕ → Type 0
 DenotesSomeTarget text = (target : Option ℕ) × DenotesTarget text target
 
--- the field that this fault is about denotes nothing, and each field before it does denote something: for `Castling`
--- the third is wrong, the first two are right. a, b, c and d are the first four fields, `more` is the list of the two
--- counters or empty. False for a fault that is about no field
+-- the field that the fault is about denotes nothing, and each field before it denotes something. The first four fields
+-- are a, b, c and d; `more` are the two counters, or none. False for a fault that is about no field
 abbrev pub IsFieldFault : Variant → List ℕ → List ℕ → List ℕ → List ℕ → List (List ℕ) → FenFault → Type 0
 IsFieldFault v a b c d more Placement = (men : Men) → DenotesPlacement a men → ⊥
 IsFieldFault v a b c d more Side = DenotesSomeMen a × ((colour : Colour) → b ≢ side_text colour)
@@ -39,7 +38,7 @@ IsFieldFault v a b c d more Counters = DenotesSomeMen a × DenotesSomeSide b × 
     × DenotesSomeTarget d × ((halfmove fullmove : ℕ) → DenotesCounters more halfmove fullmove → ⊥)
 IsFieldFault v a b c d more f = ⊥
 
--- f is the fault `Fields`, and the text has neither four nor six fields
+-- f is `Fields`, and the text has neither four nor six fields
 abbrev pub HasWrongFieldCount : List ℕ → FenFault → Type 0
 HasWrongFieldCount text f = (f ≡ Fields) × (length (fields_of text) ≢ 4) × (length (fields_of text) ≢ 6)
 
@@ -52,16 +51,15 @@ IsMalformed v text f =
     × IsFieldFault v a b c d more f
 
 -- each field of the text denotes something, but together they give an unsound position, or a castling right is named
--- wrongly: f reports the first condition that fails
+-- wrongly: f is the fault of the first condition that fails
 abbrev pub IsUnsound : Variant → List ℕ → FenFault → Type 0
 IsUnsound v text f = (p : Setup) × (castling : List ℕ) × DenotesText v text castling p
     × (first_failing (conditions_of castling p) ≡ Some f)
 
--- f is the fault of a text that is read as a FEN of variant v: a wrong number of fields, or else a field that denotes
--- nothing, or else a condition that fails
+-- f is the fault of the text as a FEN of variant v: of its number of fields, of a field, or of a condition
 abbrev pub IsFaultAs : Variant → List ℕ → FenFault → Type 0
 IsFaultAs v text f = HasWrongFieldCount text f ⊎ IsMalformed v text f ⊎ IsUnsound v text f
 
--- f is the fault of a text that is read as a FEN of normal chess, as `IsFaultAs` says
+-- f is the fault of the text as a FEN of normal chess
 abbrev pub IsFault : List ℕ → FenFault → Type 0
 IsFault text f = IsFaultAs Normal text f

@@ -1,6 +1,5 @@
--- The position that a text denotes, field by field, or its first fault. This project's additions to the standard: the
--- counters may be left out, and a fullmove number of 0 is read as 1. Denotation and FenFaults say the same by
--- relations, as the clauses `found`, `only`, `fault` and `refused` of `read_fen_as` say.
+-- The position that a text denotes as FEN, or its first fault. Allowed beyond the standard: the counters may be left
+-- out, and a fullmove number of 0 is read as 1. Denotation and FenFaults say the same by relations.
 use Rattle.std.specs.Prelude.{ℕ, max, codes, Bool, List, [], ◌∷◌, ◌++◌, length, Option, Some, None, Result, Ok, Err, ◌==◌, if◌then◌else◌}
 use Rattle.std.specs.Option.{ok_or, option_map_or}
 use Rattle.chess_base.specs.declared.man.Colour.{Colour}
@@ -23,19 +22,17 @@ abbrev pub ◌>>=◌ : {A B E : Type 0} → Result A E → (A → Result B E) �
 (Ok x) >>= f = f x
 (Err e) >>= f = Err e
 
--- the side that a FEN's second field denotes, by w or b; none for any other text
+-- the side that a FEN's second field denotes, w or b; none for any other text
 abbrev pub side_of : List ℕ → Option Colour
 side_of (c ∷ []) = if c == byte "w" then Some White else (if c == byte "b" then Some Black else None)
 side_of _ = None
 
--- the conditions that position p must meet, in their order and each with its fault (`conditions_if`), if `letters` are
--- the castling field of its FEN
+-- the conditions of a sound position p, each with its fault, if `letters` are the castling field of its FEN
 abbrev pub conditions_of : List ℕ → Setup → List (FenFault × Bool)
 conditions_of letters p = conditions_if (names_rights_well p.variant p.men letters) p
 
 -- the sound position that the six fields of a FEN denote; or the fault of the first field that denotes nothing, or else
--- of the first condition that fails (`conditions_of`). A line `x ← r` gives r's value the name x; if r is an error,
--- this is the result. Any other number of fields is the fault `Fields`
+-- of the first condition that fails
 abbrev pub reading_in : Variant → List (List ℕ) → Result Setup FenFault
 reading_in v (placement ∷ side ∷ castling ∷ target ∷ halfmove ∷ fullmove ∷ []) = do
   pieces ← ok_or (placement_of placement) faults.Placement
@@ -56,12 +53,11 @@ reading_in v (placement ∷ side ∷ castling ∷ target ∷ halfmove ∷ fullmo
   option_map_or Err (first_failing (conditions_of castling p)) (Ok p)
 reading_in v _ = Err faults.Fields
 
--- the sound position that a text denotes as a FEN of variant v, or its first fault (`reading_in`). The two counters may
--- be left out; then they are 0 and 1
+-- the sound position that a text denotes as a FEN of variant v, or its first fault. Missing counters are 0 and 1
 abbrev pub fen_reading_as : Variant → List ℕ → Result Setup FenFault
 fen_reading_as v text = let fields = fields_of text in
     reading_in v (if length fields == 4 then fields ++ (codes "0" ∷ codes "1" ∷ []) else fields)
 
--- the sound position that a text denotes as a FEN of normal chess, or the fault, as `fen_reading_as` says
+-- the sound position that a text denotes as a FEN of normal chess, or its first fault
 abbrev pub fen_reading : List ℕ → Result Setup FenFault
 fen_reading text = fen_reading_as Normal text

@@ -17,7 +17,7 @@ use Rattle.chess_base.specs.Castling.{home_square, king_square, rook_file, right
 use Rattle.chess_base.specs.Letters.{letter_by}
 use Rattle.chess_fen.specs.Texts.{occurs, first_letter, names_file}
 
--- the four castling rights, each by its colour and its side, in the order in which `fen` writes them
+-- the four castling rights, in the order in which `fen` writes them
 abbrev pub all_rights : List (Colour × CastlingSide)
 all_rights = (White, KingSide) ∷ (White, QueenSide) ∷ (Black, KingSide) ∷ (Black, QueenSide) ∷ []
 
@@ -25,36 +25,34 @@ all_rights = (White, KingSide) ∷ (White, QueenSide) ∷ (Black, KingSide) ∷ 
 abbrev pub side_letter : Colour → CastlingSide → ℕ
 side_letter c = by_side (letter_by c King) (letter_by c Queen)
 
--- the letter that is written for colour c's right on side w, with the rook on square s: in normal chess that of the
--- side, in Chess960 that of the rook's file, as H for White's rook on h1
+-- the letter that is written for colour c's right on side w, with the rook on square s: in normal chess the side's, in
+-- Chess960 that of the rook's file, as H for h1
 abbrev pub right_letter : Variant → Colour → CastlingSide → ℕ → ℕ
 right_letter Normal c w s = side_letter c w
 right_letter Fischerandom c w s = first_letter c + file s
 
 -- ---- Chess960
 
--- the squares of colour c's first rank from the board's edge on side w to the other: for White's king side from h1 to
--- a1
+-- the squares of colour c's first rank from the edge on side w to the other: for White's king side from h1 to a1
 abbrev pub from_edge : Colour → CastlingSide → List ℕ
 from_edge c w = map (home_square c)
     (by_side (7 ∷ 6 ∷ 5 ∷ 4 ∷ 3 ∷ 2 ∷ 1 ∷ 0 ∷ []) (0 ∷ 1 ∷ 2 ∷ 3 ∷ 4 ∷ 5 ∷ 6 ∷ 7 ∷ []) w)
 
--- square s is on that side of the king's square `king`: on the queen side if its number is smaller than the king's (on
--- one rank: nearer to file a), otherwise on the king side; so also if s is the king's square, or if `king` is `None`
+-- square s, of the king's rank, is on that side of the king's square `king`: on the queen side if it is nearer to file
+-- a, otherwise on the king side, also without a king
 abbrev pub is_towards : CastlingSide → Option ℕ → ℕ → Bool
 is_towards QueenSide king s = option_map_or (λ k. nat_lt s k) king false
 is_towards KingSide king s = not (option_map_or (λ k. nat_lt s k) king false)
 
--- the letter names colour c's right on side w: it is c's letter of that side (K or Q, k or q), or that of a file (A to
--- H, a to h) on that side of c's king. (Without a king on c's first rank `is_towards` still decides, but then no right
--- of c is sound)
+-- the letter names colour c's right on side w: it is c's letter of that side (K, Q, k or q), or that of a file (A to H,
+-- a to h) on that side of c's king. Without a king on c's first rank this means nothing: then no right of c is sound
 abbrev pub names_right : Men → Colour → CastlingSide → ℕ → Bool
 names_right men c w letter = letter == side_letter c w
     || names_file c letter && is_towards w (king_square men c) (home_square c (letter - first_letter c))
 
--- the rook's square that is given by a letter which names colour c's right on side w. A side's letter (K, Q, k or q)
--- gives that of the rook on c's first rank that is nearest to the edge on side w, wherever the king is (`None`: there
--- is no rook); a file's letter gives the square of that file on c's first rank, even without a rook
+-- the square of the rook, where `letter` names colour c's right on side w. By a side's letter (K, Q, k or q) it is the
+-- rook on c's first rank nearest to the edge on side w, wherever the king is (`None` without a rook); by a file's
+-- letter it is on that file of c's first rank, even without a rook
 abbrev pub rook_by : Men → Colour → CastlingSide → ℕ → Option ℕ
 rook_by men c w letter = if letter == side_letter c w then find (λ s. is_man c Rook (man_at men s)) (from_edge c w)
     else Some (home_square c (letter - first_letter c))
@@ -63,13 +61,12 @@ rook_by men c w letter = if letter == side_letter c w then find (λ s. is_man c 
 pub data NamedRight : Type 0 where
   -- no letter names it: it is not there
   Absent : NamedRight
-  -- it is there, with its rook on this square; whether a rook is there is another condition (`right_is_sound`)
+  -- it is there, with the rook's square; whether that rook is there is asked by `right_is_sound`
   At : (rook : ℕ) → NamedRight
   -- it is named wrongly: by several letters, or by a side's letter with no rook on that colour's first rank
   Wrong : NamedRight
 
--- a castling right of Chess960, from what each letter that names it gives: the square of its rook, or `None`
--- (`rook_by`). It is absent without a letter, there by one letter with a square, otherwise named wrongly
+-- a castling right of Chess960, from what `rook_by` gives for each letter that names it
 abbrev pub right_by : List (Option ℕ) → NamedRight
 right_by [] = Absent
 right_by (Some s ∷ []) = At s
@@ -78,9 +75,8 @@ right_by _ = Wrong
 -- ---- both
 
 -- what the letters of a castling field say of colour c's right on side w. In normal chess it is there, with the rook in
--- the corner, if the side's letter (K, Q, k or q) is among them. In Chess960 it is there if just one of them names it
--- (`names_right`) and gives a square for its rook (`rook_by`); several letters, or one that gives no square, name it
--- wrongly
+-- the corner, if the side's letter (K, Q, k or q) is among them. In Chess960 it is there if just one letter names it
+-- and gives a square for its rook; several, or one that gives none, name it wrongly
 abbrev pub right_in : Variant → Men → List ℕ → Colour → CastlingSide → NamedRight
 right_in Normal men letters c w = if occurs (side_letter c w) letters then At (home_square c (rook_file w)) else Absent
 right_in Fischerandom men letters c w = right_by (map (rook_by men c w) (filter (names_right men c w) letters))
@@ -90,8 +86,7 @@ abbrev pub is_named_well : NamedRight → Bool
 is_named_well Wrong = false
 is_named_well _ = true
 
--- whether the letters of a castling field name no right wrongly. Wrong, in Chess960 only, are several letters for one
--- right, and a side's letter (K, Q, k or q) of a colour with no rook on its first rank
+-- whether the letters of a castling field name no right wrongly, as they can only in Chess960
 abbrev pub names_rights_well : Variant → Men → List ℕ → Bool
 names_rights_well v men letters = list_all (λ r. is_named_well (right_in v men letters r.0 r.1)) all_rights
 

@@ -1,4 +1,4 @@
--- Small positions by which the law `fens_are_worked_out` shows what the definitions of FEN mean.
+-- The positions of the law `fens_are_worked_out`.
 use Rattle.std.specs.Prelude.{[], ◌∷◌, ◌++◌, replicate, None}
 use Rattle.chess_base.specs.declared.man.Colour.TheVariants.{White, Black}
 use Rattle.chess_base.specs.declared.man.Kind.TheVariants.{Pawn, Rook, King}
@@ -13,8 +13,8 @@ abbrev pub kings_and_pawn_men : Men
 kings_and_pawn_men = replicate 4 None ++ (man_of White King ∷ (replicate 7 None ++ (man_of White Pawn
     ∷ (replicate 47 None ++ (man_of Black King ∷ replicate 3 None)))))
 
--- the position of normal chess with these pieces (`kings_and_pawn_men`), Black on move, no right and no target, after 5
--- half-moves without capture or pawn move, in move 39
+-- a position of normal chess with `kings_and_pawn_men`: Black on move, no rights, no target, halfmove clock 5, fullmove
+-- 39
 abbrev pub kings_and_pawn : Setup
 kings_and_pawn = record {
   variant = Normal;

@@ -26,8 +26,7 @@ abbrev pub WrittenIsReadBack : Type 0
 WrittenIsReadBack = (p : Setup) → IsSound p → fen_reading_as p.variant (fen p) ≡ Ok p
 
 -- in Chess960, if a right of p is sound or not there: the letters of a castling field say just this of it (`right_in`)
--- exactly if one letter names its rook and no other letter names this right, or the right is not there and no letter
--- names it (`RightIsNamed`)
+-- exactly if they name it so (`RightIsNamed`)
 abbrev pub RightsAreNamed : Type 0
 RightsAreNamed =
     (text : List ℕ) → (p : Setup) → (c : Colour) → (w : CastlingSide)

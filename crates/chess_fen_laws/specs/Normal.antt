@@ -1,6 +1,5 @@
--- FEN as it is defined for normal chess alone (PGN standard of 1994, section 16.1): rights are named by the letters K,
--- Q, k and q, and king and rook of each are at home. Nothing here takes a variant; what FEN says of pieces, side,
--- target and counters is shared.
+-- FEN for normal chess alone (PGN standard of 1994, section 16.1): rights are named by K, Q, k and q, and king and rook
+-- of each are on their initial squares. The pieces, side, target and counters are as in both variants.
 use Rattle.std.specs.Prelude.{ℕ, max, ◌==◌, nat_lt, nat_le, Bool, not, ◌&&◌, ◌||◌, List, [], ◌∷◌, ◌++◌, length, count_by, decimal, codes, Option, Some, None, Result, Ok, Err, if◌then◌else◌}
 use Rattle.std.specs.Bool.{then_some}
 use Rattle.std.specs.List.{list_all, join_with_byte}
@@ -60,8 +59,8 @@ normal_is_castling text = bytes_eq text (codes "-")
 abbrev pub normal_right_named : List ℕ → ℕ → ℕ → Option ℕ
 normal_right_named letters letter corner = then_some (occurs letter letters) corner
 
--- normal chess: the castling rights that the letters of a castling field name, as their rooks' squares: h1 (7) for K,
--- a1 (0) for Q, h8 (63) for k, a8 (56) for q
+-- the castling rights that the letters of a castling field name, as rooks' squares: h1 (7) for K, a1 (0) for Q, h8 (63)
+-- for k, a8 (56) for q
 abbrev pub normal_rights_named : List ℕ → Rights
 normal_rights_named letters = record {
   white = record {
@@ -74,13 +73,11 @@ normal_rights_named letters = record {
   };
 }
 
--- normal chess: the castling rights that a FEN's third field denotes; none if it is neither a dash nor one to four of
--- K, Q, k and q, none twice
+-- the castling rights that a FEN's third field denotes; none if it doesn't have the form of one
 abbrev pub normal_rights_of : List ℕ → Option Rights
 normal_rights_of text = if normal_is_castling text then Some (normal_rights_named text) else None
 
--- the position that the fields of a FEN denote, read from left to right, sound or not; or the fault of the first field
--- that denotes nothing
+-- the position that the fields of a FEN denote, sound or not; or the fault of the first field that denotes nothing
 abbrev pub normal_setup_by : List ℕ → List ℕ → List ℕ → List ℕ → List ℕ → List ℕ → Result Setup FenFault
 normal_setup_by placement side castling target halfmove fullmove = do
   men ← ok_or (placement_of placement) faults.Placement
@@ -99,8 +96,8 @@ normal_setup_by placement side castling target halfmove fullmove = do
     fullmove = max number 1;
   })
 
--- the position of normal chess that a list of a FEN's fields denotes: six fields, or four, and then the counters are 0
--- and 1; any other number of fields is a fault
+-- the position that a list of a FEN's fields denotes, sound or not, or the fault; counters that are left out are 0 and
+-- 1
 abbrev pub normal_setup_in : List (List ℕ) → Result Setup FenFault
 normal_setup_in (a ∷ b ∷ c ∷ d ∷ []) = normal_setup_by a b c d (codes "0") (codes "1")
 normal_setup_in (a ∷ b ∷ c ∷ d ∷ e ∷ f ∷ []) = normal_setup_by a b c d e f
@@ -127,11 +124,10 @@ normal_fault p =
     ∷ (faults.Check, not (is_in_check p.men (other p.side)))
     ∷ [])
 
--- `Ok p` if position p of normal chess is sound, otherwise the fault of the first condition of soundness that it fails
+-- `Ok p` if position p is sound, otherwise the fault of the first condition that it fails
 abbrev pub normal_sound : Setup → Result Setup FenFault
 normal_sound p = option_map_or Err (normal_fault p) (Ok p)
 
--- the sound position that a text denotes as a FEN of normal chess; or the fault: of the first wrong field, or of the
--- first condition of soundness that fails
+-- the sound position that a text denotes as a FEN of normal chess, or its first fault
 abbrev pub normal_fen_reading : List ℕ → Result Setup FenFault
 normal_fen_reading text = normal_setup_in (fields_of text) >>= normal_sound

@@ -1,5 +1,4 @@
--- The text of a rank as a FEN is written (PGN standard of 1994, section 16.1.3.1): the one text that denotes the rank
--- in which no two digits are side by side.
+-- The text of a rank as a FEN is written (PGN standard of 1994, section 16.1.3.1): no two digits are side by side.
 use Rattle.std.specs.Prelude.{ℕ, ◌≡◌, Bool, true, not, ◌&&◌, List, [], ◌∷◌, Option}
 use Rattle.chess_base.specs.declared.man.Man.{Man}
 use Rattle.byte_devices.specs.Bytes.{is_digit}
@@ -11,8 +10,7 @@ digits_apart [] = true
 digits_apart (c ∷ []) = true
 digits_apart (c ∷ d ∷ rest) = not (is_digit c && is_digit d) && digits_apart (d ∷ rest)
 
--- the text is that of these squares, from file a to file h, as "4P3": it denotes them, with one digit for each run of
--- empty squares
+-- the text is the one that is written for these squares of a rank, as "4P3": one digit for each run of empty squares
 pub record IsRankText (row : List (Option Man)) (text : List ℕ) : Type 0 where
   pub denotes : DenotesSquares text row
   pub apart : digits_apart text ≡ true
