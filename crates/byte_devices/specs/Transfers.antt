@@ -1,5 +1,5 @@
 -- What a run (a call of a function such as `run_session`) reads from an input and writes to an output, by however many
--- reads and writes, and how the devices' states before and after it agree with that.
+-- calls, and how the devices' states before and after it agree with that.
 use Rattle.std.specs.Prelude.{◌≡◌, ℕ, ◌-◌, Bool, true, false, if◌then◌else◌, List, [], ◌++◌, length, take}
 use Rattle.std.specs.Io.KnownBytes.{Appends, Consumes, IsAtEnd}
 use Rattle.byte_devices.specs.Devices.{InputState, OutputState, saturating_increment, saturating_add, Begins}
@@ -38,36 +38,28 @@ pub record Devices : Type 0 where
 pub record InputGave (r r' : InputState) (i : FromInput) : Type 0 where
   -- if the bytes to come are known: in `r` they are `i.text` and then those of `r'`
   pub bytes : Consumes r.known_bytes r'.known_bytes i.text
-  -- `i.early` is `i.text` without the bytes that the last successful read gave
   pub early : i.early ≡ take (length i.text - r'.last_len) i.text
-  -- after a reported end no known byte is left
   pub at_end : i.ended ≡ true → IsAtEnd r'.known_bytes
-  -- a reported end is counted
   pub ends : r'.end_count ≡ (if i.ended then saturating_increment r.end_count else r.end_count)
-  -- a failure is counted
   pub failures : r'.failure_count ≡ (if i.failed then saturating_increment r.failure_count else r.failure_count)
-  -- all silences are counted
   pub silences : r'.silence_count ≡ saturating_add r.silence_count i.silences
 
 -- from its state `w` to `w'` the output took just what `o` says
 pub record OutputTook (w w' : OutputState) (o : ToOutput) : Type 0 where
   -- if the bytes taken are known: in `w'` they are those of `w`, then `o.flushed`, then `o.left`
   pub bytes : Appends w.known_bytes w'.known_bytes (o.flushed ++ o.left)
-  -- if no flush succeeded, no bytes were flushed
   pub flushed : o.any_flush ≡ false → o.flushed ≡ []
-  -- in `w'` the bytes of `o.left` are unflushed, and if no flush succeeded, also those that were so in `w`
   pub unflushed : w'.unflushed ≡ saturating_add (if o.any_flush then 0 else w.unflushed) (length o.left)
-  -- a failure is counted
   pub failures : w'.failure_count ≡ (if o.failed then saturating_increment w.failure_count else w.failure_count)
 
--- there was a run in which the devices went from the states `d` to `d'`: the input gave some `i`, the output took some
--- `o`, and the claim `P i o` holds. There may have been waits in which nothing came, as in a match
+-- a run took the devices from the states `d` to `d'`: the input gave some `i`, the output took some `o`, and the claim
+-- `P i o` holds. There may have been waits in which nothing came
 abbrev pub RanWithWaits : (FromInput → ToOutput → Type 0) → Devices → Devices → Type 0
 RanWithWaits P d d' =
     (i : FromInput) × (o : ToOutput) × InputGave d.input d'.input i × OutputTook d.output d'.output o × P i o
 
--- there was a run without a wait in which nothing came; the claim `P` holds of what came from the input and what went
--- to the output. The arguments after `P` are the devices' states before and after (`RanWithWaits`)
+-- a run without a wait in which nothing came took the devices from the first states to the second, and the claim `P`
+-- holds of what came from the input and what went to the output
 abbrev pub Ran : (FromInput → ToOutput → Type 0) → Devices → Devices → Type 0
 Ran P = RanWithWaits (λ i o. (i.silences ≡ 0) × P i o)
 
@@ -87,8 +79,8 @@ nothing = record { flushed = []; left = []; any_flush = false; failed = false }
 abbrev pub all_of : List ℕ → ToOutput
 all_of text = record { flushed = text; left = []; any_flush = true; failed = false }
 
--- all of this text was written and flushed, and nothing failed. `flushes` is whether a flush succeeded; without one the
--- text must be empty (`OutputTook`)
+-- all of this text was written and flushed, and nothing failed. `flushes`: whether a flush succeeded; without one the
+-- text must be empty
 abbrev pub all_flushed : Bool → List ℕ → ToOutput
 all_flushed flushes text = record { flushed = text; left = []; any_flush = flushes; failed = false }
 
@@ -96,8 +88,8 @@ all_flushed flushes text = record { flushed = text; left = []; any_flush = flush
 abbrev pub all_unflushed : List ℕ → ToOutput
 all_unflushed text = record { flushed = []; left = text; any_flush = false; failed = false }
 
--- `o` is what went to the output: first what `before` says, and then a beginning of `text`, maybe nothing or all of it,
--- which was not flushed; then a write or a flush failed
+-- `o` is what `before` says, and then a prefix of `text`, which was written but not flushed; then a write or a flush
+-- failed
 abbrev pub BreaksOffIn : ToOutput → List ℕ → ToOutput → Type 0
 BreaksOffIn before text o =
     (start : List ℕ) × Begins start text × (o ≡ record before { left = before.left ++ start; failed = true })

@@ -7,10 +7,9 @@ ghost use Rattle.byte_devices.specs.ties.Counting.{no_counts, one_failure_more, 
 use crate::traits::{Input, Output, ReadFault, WriteFault};
 use std::io::{self, Read, Write};
 
-// What is counted of a device's calls: calls that failed, reads that reported the end of the input, the length of what
-// the last read gave, the reads that succeeded in all (`pieces`: each gave a piece of the input, an empty one at its
-// end; a wait in which nothing came counts as one too), the waits in which nothing came, and the bytes written since
-// the last successful flush.
+// What is counted of a device's calls: calls that failed; reads that reported the end of the input; the length of what
+// the last read gave; pieces, which are the reads that succeeded, also at the end, and the waits in which nothing came;
+// these waits alone; and the bytes written since the last successful flush.
 #[derive(Drop)]
 pub(crate) struct Counts {
     failures: u64,
@@ -161,8 +160,8 @@ impl<R: Read> Counted<R> {
         &self.device
     }
 
-    /// Counts a wait in which nothing came, for an input over this one that waits by itself: as a silence, and as one
-    /// of the 2^64 - 1 reads that can succeed. Returns whether it was counted: not if none of them is left.
+    /// Counts a wait in which nothing came, as a silence and as one of the 2^64 - 1 pieces. An input that wraps this
+    /// one, and waits by itself, calls it. Returns whether it was counted: not if no piece is left.
     pub fn fall_silent(&mut self) -> bool
         ensures step { WaitStep (⟦<Counted<R> as Input>⟧.seen self.old) (⟦<Counted<R> as Input>⟧.seen self.new)
             (not result) }

@@ -1,4 +1,4 @@
-//! An input that falls silent, for tests of what a call does while nothing comes.
+//! An input for tests of what a call does while nothing comes.
 
 ghost use Rattle.std.specs.Prelude.{◌≡◌, ◌<◌, ◌≤◌, ◌-◌, ◌^◌, ◌==◌, ◌&&◌, length, not, nat_lt, if◌then◌else◌, IfOk, OnErr};
 ghost use Rattle.byte_devices.specs.Devices.{ReadStep, WaitStep};
@@ -7,8 +7,8 @@ use crate::counted::Counted;
 use crate::traits::{Input, ReadFault};
 use std::io::Read;
 
-/// An input that falls silent, for tests. It gives so many bytes, then so many waits find nothing, and then it goes on.
-/// A read that no wait came before gives what there is.
+/// An input for tests: it gives so many bytes, then so many waits find nothing, and then it goes on. A read that no
+/// wait came before gives what there is.
 #[derive(Drop)]
 pub struct SilentAfter<R> {
     /// The input that gives the bytes.
@@ -64,7 +64,8 @@ impl<R: Read> Input for SilentAfter<R> {
         Ok(count)
     }
 
-    // Finds nothing in the silence, as long as such a wait can be counted. It takes no time.
+    // Returns false, as nothing came, if `bytes` is 0, `silences` is not, and one more silence can be counted;
+    // `silences` is then one less. Otherwise returns true. It takes no time.
     fn wait(&mut self, _until: u64) -> bool
         ensures step { WaitStep (⟦<Counted<R> as Input>⟧.seen self.old.input)
             (⟦<Counted<R> as Input>⟧.seen self.new.input) result }

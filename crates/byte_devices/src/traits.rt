@@ -1,4 +1,4 @@
-//! What reads pieces, and what takes them.
+//! Inputs, read in pieces, and outputs, with contracts; and whole texts written to an output.
 
 ghost use Rattle.std.specs.Prelude.{◌<◌, length};
 ghost use Rattle.byte_devices.specs.Devices.{InputState, OutputState, ReadStep, WaitStep, WriteStep, FlushStep, Puts, Sends, joined};

@@ -6,12 +6,12 @@ use Rattle.chess_base.specs.Castling.{castling, castle_of}
 use Rattle.chess_base.specs.Sound.{IsSound}
 use Rattle.chess_base.specs.laws.Castles.{castling_on, castling_named}
 
--- on position p move m castles on the side that its squares name (`castling_named`), and its castling has the squares
--- of that one (`castling_on`)
+-- in position p move m castles on the side that its squares name (`castling_named`), if any, with the four squares of
+-- that castling (`castling_on`)
 pub record CastlesByName (p : Setup) (m : Move) : Type 0 where
   pub side : castling p m ≡ castling_named p m
   pub squares : castle_of p m ≡ option_and_then (castling_on p) (castling_named p m)
 
--- in each sound position each move castles on the side that its squares name, if any: `CastlesByName`
+-- in each sound position each move castles on the side that its squares name, if any
 abbrev pub CastlingIsNamed : Type 0
 CastlingIsNamed = (p : Setup) → (m : Move) → IsSound p → CastlesByName p m

@@ -20,19 +20,18 @@ abbrev pub BeforeUndoesAfter : Type 0
 BeforeUndoesAfter = (p : Setup) → (m : Move) → IsSound p → IsTrue (is_legal p m)
     → before (after p m) m (saved_of p m) ≡ p
 
--- making move m and taking it back change the pieces in steps: the mover and perhaps a second piece leave their
--- squares, and then the mover and perhaps a second piece arrive (`men_stepped`)
+-- move m, made or taken back, changes the pieces in steps (`men_stepped`): the mover and perhaps a second piece leave,
+-- and then the mover and perhaps a second piece arrive
 pub record GoesInSteps (p : Setup) (m : Move) : Type 0 where
-  -- with p as the position before m, legal or not: the pieces after m are what its steps leave
+  -- p is the position before m, legal or not
   pub on : men_after p m ≡ men_stepped p.men (steps_of p m)
-  -- with p as the position after m: the pieces before m are what the steps back leave, whatever was saved (`s`)
+  -- p is the position after m; whatever was saved (`s`)
   pub back : (s : Saved) → men_before p m s ≡ men_stepped p.men (steps_back p m s)
 
--- each move, made or taken back, changes the pieces as its steps do: `GoesInSteps`
+-- each move, made or taken back, changes the pieces as its steps do
 abbrev pub MovesGoInSteps : Type 0
 MovesGoInSteps = (p : Setup) → (m : Move) → GoesInSteps p m
 
--- the list of legal moves rises by start square, then by end square, then by promotion (none, queen, rook, bishop,
--- knight), so no move is in it twice
+-- the list of legal moves rises by start square, then by end square, then by promotion, so no move is in it twice
 abbrev pub MovesRise : Type 0
 MovesRise = (p : Setup) → AllPairs ComesBefore (moves p)

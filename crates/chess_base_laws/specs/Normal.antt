@@ -1,7 +1,6 @@
--- The rules as they are defined for normal chess alone: what the definitions of both variants come to there. Each of
--- these is the definition of the same name without `normal_` (`normal_says_castling` is `is_castling_to`,
--- `normal_has_pattern` is `is_pseudo_legal`), with castling named by the king's squares: from the e-file to the g-file
--- or the c-file.
+-- The rules for normal chess alone. Each definition is that of the same name without `normal_` (`normal_says_castling`
+-- is `is_castling_to`, `normal_has_pattern` is `is_pseudo_legal`), with castling named by the king's squares: from the
+-- e-file to the g-file or the c-file.
 use Rattle.std.specs.Prelude.{◌≡◌, ℕ, ◌==◌, nat_lt, Bool, false, true, not, ◌&&◌, Option, Some, None, is_some, if◌then◌else◌, map}
 use Rattle.std.specs.Option.{option_map_or}
 use Rattle.chess_base.specs.declared.castling.Castle.{Castle}
@@ -20,16 +19,15 @@ use Rattle.chess_base.specs.Castling.{right_of, rook_file, king_home_file, home_
 use Rattle.chess_base.specs.Before.{castle_by}
 use Rattle.chess_base.specs.Moves.{pawn_moves, man_moves, after_castling, after_moving, rights_after, target_after, halfmove_after, fullmove_after, is_legal, after}
 
--- a castling right of colour c on side w, given as its rook's square, has its king and rook on their initial squares;
--- true if there is no right
+-- colour c's castling right on side w (its rook's square), if there is one, has its king and rook on their initial
+-- squares
 abbrev pub normal_right_is_sound_at : Men → Colour → CastlingSide → Option ℕ → Bool
 normal_right_is_sound_at men c w None = true
 normal_right_is_sound_at men c w (Some s) =
     (s == home_square c (rook_file w)) && is_man c King (man_at men (home_square c king_home_file))
     && is_man c Rook (man_at men s)
 
--- move m is castling on side w: the side on move has that right, and its king goes from e1 to g1 or c1 (or e8 to g8 or
--- c8)
+-- move m is castling on side w: the side on move has that right, and its king goes from e1 to g1 or c1 (e8 to g8 or c8)
 unfoldable pub normal_says_castling : Setup → Move → CastlingSide → Bool
 normal_says_castling p m w =
     is_some (right_of p.rights p.side w)
@@ -37,17 +35,16 @@ normal_says_castling p m w =
     && (m.from == home_square p.side king_home_file)
     && (m.to == home_square p.side (castled_king_file w))
 
--- normal chess: the side to which move m castles; none if it is not castling
+-- the side to which move m castles; none if it is not castling
 unfoldable pub normal_castling : Setup → Move → Option CastlingSide
 normal_castling p m = if normal_says_castling p m KingSide then Some KingSide else if normal_says_castling p m QueenSide
     then Some QueenSide else None
 
--- normal chess: the four squares of the castling that move m is; none if it is not castling
+-- the four squares of the castling that move m is; none if it is not castling
 unfoldable pub normal_castle_of : Setup → Move → Option Castle
 normal_castle_of p m = castle_by p.side p.rights m (normal_castling p m)
 
--- the given piece, if it is one of the side on move, can make move m: a pawn as pawns do; any other piece by castling,
--- if m is castling, or else as it moves. False if no piece is given
+-- the given piece, if it is one of the side on move, can make move m: as a pawn, by castling or as another piece
 abbrev pub normal_moves_as : Setup → Move → Option Man → Bool
 normal_moves_as p m None = false
 normal_moves_as p m (Some x) =
@@ -55,16 +52,16 @@ normal_moves_as p m (Some x) =
     && (if same_kind Pawn x.kind then pawn_moves p m else option_map_or (castles p m) (normal_castle_of p m)
     (man_moves p m))
 
--- the move is pseudo-legal: a piece of the side on move can make it, but may leave its own king in check
+-- move m is pseudo-legal: a piece of the side on move can make it, even if it leaves its own king in check
 unfoldable pub normal_has_pattern : Setup → Move → Bool
 normal_has_pattern p m = nat_lt m.from 64 && nat_lt m.to 64 && normal_moves_as p m (man_at p.men m.from)
 
--- normal chess: the pieces on the board after the move m of position p
+-- the pieces on all 64 squares after move m of position p
 unfoldable pub normal_men_after : Setup → Move → Men
 normal_men_after p m = map
     (λ s. option_map_or (λ k. after_castling p m k s) (normal_castle_of p m) (after_moving p m s)) squares
 
--- normal chess: the whole position after the move m of position p
+-- the position after move m of position p
 unfoldable pub normal_after : Setup → Move → Setup
 normal_after p m = record {
   variant = Normal;
@@ -80,8 +77,8 @@ normal_after p m = record {
 unfoldable pub normal_is_legal : Setup → Move → Bool
 normal_is_legal p m = normal_has_pattern p m && not (is_in_check (normal_after p m).men p.side)
 
--- on position p of normal chess, the rules for both variants agree with those of this file: on which castling rights
--- are sound, which moves are legal, and the position after a move
+-- on position p of normal chess the rules for both variants agree with these: on which castling rights are sound, which
+-- moves are legal, and the position after a move
 pub record NormalIsKept (p : Setup) : Type 0 where
   -- which castling rights are sound
   pub stands : (c : Colour) (w : CastlingSide)

@@ -6,8 +6,8 @@ ghost use Rattle.byte_devices.specs.Bytes.{space};
 ghost use Rattle.chess_fen.specs.Texts.{fields_of};
 ghost use Rattle.chess_fen.specs.ties.Fields.{FieldsAre};
 
-// The offset of a text's first byte that is no space, if there is one. This search is not a line of `skip_spaces`,
-// since the prover wants a search and its test in a function of their own. `first_space` is one for the same reason.
+// The offset of a text's first byte that is no space, if there is one. For the prover, this search and that of
+// `first_space` are functions of their own.
 fn first_other(text: &[u8]) -> Option<usize>
     ensures { result ≡ position (λ b. not (b == space)) text.now }
 {

@@ -60,7 +60,7 @@ pub fn a_rank_has_one_text()
 /// read as; a rank's text; and how letters name rights of Chess960, where White's king is on c1 and White's rooks are
 /// on b1, f1 and h1, or Black's are on these files of rank 8.
 ///
-/// It refuses a right named wrongly that is only noticed for one colour, or on one side.
+/// A definition that noticed a wrongly named right only for one colour, or only on one side, would contradict it.
 pub fn fens_are_worked_out()
     // The third field names no right, and no right wrongly.
     ensures fields { (fields_of (codes "4k3/8/8/8/8/8/4P3/4K3 b - - 5 39")

@@ -9,22 +9,21 @@ use Rattle.text_lines.specs.Lines.{LineSeen, Held, nothing_held, lines_held}
 abbrev pub before_piece : ℕ → List ℕ → List ℕ
 before_piece len bytes = take (length bytes - len) bytes
 
--- the bytes `given` were read only as long as no whole line was held: nothing was read (`last_len` is as before), or
--- the bytes `held` and those read before the last read have no `\n`. `r` and `r'` are the input before and after. A
--- line of more than `n` bytes is too long
+-- the bytes `given` were read only as long as no whole line was held: nothing was read, or what was `held` and what was
+-- read before the last read have no `\n`. `r` and `r'` are the input before and after
 abbrev pub Waits : ℕ → InputState → InputState → Held → List ℕ → Type 0
 Waits n r r' held given =
     ((given ≡ []) × (r'.last_len ≡ r.last_len))
     ⊎ ((r'.last_len ≤ length given) × (lines_held n false held (before_piece r'.last_len given) ≡ []))
 
--- a measure of what can still be read from the input `r` and of the bytes `held`, which gets smaller with each line
--- returned and with each wait in which nothing came; one read gives at most 1,024 bytes
+-- a measure of what can still come from the input `r` and the bytes `held`, which each line and each wait in which
+-- nothing came lowers; one read gives at most 1,024 bytes
 abbrev pub work : InputState → Held → ℕ
 work r held = r.pieces_left * 1025 + length held.coming
 
--- `line`, which ends with `\n`, was returned: it is the first of the lines of what was held and read, and the others
--- follow it, however the stream continues. `given` was read, which took the input from `r` to `r'`; `held` and `held'`
--- are the bytes read and not returned, before and after. A line of more than `n` bytes is too long
+-- `line`, which `\n` ended, was returned: it is the first line of what was held and then read (`given`), and the others
+-- follow it, however the stream continues. `r` and `r'` are the input before and after, `held` and `held'` the bytes
+-- read but not returned; more than `n` bytes of a line are too many
 pub record GotLine (n : ℕ) (r r' : InputState) (held held' : Held) (given : List ℕ) (line : LineSeen) : Type 0 where
   -- whatever comes next (`rest`), and whether the stream ends then (`at_end`) or not
   pub lines : (at_end : Bool) (rest : List ℕ)
@@ -36,9 +35,8 @@ pub record GotLine (n : ℕ) (r r' : InputState) (held held' : Held) (given : Li
   -- what can still come gets less
   pub falls : work r' held' < work r held
 
--- `line` was returned, the last one; the end of the stream ended it, not `\n`. `given` was read, which took the input
--- from `r` to `r'`, and then the end was reported. `held` and `held'` are the bytes read and not returned, before and
--- after. A line of more than `n` bytes is too long
+-- `line` was returned, which the end of the stream ended, not `\n`: it is all that was held and then read (`given`).
+-- The arguments are as in `GotLine`
 pub record GotLast (n : ℕ) (r r' : InputState) (held held' : Held) (given : List ℕ) (line : LineSeen) : Type 0 where
   -- what was held and read has no `\n`, so without the end it is no line
   pub whole : lines_held n false held given ≡ []
@@ -48,55 +46,54 @@ pub record GotLast (n : ℕ) (r r' : InputState) (held held' : Held) (given : Li
   pub rest : held' ≡ nothing_held
   -- no known byte is left to read
   pub at_end : IsAtEnd r'.known_bytes
-  -- one end more is counted, and no failure and no silence
+  -- only an end is counted
   pub failures : r'.failure_count ≡ r.failure_count
   pub ends : r'.end_count ≡ saturating_increment r.end_count
   pub silences : r'.silence_count ≡ r.silence_count
 
--- the end of the stream was reported, and no line is left: `given`, which was read and took the input from `r` to `r'`,
--- and what was `held` before give no line, and nothing is held after (`held'`). `n`: the limit of a line's length
+-- the end of the stream was reported, and what was held and then read (`given`) gives no line. The arguments are as in
+-- `GotLine`
 pub record GotNone (n : ℕ) (r r' : InputState) (held held' : Held) (given : List ℕ) : Type 0 where
   -- with the end or without
   pub lines : (at_end : Bool) → lines_held n at_end held given ≡ []
   pub rest : held' ≡ nothing_held
   -- no known byte is left to read
   pub at_end : IsAtEnd r'.known_bytes
-  -- one end more is counted, and no failure and no silence
+  -- only an end is counted
   pub failures : r'.failure_count ≡ r.failure_count
   pub ends : r'.end_count ≡ saturating_increment r.end_count
   pub silences : r'.silence_count ≡ r.silence_count
 
--- a read failed: what was `held` before and read (`given`, which took the input from `r` to `r'`) has no whole line,
--- and all of it is kept in `held'`. A line of more than `n` bytes is too long
+-- a read failed: what was held and then read (`given`) has no whole line, and all of it is kept. The arguments are as
+-- in `GotLine`
 pub record GotFault (n : ℕ) (r r' : InputState) (held held' : Held) (given : List ℕ) : Type 0 where
   -- there is no whole line
   pub whole : lines_held n false held given ≡ []
   -- nothing is lost: whatever comes next (`rest`), the lines are the same
   pub lines : (at_end : Bool) (rest : List ℕ)
       → lines_held n at_end held (given ++ rest) ≡ lines_held n at_end held' rest
-  -- one failure more is counted, and no end and no silence
+  -- only a failure is counted
   pub failures : r'.failure_count ≡ saturating_increment r.failure_count
   pub ends : r'.end_count ≡ r.end_count
   pub silences : r'.silence_count ≡ r.silence_count
 
--- no whole line had come when the call's time was up: what was `held` before and read (`given`, which took the input
--- from `r` to `r'`) has none, and all of it is kept in `held'`. A line of more than `n` bytes is too long
+-- no whole line had come when the call's time was up: what was held and then read (`given`) has none, and all of it is
+-- kept. The arguments are as in `GotLine`
 pub record GotSilence (n : ℕ) (r r' : InputState) (held held' : Held) (given : List ℕ) : Type 0 where
   -- there is no whole line
   pub whole : lines_held n false held given ≡ []
   -- nothing is lost: whatever comes next (`rest`), the lines are the same
   pub lines : (at_end : Bool) (rest : List ℕ)
       → lines_held n at_end held (given ++ rest) ≡ lines_held n at_end held' rest
-  -- one silence more is counted, and no failure and no end
+  -- only a silence is counted
   pub failures : r'.failure_count ≡ r.failure_count
   pub ends : r'.end_count ≡ r.end_count
   pub silences : r'.silence_count ≡ saturating_increment r.silence_count
   -- what can still come gets less
   pub falls : work r' held' < work r held
 
--- what the call for the next line returned after it read the bytes `given`: a line (too long if of more than `n`
--- bytes), `None` at the end, or a fault. `r` and `r'` are the input before and after, `held` and `held'` the bytes read
--- but not returned
+-- what a call for the next line returned after it read `given`: a line, `None` at the end, or a fault. The other
+-- arguments are as in `NextLine`
 abbrev pub Got : {E : Type 0} → ℕ → InputState → InputState → Held → Held → List ℕ → Result (Option LineSeen) E → Type 0
 Got n r r' held held' given (Ok (Some line)) =
     MatchBool line.ended (GotLine n r r' held held' given line) (GotLast n r r' held held' given line)
@@ -116,15 +113,15 @@ abbrev pub line_if : Bool → LineSeen → Option LineSeen
 line_if true line = Some line
 line_if false line = None
 
--- the result of a call that reads the next line into `line`, as an option: the line if the call returned true, `None`
--- if it returned false, as there was none
+-- the result of a call that reads the next line into `line`, as an option: the line if the call returned true,
+-- otherwise `None`
 abbrev pub line_read : {E : Type 0} → Result Bool E → LineSeen → Result (Option LineSeen) E
 line_read (Ok some) line = Ok (line_if some line)
 line_read (Err e) line = Err e
 
--- a call for the next line (too long if of more than `n` bytes) that waits only for so long. `Ok (Some true)`: it is
--- `line`. `Ok (Some false)`: none is left at the input's end. `Ok None`: no whole line had come by then. `Err`: a read
--- failed. `r` and `r'` are the input before and after, `held` and `held'` the bytes read but not returned
+-- a call for the next line that waits only for so long. `Ok (Some true)`: it is `line`. `Ok (Some false)`: none is left
+-- at the input's end. `Ok None`: no whole line had come by then. `Err`: a read failed. The other arguments are as in
+-- `NextLine`
 abbrev pub NextLineUntil : {E : Type 0} → ℕ → InputState → InputState → Held → Held → Result (Option Bool) E
     → LineSeen → Type 0
 NextLineUntil {E = E} n r r' held held' (Ok (Some some)) line =

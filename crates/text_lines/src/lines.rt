@@ -133,7 +133,7 @@ impl<const N: usize> Part<N> {
     }
 
     // Adds these bytes, which `\n` follows, and ends the line with them: puts it into `line`, in place of what that
-    // held, and begins the next one. A line that comes at once goes there straight.
+    // held, and begins the next one. If no byte of the line had come before, they go there directly.
     fn finish_with(&mut self, bytes: &[u8], line: &mut Line<N>)
         ensures line { line.new ≡ line_of N true (self.old ++ bytes.now) }
         ensures empty { self.new ≡ [] }

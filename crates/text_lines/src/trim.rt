@@ -1,4 +1,4 @@
-//! What a line says, without what surrounds it.
+//! The text of a line, without `\r` and the spaces and tabs at its ends.
 
 ghost use Rattle.std.specs.Prelude.{◌≡◌, ◌≤◌, length};
 ghost use Rattle.text_lines.specs.Lines.{without_return, without_front_blanks, without_end_blanks, trimmed};

@@ -17,8 +17,8 @@ castling_on p w = option_and_then
     (λ rook. option_map (λ king. castle_from p.side w king rook) (king_square p.men p.side))
     (right_of p.rights p.side w)
 
--- the end square by which a move names castling k: in normal chess that of the king (e1g1), in Chess960 the square
--- where the rook stands (e1h1)
+-- the end square by which a move names castling k: in normal chess the king's (e1g1), in Chess960 the rook's start
+-- square (e1h1)
 abbrev pub named_square : Variant → Castle → ℕ
 named_square Normal k = k.king_to
 named_square Fischerandom k = k.rook_from
