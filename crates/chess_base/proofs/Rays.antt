@@ -17,7 +17,7 @@ use Rattle.chess_base.proofs.{shared.Parts.is_between_is, shared.Geometry.betwee
 use Rattle.chess_base.proofs.shared.Squares.{each_square-fails, some_square_same, none_passes, one_decides, some_square-or}
 use Rattle.chess_base.proofs.ClearLines.{clear_by, step_fits, step_stays, none_between, rises, line_back, line_on}
 
--- ---- what stands between hides the square
+-- ---- a piece between two squares hides one from the other
 
 -- squares that have one between them are further apart than a king steps
 not_near : (a b x : ℕ) → is_between a b x ≡ true
@@ -98,7 +98,7 @@ last_fails true true r e = e
 last_fails true false r e = refl
 last_fails false q r e = refl
 
--- so no piece on a could capture on b if another stands between them
+-- so no piece on a could capture on b if another is between them
 hidden : (men : Men) (c : Colour) (k : Kind) (a b x : ℕ) → x < 64 → is_between a b x ≡ true
     → is_none (man_at men x) ≡ false → could_capture men c k a b ≡ false
 unfolding could_capture
@@ -138,7 +138,7 @@ hidden_from men c b k x h e piece = and_right _ _ (hidden_attacks men b k x h e 
 
 -- ---- of the squares that pass a test, only the first piece counts
 
--- square k is empty, or it is x, or x stands between it and b
+-- square k is empty, or it is x, or x is between it and b
 abbrev IsHidden : Men → ℕ → ℕ → ℕ → Type 0
 IsHidden men b x k = (is_none (man_at men k) ≡ true) ⊎ ((k ≡ x) ⊎ (is_between k b x ≡ true))
 
@@ -248,7 +248,7 @@ rise_stops men l c b end n on w more in_board piece =
     (λ k low e.
     let parts = above_parts l b k e in hidden_by_first men l b end n on w more in_board there k parts.1 parts.0)
 
--- between b and the next square of the line nothing stands
+-- between b and the next square of the line there is no piece
 pub rise_clear : (men : Men) (l : Line) (b end n : ℕ) → same_line l b end ≡ true → HasRisen men l b end n → n < end
     → end < 64 → is_clear men (n + step_of l) b ≡ true
 rise_clear men l b end n on w more in_board =
@@ -354,7 +354,7 @@ fall_stops men l c b end n in_board on w more piece =
     let parts = below_parts l b k e in
     beyond_first men l b end n (n - step_of l) in_board on w next there k parts.1 parts.0)
 
--- between b and the next square of the line downwards nothing stands
+-- between b and the next square of the line downwards there is no piece
 pub fall_clear : (men : Men) (l : Line) (b end n : ℕ) → b < 64 → same_line l b end ≡ true
     → HasFallen men l b end n → end < n → is_clear men (n - step_of l) b ≡ true
 fall_clear men l b end n in_board on w more =

@@ -1,5 +1,5 @@
--- What a piece attacks along a line if nothing stands between: that is told by its kind and the kind of line, for king
--- and pawn also by the squares' distance (`reaches`).
+-- What a piece attacks along a line with no piece between is decided by its kind and the kind of line, for king and
+-- pawn also by the squares' distance (`reaches`).
 use Rattle.std.proofs.Common.{◌≡◌, ◌≢◌, ℕ, ◌+◌, ◌*◌, ◌<◌, Bool, true, false, ◌&&◌, ◌||◌, not, ◌==◌, nat_le, Option, Some, None, refl, sym, ap, ◌∙◌, arith, eqb-true, ne_eqb}
 use Rattle.std.proofs.lemmas.Bool.Decides.{nat_tests}
 use Rattle.std.specs.Int.{abs_diff}

@@ -48,8 +48,8 @@ unfoldable pub pawn_moves : Setup → Move → Bool
 pawn_moves p m =
     promotion_fits (rank m.to == first_rank (other p.side)) m.promotion && (pawn_advances p m || pawn_captures p m)
 
--- a piece other than a pawn makes move m, not as castling: it goes to a square that the piece attacks and that holds no
--- own piece (3.1), and names no promotion
+-- move m of a piece other than a pawn, not castling, goes to a square that the piece attacks and that holds no own
+-- piece (3.1), and names no promotion
 unfoldable pub man_moves : Setup → Move → Bool
 man_moves p m = is_none m.promotion && attacks p.men m.from m.to && not (is_of p.side (man_at p.men m.to))
 

@@ -1,4 +1,5 @@
--- The letters of the rights, one after another, as code writes them and as proofs take them apart.
+-- The castling field of a FEN is the letters of the rights that are there, appended right by right, or a dash
+-- (rights_are).
 use Rattle.std.proofs.Common.{◌≡◌, ℕ, false, List, [], ◌∷◌, ◌++◌, ◌==◌, if◌then◌else◌, length, Option, Some, None, refl, sym, ap, ◌∙◌, append_assoc, append-nil, arith, codes, option_map}
 use Rattle.std.specs.List.{cons_option, filter_map}
 use Rattle.std.proofs.lemmas.Bool.Decides.{nat_tests}

@@ -1,6 +1,6 @@
--- A FEN is read as the definition reads it (judged-read, refused-read). They differ in rights that are named wrongly,
--- but both refuse them: the definition by a condition of their own, the reader since it takes them as rights whose rook
--- is on a4 (`nowhere`), where no right is sound.
+-- A FEN is read by code as by the definition (judged-read, refused-read). The two differ in rights that are named
+-- wrongly, but both refuse them: the definition by a condition of their own, the code since it takes them as rights
+-- whose rook is on a4 (`nowhere`), where no right is sound.
 use Rattle.std.proofs.Common.{◌≡◌, ℕ, ◌⊎◌, inl, inr, Bool, true, false, cond, List, [], ◌∷◌, ◌++◌, map, take, drop, Option, Some, None, Result, Ok, Err, refl, sym, ap, ◌∙◌, arith, filter, fold, ◌&&◌, is_some, max, codes, IsOk, IfOk, IfErr, ◌↔◌}
 use Rattle.std.specs.Option.{option_flatten, option_map_or, ok_or, unwrap_or}
 use Rattle.chess_base.specs.{declared.man.Colour.Colour, declared.man.Colour.TheVariants.White, declared.man.Colour.TheVariants.Black, declared.man.CastlingSide.CastlingSide, declared.man.CastlingSide.TheVariants.KingSide, declared.man.CastlingSide.TheVariants.QueenSide, declared.man.Variant.Variant, declared.man.Variant.TheVariants.Normal, declared.man.Variant.TheVariants.Fischerandom, declared.man.Rights.Rights, declared.setup.Setup.Setup, declared.fen_fault.FenFault.FenFault, Men.Men, Castling.are_placed_for_castling, Castling.right_is_sound, Castling.rights_by, Sound.IsSound}
@@ -126,7 +126,7 @@ module _ (men : Men) (colour : Colour) (target : Option ℕ) (halfmove fullmove 
       ∙ ap (λ b. unless_fault (setup_with v t) (first_failing (take 4 (conditions (setup_with v t))
       ++ ((faults.Castling, b) ∷ drop 5 (conditions (setup_with v t)))))) (sym e)
 
-  -- a right is absent, or king and rook stand as castling by it needs
+  -- a right is absent, or king and rook are where castling by it begins
   abbrev placed : Colour → CastlingSide → Option ℕ → Bool
   placed c w right = option_map_or (are_placed_for_castling Fischerandom men c w) right true
 

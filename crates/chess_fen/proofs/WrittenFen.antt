@@ -1,4 +1,5 @@
--- What is written denotes its position, and no other.
+-- The FEN that is written for a sound position is read back as this position. So it denotes it (fen-denoted), and no
+-- other (fen-denotes_one).
 use Rattle.std.proofs.Common.{◌≡◌, Ok, sym, subst, ◌∙◌}
 use Rattle.chess_base.specs.{declared.setup.Setup.Setup, Sound.IsSound}
 use Rattle.chess_fen.specs.{Denotation.DenotesFenAs, Texts.fields_of, Writing.fen}

@@ -1,4 +1,5 @@
--- Writing a rank's squares and then the ranks, from the eighth down.
+-- A rank that is written square by square, with a count of the empty ones, has the definition's text; so have the
+-- ranks, written from the eighth down.
 use Rattle.std.proofs.Common.{◌≡◌, ℕ, zero, suc, ◌+◌, ◌-◌, ◌*◌, ◌<◌, List, [], ◌∷◌, ◌++◌, take, drop, Option, Some, None, refl, sym, ap, ◌∙◌, append_assoc, append-nil, arith, is_none, replicate, true}
 use Rattle.std.specs.List.{prefix_len}
 use Rattle.chess_base.specs.{declared.man.Man.Man, Letters.letter}

@@ -21,9 +21,9 @@ Waits n r r' held given =
 abbrev pub work : InputState → Held → ℕ
 work r held = r.pieces_left * 1025 + length held.coming
 
--- `line`, which `\n` ended, was returned: it is the first line of what was held and then read (`given`), and the others
--- follow it, however the stream continues. `r` and `r'` are the input before and after, `held` and `held'` the bytes
--- read but not returned; more than `n` bytes of a line are too many
+-- `line`, which `\n` ended, was returned: it is the first line (too long if of more than `n` bytes) of what was held
+-- and then read (`given`), and the others follow it, however the stream continues. `r` and `r'` are the input before
+-- and after, `held` and `held'` the bytes read but not returned
 pub record GotLine (n : ℕ) (r r' : InputState) (held held' : Held) (given : List ℕ) (line : LineSeen) : Type 0 where
   -- whatever comes next (`rest`), and whether the stream ends then (`at_end`) or not
   pub lines : (at_end : Bool) (rest : List ℕ)

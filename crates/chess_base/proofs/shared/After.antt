@@ -1,4 +1,4 @@
--- For games: what a move leaves as it is.
+-- For games: the position after a move is of the variant of the one before it.
 use Rattle.std.proofs.Common.{◌≡◌, refl}
 use Rattle.chess_base.specs.{declared.man.Move.Move, declared.setup.Setup.Setup, Moves.after}
 

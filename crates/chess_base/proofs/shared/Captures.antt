@@ -1,4 +1,5 @@
--- For boards and texts of moves: what captures, and what turns the clock back.
+-- For boards and texts of moves: which moves capture, and which set the halfmove clock to 0, by what moves and what is
+-- on the end square.
 pub use Rattle.chess_base.proofs.Rays.{could_capture-itself}
 use Rattle.std.proofs.Common.{◌≡◌, ℕ, Bool, true, false, ◌||◌, ◌&&◌, Some, None, refl, ap, ◌∙◌, arith, is_some, if◌then◌else◌}
 use Rattle.chess_base.specs.{declared.man.Kind.TheVariants.Pawn, declared.man.Move.Move, declared.setup.Setup.Setup, Squares.is_at, Attacks.attacks, Moves.is_en_passant, Moves.captured_square, Moves.resets_clock, shared.Parts.one_rank_back}

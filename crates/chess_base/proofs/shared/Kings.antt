@@ -1,4 +1,4 @@
--- For boards and texts of moves: a colour has one king, and its square.
+-- For boards and texts of moves: in a sound position each colour has one king, and `king_square` is where it is.
 use Rattle.std.proofs.Common.{◌≡◌, ℕ, ◌<◌, inl, inr, length, get_or, set, Bool, true, false, count_by, nat_lt, Option, Some, None, refl, sym, arith, length-set, get_or-set_other}
 use Rattle.std.specs.List.{position_or_len}
 use Rattle.std.proofs.{lemmas.Bool.cases_eq, lemmas.Bool.eqb-true, lemmas.Bool.false_from_ne_true, lemmas.Bool.Decides.nat_tests, lemmas.List.Quantifiers.position-Some, lemmas.List.Sums.position_or_len_is}

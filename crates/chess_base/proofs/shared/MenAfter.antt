@@ -1,4 +1,4 @@
--- For boards: the pieces after a move, square by square.
+-- For boards: the steps of a move, and those back, leave on each square what the definitions have there.
 use Rattle.std.proofs.Common.{◌≡◌, ℕ, ◌<◌, inl, inr, length, ◌==◌, Bool, ◌||◌, Option, Some, None, ◌≢◌, true, false, refl, sym, ap, ◌∙◌, arith, if◌then◌else◌}
 use Rattle.std.proofs.lemmas.Bool.{cases_eq, eq-eqb, ne_eqb}
 use Rattle.std.specs.Option.{option_map_or}

@@ -1,4 +1,4 @@
--- Definitions by their parts (specs/shared): equal to what they say.
+-- Each definition here equals the one that is put together of its parts in specs/shared.
 use Rattle.std.proofs.Common.{arith, ◌≡◌, ℕ, ◌==◌, Bool, true, not, ◌&&◌, ◌||◌, Option, Some, None, is_none, refl}
 use Rattle.std.proofs.lemmas.Bool.Decides.{nat_tests}
 use Rattle.std.specs.Option.{option_map_or}

@@ -31,8 +31,7 @@ crossed_rank = by_colour 2 5
 abbrev pub is_rank_ahead : Colour → ℕ → ℕ → Bool
 is_rank_ahead c a b = by_colour (rank b == rank a + 1) (rank a == rank b + 1) c
 
--- the square one step back from s for a pawn of colour c: for White e5 from e6, where it takes the pawn on e5 en
--- passant
+-- the square one step back from s for a pawn of colour c: for White e5 from e6
 abbrev pub one_rank_back : Colour → ℕ → ℕ
 one_rank_back c s = forward (other c) s
 

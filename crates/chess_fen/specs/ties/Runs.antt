@@ -10,13 +10,13 @@ use Rattle.chess_fen.specs.Texts.{squares_of, placement_of}
 abbrev pub squares_in : Run → Option (List (Option Man))
 squares_in r = if nat_le r.squares 8 then Some (r.first ∷ replicate (r.squares - 1) None) else None
 
--- what f makes of the number below n; none for 0
+-- f of n - 1; none for n = 0
 abbrev pub at_lower : {A : Type 0} → ℕ → (ℕ → Option A) → Option A
 at_lower zero f = None
 at_lower (suc n) f = f n
 
--- all squares, where a placement's text ends: `row`, if no rank is left and these are the eight squares of the last,
--- and then `above`
+-- all squares, where the text of a placement ends: the last rank's squares `row`, and then `above`, those of the ranks
+-- above it; none if ranks are left (the first argument is their number), or if `row` isn't eight squares
 abbrev pub last_rank : ℕ → List (Option Man) → List (Option Man) → Option (List (Option Man))
 last_rank zero row above = if length row == 8 then Some (row ++ above) else None
 last_rank (suc lower) row above = None
