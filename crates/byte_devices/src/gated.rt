@@ -1,5 +1,5 @@
-//! A reader and a writer over memory with a gate between them, for tests of what was written and flushed when more was
-//! asked for. What the gate holds at a call no contract can say, so it is shown by tests.
+//! A reader and a writer over memory that share a gate, for tests that a program flushes its answer before it reads
+//! more. No contract says whether the gate is open at a call, so tests show it.
 
 ghost use Rattle.std.specs.Prelude.{◌≡◌, [], ◌<◌, ◌≤◌, ◌==◌, ◌+◌, length, min, position, IsOk, IfOk, OnErr, IfSome, is_err, vec_len, vec_capacity, if◌then◌else◌};
 ghost use Rattle.std.specs.Io.{ReadsAtMost, WritesAtMost};

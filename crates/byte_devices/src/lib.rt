@@ -1,5 +1,5 @@
-//! What gives bytes and what takes them: readers and writers whose contracts fix their bytes and count their failures;
-//! buffers, in which a text is put together before it is written; kinds of bytes; and a search for bytes.
+//! Readers and writers of bytes, whose contracts fix their bytes and count their failures; buffers, in which a text is
+//! put together before it is written; kinds of bytes; and a search for bytes.
 //!
 //! A reader that gives pieces of three bytes, and a writer into memory:
 //!

@@ -36,8 +36,8 @@ macro_rules! piece {
     };
 }
 
-// A byte that stands for no squares: for more of them than a rank has. So it is found by the test for the rank's end
-// (`read_rank`), where an `Option` would need a test of its own.
+// The run of a byte that denotes no squares: more squares than a rank has. So the test for the rank's end (`read_rank`)
+// refuses it too, where an `Option` would need a test of its own.
 const NO_RUN: Run = empty!(9);
 
 const EMPTY_1: Run = empty!(1);
