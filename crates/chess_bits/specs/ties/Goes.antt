@@ -44,7 +44,7 @@ abbrev pub legal_or : Setup → Move → Option Castle → Bool → Bool
 legal_or p m None s = s
 legal_or p m (Some castle) s = is_legal p m
 
--- the move from a to b is legal castling, and b is where castling on side w ends
+-- the move from a to b is legal castling, and b is the end square of castling on side w (`names_end`)
 abbrev pub castles_onto : Setup → CastlingSide → ℕ → ℕ → Bool
 castles_onto p w a b = names_end p.variant p.side w (right_of p.rights p.side w) b
     && legal_or p (move_of a b None) (castle_of p (move_of a b None)) false
