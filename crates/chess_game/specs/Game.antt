@@ -75,7 +75,7 @@ is_full g = nat_le g.limit (length g.state.moves)
 abbrev pub refusal_now : Seen → Option PlayRefusal
 refusal_now g = if is_over g.state then Some Over else if is_full g then Some TooLong else None
 
--- why move m may not be played in the game, if so: the first reason of: it is over, it is full, m is illegal
+-- why move m may not be played in the game, if so; the first reason of: it is over, it is full, m is illegal
 abbrev pub play_refusal : Seen → Move → Option PlayRefusal
 play_refusal g m = option_or (refusal_now g) (if is_legal (current g.state) m then None else Some Illegal)
 

@@ -59,8 +59,8 @@ pub trait Board {
     fn legal_move_count(&self) -> usize
         ensures { result ≡ length (moves (position self.now)) };
 
-    /// Whether there is a legal move. Both boards stop at the first piece that has one (`Bits` also at the first set of
-    /// pawns), which no clause says.
+    /// Whether there is a legal move. Both boards stop at the first piece that has one (`Bits` also if a set of pawns
+    /// has one), which no clause says.
     fn has_legal_move(&self) -> bool
         ensures { result ≡ nat_lt 0 (length (moves (position self.now))) };
 
