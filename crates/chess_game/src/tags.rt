@@ -41,7 +41,7 @@ impl TagText {
         }
     }
 
-    /// The text's bytes as they are before the tag is written: no backslash is put before a quote.
+    /// The text's bytes, not escaped: no backslash is put before a quote or backslash.
     pub fn as_bytes(&self) -> &[u8]
         ensures value { result.now ≡ self.now }
         ensures valid { IsTagText self.now }

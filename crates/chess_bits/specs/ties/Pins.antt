@@ -18,12 +18,12 @@ aims_from p b k =
     || ((is_man (other p.side) Bishop (man_at p.men b) || is_man (other p.side) Queen (man_at p.men b))
     && (not (b == k) && share_diagonal b k))
 
--- to take off the piece on a doesn't open the way from b to k: it stays blocked, or it was clear before
+-- taking off the piece on a doesn't open the way from b to k: it stays blocked, or it was clear before
 abbrev pub KeepsClosed : Setup → ℕ → ℕ → ℕ → Type 0
 KeepsClosed p a b k = is_clear (lifted p.men a) b k ≡ true → is_clear p.men b k ≡ true
 
--- no piece but the one on s is between the squares b and k: without it the way is clear, and to take off any other
--- piece doesn't open it
+-- no piece but the one on s is between the squares b and k: without it the way is clear, and taking off any other piece
+-- doesn't open it
 pub record IsShield (p : Setup) (s b k : ℕ) : Type 0 where
   pub low : s < 64
   pub opens : is_clear (lifted p.men s) b k ≡ true
