@@ -1,5 +1,5 @@
--- Castling tested by sets: king and rook each go along one rank, so the table has the squares on their ways. Nothing is
--- met on these, and no square of the king's way is attacked, exactly if the castling is pseudo-legal
+-- Castling tested by sets: king and rook each go along one rank, so the table has the squares on their ways. The
+-- castling is pseudo-legal exactly if no other piece is met on these, and no square of the king's way is attacked
 -- (`castle_pattern`).
 use Rattle.chess_base.proofs.{shared.Squares.each_square_same, shared.Changes.no_en_passant, shared.Men.in_board, shared.Men.is_man-kind, shared.Parts.castling_way_is_empty_by}
 use mathlib.Core.Bool.{and-true}

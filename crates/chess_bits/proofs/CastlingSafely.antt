@@ -1,5 +1,5 @@
 -- Castling in normal chess opens no line to the square where the king ends: what attacks it afterwards attacked it
--- before. So a castling that nothing prevents is legal.
+-- before. So a castling that nothing prevents is legal (castles_safely).
 use Rattle.std.proofs.Common.{◌≡◌, ℕ, ◌<◌, inl, inr, Bool, true, false, not, ◌&&◌, ◌||◌, ◌==◌, cond, Option, Some, None, is_none, refl, sym, ap, ◌∙◌, arith}
 use Rattle.std.proofs.lemmas.Bool.Decides.{nat_tests}
 use Rattle.std.proofs.lemmas.Bool.{and_parts, or_left, or_right, both_ways, cases_Bool, eqb-true, eq-eqb, false_from_ne_true}

@@ -1,4 +1,4 @@
--- From where pawns go to a square, by sets: straight ahead from the square behind it or, at home, from two behind; by a
+-- From where pawns go to a square, by sets: straight ahead from one square back or, at home, from two back; by a
 -- capture from the squares that an enemy pawn on it would attack.
 use mathlib.Core.Bool.{and_comm, not-not}
 use Rattle.std.proofs.Common.{◌≡◌, ℕ, ◌<◌, ◌≤◌, inl, inr, Bool, true, false, not, ◌&&◌, ◌||◌, ◌==◌, None, is_none, refl, sym, ap, ◌∙◌, arith}

@@ -1,4 +1,6 @@
--- The moves of free pawns that neither promote nor take en passant, counted together: by the ways open to each.
+-- The legal moves of free pawns that neither promote nor take en passant, counted together: each pawn has one for each
+-- of four ways that is open to it (one square ahead, two, a capture left or right), so the pawns of each way are added
+-- up (pawns_counted).
 use mathlib.Core.Bool.{not-not, or-false}
 use Rattle.std.proofs.Common.{◌≡◌, ℕ, zero, suc, ◌+◌, ◌-◌, ◌/◌, ◌<◌, ◌≤◌, inl, inr, Bool, true, false, not, ◌&&◌, ◌||◌, ◌==◌, cond, Option, Some, None, is_none, List, [], ◌∷◌, length, length-append, refl, sym, ap, ◌∙◌, arith}
 use Rattle.std.specs.List.{filter, flat_map, range_with_len}
@@ -72,7 +74,7 @@ summed p q r s = omega (arith, p, q, r, s)
 
 -- ---- the squares to which an ordinary pawn may go
 
--- square a is off the ranks where a pawn of colour c may not stand (1 and 8), and off its last rank but one
+-- square a is off ranks 1 and 8, where no pawn may be, and off the last rank but one of colour c
 abbrev Inside : Colour → ℕ → Type 0
 Inside White a = (8 ≤ a) × (a < 48)
 Inside Black a = (16 ≤ a) × (a < 64)

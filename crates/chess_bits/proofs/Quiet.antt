@@ -1,4 +1,5 @@
--- A move that changes only its two squares leaves the king as safe as it was with the mover taken off.
+-- A move that changes only its two squares leaves the king as safe as it was with the mover taken off (stays_safe): the
+-- mover arrives where it can only block lines, and no enemy piece comes.
 use Rattle.chess_bits.proofs.{TargetsOf.no_king_castles, KingAfter.mover_some, KingAfter.mover_own, Lifted.lifted_at}
 use mathlib.Core.Bool.{or-false}
 use Rattle.std.proofs.Common.{◌≡◌, ℕ, ◌<◌, inl, inr, Bool, true, false, not, ◌&&◌, ◌||◌, ◌==◌, cond, length, refl, sym, ap, ◌∙◌, Option, Some, None, is_none, arith}

@@ -1,4 +1,5 @@
--- Where a piece other than a pawn may go, seen from its square.
+-- What a piece could capture from its square, as the tables give it: king, knight and pawn by their shapes, queen, rook
+-- and bishop along lines with no occupied square between.
 use Rattle.std.proofs.Common.{◌≡◌, ℕ, Bool, not, ◌&&◌, ◌||◌, ◌==◌, refl, ap, ◌∙◌, is_none, arith}
 use Rattle.chess_base.specs.{declared.man.Colour.Colour, Men.Men, Men.man_at, Attacks.is_clear, Attacks.could_capture}
 use Rattle.chess_base.specs.declared.man.Kind.TheVariants.{King, Queen, Rook, Bishop, Knight, Pawn}

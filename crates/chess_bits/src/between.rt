@@ -39,9 +39,9 @@ fn inside(tables: &Tables, line: Line, low: Square, high: Square) -> SquareSet
     above.intersection(below)
 }
 
-// The squares strictly between `low` and `high`, two squares of one line; the number of `low` is not the greater one.
-// The kind of the line need not be known: two squares have at most one line in common, so at most one of the four sets
-// below is not empty.
+// The squares strictly between `low` and `high`, two squares of one line, where the number of `high` is the greater one
+// (or they are equal). The kind of the line need not be known: two squares have at most one line in common, so at most
+// one of the four sets below is not empty.
 #[inline(always)]
 #[tactic(auto, using(crate::proofs::BetweenSquares::on_some_line))]
 fn rising_between(tables: &Tables, low: Square, high: Square) -> SquareSet
@@ -56,8 +56,8 @@ fn rising_between(tables: &Tables, low: Square, high: Square) -> SquareSet
     ranks.union(files).union(diagonals.union(antidiagonals))
 }
 
-// The squares strictly between two squares of one line, in either order, computed from the rays. It makes an entry of
-// the table.
+// The squares strictly between two squares of one line, in either order, computed from the rays. The result is an entry
+// of the table.
 fn between_by_rays(tables: &Tables, a: Square, b: Square) -> SquareSet
     ensures { (l : LineKind) → same_line l a b ≡ true → (k : ℕ) → k < 64 → contains result k ≡ is_between a b k }
 {

@@ -90,9 +90,9 @@ impl Bits<'_> {
     }
 
     // Counts the legal moves of the pieces of this kind, not the king, that are in both sets, `ordinary` and `men`. It
-    // takes these pieces out of `men`, which then has those that remain to be counted: the result and the moves of
-    // these make up the moves of the old `men`. Pieces in `ordinary` are free (their king is safe wherever they go),
-    // and no pawns that may promote or take en passant.
+    // takes these pieces out of `men`, which then has those that remain to be counted: their moves and the result add
+    // up to the moves of the old `men`. Pieces in `ordinary` are free (their king is safe wherever they go), and no
+    // pawns that may promote or take en passant.
     #[inline(always)]
     fn count_kind(&self, kind: Kind, ordinary: SquareSet, men: &mut SquareSet) -> usize
         requires kind { same_kind King kind ≡ false }

@@ -165,7 +165,8 @@ impl Bits<'_> {
         self.castling_ends(king).contains(to)
     }
 
-    // As a set, the king's square, if the king of the side on move may legally go to `to`; otherwise the empty set.
+    // The set that has just the square of the king of the side on move if it may legally go to `to`; otherwise the
+    // empty set.
     fn king_starts(&self, to: Square) -> SquareSet
         ensures { HasLegalStarts self.now King to result }
     {

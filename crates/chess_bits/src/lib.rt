@@ -1,6 +1,6 @@
-//! A board of sets of squares: words of 64 bits and tables give what attacks what.
+//! A fast board, which keeps sets of squares (bitboards) and looks attacks up in tables.
 //!
-//! It serves wherever a board is wanted, in place of `Plain`:
+//! It can be used in place of `Plain`:
 //!
 //! ```
 //! let tables = AttackTables::open(alloc)?;
@@ -14,7 +14,7 @@
 //
 // A loop over a set calls its `take_first` and not its iterator; `Squares` of chess_moves says why.
 //
-// Some words of the comments. A set of squares is a word of 64 bits, a1's the lowest and h8's the highest. An officer
+// Some terms of the comments. A set of squares is a number of 64 bits, a1's the lowest and h8's the highest. An officer
 // is a queen, rook, bishop or knight. A piece of the side on move is free if its king is safe wherever it goes, except
 // perhaps by a capture en passant: it is not the king and not pinned, and the king is not in check. It is ordinary if
 // it is free and no pawn that promotes with its next step or attacks the en passant target: then each square to which

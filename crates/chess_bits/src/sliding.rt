@@ -1,8 +1,8 @@
 //! How far a rook or a bishop sees along its lines; and which pieces of a set see a square along its lines.
 //!
-//! Rooks' and bishops' lines have a function each, by which a call knows its tables when it is compiled. With the kind
-//! of the lines as an argument, each call would choose the table by a branch, or would have to be inlined, with its
-//! loop, wherever attackers are looked for.
+//! Rooks' and bishops' lines have a function each, so that the compiler knows the tables of each call. With the kind of
+//! the lines as an argument, each call would choose the table by a branch, or would have to be inlined, with its loop,
+//! wherever attackers are looked for.
 
 ghost use Rattle.std.specs.Prelude.{◌≡◌, ℕ, ◌<◌, ◌&&◌, ◌||◌, not, true, ◌==◌};
 ghost use Rattle.chess_base.specs.Squares.{share_rank_or_file, share_diagonal};

@@ -47,7 +47,7 @@ fn in_shape(shape: Shape, a: Square, b: Square) -> bool
 }
 
 // The squares that belong to the shape from square a: for `Knight`, the ones that a knight on a attacks. This computes
-// one entry of a table. `filter` of all squares would give the same, but call its test for each.
+// one entry of a table. `filter` of all squares would give the same, but with a call of its test for each.
 fn squares_of(shape: Shape, a: Square) -> SquareSet
     ensures { (k : ℕ) → k < 64 → contains result k ≡ in_shape shape a k }
 {

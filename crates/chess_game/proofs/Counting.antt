@@ -1,5 +1,5 @@
--- How often a position occurred in a game, counted over the positions that its played moves reached, is the
--- definition's `repetition_count`.
+-- How often a position occurred in a game, counted over its start and the positions that its played moves reached
+-- (`seen`), is the definition's `repetition_count`: by induction over the moves.
 use Rattle.std.proofs.Common.{◌≡◌, ◌∙◌, ℕ, ◌+◌, Bool, List, [], ◌∷◌, count_by, cond, sym, ap, subst}
 use Rattle.std.proofs.lemmas.List.Sums.{sum_by-cons}
 use Rattle.chess_base.specs.{declared.setup.Setup.Setup, Moves.after}

@@ -1,6 +1,6 @@
 -- The played moves that a game keeps follow from its start (`Follows`): each was legal, and is kept with what it
 -- captured and the position that it reached. Here: what one more move adds (added), what taking one back leaves (taken,
--- fewer), the same of hashes, and where a push puts its element (pushed_last).
+-- fewer), the same for hashes, and where a push puts its element (pushed_last).
 use Rattle.std.proofs.Common.{◌≡◌, ◌∙◌, ℕ, zero, suc, ◌+◌, ◌-◌, ◌<◌, List, [], ◌∷◌, ◌++◌, length, take, drop, get_or, Option, Result, Ok, Err, is_ok, is_err, Bool, false, if◌then◌else◌, refl, sym, ap, subst, arith, set}
 use Rattle.std.proofs.{Math.Seq.take-length, Math.Seq.take-append_seam, Math.Seq.set-append_seam, lemmas.Bool.Decides.nat_tests}
 use Rattle.std.proofs.lemmas.List.{length-map, map-append, length-append, drop_at, get_or_at}

@@ -1,5 +1,5 @@
 -- If a move may be played (`play_refusal` gives no reason against it), the game is not over, has room for it, and the
--- move is legal.
+-- move is legal: by the cases of these three tests.
 use Rattle.std.proofs.Common.{◌≡◌, Bool, true, false, None, Some, refl, if◌then◌else◌}
 use Rattle.std.specs.Option.{option_or}
 use Rattle.chess_base.specs.{declared.man.Move.Move, Moves.is_legal}

@@ -1,4 +1,4 @@
--- Each position is the same as itself, and so are its parts.
+-- Each position is the same as itself (same_self), since each of its parts is equal to itself.
 use Rattle.std.proofs.Common.{◌≡◌, ℕ, true, Option, None, Some, refl}
 use Rattle.std.proofs.lemmas.Bool.{and_from, eq-eqb}
 use Rattle.chess_base.specs.{declared.man.Man.Man, declared.man.Rights.Rights, declared.man.ColourRights.ColourRights, declared.setup.Setup.Setup, Men.Men, Men.man_at}

@@ -1,5 +1,4 @@
--- Whether a piece of a kind is on the board is seen from the set of the squares of that kind: it isn't empty
--- (some_of_kind).
+-- A piece of a kind is on the board exactly if the set of the squares of that kind isn't empty (some_of_kind).
 use Rattle.std.proofs.Common.{◌≡◌, ℕ, zero, suc, ◌+◌, ◌<◌, ◌≤◌, Bool, not, ◌&&◌, ◌||◌, Option, Some, None, List, [], ◌∷◌, length, get_or, take, refl, sym, ◌∙◌, ap, arith}
 use Rattle.std.proofs.{Math.Seq.take-length, lemmas.List.Folds.list_any_more}
 use Rattle.std.specs.List.{list_any}

@@ -1,4 +1,4 @@
--- The first bytes of a text, at most 60, with `?` for each that isn't printable, are a tag's text.
+-- At most 60 first bytes of a text, with `?` for each that isn't printable, may be a tag's text (tag_text_is).
 use Rattle.std.proofs.Common.{◌≡◌, ℕ, ◌≤◌, List, length, map, take, ap, arith}
 use Rattle.std.proofs.{lemmas.Bool.Decides.nat_tests, lemmas.List.length-map, lemmas.List.length-take}
 use Rattle.chess_game.specs.Results.{IsTagText}

@@ -1,4 +1,4 @@
--- A game: where it started, the current moves, and what was declared. All else follows from these.
+-- A game, and what each call does to it.
 use Rattle.std.specs.Prelude.{◌≡◌, ℕ, ◌-◌, ◌≤◌, ◌<◌, ◌||◌, not, nat_le, Bool, false, if◌then◌else◌, List, [], ◌∷◌, ◌++◌, length, take, slice_get, Option, None, Some, is_some, Result, Ok, Err}
 use Rattle.std.specs.Option.{option_map, option_map_or, option_or}
 use Rattle.chess_base.specs.declared.man.Move.{Move}
@@ -18,33 +18,31 @@ use Rattle.chess_game.specs.declared.game.PlayRefusal.TheVariants.{Over, TooLong
 use Rattle.chess_game.specs.declared.game.NoMove.{NoMove}
 use Rattle.chess_game.specs.declared.game.BoardSaysOtherwise.{BoardSaysOtherwise}
 
--- the state of a game: its start, its current moves (those not taken back), and the result that was declared, if one
--- was, as by a resignation
+-- the state of a game: its start, its current moves (those not taken back), and the declared result, if any, as after a
+-- resignation
 pub record State : Type 0 where
   pub start : Setup
   pub moves : List Move
   pub declared : Option Declared
 
--- a game, as contracts see it: how many half-moves it may have, fixed when it opens, and its state
+-- a game, as contracts see it: the most half-moves that it may have, and its state
 pub record Seen : Type 0 where
   pub limit : ℕ
   pub state : State
 
--- the present position of the game: the one after all its current moves
+-- the present position of the game
 abbrev pub current : State → Setup
 current s = position_after s.start s.moves
 
--- how the game's position and moves end it, such as by mate or fivefold repetition (`verdict`); `None` if they don't,
--- even if a result was declared
+-- why the board ends the game, such as mate or fivefold repetition, if it does; a declared result doesn't matter
 abbrev pub verdict_now : State → Option Verdict
 verdict_now s = verdict s.start s.moves
 
--- the game is over: there is a verdict, such as mate, or a result was declared
+-- the game is over: by a verdict, such as mate, or a declared result
 abbrev pub is_over : State → Bool
 is_over s = is_some (verdict_now s) || is_some s.declared
 
--- the outcome of a game in its present state: the verdict's; without a verdict the declared result's; without either
--- `Unfinished`
+-- the game's outcome: the verdict's, or else the declared result's, or else `Unfinished`
 abbrev pub outcome_now : State → Outcome
 outcome_now s =
     option_map_or (λ d. d.outcome) (option_or (option_map verdict_result (verdict_now s)) s.declared) Unfinished
@@ -53,19 +51,19 @@ outcome_now s =
 abbrev pub from_start : Setup → State
 from_start start = record { start = start; moves = []; declared = None }
 
--- the game's state s with move m played after the others
+-- the game's state s after one more move, m
 abbrev pub played : State → Move → State
 played s m = record s { moves = s.moves ++ m ∷ [] }
 
--- the game's state s without its last n moves (with no moves if it has fewer); what was declared is cleared
+-- the game's state s without its last n moves (without any if it has fewer) and without a declared result
 abbrev pub taken_back : State → ℕ → State
 taken_back s n = record s { moves = take (length s.moves - n) s.moves; declared = None }
 
--- the game with its state replaced by s; its limit stays
+-- the game g with the state s instead of its own
 abbrev pub with_state : Seen → State → Seen
 with_state g s = record g { state = s }
 
--- a game as it opens, for at most `limit` half-moves: the initial position, no moves, nothing declared
+-- a game as it opens, at the initial position, for at most `limit` half-moves
 abbrev pub opened : ℕ → Seen
 opened limit = record { limit = limit; state = from_start initial_setup }
 
@@ -73,24 +71,20 @@ opened limit = record { limit = limit; state = from_start initial_setup }
 abbrev pub is_full : Seen → Bool
 is_full g = nat_le g.limit (length g.state.moves)
 
--- why no move at all is played in the game: it is over, or else it has as many half-moves as its limit allows; none if
--- a move may be played
+-- why no move may be played in the game, if none may: it is over, or else it has as many half-moves as its limit allows
 abbrev pub refusal_now : Seen → Option PlayRefusal
 refusal_now g = if is_over g.state then Some Over else if is_full g then Some TooLong else None
 
--- why move m is not played in the game, the first reason of: it is over, it is full, m is illegal; none if m may be
--- played
+-- why move m may not be played in the game, if so; the first reason of: it is over, it is full, m is illegal
 abbrev pub play_refusal : Seen → Move → Option PlayRefusal
 play_refusal g m = option_or (refusal_now g) (if is_legal (current g.state) m then None else Some Illegal)
 
--- what a call returns, from the reason to refuse it, if there is one: `Ok` if there is none, otherwise the reason as an
--- error
+-- what a call returns: the reason to refuse it as an error, or `Ok` if there is none
 abbrev pub unless_refused : {E : Type 0} → Option E → Result (Unit {0}) E
 unless_refused None = Ok tt
 unless_refused (Some e) = Err e
 
--- the game g after it was asked to play move m: with the move if there is no reason to refuse it (the last argument),
--- otherwise unchanged
+-- the game g after a call to play move m: with m, or unchanged if there is a reason to refuse it (the last argument)
 abbrev pub after_play : Seen → Move → Option PlayRefusal → Seen
 after_play g m None = with_state g (played g.state m)
 after_play g m (Some e) = g
@@ -107,7 +101,7 @@ last_move ms = by_end (slice_get ms (length ms - 1))
 abbrev pub after_take_back : Seen → Seen
 after_take_back g = if nat_le 1 (length g.state.moves) then with_state g (taken_back g.state 1) else g
 
--- there is a verdict on the game, such as mate, and its outcome is not o
+-- there is a verdict, such as mate, and its outcome is not o
 abbrev pub contradicts_verdict : Option Verdict → Outcome → Bool
 contradicts_verdict verdict o = option_map_or (λ v. not (same_outcome (verdict_result v).outcome o)) verdict false
 
@@ -116,12 +110,12 @@ abbrev pub after_declare : Seen → Declared → Seen
 after_declare g d = if contradicts_verdict (verdict_now g.state) d.outcome then g
     else with_state g (record g.state { declared = Some d })
 
--- the error for declaring a result with outcome o: there is one if a verdict has another outcome
+-- why a result with outcome o can't be declared, if so: a verdict has another outcome
 abbrev pub declare_refusal : Seen → Outcome → Option BoardSaysOtherwise
 declare_refusal g o = if contradicts_verdict (verdict_now g.state) o then Some (record {}) else None
 
--- what holds of every game: its start is sound, each move was legal where it was made, there are no more moves than the
--- limit, and no verdict came before the last move
+-- what holds of every game: its start is sound, its moves are legal and no more than the limit, and no verdict came
+-- before the last move
 pub record IsPlayable (g : Seen) : Type 0 where
   pub start : IsSound g.state.start
   pub line : IsLine g.state.start g.state.moves

@@ -1,4 +1,4 @@
--- The line of a game: its start, and the position after each move.
+-- The positions of a game, and whether its moves are legal.
 use Rattle.std.specs.Prelude.{List, [], ◌∷◌, IsTrue}
 use Rattle.chess_base.specs.declared.man.Move.{Move}
 use Rattle.chess_base.specs.declared.setup.Setup.{Setup}
@@ -9,12 +9,12 @@ abbrev pub positions_of : Setup → List Move → List Setup
 positions_of start [] = start ∷ []
 positions_of start (m ∷ ms) = start ∷ positions_of (after start m) ms
 
--- the position after all moves of a game from this start
+-- the position after these moves from this start
 abbrev pub position_after : Setup → List Move → Setup
 position_after start [] = start
 position_after start (m ∷ ms) = position_after (after start m) ms
 
--- each of the moves is legal in the position in which it is made, from this start on
+-- from this start on, each of the moves is legal where it is made
 abbrev pub IsLine : Setup → List Move → Type 0
 IsLine start [] = Unit {0}
 IsLine start (m ∷ ms) = IsTrue (is_legal start m) × IsLine (after start m) ms

@@ -29,22 +29,20 @@ same_square o r = option_eq (λ s t. s == t) o r
 abbrev pub same_colour_rights : ColourRights → ColourRights → Bool
 same_colour_rights r q = same_square r.king_side q.king_side && same_square r.queen_side q.queen_side
 
--- two positions' castling rights r and q are equal, both White's and Black's
+-- the castling rights r and q are equal, both White's and Black's
 unfoldable pub same_rights : Rights → Rights → Bool
 same_rights r q = same_colour_rights r.white q.white && same_colour_rights r.black q.black
 
--- the en passant target of p if some legal move captures en passant, otherwise `None`: positions differ by a capture en
--- passant only if it can be played (9.2.3.1)
+-- the en passant target of p if some legal move captures en passant: only then can it make positions differ (9.2.3.1)
 unfoldable pub legal_en_passant_square : Setup → Option ℕ
 legal_en_passant_square p = if list_any (λ m. is_en_passant p m) (moves p) then p.target else None
 
--- two positions are the same: in side on move, pieces, castling rights and the target of a legal capture en passant.
--- Variant, halfmove clock and fullmove number are not compared
+-- two positions are the same: in side on move, pieces, castling rights and the target of a legal capture en passant,
+-- but not necessarily in variant, halfmove clock and fullmove number
 unfoldable pub is_same_position : Setup → Setup → Bool
 is_same_position p q = same_colour p.side q.side && same_men p.men q.men && same_rights p.rights q.rights
     && same_square (legal_en_passant_square p) (legal_en_passant_square q)
 
--- how often the position after the moves ms from `start` has occurred in this game, the last occurrence included: 1 for
--- a new position
+-- how often the position after the moves ms from `start` has occurred in this game: 1 for a new position
 unfoldable pub repetition_count : Setup → List Move → ℕ
 repetition_count start ms = count_by (λ p. is_same_position p (position_after start ms)) (positions_of start ms)

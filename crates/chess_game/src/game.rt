@@ -1,7 +1,7 @@
-//! One game: the current moves, and the positions that they gave.
+//! A game: its start, its current moves, the positions that they led to, and a declared result.
 //!
-//! `play_legal` and `refusal_of_moving` are inlined with what they call, since chess_pgn plays the moves of a game in
-//! one loop over its words. What that gains was not measured apart.
+//! `play_legal` and `refusal_of_moving` are inlined with what they call, for the loop in which chess_pgn plays the
+//! moves of a game. What that gains was not measured apart.
 
 ghost use Rattle.std.specs.Prelude.{false, ◌≡◌, ◌≢◌, ◌≤◌, ◌<◌, ◌+◌, ◌↔◌, IsTrue, IsFalse, IsNone, IsOk, IsErr, IfOk, OnOk, OnErr, Err, None, Some, [], ◌∷◌, ◌++◌, length, take, slice_get, nat_le, nat_lt};
 ghost use Rattle.chess_base.specs.MoveList.{moves};
@@ -37,7 +37,7 @@ pub enum PlayRefusal {
     /// The game is over, by a verdict or a declared result.
     #[error("the game is over")]
     Over,
-    /// As many half-moves are current as the limit allows.
+    /// The game has as many half-moves as its limit allows.
     #[error("the game has no room for another move")]
     TooLong,
     /// The move is not legal in the present position.
@@ -160,7 +160,8 @@ fn verdict_on<B: Board>(board: &B, played_moves: &[PlayedMove]) -> Option<Verdic
 }
 
 impl<B: Board + Drop> Game<B> {
-    /// Opens a game at the initial position with no moves, wherever the board was. All memory is allocated here.
+    /// Opens a game of at most `limit` half-moves at the initial position, wherever the board was. All memory is
+    /// allocated here.
     ///
     /// # Errors
     /// If there is no memory; what was allocated is freed, and the board is dropped.
@@ -228,7 +229,7 @@ impl<B: Board> Game<B> {
         Ok(())
     }
 
-    /// Plays a move that is known to be legal, in a game that is neither over nor full.
+    /// Plays a move that is known to be legal, in a game that is not over and has fewer half-moves than its limit.
     #[inline(always)]
     pub fn play_legal(&mut self, m: Move)
         requires { play_refusal self.old m ≡ None }
@@ -246,7 +247,7 @@ impl<B: Board> Game<B> {
                 count: 1,
             },
         };
-        // There is room: `open` took a place for each half-move that the limit allows.
+        // There is room: `open` allocated memory for all half-moves that the limit allows.
         if self.played_moves.push(played_move).is_err() {
             unreachable!();
         }
@@ -451,8 +452,8 @@ impl<B: Board> Game<B> {
 
     /// The same as `verdict`, but without its search for a legal move, for a caller that has one, `m`: so the game is
     /// neither mate nor stalemate. `m` is not played; only the contract names it, and a parameter can't be ghost.
-    // Verdicts on demand, found this way where a move is at hand, were one of four changes that together took `verify`
-    // from 477 to 317 million instructions on 1.6 MB of games.
+    // Looking for verdicts only where they are needed, and in this way if a move is known, was one of four changes that
+    // together took `verify` from 477 to 317 million instructions on 1.6 MB of games.
     #[inline(always)]
     pub fn verdict_of_moving(&self, m: &Move) -> Option<Verdict>
         requires { IsTrue (is_legal (current self.now.state) m.now) }

@@ -128,8 +128,8 @@ impl Index {
         self.heads[bucket(start)] = 1;
     }
 
-    // Adds the position `reached`, which one more move than `played_moves` gave, to its bucket, and returns its entry
-    // in the index.
+    // Adds the position `reached` to its bucket, and returns its entry in the index. One move after `played_moves` led
+    // to it.
     pub(crate) fn push(
         &mut self,
         start: &Hashed,

@@ -32,7 +32,7 @@ impl<'g> Model for Moves<'g> {
 }
 
 impl<'g> Moves<'g> {
-    // The moves of these played moves.
+    // The iterator over a game's moves; `played_moves` is what the game keeps of each of them.
     pub(crate) fn of(played_moves: &'g [PlayedMove]) -> Self
         ensures { result ≡ moves_of played_moves.now }
     {
@@ -65,7 +65,7 @@ impl<'g> Iterator for Moves<'g> {
         Some(first.made)
     }
 
-    // How many moves are left, as both bounds.
+    // How many moves are left, as lower and as upper bound.
     fn size_hint(&self) -> (usize, Option<usize>)
         ensures lower { IsWithinCount result.0 (item_count (λ left. left) self.now) }
         ensures upper { IfSome result.1 (UpTo (item_count (λ left. left) self.now)) }
@@ -124,7 +124,7 @@ impl<'g> Model for Positions<'g> {
 }
 
 impl<'g> Positions<'g> {
-    // The start and the positions that these played moves reached, which follow from it.
+    // The iterator over a game's positions: `start`, and the position that each of `played_moves` reached.
     #[tactic(auto, using(crate::proofs::Reached::reached_are))]
     pub(crate) fn of(start: &'g PackedPosition, played_moves: &'g [PlayedMove]) -> Self
         requires { Follows start.now played_moves.now }
@@ -169,7 +169,7 @@ impl<'g> Iterator for Positions<'g> {
         Some(first.reached.position.unpacked())
     }
 
-    // How many positions are left, as both bounds.
+    // How many positions are left, as lower and as upper bound.
     fn size_hint(&self) -> (usize, Option<usize>)
         ensures lower { IsWithinCount result.0 (item_count (λ left. left) self.now) }
         ensures upper { IfSome result.1 (UpTo (item_count (λ left. left) self.now)) }

@@ -18,7 +18,7 @@ impl TryFrom<&[u8]> for Outcome {
 
     ghost try_from_gives = { λ text r. ParsesOutcome text.now r };
 
-    // The outcome that is written so.
+    // Parses an outcome as PGN writes it, such as `1-0`; any other text is an error.
     fn try_from(text: &[u8]) -> Result<Self, ParseOutcomeError> {
         match text {
             b"1-0" => Ok(Outcome::WhiteWins),
@@ -35,7 +35,7 @@ impl FromStr for Outcome {
 
     ghost from_str_gives = { λ text r. ParsesOutcome text r };
 
-    // The outcome that is written so.
+    // Parses an outcome as PGN writes it, such as `1-0`; any other text is an error.
     fn from_str(text: &str) -> Result<Self, ParseOutcomeError> {
         Outcome::try_from(text.as_bytes())
     }

@@ -9,7 +9,7 @@ use arrayvec::ArrayVec;
 use byte_devices::shown_byte;
 use std::marker::Model;
 
-// The most bytes of a tag's text.
+// The greatest length of a tag's text, in bytes.
 const TAG_LEN: usize = 60;
 
 /// The value of a PGN tag, such as a player's name: at most 60 printable bytes of ASCII. In contracts it is the list of
@@ -32,7 +32,7 @@ impl Model for TagText {
 }
 
 impl TagText {
-    /// The text as a tag keeps it: its first 60 bytes, with `?` for each that is no printable ASCII (32 to 126).
+    /// The text as a tag keeps it: its first 60 bytes, with `?` for each that is not printable ASCII (32 to 126).
     pub fn cut(text: &[u8]) -> Self
         ensures { result ≡ cut_tag text.now }
     {
@@ -41,7 +41,7 @@ impl TagText {
         }
     }
 
-    /// The text's bytes, without backslashes before quotes.
+    /// The text's bytes, not escaped: no backslash is put before a quote or backslash.
     pub fn as_bytes(&self) -> &[u8]
         ensures value { result.now ≡ self.now }
         ensures valid { IsTagText self.now }
@@ -50,7 +50,7 @@ impl TagText {
     }
 }
 
-// The bytes with `?` in place of what is no printable ASCII.
+// The bytes as a tag keeps them: with `?` in place of each that is not printable ASCII.
 fn tag_bytes(bytes: &[u8]) -> ArrayVec<u8, 60>
     requires { length bytes.now ≤ TAG_LEN }
     ensures { result.items ≡ map shown_byte bytes.now }

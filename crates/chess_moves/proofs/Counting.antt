@@ -1,5 +1,5 @@
--- The number of squares in a set is the number of 1s in its word (members_counted): by the bits from a on, for falling
--- a.
+-- The number of squares in a set is the number of 1s in its word (members_counted): by induction from the highest bit
+-- down to bit 0.
 use Rattle.std.proofs.Common.{◌≡◌, ℕ, zero, suc, ◌+◌, ◌*◌, ◌/◌, ◌%◌, ◌^◌, ◌<◌, inl, inr, Bool, cond, List, ◌∷◌, length, refl, sym, ap, ◌∙◌, arith}
 use Rattle.std.proofs.{lemmas.Bool.cases_Bool, Math.Nat.div-div-eq-div-mul, Math.Nat.pow-suc}
 use Rattle.std.specs.{Int.bit_at, Int.RustNames.count_ones, List.range_with_len, List.filter}

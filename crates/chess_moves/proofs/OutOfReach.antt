@@ -1,4 +1,4 @@
--- No legal move goes between squares out of reach.
+-- No legal move goes between squares out of reach: each goes along a rank, file or diagonal, or is a knight's.
 use Rattle.std.proofs.Common.{◌≡◌, ℕ, false, []}
 use Rattle.std.proofs.lemmas.Bool.{false_from_ne_true, both_ways}
 use Rattle.chess_base.specs.{declared.setup.Setup.Setup, MoveList.promotions, MoveList.move_of}

@@ -1,6 +1,5 @@
--- The position hash of the boards `Plain` and `Bits`, a Zobrist hash: the exclusive or of keys, numbers below 2 to the
--- 64th, one for each piece on its square, one for Black on move and one for each castling right. Target and counters
--- have no part in it. No claim says that two positions have different hashes.
+-- The Zobrist hash of a position on the boards `Plain` and `Bits`: the exclusive or of keys (numbers below 2 to the
+-- 64th). En passant target and counters have no part in it. Different positions may have equal hashes.
 use Rattle.std.specs.Prelude.{ℕ, ◌+◌, ◌*◌, ◌/◌, ◌%◌, ◌^◌, Option, Some, None, List, [], ◌∷◌, ◌++◌, bit_xor, fold, flat_map}
 use Rattle.chess_base.specs.declared.man.Colour.{Colour}
 use Rattle.chess_base.specs.declared.man.Colour.TheVariants.{White, Black}
@@ -11,26 +10,25 @@ use Rattle.chess_base.specs.declared.man.Rights.{Rights}
 use Rattle.chess_base.specs.Squares.{file, squares}
 use Rattle.chess_base.specs.Men.{Men, man_at}
 
--- ---- keys: the numbers, from index 0, that the generator SplitMix64 gives when it starts at 0 (splitmix64.c by Vigna,
--- 2015, after Steele, Lea and Flood, Fast Splittable Pseudorandom Number Generators, 2014)
+-- ---- keys: the outputs of the generator SplitMix64 (splitmix64.c by Vigna, 2015, after Steele, Lea and Flood, 2014)
 
--- a constant of the generator SplitMix64: by how much its state grows for each output
+-- by how much SplitMix64's state grows for each output
 abbrev pub increment : ℕ
 increment = 0x9e3779b97f4a7c15
 
--- a constant of the generator SplitMix64: the first of the two factors by which it mixes its state
+-- the first of the two factors by which SplitMix64 mixes its state
 abbrev pub first_factor : ℕ
 first_factor = 0xbf58476d1ce4e5b9
 
--- a constant of the generator SplitMix64: the second of the two factors by which it mixes its state
+-- the second of the two factors by which SplitMix64 mixes its state
 abbrev pub second_factor : ℕ
 second_factor = 0x94d049bb133111eb
 
--- z with its bits from bit k on xored into its lowest ones: z ^ (z >> k) in C
+-- z xored with itself shifted right by k bits: z ^ (z >> k) in C
 abbrev pub laid_over : ℕ → ℕ → ℕ
 laid_over z k = bit_xor z (z / 2 ^ k)
 
--- the Zobrist key with index n: the n-th output of the generator SplitMix64, counted from 0, with seed 0
+-- the Zobrist key with index n: SplitMix64's output number n, counted from 0, with seed 0
 unfoldable pub key : ℕ → ℕ
 key n =
     let x = (n + 1) * increment % 2 ^ 64 in
@@ -38,14 +36,14 @@ key n =
     let z = laid_over y 27 * second_factor % 2 ^ 64 in
     laid_over z 31
 
--- ---- which keys: twelve times 64 for the pieces on squares, one for Black on move, twice 8 for the rights
+-- ---- what each key is for
 
--- the index of a colour among the Zobrist keys of pieces and of castling rights
+-- a colour's index among the keys of pieces and of castling rights
 abbrev pub colour_index : Colour → ℕ
 colour_index White = 0
 colour_index Black = 1
 
--- the index of a kind of piece among the Zobrist keys of pieces: pawn 0 to king 5
+-- the index of a kind of piece among the keys of pieces
 abbrev pub kind_index : Kind → ℕ
 kind_index Pawn = 0
 kind_index Knight = 1
@@ -54,44 +52,44 @@ kind_index Rook = 3
 kind_index Queen = 4
 kind_index King = 5
 
--- the Zobrist key of the piece x on square s: one of the first 768 (12 pieces times 64 squares)
+-- the key of the piece x on square s: one of the first 768 (12 pieces times 64 squares)
 abbrev pub man_key : Man → ℕ → ℕ
 man_key x s = key (64 * (6 * colour_index x.colour + kind_index x.kind) + s)
 
--- the Zobrist key of Black on move
+-- the key of Black on move
 abbrev pub side_key : ℕ
 side_key = key 768
 
--- the Zobrist key of colour c's right to castle with its rook on square r: one for each file
+-- the key of colour c's right to castle with its rook on square r: one for each file
 abbrev pub right_key : Colour → ℕ → ℕ
 right_key c r = key (769 + 8 * colour_index c + file r)
 
 -- ---- the keys of a position's parts
 
--- the Zobrist keys of the content of square s: one for a piece, no key for an empty square
+-- the keys of a given content of square s: one for a piece, none if it is empty
 abbrev pub square_keys : ℕ → Option Man → List ℕ
 square_keys s None = []
 square_keys s (Some x) = man_key x s ∷ []
 
--- the Zobrist keys of what is on square s of the board: one for a piece, no key for an empty square
+-- the keys of what is on square s of the board
 abbrev pub keys_on : Men → ℕ → List ℕ
 keys_on men s = square_keys s (man_at men s)
 
--- the Zobrist keys of all pieces on the board
+-- the keys of all pieces on the board
 unfoldable pub men_keys : Men → List ℕ
 men_keys men = flat_map (keys_on men) squares
 
--- the Zobrist keys of the side on move: none for White, one for Black
+-- the keys of the side on move
 abbrev pub side_keys : Colour → List ℕ
 side_keys White = []
 side_keys Black = side_key ∷ []
 
--- the Zobrist keys of colour c's castling right with its rook on the given square: no key if there is no right
+-- the keys of a castling right of colour c, given as its rook's square: none without the right
 abbrev pub right_keys : Colour → Option ℕ → List ℕ
 right_keys c None = []
 right_keys c (Some r) = right_key c r ∷ []
 
--- the Zobrist keys of the castling rights that are there, of all four
+-- the keys of all castling rights of both colours
 unfoldable pub rights_keys : Rights → List ℕ
 rights_keys r =
     right_keys White r.white.king_side ++ right_keys White r.white.queen_side ++ right_keys Black r.black.king_side

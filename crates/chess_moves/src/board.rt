@@ -1,4 +1,4 @@
-//! What a board is.
+//! The trait of boards, and the type of lists of moves.
 
 ghost use Rattle.std.specs.Prelude.{◌≡◌, ◌<◌, IsTrue, nat_lt, length};
 ghost use Rattle.std.specs.List.{All};
@@ -59,8 +59,8 @@ pub trait Board {
     fn legal_move_count(&self) -> usize
         ensures { result ≡ length (moves (position self.now)) };
 
-    /// Whether there is a legal move. Both boards look no further than the first piece (`Bits`: or set of pawns) that
-    /// has one, which no clause says.
+    /// Whether there is a legal move. Both boards stop at the first piece that has one (`Bits` also if a set of pawns
+    /// has one), which no clause says.
     fn has_legal_move(&self) -> bool
         ensures { result ≡ nat_lt 0 (length (moves (position self.now))) };
 
@@ -68,8 +68,8 @@ pub trait Board {
     fn is_legal(&self, m: &Move) -> bool
         ensures { result ≡ is_legal (position self.now) m.now };
 
-    /// A set of squares that has at least the squares of those pieces of this kind, of the side on move, that have a
-    /// legal move to `to`; others may be in the set too.
+    /// A set that has at least the start squares of all legal moves of pieces of this kind to `to`; it may have other
+    /// squares too.
     fn origins(&self, kind: Kind, to: Square) -> SquareSet
         ensures { HasOrigins (position self.now) kind to result };
 

@@ -5,13 +5,13 @@ ghost use Rattle.chess_moves.specs.PositionHash.{key, colour_index, kind_index, 
 
 use chess_base::{Colour, Kind, Man, Rights, Setup, Square};
 
-// SplitMix64's increment.
+// By how much SplitMix64's state grows for each output.
 const INCREMENT: u64 = 0x9E37_79B9_7F4A_7C15;
 
-// SplitMix64's first factor.
+// The first of the two factors by which SplitMix64 mixes its state.
 const FIRST_FACTOR: u64 = 0xBF58_476D_1CE4_E5B9;
 
-// SplitMix64's second factor.
+// The second of the two factors by which SplitMix64 mixes its state.
 const SECOND_FACTOR: u64 = 0x94D0_49BB_1331_11EB;
 
 /// The Zobrist keys of which position hashes are made: 768 of pieces on squares, one of Black on move, and 16 of
@@ -75,7 +75,7 @@ pub fn man_key<K: Keys>(keys: &K, man: Man, square: Square) -> u64
     keys.key(64 * place + square.number() as u16)
 }
 
-// The part of the Zobrist hash of what is on a square: the key of the piece there, or 0 if it is empty.
+// The part of the Zobrist hash for one square: the key of the piece there, or 0 if it is empty.
 fn square_hash(square: Square, man: Option<Man>) -> u64
     ensures { result ≡ xor_of (square_keys square man) }
 {
@@ -85,7 +85,7 @@ fn square_hash(square: Square, man: Option<Man>) -> u64
     }
 }
 
-// The part of the Zobrist hash of the pieces: the exclusive or of the keys of all pieces on their squares.
+// The part of the Zobrist hash for the pieces: the exclusive or of the keys of all pieces on their squares.
 fn men_hash(men: &[Option<Man>; 64]) -> u64
     ensures { result ≡ xor_of (men_keys men.now) }
 {
@@ -97,7 +97,7 @@ fn men_hash(men: &[Option<Man>; 64]) -> u64
     hash
 }
 
-// The part of the Zobrist hash of the side on move: 0 for White, a key for Black.
+// The part of the Zobrist hash for the side on move: 0 for White, a key for Black.
 fn side_hash<K: Keys>(keys: &K, side: Colour) -> u64
     ensures { result ≡ xor_of (side_keys side) }
 {
@@ -107,8 +107,8 @@ fn side_hash<K: Keys>(keys: &K, side: Colour) -> u64
     }
 }
 
-// The part of the Zobrist hash of one castling right of this colour, given as its rook's square: 0 if there is no
-// right.
+// The part of the Zobrist hash for one castling right of this colour, given as its rook's square: its key, or 0 without
+// the right.
 fn right_hash<K: Keys>(keys: &K, colour: Colour, rook: Option<Square>) -> u64
     ensures { result ≡ xor_of (right_keys colour rook) }
 {
@@ -118,7 +118,7 @@ fn right_hash<K: Keys>(keys: &K, colour: Colour, rook: Option<Square>) -> u64
     }
 }
 
-// The part of the Zobrist hash of the castling rights: the exclusive or of the keys of those that are there.
+// The part of the Zobrist hash for the castling rights: the exclusive or of their keys.
 fn rights_hash<K: Keys>(keys: &K, rights: &Rights) -> u64
     ensures { result ≡ xor_of (rights_keys rights.now) }
 {

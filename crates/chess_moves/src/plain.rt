@@ -137,8 +137,8 @@ impl Board for Plain {
         is_legal(&self.setup, m)
     }
 
-    // A set of squares that has at least the starts of the legal moves of this kind to a square: here all pieces of the
-    // kind, of the side on move, whether or not they could go there.
+    // The squares of all pieces of this kind, of the side on move, whether or not they could go to the square: so those
+    // of the pieces that legally may are among them.
     #[tactic(auto, using(crate::proofs::shared::Origins::all_men))]
     fn origins(&self, kind: Kind, _to: Square) -> SquareSet {
         men_of(&self.setup.men, self.setup.side, kind)

@@ -137,8 +137,8 @@ impl SquareSet {
         }
     }
 
-    /// The set with each square's number less by `by`: 8 moves all squares one rank down. Squares that would fall below
-    /// 0 drop out.
+    /// The set with `by` subtracted from each square's number: 8 moves all squares one rank down. Squares that would
+    /// fall below 0 drop out.
     #[tactic(auto, using(crate::proofs::Shifted::has_lowered))]
     pub fn lowered(self, by: u8) -> Self
         requires { by < 64 }
@@ -149,7 +149,7 @@ impl SquareSet {
         }
     }
 
-    /// The set with each square's number more by `by`: 8 moves all squares one rank up. Squares that would go above 63
+    /// The set with `by` added to each square's number: 8 moves all squares one rank up. Squares that would go above 63
     /// drop out.
     #[tactic(auto, using(crate::proofs::Shifted::has_raised))]
     pub fn raised(self, by: u8) -> Self

@@ -54,7 +54,7 @@ impl Iterator for Squares {
         self.left.take_first()
     }
 
-    // How many squares are left, as both bounds.
+    // How many squares are left, as lower and as upper bound.
     fn size_hint(&self) -> (usize, Option<usize>)
         ensures exact { IsExactHint result (length self.now) }
     {

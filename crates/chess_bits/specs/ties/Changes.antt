@@ -63,6 +63,7 @@ abbrev pub shifted : Setup → Move → Option Man → Option Man
 shifted p m None = None
 shifted p m (Some x) = if shifts p m x.kind then Some x else None
 
--- the halfmove clock after a move of a piece of this kind to a square with the content `taken`; it was n before
+-- the halfmove clock after a move of a piece of this kind to a square with the content `taken`; it was n before. At
+-- most `COUNTER_LIMIT`
 abbrev pub clock_left : ℕ → Kind → Option Man → ℕ
 clock_left n kind taken = if same_kind Pawn kind || is_some taken then 0 else min (n + 1) COUNTER_LIMIT

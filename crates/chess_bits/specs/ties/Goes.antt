@@ -23,12 +23,12 @@ use Rattle.chess_bits.specs.ties.Shapes.{in_shape}
 use Rattle.chess_moves.specs.Promoting.{would_promote}
 use Rattle.chess_moves.specs.Sets.{contains}
 
--- the promotion with which a move from a to b is tried: to a queen, as one of the four kinds, if a pawn of the side on
+-- the promotion that is tried for a move from a to b: to a queen, in place of all four kinds, if a pawn of the side on
 -- move would reach its last rank; otherwise none
 abbrev pub tried_promotion : Setup → ℕ → ℕ → Option Kind
 tried_promotion p a b = if would_promote p a b then Some Queen else None
 
--- some move from square a to square b is pseudo-legal
+-- some move from square a to square b is pseudo-legal: the one to a queen, if a pawn would promote
 unfoldable pub goes : Setup → ℕ → ℕ → Bool
 goes p a b = is_pseudo_legal p (move_of a b (tried_promotion p a b))
 
@@ -39,12 +39,12 @@ names_end v c w None b = false
 names_end Normal c w (Some rook) b = b == home_square c (castled_king_file w)
 names_end Fischerandom c w (Some rook) b = b == rook
 
--- whether move m is legal, if it is a castling (whose squares are given); for any other move the answer s
+-- whether move m is legal, if it is castling (with the given squares); if it isn't, the answer is s
 abbrev pub legal_or : Setup → Move → Option Castle → Bool → Bool
 legal_or p m None s = s
 legal_or p m (Some castle) s = is_legal p m
 
--- the move from a to b is legal castling, and b is where castling on side w ends
+-- the move from a to b is legal castling, and b is the end square of castling on side w (`names_end`)
 abbrev pub castles_onto : Setup → CastlingSide → ℕ → ℕ → Bool
 castles_onto p w a b = names_end p.variant p.side w (right_of p.rights p.side w) b
     && legal_or p (move_of a b None) (castle_of p (move_of a b None)) false

@@ -9,7 +9,7 @@ use Rattle.chess_moves.specs.Sets.{contains}
 pub record IsOccupied (w : ℕ) (men : Men) : Type 0 where
   pub of_men : (k : ℕ) → k < 64 → contains w k ≡ not (is_none (man_at men k))
 
--- `later` are the pieces after a change, such as a move of the other colour than c: `filled` has the squares on which
+-- `later` are the pieces after a change, such as a move of the colour other than c: `filled` has the squares on which
 -- pieces arrived, `changed` these and the ones that pieces left, and no piece of colour c arrived anywhere
 pub record IsLater (changed filled : ℕ) (c : Colour) (men later : Men) : Type 0 where
   pub of_all : (k : ℕ) → k < 64 → (contains filled k || (not (is_none (man_at men k)) && not (contains changed k)))

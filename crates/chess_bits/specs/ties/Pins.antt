@@ -18,11 +18,12 @@ aims_from p b k =
     || ((is_man (other p.side) Bishop (man_at p.men b) || is_man (other p.side) Queen (man_at p.men b))
     && (not (b == k) && share_diagonal b k))
 
--- with the piece on a taken off, the way from b to k is not clear, or it is so anyway
+-- taking off the piece on a doesn't open the way from b to k: it stays blocked, or it was clear before
 abbrev pub KeepsClosed : Setup → ℕ → ℕ → ℕ → Type 0
 KeepsClosed p a b k = is_clear (lifted p.men a) b k ≡ true → is_clear p.men b k ≡ true
 
--- the piece on s alone is between the squares b and k
+-- no piece but the one on s is between the squares b and k: without it the way is clear, and taking off any other piece
+-- doesn't open it
 pub record IsShield (p : Setup) (s b k : ℕ) : Type 0 where
   pub low : s < 64
   pub opens : is_clear (lifted p.men s) b k ≡ true
@@ -32,7 +33,7 @@ pub record IsShield (p : Setup) (s b k : ℕ) : Type 0 where
 abbrev pub EndsOn : Setup → ℕ → ℕ → Type 0
 EndsOn p a w = (m : Move) → is_legal p m ≡ true → m.from ≡ a → contains w m.to ≡ true
 
--- each piece outside the set `free`, but the king, goes only to squares of the set w
+-- each legal move of a piece outside the set `free`, except the king, ends on a square of the set w
 abbrev pub AreEvasions : Setup → ℕ → ℕ → Type 0
 AreEvasions p free w =
     (a : ℕ) → a < 64 → is_man p.side King (man_at p.men a) ≡ false → contains free a ≡ false → EndsOn p a w

@@ -7,8 +7,8 @@ use Rattle.chess_bits.specs.declared.table.Shape.{Shape}
 use Rattle.chess_bits.specs.declared.table.Shape.TheVariants.{King, Knight, Pawn, Lines, Diagonals, Ray}
 use Rattle.chess_bits.specs.ties.Rays.{is_on_ray}
 
--- square b belongs to that shape from square a: a king, knight or pawn on a attacks b; or b is on a's rank or file, on
--- a's diagonals, or on that ray from a
+-- square b belongs to the given shape from square a: a king, knight or pawn on a attacks b; or b is another square of
+-- a's rank or file, of its diagonals, or of the given ray from a
 unfoldable pub in_shape : Shape → ℕ → ℕ → Bool
 in_shape King a b = not (a == b) && nat_le (abs_diff (file a) (file b)) 1 && nat_le (abs_diff (rank a) (rank b)) 1
 in_shape Knight a b =

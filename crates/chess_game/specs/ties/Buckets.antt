@@ -16,7 +16,7 @@ use Rattle.chess_game.specs.declared.index.TheConstants.{BUCKETS}
 abbrev pub bucket : Hashed → ℕ
 bucket k = k.hash % BUCKETS
 
--- `now` is a position that one more legal move gives, in the game from `start` by the played moves xs
+-- one more legal move leads to the position `now`, in the game from `start` by the played moves xs
 abbrev pub IsNext : Hashed → List PlayedMove → Hashed → Type 0
 IsNext start xs now = (m : Move) × (s : Saved) × WasMade (position_after start.position (moves_of xs)) m s now.position
 

@@ -45,8 +45,8 @@ men_in p = from_below 64 (man_in p)
 abbrev pub put_at : PackedMen → ℕ → Kind → ℕ → Option Man → Option Man
 put_at p w kind s o = if contains w s then Some (record { colour = colour_in p s; kind = kind }) else o
 
--- the sets have square s as the content o of that square wants it: White's set if o is white, a kind's set if o is of
--- that kind
+-- the packed sets p are right for square s with the content o: White's set has s if o is white, and a kind's set if o
+-- is of that kind
 pub record IsPackedAt (p : PackedMen) (s : ℕ) (o : Option Man) : Type 0 where
   pub white : contains p.white s ≡ is_of White o
   pub kings : contains p.kings s ≡ is_kind King o

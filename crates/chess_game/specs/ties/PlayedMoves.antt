@@ -20,8 +20,8 @@ use Rattle.chess_game.specs.declared.game.TheConstants.{MOST_MOVES}
 abbrev pub moves_of : List PlayedMove → List Move
 moves_of played_moves = map (λ x. x.made) played_moves
 
--- the legal en passant square that is kept with a position (its target, if a legal move captures on it) is that of the
--- position
+-- the en passant square that is kept with a position is right: its target if a legal move captures on it, otherwise
+-- none
 abbrev pub IsKnown : Hashed → Type 0
 IsKnown k = k.legal_en_passant_square ≡ legal_en_passant_square k.position
 

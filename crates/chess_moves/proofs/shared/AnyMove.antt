@@ -1,4 +1,5 @@
--- For texts of moves and games: a test of the legal moves, made once for each start square.
+-- Whether some legal move passes a test, if only moves to one square without a promotion can pass: it is enough to test
+-- one move from each square (any_by_start). For texts of moves and games.
 use Rattle.std.proofs.Common.{◌≡◌, ◌≢◌, ℕ, zero, suc, ◌<◌, inl, inr, Bool, true, false, ◌&&◌, ◌||◌, ◌==◌, Option, Some, None, List, [], ◌∷◌, map, refl, sym, ap, ◌∙◌, arith}
 use Rattle.std.proofs.{Math.Path.fun_ext, lemmas.List.Folds.list_any-append}
 use Rattle.std.proofs.lemmas.Bool.{cases_Bool, and_parts, false_from_ne_true, or_left, or_right, eqb-true, eqb-false}

@@ -1,4 +1,5 @@
--- For boards: what follows from a move that was made for the position before it.
+-- The position before a move that was made: `before` gives it back (WasMade-back), and it is sound (IsMade-sound). For
+-- boards.
 use Rattle.std.proofs.Common.{◌≡◌, ◌<◌, IsTrue}
 use Rattle.chess_base.specs.{declared.man.Move.Move, declared.setup.Setup.Setup, declared.setup.Saved.Saved, Squares.is_at, Men.forward, Sound.IsSound, Moves.after, Before.saved_of, Before.before}
 use Rattle.chess_base.proofs.{shared.Changes.at_target, shared.Men.in_board, shared.LegalMoves.before-after}

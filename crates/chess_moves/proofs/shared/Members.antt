@@ -1,4 +1,5 @@
--- For boards and texts of moves: the squares of a set, one after another.
+-- The squares of a set, one after another: none if it is empty (members_none), otherwise its first square and then
+-- those of the set without it (members_first). For boards and texts of moves.
 use mathlib.Core.Bool.{and-true}
 use Rattle.std.proofs.Common.{◌≡◌, ℕ, zero, suc, ◌<◌, ◌≤◌, ◌+◌, inl, inr, Bool, true, false, not, ◌&&◌, ◌==◌, refl, sym, ◌∙◌, ap, arith, List, [], ◌∷◌, length}
 use Rattle.std.proofs.lemmas.Bool.{cases_Bool, lt-ltb, eq-eqb, ne_eqb, cases_lt}

@@ -1,4 +1,5 @@
--- For boards: the list of legal moves, put together from its parts.
+-- The list of legal moves, put together from its parts: start square by start square (moves-by_start), and between two
+-- squares with a promotion only if a pawn would promote (all_promote, none_promotes). For boards.
 use Rattle.std.proofs.Common.{◌≡◌, ℕ, zero, suc, ◌+◌, ◌<◌, ◌≤◌, Bool, true, false, Option, Some, None, List, [], ◌∷◌, ◌++◌, length, get_or, map, take, refl, ◌∙◌, ap, arith, inl, inr, length-append, filter, flat_map}
 use Rattle.std.proofs.{Math.Path.fun_ext, lemmas.Bool.cases_Bool, lemmas.Bool.false_from_ne_true, lemmas.Bool.both_ways, lemmas.List.Elements.filter-append}
 use Rattle.chess_base.specs.{declared.man.Kind.Kind, declared.man.Move.Move, declared.setup.Setup.Setup, Men.man_at, Men.is_of, Moves.is_legal, Squares.squares}

@@ -1,4 +1,4 @@
--- For boards: from where pieces go to a square.
+-- The squares of all pieces of a kind have the start of each legal move of that kind (all_men). For boards.
 use Rattle.std.proofs.Common.{◌≡◌, ℕ, ◌<◌, true, ◌∙◌, arith}
 use Rattle.std.proofs.lemmas.Bool.Decides.{nat_tests}
 use Rattle.chess_base.specs.{declared.man.Kind.Kind, declared.man.Move.Move, declared.setup.Setup.Setup, Men.man_at, Men.is_man, Moves.is_legal, Moves.is_pseudo_legal}

@@ -1,4 +1,5 @@
--- For boards that keep their hash: exclusive or over keys, as pieces come and go.
+-- How a position's hash changes as pieces come and go: it is the exclusive or of its parts (hash_apart), and a piece
+-- that is put on a square or leaves it changes it by one key (hash_put, hash_lifted). For boards that keep their hash.
 use Rattle.std.proofs.Common.{◌≡◌, ◌≢◌, ℕ, zero, suc, ◌+◌, ◌<◌, ◌≤◌, inl, inr, List, [], ◌∷◌, ◌++◌, length, refl, sym, ◌∙◌, ap, arith, add-one, bit_xor, fold, Option, Some, None, set, get_or-set_same, get_or-set_other}
 use lib.Bits.{xor_assoc, xor_comm, xor_self, xor_zero_r}
 use Rattle.std.proofs.{lemmas.Bool.cases_lt, lemmas.List.Sums.fold-append}

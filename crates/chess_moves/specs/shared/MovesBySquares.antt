@@ -1,4 +1,4 @@
--- The legal moves by their squares: from one square to another, and all from one square.
+-- The legal moves from one square, and those to another.
 use Rattle.std.specs.Prelude.{ℕ, Option, List, map, filter, flat_map}
 use Rattle.chess_base.specs.declared.man.Kind.{Kind}
 use Rattle.chess_base.specs.declared.man.Move.{Move}
@@ -7,12 +7,11 @@ use Rattle.chess_base.specs.Moves.{is_legal}
 use Rattle.chess_base.specs.MoveList.{promotions, move_of}
 use Rattle.chess_base.specs.Squares.{squares}
 
--- the legal moves from square a to square b that name one of the promotions `kinds` (none for a move that promotes
--- nothing)
+-- the legal moves from square a to square b with one of the promotions `kinds` (`None`: without a promotion)
 abbrev pub moves_with : Setup → ℕ → ℕ → List (Option Kind) → List Move
 moves_with p a b kinds = filter (λ m. is_legal p m) (map (move_of a b) kinds)
 
--- the legal moves from square a to square b, with a promotion or without
+-- all legal moves from square a to square b, with a promotion or without
 unfoldable pub moves_between : Setup → ℕ → ℕ → List Move
 moves_between p a b = moves_with p a b promotions
 

@@ -1,5 +1,5 @@
--- The first square that is left is of the set (first_in of Starts). If it passes, one does; if not, it does not matter
--- for whether one does.
+-- The first square that is left is of the set (first_in of Starts). If it passes, some square does; if not, the others
+-- decide.
 use Rattle.std.proofs.Common.{◌≡◌, ℕ, Bool, ◌==◌, List, ◌∷◌, true, false, refl, sym, ap, ◌∙◌}
 use Rattle.std.specs.List.{list_any}
 use Rattle.std.proofs.lemmas.Bool.{or_right}

@@ -1,5 +1,5 @@
--- The last played move keeps how many positions are the same as its own (rep_kept of Walk); where no move is current,
--- the start alone is (rep_alone).
+-- The last played move keeps how many positions are the same as its own (rep_kept of Walk); without moves the start
+-- alone is (rep_alone).
 use Rattle.std.proofs.Common.{◌≡◌, ◌<◌, length, arith}
 use Rattle.std.proofs.lemmas.Grind.{common_steps}
 use Rattle.chess_game.proofs.Walk.{rep_alone, rep_kept}

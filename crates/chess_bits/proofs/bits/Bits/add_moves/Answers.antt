@@ -1,4 +1,4 @@
--- The own pieces have all legal moves (from_men of Listed), and all moves of a sound position fit into a list
+-- All legal moves are those of the own pieces (from_men of Listed), and all of a sound position fit into a list
 -- (fits_from).
 use Rattle.std.proofs.Common.{◌≡◌, ◌<◌, ℕ}
 use Rattle.chess_base.specs.{Men.man_at, Men.is_of, Sound.IsSound}

@@ -1,5 +1,5 @@
--- The shield goes nowhere but where it still shields, or to the piece that it shields from (answered of Pins); the
--- others go where they went.
+-- The shield has legal moves only to the evasions: squares where it still shields, the pinner's, or the en passant
+-- target (answered of Pins). For the other pieces nothing changes.
 use Rattle.chess_base.proofs.shared.Kings.{one_king_of}
 use Rattle.std.proofs.Common.{◌≡◌, ◌<◌, inl, inr, true, sym, subst, ap, ◌∙◌}
 use Rattle.std.proofs.lemmas.Bool.{eqb-true, or_left, or_right}

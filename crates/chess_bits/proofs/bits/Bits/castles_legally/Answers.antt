@@ -1,4 +1,4 @@
--- What `castles` requires of a castling: king and rook each go along one rank (on_rank of CastlingBySets).
+-- King and rook each go along one rank, as `castles` requires of a castling (on_rank of CastlingBySets).
 use Rattle.chess_bits.proofs.CastlingBySets.{on_rank}
 use Rattle.chess_bits.proofs.bits.Bits.castles_legally.Goals as goal
 

@@ -1,4 +1,4 @@
--- The pieces fall into those taken and those left, and their legal moves fall so too (split of KindsCounted).
+-- The pieces are those taken and those left, and their legal moves add up in the same way (split of KindsCounted).
 use Rattle.std.proofs.Common.{◌+◌, length, ap, ◌∙◌, flat_map}
 use Rattle.chess_moves.specs.{shared.MovesBySquares.moves_from, Sets.members}
 use Rattle.chess_bits.proofs.{Counted.some_fit, KindsCounted.split}

@@ -1,4 +1,4 @@
--- The squares between the king and a piece are on one line with both (line_between of Pins), so they are in the set.
+-- If a square is between the king and a piece, the two are on one line (line_between of Pins), so the table has it.
 use Rattle.std.proofs.Common.{◌≡◌, ◌==◌, ◌||◌, ◌<◌, inl, inr, subst, ◌∙◌}
 use Rattle.std.proofs.lemmas.Bool.{or_cases, or_left, or_right}
 use Rattle.chess_base.specs.Squares.{is_between, is_at}

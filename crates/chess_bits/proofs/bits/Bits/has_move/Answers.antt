@@ -1,5 +1,5 @@
--- A legal move of a free knight or pawn is one, and so is one of the king; where none is found all own pieces are
--- looked at, and they have all legal moves (from_men of Listed).
+-- A legal move of a free knight or pawn, or of the king, is one; if none is found, all own pieces are looked at, and
+-- theirs are all legal moves (from_men of Listed).
 use Rattle.std.proofs.Common.{◌≡◌, ◌<◌, ℕ, nat_lt, length, refl, sym, ap, subst, ◌∙◌, rules, eq-eqb}
 use Rattle.chess_base.specs.Men.{man_at, is_of}
 use Rattle.chess_moves.specs.{shared.MovesBySquares.moves_from, Sets.contains, Sets.members}

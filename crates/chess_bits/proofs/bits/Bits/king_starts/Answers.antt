@@ -1,4 +1,4 @@
--- The side on move has one king (king_start of ByKind).
+-- The side on move has one king, so no other square can be a start (king_start of ByKind).
 use Rattle.std.proofs.Common.{ap, refl, ◌&&◌, ◌==◌, ◌∙◌, eq-eqb}
 use Rattle.chess_bits.proofs.ByKind.{king_start}
 use Rattle.chess_bits.proofs.bits.Bits.king_starts.Goals as goal

@@ -1,5 +1,5 @@
--- A promotion has the pattern of a move with each kind that fits (pattern_from of Patterns), and is neither the king's
--- nor en passant, since the target is not on the last rank (no_target_there of Pins).
+-- A promotion to each kind that fits is pseudo-legal (pattern_from of Patterns), and neither the king's nor en passant,
+-- since the target is not on the last rank (no_target_there of Pins).
 use Rattle.chess_base.proofs.shared.Men.{is_man-kind}
 use Rattle.std.proofs.Common.{◌≡◌, ◌==◌, true, Some, sym, subst, refl}
 use Rattle.std.proofs.lemmas.Bool.{and_parts, and_right, eqb-true}

@@ -1,4 +1,4 @@
--- Two squares of one rank are on one line, so the table has what is between them.
+-- Two squares of one rank are on one line, so the table has what is between them; the ends are added.
 use Rattle.std.proofs.Common.{refl, ◌∙◌, eq-eqb}
 use Rattle.chess_base.specs.{Squares.rank, declared.line.Line.TheVariants.Rank}
 use Rattle.chess_bits.proofs.bits.Bits.way.Goals as goal

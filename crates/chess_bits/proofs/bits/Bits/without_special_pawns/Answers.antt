@@ -1,5 +1,5 @@
--- Left of the free pieces are those that are no pawn which may promote or take en passant; so each of them is free and
--- goes only ordinarily.
+-- No free piece that is left is a pawn that may promote or take en passant, so each square to which it goes gives it
+-- one legal move (`GoesFreely`).
 use Rattle.std.proofs.Common.{◌≡◌, ℕ, ◌<◌, ◌&&◌, not, refl, sym, ◌∙◌}
 use Rattle.std.proofs.lemmas.Bool.{and_parts, not-true}
 use Rattle.chess_base.specs.{Men.man_at, Men.is_man, declared.man.Kind.TheVariants.Pawn}

@@ -1,4 +1,4 @@
--- Each move in the list is legal, since the list filters all moves by that test.
+-- Each move in the list is legal, since `moves` keeps of all moves only the legal ones.
 use Rattle.std.proofs.lemmas.List.Elements.{filter_passes}
 use Rattle.chess_base.specs.{Moves.is_legal, MoveList.moves, MoveList.all_moves}
 use Rattle.chess_bits.proofs.bits.BitsBoard.legal_moves.Goals as goal

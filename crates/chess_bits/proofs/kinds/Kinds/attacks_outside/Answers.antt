@@ -1,5 +1,5 @@
--- On a square that doesn't change the sets give the piece there later, and on one that does there is no such piece
--- (left_out of KindSets).
+-- On a square that doesn't change, the sets are right for the piece there after the move; on one that does, this colour
+-- has no piece then (left_out of KindSets).
 use Rattle.chess_bits.proofs.{Attackers.attacked_is, KindSets.left_out}
 use Rattle.chess_bits.proofs.kinds.Kinds.attacks_outside.Goals as goal
 

@@ -1,5 +1,5 @@
--- At most 60 bytes were taken over, each printable or replaced (TagTexts.tag_text_is); the lesser of 60 and the text's
--- length cuts the same as 60.
+-- At most 60 bytes were taken over, each printable or replaced (tag_text_is of TagTexts); the lesser of 60 and the
+-- text's length cuts the same as 60.
 use Rattle.std.proofs.{Common.ap, Common.map, Common.arith, lemmas.List.take_min}
 use Rattle.byte_devices.specs.Bytes.{shown_byte}
 use Rattle.chess_game.proofs.TagTexts.{tag_text_is}
