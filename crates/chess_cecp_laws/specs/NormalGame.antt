@@ -1,5 +1,4 @@
--- A game as it is defined for normal chess only: each definition is that of the same name without `normal_`, but none
--- takes a variant.
+-- A game of normal chess only: each definition is that of the same name without `normal_`, but none takes a variant.
 use Rattle.std.specs.Prelude.{ℕ, ◌==◌, nat_le, Bool, ◌&&◌, ◌||◌, if◌then◌else◌, List, [], ◌∷◌, length, count_by, Option, None, Some, is_some}
 use Rattle.std.specs.List.{list_any}
 use Rattle.std.specs.Option.{option_map, option_map_or, option_or}

@@ -1,5 +1,5 @@
--- A game's PGN as it is defined for normal chess only: each definition is that of the same name without `normal_`, but
--- none takes a variant, and no tag names one.
+-- A game's PGN for normal chess only: each definition is that of the same name without `normal_`, but none takes a
+-- variant, and no tag names one.
 use Rattle.std.specs.Prelude.{ℕ, Bool, not, ◌&&◌, List, [], ◌∷◌, ◌++◌, length, codes, decimal, ◌==◌}
 use Rattle.std.specs.Str.{bytes_eq}
 use Rattle.chess_base.specs.declared.man.Colour.TheVariants.{White, Black}

@@ -79,8 +79,8 @@ pub record IsBlameless (r : Rules) (S : Colour) (final : Match) (end : MatchEnd)
   pub no_fault : (fault : MatchFault) → end.fault ≡ Some (S, fault) → ⊥
   pub mated : end.outcome ≡ win_of (other S) → verdict r.start final.played ≡ Some (mates (other S))
 
--- in every match in which the engine of the side `S` answers (`AnswersAll`), `S` has no fault in the report, and loses
--- only by mate
+-- if the engine of the side `S` answers in a match (`AnswersAll`), `S` has no fault in the report, and loses only by
+-- mate
 abbrev pub AnsweringEnginesAreBlameless : Type 0
 AnsweringEnginesAreBlameless = (r : Rules) (S : Colour) (H : List Act) (final : Match) (reason : Reason) (end : MatchEnd)
     → IsMatch r H final → ReportedAs r H final reason end → AnswersAll r S H → IsBlameless r S final end

@@ -18,7 +18,7 @@ pub record ClaimEnds (r : Rules) (m : Match) (S : Colour) (text : Option (List �
       → (effect r m (Line S text moment)).after.phase ≡ Over (Claimed claim)
   pub after : m.phase ≡ AfterMove S → (effect r m (Line S text moment)).after.phase ≡ Over (Claimed claim)
 
--- whenever a draw may be claimed, each line that claims one (`1/2-1/2`) ends the match by it
+-- whenever a draw may be claimed, `ClaimEnds` holds of each line that claims one (`1/2-1/2`)
 abbrev pub DrawClaimsEndMatches : Type 0
 DrawClaimsEndMatches = (r : Rules) (m : Match) (S : Colour) (text : Option (List ℕ)) (moment : ℕ) (claim : DrawClaim)
     → line_kind text ≡ ClaimsDraw → draw_claim (claims r.start m.played) ≡ Some claim

@@ -15,7 +15,7 @@ use Rattle.chess_match_laws.specs.Streams.{items_said}
 
 -- ---- answers
 
--- the NAME in a line `accepted NAME` or `rejected NAME`, as a list of one; empty for any other line
+-- the NAME in a line `accepted NAME` or `rejected NAME`, as a list of one; empty for other lines
 abbrev pub name_answered : SentLine → List (List ℕ)
 name_answered (Says text) =
     list_if (bytes_eq (take 9 text) (codes "accepted ") || bytes_eq (take 9 text) (codes "rejected "))
@@ -52,7 +52,7 @@ BothHaveNeeded r S H m = (X : Colour) → HasNeeded r (m.seat X).items
 
 -- ---- `usermove`
 
--- whether a move is sent with `usermove` before it, as a list of one; empty for any other line
+-- whether a move is sent with `usermove` before it, as a list of one; empty for other lines
 abbrev pub prefix_of : SentLine → List Bool
 prefix_of (MoveSent prefixed text) = prefixed ∷ []
 prefix_of _ = []

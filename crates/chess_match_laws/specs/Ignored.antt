@@ -48,7 +48,7 @@ pub record OthersAreIgnored (r : Rules) (m : Match) (S : Colour) (text : Option 
   pub pongs : (n : ℕ) → m.phase ≡ AfterMove S → line_kind text ≡ Answers n
       → (n == length (m.seat S).used + 1) ≡ false → IsIgnored S m (effect r m (Line S text moment))
 
--- in every state of a match these lines are ignored
+-- `OthersAreIgnored` holds of every line in every state of a match
 abbrev pub OtherLinesAreIgnored : Type 0
 OtherLinesAreIgnored = (r : Rules) (m : Match) (S : Colour) (text : Option (List ℕ)) (moment : ℕ)
     → OthersAreIgnored r m S text moment

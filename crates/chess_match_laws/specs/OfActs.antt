@@ -40,10 +40,10 @@ use Rattle.chess_match.specs.declared.run.Setup.{Setup}
 use Rattle.chess_game.specs.Game.{outcome_now}
 use Rattle.chess_game.specs.Ends.{claims, draw_claim, verdict}
 
--- ---- each match, and each moment of one
+-- ---- matches and their moments
 
--- the events of these acts, in order, from the state `m` of a match on: those that were read, and a write that failed
--- before the end
+-- the events of these acts, in order, from the state `m` of a match on: those read, and a write that failed before the
+-- end
 abbrev pub events_of : Rules → Match → List Act → List Event
 events_of r m [] = []
 events_of r m (Sends block ∷ H) = events_of r m H
@@ -67,8 +67,7 @@ AtEachLine P = (r : Rules) (before after : List Act) (S : Colour) (text : Option
     → IsMatch r (before ++ Happens (Line S text moment) ∷ after) final
     → P r S before (match_after r beginning.after before)
 
--- whenever a side was sent the lines that ask for its move and the clock is read, `P` holds of the rules, the side, the
--- acts before and the state then
+-- whenever a side was sent the lines that ask for its move and the clock is read, `P` holds of the same
 abbrev pub AtEachOpening : (Rules → Colour → List Act → Match → Type 0) → Type 0
 AtEachOpening P = (r : Rules) (before after : List Act) (S : Colour) (moment : ℕ) (final : Match)
     → IsMatch r (before ++ Happens (Opened S moment) ∷ after) final
@@ -80,16 +79,15 @@ EndsAfterItsActs r H m = match_after r beginning.after H ≡ m
 
 -- ---- order
 
--- among the steps of any acts (`watched`), a match or not: right after a line is read, the clock is read for that side,
--- and the line noted with the moment that it showed
+-- in the steps of any acts (`watched`), a match or not: after a line is read, the next steps are to read the clock for
+-- that side and to note the line with the moment that it showed
 abbrev pub LinesAreReadInOrder : Type 0
 LinesAreReadInOrder = (r : Rules) (reason : Reason) (m : Match) (H : List Act) (before after : List Step) (S : Colour)
     (text : Option (List ℕ)) → watched r reason m H ≡ before ++ ReadsLine S text ∷ after
     → (moment : ℕ) × (rest : List Step)
     × (after ≡ ReadsClock S moment ∷ Notes (Happened (Line S text moment)) ∷ rest)
 
--- among these steps: right after a look that found no line, the clock is read for that side, and the silence noted with
--- the moment that it showed
+-- the same for a silence: after a look that found no line, the clock is read, and the silence noted
 abbrev pub SilencesAreReadInOrder : Type 0
 SilencesAreReadInOrder = (r : Rules) (reason : Reason) (m : Match) (H : List Act) (before after : List Step)
     (S : Colour) → watched r reason m H ≡ before ++ FindsNoLine S ∷ after
@@ -128,10 +126,10 @@ ended_by_write_to S _ = false
 abbrev pub WriteFaultsAreOfBlocks : Rules → List Act → Match → Type 0
 WriteFaultsAreOfBlocks r H m = (S : Colour) → ended_by_write_to S m.phase ≡ true → is_broken H S ≡ true
 
--- ---- what two engines and a clock give fixes the match
+-- ---- engines and a clock fix the match
 
--- in the acts `H` the looks for a line that found none yet (silences) are just those that `silent` names; the looks of
--- each side are numbered from 0
+-- in the acts `H` just those looks for a line were silences (found none yet) that `silent` names, by side and number,
+-- from 0 on
 abbrev pub AreSilent : (Colour → ℕ → Bool) → List Act → Type 0
 AreSilent silent H = (S : Colour) (n : ℕ) → n < length (looks S H) → slice_get (looks S H) n ≡ Some (silent S n)
 
@@ -139,16 +137,15 @@ AreSilent silent H = (S : Colour) (n : ℕ) → n < length (looks S H) → slice
 pub record ReadFrom (s : Streams) (H : List Act) : Type 0 where
   -- `rest` are the lines that were not read
   pub lines : (S : Colour) → (rest : List (Option (List ℕ))) × (s.lines S ≡ lines_read S H ++ rest)
-  -- an output that ended gave all its lines, and did not fail
+  -- an output that ended gave all its lines
   pub ends : (S : Colour) → has_ended S H ≡ true → (s.lines S ≡ lines_read S H) × (s.fails S ≡ false)
-  -- one of which a read failed gave all its lines, and fails
+  -- one that could not be read on gave all its lines too
   pub failures : (S : Colour) → has_failed_read S H ≡ true → (s.lines S ≡ lines_read S H) × (s.fails S ≡ true)
   pub silences : AreSilent s.silent H
   -- the reading n of the clock shows `s.moments n`
   pub moments : (n : ℕ) → n < length (moments_shown H) → slice_get (moments_shown H) n ≡ Some (s.moments n)
 
--- the acts `H` come from these engines and this clock (`s`): they read what these give, and sending a block failed just
--- where `s.breaks` says
+-- the acts `H` read what these engines and this clock (`s`) give, and sending a block failed just where `s.breaks` says
 pub record AreOf (s : Streams) (H : List Act) : Type 0 where
   pub reads : ReadFrom s H
   -- if no block for `S` failed, `S` was sent at most as many as `s.breaks` says; `None` sets no limit
@@ -161,17 +158,17 @@ abbrev pub OnlyOneMatch : Type 0
 OnlyOneMatch = (r : Rules) (s : Streams) (H K : List Act) (final final' : Match) → IsMatch r H final
     → IsMatch r K final' → AreOf s H → AreOf s K → (H ≡ K) × (final ≡ final')
 
--- two matches by the same rules that read what the same engines and clock give (`s`), and of which neither ended
--- because a write failed, have the same events and the same final state. Which end lines (`result ..`, `quit`) could be
--- sent may differ
+-- two matches by the same rules that read what the same engines and clock give (`s`), neither of which ended by a
+-- failed write, have the same events and the same final state. Which end lines (`result ..`, `quit`) could be sent may
+-- differ
 abbrev pub OneMatchButForEndLines : Type 0
 OneMatchButForEndLines = (r : Rules) (s : Streams) (H K : List Act) (final final' : Match) → IsMatch r H final
     → IsMatch r K final' → ReadFrom s H → ReadFrom s K → ((S : Colour) → ended_by_write_to S final.phase ≡ false)
     → ((S : Colour) → ended_by_write_to S final'.phase ≡ false)
     → (events_of r beginning.after H ≡ events_of r beginning.after K) × (final ≡ final')
 
--- from the states of an engine's input before a run (`w`) and after it (`w'`) it is known how many bytes of the run
--- were flushed: the bytes that it took are known, and the count of unflushed ones is below its maximum
+-- an engine's input before a run (`w`) and after it (`w'`) shows how many bytes were flushed: those that it took are
+-- known, and the count of unflushed ones is below its maximum
 pub record ShowsFlushed (w w' : OutputState) : Type 0 where
   pub bytes : is_some w.known_bytes ≡ true
   pub after : w'.unflushed < 2 ^ 64 - 1
@@ -192,22 +189,22 @@ pub record ShowsAll (w w' : World) : Type 0 where
 abbrev pub endless : Patience
 endless = record { flag = false; reply = None }
 
--- in the acts `H` and `K` the same looks for a line found none yet, or the rules set no limit to waiting, so that in a
--- match no look does (`SilencesAreAskedFor`)
+-- in the acts `H` and `K` the same looks for a line found none yet, or the rules set no limit to waiting (then none
+-- does: `SilencesAreAskedFor`)
 abbrev pub HaveSameSilences : Rules → List Act → List Act → Type 0
 HaveSameSilences r H K =
     (r.patience ≡ endless) ⊎ ((silent : Colour → ℕ → Bool) × AreSilent silent H × AreSilent silent K)
 
--- two matches by the same rules that were played from the world `w` (devices and game) to `w'` have the same acts and
--- the same final state, if everything is known about the devices, and the same looks for a line found none
+-- two matches by the same rules, played from the world `w` (devices and game) to `w'`, have the same acts and the same
+-- final state, if everything is known about the devices, and the same looks for a line found none
 abbrev pub OnlyOneMatchOfARun : Type 0
 OnlyOneMatchOfARun = (r : Rules) (H K : List Act) (final final' : Match) (w w' : World) → Passed r H final w w'
     → Passed r K final' w w' → ShowsAll w w' → HaveSameSilences r H K → (H ≡ K) × (final ≡ final')
 
 -- ---- ends
 
--- in every match in which draws are automatic: if a draw may be claimed after the moves played and the board has no
--- verdict, the match ended for this draw; or no move was played, and the match ended by a fault
+-- where draws are automatic: if a draw may be claimed after the moves of a match, and the board has no verdict, the
+-- match ended for this draw, or by a fault before its first move
 abbrev pub AutomaticDrawsEndMatches : Type 0
 AutomaticDrawsEndMatches = (r : Rules) (claim : DrawClaim) (H : List Act) (final : Match) → IsMatch r H final
     → r.draws ≡ Automatic → verdict r.start final.played ≡ None → draw_claim (claims r.start final.played) ≡ Some claim
@@ -247,13 +244,12 @@ abbrev pub MovesAreRead : Rules → List Act → Match → Type 0
 MovesAreRead r H m =
     AreRead r [] m.played (moves_of (lines_read r.start.side H)) (moves_of (lines_read (other r.start.side) H))
 
--- the items known of the engine of each side `S` are those of its `feature` lines, up to and with the one that has
--- `done=1`
+-- the items known of each side's engine are those of its `feature` lines, up to and with the one that has `done=1`
 abbrev pub ItemsAreSaid : Rules → List Act → Match → Type 0
 ItemsAreSaid r H m = (S : Colour) → (m.seat S).items ≡ items_said (lines_read S H)
 
--- the texts that the side `O` is to be sent of a game's moves `ms`: those of the other side, in SAN if its engine has
--- `san` on by these items, otherwise by squares
+-- what the side `O` is to be sent of a game's moves `ms`: the other side's, in SAN if its engine has `san` on by these
+-- items, otherwise by squares
 abbrev pub others_moves : Rules → Colour → List Item → List Move → List (List ℕ)
 others_moves r O items ms = texts_from r (takes (codes "san") items) (other O) r.start.side [] ms
 
@@ -276,18 +272,18 @@ EachIsSentOthersMoves whole r H m =
     × (whole ≡ true → ended_by_write_to O m.phase ≡ false → rest ≡ [])
     × (moves_sent (lines_given O H) ++ rest ≡ others_moves r O (items_said (lines_read O H)) ms))
 
--- the blocks for each side `O` have all moves of the other side, each once and in order, unless the match ended because
--- writing to `O` failed
+-- the blocks for each side `O` have just the other side's moves, in order, unless the match ended because writing to
+-- `O` failed
 abbrev pub AllMovesAreGiven : Rules → List Act → Match → Type 0
 AllMovesAreGiven r H m = (O : Colour) → ended_by_write_to O m.phase ≡ false
     → moves_sent (lines_given O H) ≡ others_moves r O (m.seat O).items m.played
 
--- each side `O` was sent all moves of the other side, each once and in order, if each block for `O` was sent
+-- if each block for the side `O` was sent, `O` was sent just the other side's moves, in order
 abbrev pub AllMovesAreSent : Rules → List Act → Match → Type 0
 AllMovesAreSent r H m = (O : Colour) → is_broken H O ≡ false
     → moves_sent (lines_sent O H) ≡ others_moves r O (m.seat O).items m.played
 
--- the side `S` was sent all moves of the other side, each once and in order
+-- the side `S` was sent just the other side's moves, in order
 abbrev pub IsSentAllMoves : Rules → Colour → List Act → Match → Type 0
 IsSentAllMoves r S H m = moves_sent (lines_sent S H) ≡ others_moves r S (m.seat S).items m.played
 
@@ -296,7 +292,7 @@ abbrev pub MovesSentAreKnown : Rules → Colour → List Act → Match → Type 
 MovesSentAreKnown r S H m =
     nat_lt 0 (length (m.seat (other S)).used) ≡ nat_lt 0 (length (moves_sent (lines_sent S H)))
 
--- in every match of chess: each move played is legal in the position in which it is made, from the start on
+-- each move of a match is legal in the position in which it is made, from the start on
 abbrev pub GamesAreLines : Type 0
 GamesAreLines = (start : Position) (level : Colour → LevelSeen) (patience : Patience) (draws : Draws) (limit : ℕ) (H : List Act)
     (final : Match) → IsMatch (rules_of start level patience draws limit) H final → IsLine start final.played
@@ -311,14 +307,14 @@ EndsAtVerdicts r H m = (length m.played ≤ r.limit)
 -- ---- clocks
 
 -- the `time` lines that each side `S` is sent show its own clock before its first move and after each of its moves, in
--- order, but for `rest`: at most the last. With `time=0` an engine is sent none
+-- order, but for `rest`: at most the last. An engine with `time=0` is sent none
 abbrev pub TimesAreClocks : Rules → List Act → Match → Type 0
 TimesAreClocks r H m = (S : Colour) → (rest : List ℕ) × (length rest ≤ 1)
     × (flat_map time_sent (lines_given S H) ++ rest
     ≡ (if takes (codes "time") (m.seat S).items then centiseconds (r.level S) 0 0 (m.seat S).used else []))
 
 -- the `otim` lines that each side `S` is sent show the other's clock after each of the other's moves, in order, and
--- before the first of them if `S` moves first; but for `rest`, at most the last. With `time=0` an engine is sent none
+-- before the first of them if `S` moves first, but for `rest`: at most the last. With `time=0` there are none
 abbrev pub OtherTimesAreClocks : Rules → List Act → Match → Type 0
 OtherTimesAreClocks r H m = (S : Colour) → (rest : List ℕ) × (length rest ≤ 1)
     × (flat_map otim_sent (lines_given S H) ++ rest
@@ -342,7 +338,7 @@ move_times S opened (Happens (Opened side moment) ∷ H) =
 move_times S opened (_ ∷ H) = move_times S opened H
 
 -- the times charged to each side `S` are those from the opening of each of its turns to its `move` line, but for
--- `rest`: at most the last, of a line that ended the match, and nothing while the match is on
+-- `rest`: at most the last, if that line ended the match
 abbrev pub UsedTimesAreDifferences : Rules → List Act → Match → Type 0
 UsedTimesAreDifferences r H m = (S : Colour) → (rest : List ℕ) × (length rest ≤ 1)
     × (move_times S None H ≡ (m.seat S).used ++ rest) × (is_over m.phase ≡ false → rest ≡ [])
@@ -365,8 +361,8 @@ abbrev pub SilencesAreAskedFor : Type 0
 SilencesAreAskedFor = (r : Rules) (H : List Act) (final : Match) → IsMatch r H final → r.patience ≡ endless
     → (list_any is_silent H ≡ false) × AreSilent (λ S n. false) H
 
--- whether at this moment the side `S`, whose line is awaited, is beyond its limit: before its move, if the time used is
--- more than it had left; otherwise, if it has owed its line for longer than the rules allow
+-- whether the side `S`, whose line is awaited, is beyond its limit at this moment: before its move, if it used more
+-- time than it had left; otherwise, if it owed its line for longer than the rules allow
 abbrev pub is_beyond : Rules → Match → Phase → Colour → ℕ → Bool
 is_beyond r m (BeforeMove side opened) S moment = nat_lt (clock r m S) (moment - opened)
 is_beyond r m _ S moment =
@@ -388,8 +384,8 @@ SilencesChangeNothing = (r : Rules) (before after : List Act) (S : Colour) (mome
     is_beyond r m m.phase S moment ≡ false → is_some m.since ≡ true
     → ((effect r m (Silent S moment)).after ≡ m) × ((X : Colour) → (effect r m (Silent S moment)).to X ≡ [])
 
--- if a match that was played ended by a silence of the side `S`, the bytes that were read from its engine (`i.text`)
--- have just the lines that were read in the match: none is left over
+-- if a match that was played ended by a silence of the side `S`, all lines in the bytes that were read from its engine
+-- (`i.text`) were read in the match
 abbrev pub SilencesLeaveNoLine : Type 0
 SilencesLeaveNoLine = (before after : List Act) (S : Colour) (moment : ℕ) (reason : Reason) (setup : Setup)
     (end : MatchEnd) (w w' : World) → let H = before ++ Happens (Silent S moment) ∷ after in
@@ -405,12 +401,12 @@ shows_fallen r m (BeforeMove side opened) S (Happens (Silent c moment)) =
     same_colour side S && nat_lt (clock r m S) (moment - opened)
 shows_fallen r m _ S _ = false
 
--- at some moment of a turn of the side `S`, with a line or without, the clock showed more than `S` had left
+-- at some moment the flag of the side `S` had fallen (`shows_fallen`)
 abbrev pub OverstepsTime : Rules → List Act → Colour → Type 0
 OverstepsTime r H S = (before : List Act) × (act : Act) × (after : List Act) × (H ≡ before ++ act ∷ after)
     × (let m = match_after r beginning.after before in shows_fallen r m m.phase S act ≡ true)
 
--- as `OverstepsTime`, and by that the match ended: after it only blocks were sent
+-- the flag of the side `S` had fallen, and by that the match ended: afterwards only blocks were sent
 abbrev pub EndsOverstepped : Rules → List Act → Colour → Type 0
 EndsOverstepped r H S = (before : List Act) × (act : Act) × (after : List Act) × (H ≡ before ++ act ∷ after)
     × (only_sends after ≡ true)
@@ -429,7 +425,7 @@ pub record TimeForfeitsAreShown (r : Rules) (H : List Act) (final : Match) : Typ
 
 -- ---- few lines
 
--- at most this many lines of both engines are read: 1,000 in each handshake, 10,000 in each setup, and in each of
+-- at most this many lines are read of both engines: 1,000 in each handshake, 10,000 in each setup, and in each of
 -- `limit` + 1 turns 9,999 ignored ones, an offer of a draw, the move and the `pong`
 abbrev pub LinesAreFew : Rules → List Act → Match → Type 0
 LinesAreFew r H m = length (lines_read White H) + length (lines_read Black H) ≤ 22000 + 10002 * (r.limit + 1)
@@ -440,26 +436,26 @@ LinesAreFew r H m = length (lines_read White H) + length (lines_read Black H) �
 abbrev pub after_events : Rules → Match → List Event → Match
 after_events r m events = fold (λ n e. (effect r n e).after) m events
 
--- in every match that ended for this reason the events in its notes lead from the beginning to the final state
+-- if a match ended for this reason, the events in its notes lead from the beginning to the final state
 abbrev pub NotesHaveTheEvents : Type 0
 NotesHaveTheEvents = (r : Rules) (reason : Reason) (H : List Act) (final : Match) → IsMatch r H final
     → final.phase ≡ Over reason → final ≡ after_events r beginning.after (events_in (notes_given reason H))
 
--- in every match that ended for this reason the events in its notes are just those of the match, in order
+-- if a match ended for this reason, the events in its notes are just its events, in order
 abbrev pub NotesAreInOrder : Type 0
 NotesAreInOrder = (r : Rules) (reason : Reason) (H : List Act) (final : Match) → IsMatch r H final
     → final.phase ≡ Over reason → events_in (notes_given reason H) ≡ events_of r beginning.after H
 
--- for any acts, a match or not, the bytes in the notes for the side `S` are those of all lines of its blocks, in order
+-- in the notes of any acts the bytes for the side `S` are those of all lines of its blocks, in order
 abbrev pub NotesHaveAllLines : Type 0
 NotesHaveAllLines = (reason : Reason) (H : List Act) (S : Colour)
     → given_in S (notes_given reason H) ≡ bytes_of (lines_given S H)
 
--- in every match the lines of each side `S` in the notes are just those that were read of it, in order
+-- in the notes of a match the lines of the side `S` are just those that were read of it, in order
 abbrev pub NotesHaveLinesRead : Type 0
 NotesHaveLinesRead = (r : Rules) (reason : Reason) (H : List Act) (final : Match) (S : Colour) → IsMatch r H final
     → lines_noted S (notes_given reason H) ≡ lines_read S H
 
--- for any acts, a match or not, the moments in the notes are just those that the clock showed, in order
+-- in the notes of any acts the moments are just those that the clock showed, in order
 abbrev pub NotesHaveMoments : Type 0
 NotesHaveMoments = (reason : Reason) (H : List Act) → moments_noted (notes_given reason H) ≡ moments_shown H

@@ -46,7 +46,7 @@ IsSetUp r S H m = m.phase ≡ Setup S → SetUpBy r S (bytes_of (lines_given S H
 
 -- ---- `ping` and `go`
 
--- the text of a line that begins with `ping `, as a list of one; empty for any other line
+-- the text of a line that begins with `ping `, as a list of one; empty for other lines
 abbrev pub ping_text : SentLine → List (List ℕ)
 ping_text (Says text) = list_if (bytes_eq (take 5 text) (codes "ping ")) (text ∷ [])
 ping_text _ = []
@@ -60,7 +60,7 @@ pings number (suc more) = (codes "ping " ++ decimal number) ∷ pings (number + 
 abbrev pub PingsAreNumbered : Rules → List Act → Match → Type 0
 PingsAreNumbered r H m = (S : Colour) → let sent = flat_map ping_text (lines_given S H) in sent ≡ pings 1 (length sent)
 
--- the text of a line `go`, as a list of one; empty for any other line
+-- the text of a line `go`, as a list of one; empty for other lines
 abbrev pub go_text : SentLine → List (List ℕ)
 go_text (Says text) = list_if (bytes_eq text (codes "go")) (text ∷ [])
 go_text _ = []
@@ -104,8 +104,8 @@ abbrev pub is_move_of : Colour → Act → Bool
 is_move_of S (Happens (Line side text moment)) = same_colour side S && is_move (line_kind text)
 is_move_of S _ = false
 
--- a draw was agreed by these acts: the other side offered it, and later `side` did too, by the last line of the match.
--- In between `side` made no move, by which the offer would have lapsed
+-- a draw was agreed by these acts: the other side offered it, and then `side` did too, by the match's last line. In
+-- between `side` made no move, by which the offer would have lapsed
 pub record IsAgreed (H : List Act) : Type 0 where
   -- the side that answers
   pub side : Colour
@@ -129,7 +129,7 @@ pub record IsAgreed (H : List Act) : Type 0 where
 abbrev pub AgreedDrawsAreOffered : Rules → List Act → Match → Type 0
 AgreedDrawsAreOffered r H m = m.phase ≡ Over Agreed → IsAgreed H
 
--- the text of a line `draw`, as a list of one; empty for any other line
+-- the text of a line `draw`, as a list of one; empty for other lines
 abbrev pub draw_text : SentLine → List (List ℕ)
 draw_text (Says text) = list_if (bytes_eq text (codes "draw")) (text ∷ [])
 draw_text _ = []
@@ -145,7 +145,7 @@ abbrev pub DrawsAreFew : Rules → List Act → Match → Type 0
 DrawsAreFew r H m =
     (S : Colour) → length (flat_map draw_text (lines_given S H)) ≤ length (m.seat S).used + 1
 
--- a line that offers a draw, as a list of one; empty for any other line
+-- a line that offers a draw, as a list of one; empty for other lines
 abbrev pub offer_of : Option (List ℕ) → List (Option (List ℕ))
 offer_of line = list_if (is_offer (line_kind line)) (line ∷ [])
 

@@ -26,7 +26,7 @@ use Rattle.chess_match.specs.laws.Laws.{line_kind, items_in_line, move_said, is_
 abbrev pub looks : Colour → List Act → List Bool
 looks S H = flat_map (look S) H
 
--- the blocks that the side `S` was sent, in order; without one that could not be sent
+-- the blocks that the side `S` was sent, without one that could not be sent
 abbrev pub blocks_sent : Colour → List Act → List Block
 blocks_sent S [] = []
 blocks_sent S (Sends block ∷ H) = list_if (same_colour block.to S) (block ∷ []) ++ blocks_sent S H
@@ -72,12 +72,12 @@ pub record Streams : Type 0 where
 
 -- ---- moves sent
 
--- the text of the move in a line that is sent, as a list of one; empty if it has none
+-- the text of the move in a line that is sent, as a list of one; empty for other lines
 abbrev pub move_sent : SentLine → List (List ℕ)
 move_sent (MoveSent prefixed text) = text ∷ []
 move_sent _ = []
 
--- the texts of the moves in these lines that are sent, in order
+-- the texts of the moves in these lines that are sent
 abbrev pub moves_sent : List SentLine → List (List ℕ)
 moves_sent lines = flat_map move_sent lines
 
@@ -116,8 +116,8 @@ moves_said (l ∷ ls) = move_said (line_kind l) ++ moves_said ls
 abbrev pub moves_of : List (Option (List ℕ)) → List (List ℕ)
 moves_of lines = moves_said (lines_after_pong (lines_after_handshake lines))
 
--- after the moves `before`, two engines' `move` lines denote the moves `ms` in turn: `mine` are the texts of the side
--- to move, `theirs` the other's. At most one text is left over: the one that ended the match
+-- after the moves `before`, the texts of two engines' `move` lines denote the moves `ms` in turn: `mine` are those of
+-- the side to move. At most one text is left over: the one that ended the match
 abbrev pub AreRead : Rules → List Move → List Move → List (List ℕ) → List (List ℕ) → Type 0
 AreRead r before [] mine theirs = length mine + length theirs ≤ 1
 AreRead r before (m ∷ ms) mine theirs =

@@ -102,7 +102,7 @@ forty_in_five = record { moves = 40; base = 300000; increment = 0 }
 abbrev pub two_and_twelve : LevelSeen
 two_and_twelve = record { moves = 0; base = 120000; increment = 12000 }
 
--- what some time controls are, and how many milliseconds they give after some moves
+-- some time controls, and how many milliseconds they give after some moves
 pub record LevelsGive : Type 0 where
   pub forty : level_of (codes "40 5 0") ≡ Some forty_in_five
   pub twelve : level_of (codes "0 2 12") ≡ Some two_and_twelve
@@ -129,7 +129,7 @@ pub record LevelsGive : Type 0 where
 
 -- ---- clocks
 
--- the clocks of a game in which White has 40 moves in 5 minutes, and Black 2 minutes and 12 seconds more for each move
+-- clocks of a game in which White has 40 moves in 5 minutes, and Black 2 minutes and 12 seconds more for each move
 abbrev pub two_clocks : ClocksSeen
 two_clocks = new_clocks (by_colour forty_in_five two_and_twelve)
 
@@ -143,14 +143,14 @@ abbrev pub HaveLeft : List (Colour × ℕ) → (white black : ℕ) → Type 0
 HaveLeft moves white black = (remaining (after_times two_clocks moves) White ≡ white)
     × (remaining (after_times two_clocks moves) Black ≡ black)
 
--- what moves leave on the clocks
+-- what these moves leave on the clocks
 pub record ClocksGoOn : Type 0 where
   pub start : HaveLeft [] 300000 120000
-  -- White moves in 1,001 milliseconds, Black in 5 seconds, for which it gets 12, and White again in 2
+  -- White moves in 1,001 milliseconds, Black in 5 seconds (and gets 12 more), and White again in 2
   pub white : HaveLeft ((White, 1001) ∷ []) 298999 120000
   pub black : HaveLeft ((White, 1001) ∷ (Black, 5000) ∷ []) 298999 127000
   pub again : HaveLeft ((White, 1001) ∷ (Black, 5000) ∷ (White, 2000) ∷ []) 296999 127000
-  -- White makes 39 moves in a second each, and the 40th, by which it gets 5 minutes more
+  -- White makes 39 moves in a second each, and a 40th, for which it gets 5 minutes more
   pub last : HaveLeft (replicate 39 (White, 1000)) 261000 120000
   pub next_session : HaveLeft (replicate 40 (White, 1000)) 560000 120000
   -- a move that takes all that White has
@@ -158,7 +158,7 @@ pub record ClocksGoOn : Type 0 where
 
 -- ---- lines that are sent
 
--- a match from the initial position, 40 moves in 5 minutes, in which draws are claimed
+-- rules of a match from the initial position, 40 moves in 5 minutes, in which draws must be claimed
 abbrev pub worked_rules : Rules
 worked_rules =
     rules_of initial_setup (λ S. forty_in_five) (record { flag = false; reply = None }) rules_of_draws.Claimed 20000
@@ -175,7 +175,7 @@ e4 = record { from = 12; to = 28; promotion = None }
 abbrev pub e5 : Move
 e5 = record { from = 52; to = 36; promotion = None }
 
--- this match after 1 e4, which took White 1,001 milliseconds; only Black's engine has `usermove` on
+-- a match after 1 e4, which took White 1,001 milliseconds; only Black's engine has `usermove` on
 abbrev pub after_e4 : Match
 after_e4 = record {
   phase = AfterMove White;
@@ -185,7 +185,7 @@ after_e4 = record {
   since = None;
 }
 
--- this match after 1 e4 e5, which took Black 2,000 milliseconds
+-- the match after 1 e4 e5, which took Black 2,000 milliseconds
 abbrev pub after_e5 : Match
 after_e5 = record {
   phase = AfterMove Black;
@@ -199,13 +199,13 @@ after_e5 = record {
 abbrev pub AreSentAs : List SentLine → Text → Type 0
 AreSentAs lines text = bytes_of lines ≡ codes text
 
--- what engines are sent in this match: the lines that begin the handshakes, first White's, and that open three turns
+-- what engines are sent: the lines that begin the handshakes, first White's, and that open three turns
 pub record LinesAreSent : Type 0 where
   pub handshake : AreSentAs (beginning.to White) "xboard\nprotover 2\n"
   pub only_white : AreSentAs (beginning.to Black) ""
   pub second_handshake : AreSentAs ((handshake_done worked_rules White beginning.after).to Black) "xboard\nprotover 2\n"
   pub first_turn : AreSentAs (opening worked_rules beginning.after White) "time 30000\notim 30000\ngo\n"
-  -- a first turn after a move: the move comes before the clocks, which are rounded down (of 298,999 milliseconds)
+  -- a first turn after a move: the move comes before the clocks, which are rounded down
   pub answer : AreSentAs (opening worked_rules after_e4 Black) "usermove e2e4\ntime 30000\notim 29899\ngo\n"
   -- a later turn: the move comes after the clocks
   pub later_turn : AreSentAs (opening worked_rules after_e5 White) "time 29899\notim 29800\ne7e5\n"
@@ -219,11 +219,11 @@ pub record LinesAreSent : Type 0 where
 
 -- ---- bare kings
 
--- whether White has only its king, with these pieces on the board
+-- whether White has only its king on this board
 abbrev pub is_bare : List (Option Man) → Bool
 is_bare men = has_bare_king White men
 
--- a bare king, whatever the other side has, and kings that are not bare
+-- kings that are bare, whatever the other side has, or not
 pub record KingsAreBare : Type 0 where
   pub king : is_bare (man_of White King ∷ None ∷ man_of Black King ∷ man_of Black Queen ∷ []) ≡ true
   pub queen : is_bare (man_of White King ∷ man_of White Queen ∷ man_of Black King ∷ []) ≡ false
@@ -234,7 +234,7 @@ pub record KingsAreBare : Type 0 where
 
 -- ---- ends
 
--- who wins, by why the match ended
+-- who wins, by the match's end
 pub record LosersLose : Type 0 where
   pub white_resigns : outcome_by_reason (over_by.Resigns White) ≡ BlackWins
   pub black_resigns : outcome_by_reason (over_by.Resigns Black) ≡ WhiteWins

@@ -117,7 +117,7 @@ pub record HandshakesEnd : Type 0 where
   pub no_setboard : lacks "ping=1 variants=\"normal\"" ≡ Some NoSetboard
   pub no_variant : lacks "ping=1 setboard=1 variants=\"normal\"" ≡ Some NoVariant
   pub nothing : lacks "ping=1 setboard=1" ≡ None
-  -- from the initial position only `ping` is needed
+  -- from the initial position of normal chess only `ping` is needed
   pub only_ping : missing worked_rules (items_of (codes "ping=1 variants=\"suicide\"")) ≡ None
   -- if both engines lack something, it is White's fault
   pub both_lack : (judged worked_rules (Some NoSetboard) (Some NoPing) beginning.after).after.phase
@@ -130,11 +130,11 @@ pub record HandshakesEnd : Type 0 where
 
 -- ---- silences
 
--- these rules, but with a limit of 5,000 milliseconds for a reply
+-- `worked_rules`, but with a limit of 5,000 milliseconds for a reply
 abbrev pub five_seconds : Rules
 five_seconds = record worked_rules { patience = record { flag = false; reply = Some 5000 } }
 
--- the phase of the match, with this limit, after a silence of White at this moment
+-- the phase of the match, by these rules, after a silence of White at this moment
 abbrev pub after_silence : Phase → ℕ → Phase
 after_silence phase moment = (effect five_seconds (match_in phase) (Silent White moment)).after.phase
 
@@ -188,8 +188,8 @@ resigned_later = by_line after_e4 White "resign"
 abbrev pub broken : Effect
 broken = effect worked_rules after_e4 (FailsToWrite Black)
 
--- what Black is sent if the output of White's engine ends in the handshake of a match that begins with this FEN of
--- normal chess; `None` if the FEN is refused
+-- what Black is sent if the output of White's engine ends in the handshake of a match from this FEN of normal chess;
+-- `None` if the FEN is refused
 abbrev pub sent_at_fault : Text → Option (List ℕ)
 sent_at_fault fen = option_map
     (λ start. bytes_of ((effect (record worked_rules { start = start }) beginning.after (OutputEnds White)).to Black))
@@ -210,7 +210,7 @@ pub record EndLinesAreSent : Type 0 where
   -- a side to which writing failed is sent nothing more
   pub broken_off : AreSentAs (broken.to Black) ""
   pub others : AreSentAs (broken.to White) "result * {Black can not be written}\nquit\n"
-  -- a start that ends the game is the result, also if a fault ends the match
+  -- if the start ends the game, that is the result, also after a fault
   pub stalemate : sent_at_fault "7k/5Q2/6K1/8/8/8/8/8 b - - 0 1" ≡ Some (codes "result 1/2-1/2 {Stalemate}\nquit\n")
   -- the end is sent to White first; before it, the side whose line came is sent its block first
   pub at_the_end : sides_due (match_in (BeforeMove Black 1000)) Black "resign" ≡ White ∷ Black ∷ []
