@@ -76,7 +76,8 @@ pub fn games_end_at_verdicts()
 
 /// States a law and does nothing: the two engines' lines fix which moves each is sent, but for the last. Their `move`
 /// lines denote moves in turn. Each engine is sent the other's, each once and in order, in SAN or by squares, as its
-/// handshake asks for; at most the last is not sent. This holds at each moment of a match.
+/// handshake asks for. At most the last is not sent, and at the end only if the match ended because writing to the
+/// engine failed. This holds at each moment of a match.
 pub fn each_is_sent_the_others()
     ensures said { InEachMatch ItemsAreSaid }
     ensures sent { InEachMatch (EachIsSentOthersMoves true) }
@@ -213,9 +214,9 @@ pub fn agreed_draws_are_offered()
     ensures { InEachMatch AgreedDrawsAreOffered }
 {}
 
-/// States a law and does nothing: whenever a line of a side is read while an offer of a draw by the other side is open,
-/// this side was sent `draw`, unless its engine has the feature off. A side is sent `draw` at most as often as the
-/// other side offers a draw, and at most once more than it makes moves; so a repeated offer is not passed on again.
+/// States a law and does nothing: whenever a line of a side is read while the other side's offer of a draw is open, the
+/// side of this line was sent `draw`, unless its engine has the feature off. A side is sent `draw` at most as often as
+/// the other side offers a draw, and at most once more than it makes moves; so a repeated offer is not passed on again.
 pub fn offers_are_passed_on()
     ensures passed { AtEachLine OffersArePassedOn }
     ensures offered { AtEachMoment DrawsAreOffered }
