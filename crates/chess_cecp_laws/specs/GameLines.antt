@@ -114,10 +114,10 @@ pub record ByTheGame (session : SessionSeen) : Type 0 where
   pub shown_result : session.state ≡ record after_e4 { declared = Some black_resigned }
       → IsAnswered session "showstate"
       "# state ply 1 rep 1 clock 0 claims none verdict none declared 1-0 {Black resigns}\n"
-  -- a game of one half-move: each line of its PGN has `# ` before it
+  -- each line of a PGN has `# ` before it
   pub shown_pgn : session.tags ≡ unknown_tags → session.state ≡ after_e4 → IsAnswered session "showpgn"
       "# [Event \"?\"]\n# [Site \"?\"]\n# [Date \"????.??.??\"]\n# [Round \"?\"]\n# [White \"?\"]\n# [Black \"?\"]\n# [Result \"*\"]\n# [Termination \"unterminated\"]\n# \n# 1. e4 *\n# \n"
-  -- a game in which no draw can be claimed, and one in which it can
+  -- games in which no draw can be claimed, and in which one can
   pub no_claim : is_over session.state ≡ false
       → draw_claim (claims session.state.start session.state.moves) ≡ None
       → IsAnswered session "claim" "Error (no claim): claim\n"
@@ -138,7 +138,7 @@ pub record ByTheGame (session : SessionSeen) : Type 0 where
   pub drawn_by_the_board : verdict_now session.state ≡ Some Stalemate
       → IsAnswered session "result 1-0 {Black resigns}"
       "Error (the board says otherwise): result 1-0 {Black resigns}\n"
-  -- a comment holds no brace: `?` takes the place of each
+  -- braces in a comment become `?`
   pub braces : verdict_now session.state ≡ None
       → Declares session "result 1-0 {Black {resigns}}" "" WhiteWins "Black ?resigns?"
   -- FENs that are refused

@@ -17,7 +17,7 @@ use Rattle.chess_cecp.specs.Session.{session_response}
 -- ---- words that no command has
 
 -- the first words of all lines that a session knows: that of an empty line, of those that it ignores, since they
--- concern an engine that plays, and of the others
+-- concern an engine that plays, and of its commands
 abbrev pub known_words : List (List ℕ)
 known_words =
     [] ∷ codes "xboard" ∷ codes "accepted" ∷ codes "rejected" ∷ codes "force" ∷ codes "random" ∷ codes "hard"
@@ -27,7 +27,7 @@ known_words =
     ∷ codes "claim" ∷ codes "ping" ∷ codes "protover" ∷ codes "variant" ∷ codes "go" ∷ codes "showfen"
     ∷ codes "showmoves" ∷ codes "showstate" ∷ codes "showpgn" ∷ codes "quit" ∷ []
 
--- this line is answered as an unknown command, with its text, and the session goes on as it was
+-- this line is answered as an unknown command, by its text, and the session goes on as it was
 pub record IsUnknown (session : SessionSeen) (line : LineSeen) : Type 0 where
   pub text : (session_response session line).text
       ≡ codes "Error (unknown command): " ++ (line.text ++ new_line ∷ [])
@@ -113,7 +113,7 @@ SessionLinesAreAnswered = (session : SessionSeen) → LinesAreAnswered session
 
 -- ---- lines of an input
 
--- the texts of the lines of an input that has ended, and that gave these bytes, none of more than nine a line
+-- the texts of the lines of an input that has ended, and that gave these bytes; a line of more than nine is too long
 abbrev pub texts_of : List ℕ → List (List ℕ)
 texts_of bytes = map (λ (line : LineSeen). line.text) (stream_lines 9 true bytes)
 

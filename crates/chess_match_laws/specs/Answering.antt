@@ -65,12 +65,12 @@ pub record AnswersAll (r : Rules) (S : Colour) (H : List Act) : Type 0 where
   -- whenever no line of it had come yet, it was still in time
   pub waits : (before after : List Act) (moment : ℕ) → H ≡ before ++ Happens (Silent S moment) ∷ after
       → let m = match_after r beginning.after before in is_beyond r m m.phase S moment ≡ false
-  -- its output did not end, and no read from it and no write to it failed
+  -- its output did not end, and no read or write failed
   pub goes_on : has_ended S H ≡ false
   pub is_read : has_failed_read S H ≡ false
   pub is_written : is_broken H S ≡ false
 
--- the verdict that this side has mated the other
+-- the verdict that this side mates
 abbrev pub mates : Colour → Verdict
 mates S = by_colour WhiteMates BlackMates S
 

@@ -67,7 +67,8 @@ AtEachLine P = (r : Rules) (before after : List Act) (S : Colour) (text : Option
     → IsMatch r (before ++ Happens (Line S text moment) ∷ after) final
     → P r S before (match_after r beginning.after before)
 
--- whenever a side was sent the lines that ask for its move and the clock is read, `P` holds of the same
+-- whenever the clock is read after the lines that ask a side for its move, `P` holds of the rules, the side, the acts
+-- before and the state then
 abbrev pub AtEachOpening : (Rules → Colour → List Act → Match → Type 0) → Type 0
 AtEachOpening P = (r : Rules) (before after : List Act) (S : Colour) (moment : ℕ) (final : Match)
     → IsMatch r (before ++ Happens (Opened S moment) ∷ after) final
@@ -139,7 +140,7 @@ pub record ReadFrom (s : Streams) (H : List Act) : Type 0 where
   pub lines : (S : Colour) → (rest : List (Option (List ℕ))) × (s.lines S ≡ lines_read S H ++ rest)
   -- an output that ended gave all its lines
   pub ends : (S : Colour) → has_ended S H ≡ true → (s.lines S ≡ lines_read S H) × (s.fails S ≡ false)
-  -- one that could not be read on gave all its lines too
+  -- so did one of which a read failed
   pub failures : (S : Colour) → has_failed_read S H ≡ true → (s.lines S ≡ lines_read S H) × (s.fails S ≡ true)
   pub silences : AreSilent s.silent H
   -- the reading n of the clock shows `s.moments n`
@@ -343,8 +344,8 @@ abbrev pub UsedTimesAreDifferences : Rules → List Act → Match → Type 0
 UsedTimesAreDifferences r H m = (S : Colour) → (rest : List ℕ) × (length rest ≤ 1)
     × (move_times S None H ≡ (m.seat S).used ++ rest) × (is_over m.phase ≡ false → rest ≡ [])
 
--- the time that each side `S` has left and the sum of what its moves took are what it was given so far, so that its
--- clock never goes below 0
+-- what each side `S` has left and what its moves took add up to what it was given so far, so its clock never goes below
+-- 0
 abbrev pub ClocksDoNotUnderflow : Rules → List Act → Match → Type 0
 ClocksDoNotUnderflow r H m =
     (S : Colour) → clock r m S + sum (m.seat S).used ≡ allotted (r.level S) (length (m.seat S).used)

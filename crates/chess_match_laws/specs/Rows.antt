@@ -40,7 +40,7 @@ pub record SetUpBy (r : Rules) (S : Colour) (sent : List ℕ) : Type 0 where
   pub chess960 : r.start.variant ≡ Fischerandom → r.level S ≡ record { moves = 0; base = 120000; increment = 12000 }
       → (before : List ℕ) × (sent ≡ before ++ chess960_setup r.start)
 
--- while `pong 1` of the side `S` is awaited, its setup is what it was sent last
+-- while the side `S` owes `pong 1`, its setup is what it was sent last
 abbrev pub IsSetUp : Rules → Colour → List Act → Match → Type 0
 IsSetUp r S H m = m.phase ≡ Setup S → SetUpBy r S (bytes_of (lines_given S H))
 
@@ -80,7 +80,7 @@ abbrev pub one_if : Bool → ℕ
 one_if true = 1
 one_if false = 0
 
--- how often the clock was read for the opening of a turn of the side `S`
+-- how often the clock was read for openings of the side `S`
 abbrev pub openings : Colour → List Act → ℕ
 openings S [] = 0
 openings S (Happens (Opened side moment) ∷ H) = one_if (same_colour side S) + openings S H

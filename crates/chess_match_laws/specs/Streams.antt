@@ -72,12 +72,12 @@ pub record Streams : Type 0 where
 
 -- ---- moves sent
 
--- the text of the move in a line that is sent, as a list of one; empty for other lines
+-- the text of the move in a sent line, as a list of one; empty for other lines
 abbrev pub move_sent : SentLine → List (List ℕ)
 move_sent (MoveSent prefixed text) = text ∷ []
 move_sent _ = []
 
--- the texts of the moves in these lines that are sent
+-- the texts of the moves in these sent lines
 abbrev pub moves_sent : List SentLine → List (List ℕ)
 moves_sent lines = flat_map move_sent lines
 
@@ -107,7 +107,7 @@ abbrev pub lines_after_pong : List (Option (List ℕ)) → List (Option (List �
 lines_after_pong [] = []
 lines_after_pong (l ∷ ls) = if is_pong 1 (line_kind l) then ls else lines_after_pong ls
 
--- the texts of the moves in `move` lines, in order
+-- the texts of the moves in `move` lines
 abbrev pub moves_said : List (Option (List ℕ)) → List (List ℕ)
 moves_said [] = []
 moves_said (l ∷ ls) = move_said (line_kind l) ++ moves_said ls

@@ -56,7 +56,7 @@ pub record LinesSay : Type 0 where
   pub no_draw : IsLine "offer peace" SaysElse
   pub no_number : IsLine "pong one" SaysElse
 
--- an item of a `feature` line: its name, and its value without quotes
+-- the name of an item of a `feature` line, and its value without quotes
 abbrev pub name_and_value : Item → List ℕ × List ℕ
 name_and_value i = (i.name, i.value.text)
 
@@ -67,7 +67,7 @@ ItemsAreRead = map name_and_value
     ≡ (codes "ping", codes "1") ∷ (codes "myname", codes "Sjeng 11") ∷ (codes "usermove", codes "0")
     ∷ (codes "done", codes "1") ∷ []
 
--- whether an engine whose `feature` lines have these items has this feature on
+-- whether an engine with these items of `feature` lines has this feature on
 abbrev pub is_on : Text → Text → Bool
 is_on name items = takes (codes name) (items_of (codes items))
 
@@ -143,7 +143,7 @@ abbrev pub HaveLeft : List (Colour × ℕ) → (white black : ℕ) → Type 0
 HaveLeft moves white black = (remaining (after_times two_clocks moves) White ≡ white)
     × (remaining (after_times two_clocks moves) Black ≡ black)
 
--- what these moves leave on the clocks
+-- what moves leave on the clocks
 pub record ClocksGoOn : Type 0 where
   pub start : HaveLeft [] 300000 120000
   -- White moves in 1,001 milliseconds, Black in 5 seconds (and gets 12 more), and White again in 2
@@ -223,13 +223,13 @@ pub record LinesAreSent : Type 0 where
 abbrev pub is_bare : List (Option Man) → Bool
 is_bare men = has_bare_king White men
 
--- kings that are bare, whatever the other side has, or not
+-- bare kings, whatever the other side has, and others
 pub record KingsAreBare : Type 0 where
   pub king : is_bare (man_of White King ∷ None ∷ man_of Black King ∷ man_of Black Queen ∷ []) ≡ true
   pub queen : is_bare (man_of White King ∷ man_of White Queen ∷ man_of Black King ∷ []) ≡ false
   pub knight : is_bare (man_of White King ∷ man_of White Knight ∷ man_of Black King ∷ []) ≡ false
   pub pawn : is_bare (man_of Black King ∷ man_of White King ∷ man_of White Pawn ∷ []) ≡ false
-  -- Black's
+  -- Black's king
   pub black_king : has_bare_king Black (man_of White King ∷ man_of White Pawn ∷ man_of Black King ∷ []) ≡ true
 
 -- ---- ends

@@ -1,4 +1,4 @@
--- What lines of engines and silences do in a match, worked out.
+-- What lines and silences of engines do in a match, worked out.
 use Rattle.std.specs.Prelude.{◌≡◌, ℕ, Bool, true, false, List, [], ◌∷◌, codes, map, option_map, Option, None, Some}
 use Prim.Native.String.{String as Text}
 use Rattle.std.specs.Result.{result_ok}
@@ -76,7 +76,7 @@ pub record OffersAreJudged : Type 0 where
   pub is_open : ((by_line (offered_by false false) White "offer draw").after.seat White).offers ≡ true
   -- White offers again
   pub again : SendsBlack (by_line (offered_by true false) White "offer draw") ""
-  -- the other side has offered a draw: so both agree
+  -- Black has offered one too: so both agree
   pub agreed : (by_line (offered_by false true) White "offer draw").after.phase ≡ Over over_by.Agreed
   -- a claim of a draw where none may be claimed is an offer too
   pub claim : SendsBlack (by_line (offered_by false false) White "1/2-1/2") "draw\n"

@@ -64,7 +64,7 @@ pub fn moves_are_read()
 pub fn games_are_lines()
     ensures { GamesAreLines }
 {
-    // The prover wants this law: a move that is read is legal.
+    // The prover needs this law: a move that is read is legal.
     read_moves_are_legal();
 }
 
@@ -178,9 +178,9 @@ pub fn acts_are_in_order()
     ensures events { NothingIsDueAtEvents }
 {}
 
-/// States a law and does nothing: an engine is set up by these lines, which are the last that it is sent before its
-/// `pong 1`. Two examples are worked out: normal chess from the initial position, if the engine's own level is 40 moves
-/// in 5 minutes, and Chess960 from any position, if it is 2 minutes and 12 seconds for each move.
+/// States a law and does nothing: the lines that an engine is sent last before its `pong 1` set it up. Two examples are
+/// worked out: normal chess from the initial position, if the engine's own level is 40 moves in 5 minutes, and Chess960
+/// from any position, if it is 2 minutes and 12 seconds for each move.
 pub fn setups_are_these_lines()
     ensures { AtEachLine IsSetUp }
 {}
