@@ -308,14 +308,14 @@ EndsAtVerdicts r H m = (length m.played ≤ r.limit)
 -- ---- clocks
 
 -- the `time` lines that each side `S` is sent show its own clock before its first move and after each of its moves, in
--- order, but for `rest`: at most the last. An engine with `time=0` is sent none
+-- order, but for `rest`: at most the last; none with `time=0`
 abbrev pub TimesAreClocks : Rules → List Act → Match → Type 0
 TimesAreClocks r H m = (S : Colour) → (rest : List ℕ) × (length rest ≤ 1)
     × (flat_map time_sent (lines_given S H) ++ rest
     ≡ (if takes (codes "time") (m.seat S).items then centiseconds (r.level S) 0 0 (m.seat S).used else []))
 
 -- the `otim` lines that each side `S` is sent show the other's clock after each of the other's moves, in order, and
--- before the first of them if `S` moves first, but for `rest`: at most the last. With `time=0` there are none
+-- before the first of them if `S` moves first, but for `rest`: at most the last; none with `time=0`
 abbrev pub OtherTimesAreClocks : Rules → List Act → Match → Type 0
 OtherTimesAreClocks r H m = (S : Colour) → (rest : List ℕ) × (length rest ≤ 1)
     × (flat_map otim_sent (lines_given S H) ++ rest
@@ -344,8 +344,7 @@ abbrev pub UsedTimesAreDifferences : Rules → List Act → Match → Type 0
 UsedTimesAreDifferences r H m = (S : Colour) → (rest : List ℕ) × (length rest ≤ 1)
     × (move_times S None H ≡ (m.seat S).used ++ rest) × (is_over m.phase ≡ false → rest ≡ [])
 
--- what each side `S` has left and what its moves took add up to what it was given so far, so its clock never goes below
--- 0
+-- what each side `S` has left and its moves took is together what it was given so far: its clock never goes below 0
 abbrev pub ClocksDoNotUnderflow : Rules → List Act → Match → Type 0
 ClocksDoNotUnderflow r H m =
     (S : Colour) → clock r m S + sum (m.seat S).used ≡ allotted (r.level S) (length (m.seat S).used)
@@ -419,9 +418,9 @@ pub record TimeForfeitsAreShown (r : Rules) (H : List Act) (final : Match) : Typ
   pub overstepped : (S : Colour) → OverstepsTime r H S
       → final.phase ≡ Over (if has_bare_king (other S) (position_after r.start final.played).men then ForfeitsToBareKing
       else Forfeits S)
-  -- a side that lost on time overstepped it
+  -- a side that lost on time overstepped it, which ended the match
   pub lost : (S : Colour) → final.phase ≡ Over (Forfeits S) → EndsOverstepped r H S
-  -- if a match ended on time against a bare king, a side overstepped its time
+  -- in a draw against a bare king a side overstepped its time, which ended the match
   pub drawn : final.phase ≡ Over ForfeitsToBareKing → (S : Colour) × EndsOverstepped r H S
 
 -- ---- few lines

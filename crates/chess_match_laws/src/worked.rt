@@ -57,9 +57,9 @@ pub fn losers_lose()
     ensures faults { FaultsAreReported }
 {}
 
-/// States a law and does nothing: a side that says, by `1-0` or `0-1`, that it has won loses by a false claim; one that
-/// says that the other side has won resigns. One that answers a move by `Illegal move` loses by that; without a move to
-/// reject the line is ignored.
+/// States a law and does nothing: in its turn a side that says, by `1-0` or `0-1`, that it has won loses by a false
+/// claim; one that says that the other side has won resigns. One that answers a move by `Illegal move` loses by that;
+/// without a move to reject the line is ignored.
 ///
 /// It refuses that a resignation by `1-0` or `0-1` is a false claim, that a legal move may be rejected, and that one
 /// may be rejected which nobody made.
