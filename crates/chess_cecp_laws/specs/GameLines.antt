@@ -150,7 +150,7 @@ pub record ByTheGame (session : SessionSeen) : Type 0 where
   pub ended : session.state.start.variant ≡ Normal
       → (response_to session "setboard 7k/5Q2/6K1/8/8/8/8/8 b - - 0 1").text ≡ codes "1/2-1/2 {Stalemate}\n"
 
--- `ByTheGame` holds of every session
+-- every session answers as `ByTheGame` says
 abbrev pub GameLinesAreAnswered : Type 0
 GameLinesAreAnswered = (session : SessionSeen) → ByTheGame session
 
@@ -170,7 +170,7 @@ abbrev pub AreShown : (threefold fifty_moves : Bool) → Text → Type 0
 AreShown threefold fifty_moves text =
     claims_text (record { threefold = threefold; fifty_moves = fifty_moves }) ≡ codes text
 
--- all four cases
+-- how claims are shown, in all cases
 pub record ClaimsAreShown : Type 0 where
   pub neither : AreShown false false "none"
   pub threefold : AreShown true false "threefold"
@@ -184,7 +184,7 @@ abbrev pub IsResult : Text → Outcome → Text → Type 0
 IsResult text outcome comment =
     read_result (codes text) ≡ Some (record { outcome = outcome; comment = codes comment })
 
--- each outcome, with a comment, with an empty one, and without one
+-- how results are read: each outcome, with a comment, with an empty one, and without
 pub record ResultsAreRead : Type 0 where
   pub white_wins : IsResult "1-0 {Black resigns}" WhiteWins "Black resigns"
   pub black_wins : IsResult "0-1 {White resigns}" BlackWins "White resigns"

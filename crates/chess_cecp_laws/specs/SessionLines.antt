@@ -107,7 +107,7 @@ pub record LinesAreAnswered (session : SessionSeen) : Type 0 where
   pub undo : session.state.moves ≡ [] → IsAnswered session "undo" "Error (command not legal now): undo\n"
   pub remove : session.state.moves ≡ [] → IsAnswered session "remove" "Error (command not legal now): remove\n"
 
--- `LinesAreAnswered` holds of every session
+-- every session answers as `LinesAreAnswered` says
 abbrev pub SessionLinesAreAnswered : Type 0
 SessionLinesAreAnswered = (session : SessionSeen) → LinesAreAnswered session
 
