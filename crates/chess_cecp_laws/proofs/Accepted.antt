@@ -1,5 +1,6 @@
--- The moves of a game that was read from a PGN are accepted by a session: reading a move asks that the game has no
--- verdict and has room, and that the word denotes a legal move (PlayedWords), and the row of `usermove` asks no more.
+-- The moves of a game that was read from a PGN are accepted by a session: reading a move requires that the game has no
+-- verdict and fewer half-moves than the limit, and that the text denotes a legal move (PlayedWords), and the row of
+-- `usermove` requires no more.
 use Rattle.std.proofs.Common.{◌≡◌, ℕ, true, false, List, [], ◌∷◌, length, None, refl, arith, nat_lt, nat_le}
 use Rattle.std.proofs.lemmas.Bool.Decides.{nat_tests}
 use Rattle.chess_base.specs.declared.man.Move.{Move}
@@ -12,7 +13,7 @@ use Rattle.chess_cecp_laws.proofs.PlayedWords.{AreRead, game_words}
 use Rattle.chess_cecp.specs.{declared.command.Command.TheVariants.UserMove, Session.becomes_judged, Session.row}
 use Rattle.chess_cecp_laws.specs.Accepted.{AreAccepted, ReadGamesAreAccepted}
 
--- in such a game `usermove` with the word plays the move
+-- in such a game `usermove` with this text plays the move
 move_accepted : (tags : Tags) (limit : ℕ) (s : State) (m : Move) → verdict_now s ≡ None → s.declared ≡ None
     → nat_lt (length s.moves) limit ≡ true → (line word : List ℕ) → reading (current s) word ≡ reads.Move m
     → row tags limit s line word UserMove ≡ becomes_judged (played s m)

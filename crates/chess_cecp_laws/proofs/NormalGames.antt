@@ -1,5 +1,5 @@
 -- In a game that starts in normal chess every later position is of normal chess too, since a move keeps the variant. So
--- each definition about the game (its positions, repetitions, verdict and PGN) equals the one for normal chess alone,
+-- each definition about the game (its positions, repetitions, verdict and PGN) equals the one for normal chess only,
 -- whose name begins with `normal_`. Lemmas named .._kept say this equation, for one definition each.
 use Rattle.std.proofs.Common.{◌≡◌, ℕ, cond, Bool, ◌||◌, List, [], ◌∷◌, ◌++◌, codes, None, refl, ap, ◌∙◌, if◌then◌else◌, count_by, not}
 use Rattle.std.specs.List.{list_any}

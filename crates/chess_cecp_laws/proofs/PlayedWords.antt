@@ -1,6 +1,6 @@
--- The move texts of a game that pgn_read reads without a fault: a list of words, each of which denotes the game's move
--- at its index, read where the game has no verdict yet and has room (game_words). It follows the definitions of reading
--- downwards: a token, the tokens of the moves, the tags before them, the whole text.
+-- The moves' texts (words) of a game that pgn_read reads without a fault: each denotes the game's move at its index,
+-- and was read where the game had no verdict yet and fewer half-moves than the limit (game_words). The lemmas follow
+-- the definitions of reading downwards: a token, the tokens of the moves, the tags before them, the whole text.
 use Rattle.std.proofs.Common.{◌≡◌, ℕ, Bool, true, false, cond, List, [], ◌∷◌, ◌++◌, length, drop, Option, Some, None, is_some, Result, Ok, Err, refl, sym, subst, ◌∙◌, inl, inr, ◌⊎◌, append_assoc, append-nil, ◌||◌, ◌+◌, ◌-◌, nat_lt, slice_get}
 use Rattle.std.specs.{List.list_all, List.filter_map, Option.option_map_or, Result.result_err}
 use Rattle.chess_base.specs.{declared.man.Move.Move, declared.man.Variant.Variant, declared.setup.Setup.Setup, Initial.initial_setup_of}
@@ -63,7 +63,7 @@ open_row None true left x next e = (refl, refl, e)
 abbrev After : ℕ → State → State → Type 0
 After limit s next = (next ≡ s) ⊎ ((m : Move) × IsPlayed limit s m × (next ≡ played s m))
 
--- a word in the place of a move, with which reading goes on: it denotes a move, and the next game has that move more
+-- a word of a move, with which reading goes on: it denotes a move, and the next game has that move more
 word_plays : (limit : ℕ) (s : State) (left : ℕ) (word : List ℕ) (next : State) (r : Reading)
     → reading (current s) word ≡ r → move_row true limit s left r ≡ Goes_on next → After limit s next
 word_plays limit s left word next reads.NotAMove is e = absurd (cc)
@@ -104,7 +104,7 @@ token_goes_on limit total s (left, Bad) next e = absurd (cc)
 -- ---- the moves
 
 -- reading the tokens `ts` after the tags, from the game `s` on, ended a game: its moves after those of `s` have such
--- words. By induction on the tokens, by the row of each (token_goes_on)
+-- words. By induction on the tokens, with token_goes_on for each
 moves_words : (limit total : ℕ) (termination : Option Termination) (s : State) (ts : List (ℕ × Token))
     → IsEnd (moves_read true limit total termination s ts).answer
     → Words limit s (moves_read true limit total termination s ts).state
@@ -177,7 +177,7 @@ from_words : (limit : ℕ) (p : Setup) (r : State) (w : Words limit (from_start 
 from_words limit p r w = subst (λ q. AreRead limit (from_start q) w.words r.moves) (sym w.start)
     (subst (λ ms. AreRead limit (from_start p) w.words ms) w.all w.are)
 
--- for a text that is read as a game: its words, one for each of the game's moves
+-- a text that is read as a game has such words, one for each of the game's moves
 pub game_words : (limit : ℕ) (text : List ℕ) (at : ℕ) (end : PgnEnd)
     → (pgn_read true limit text at).answer ≡ Ok (Some end)
     → (words : List (List ℕ)) × AreRead limit (from_start (pgn_read true limit text at).state.start) words

@@ -20,7 +20,7 @@ abbrev Begins : List ℕ → Type 0
 Begins [] = Unit {0}
 Begins (c ∷ cs) = 33 ≤ c
 
--- the letters of all men are above it
+-- the letters of all pieces are above it
 by_letter : (c : Colour) (k : Kind) → 33 ≤ letter_by c k
 by_letter White King = omega arith
 by_letter White Queen = omega arith

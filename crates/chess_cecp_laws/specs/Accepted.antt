@@ -1,4 +1,4 @@
--- Games that were read are accepted by a session, move by move.
+-- A session accepts the moves of each game that is read from a PGN.
 use Rattle.std.specs.Prelude.{◌≡◌, ℕ, true, List, [], ◌∷◌, Some, Ok}
 use Rattle.chess_base.specs.declared.man.Move.{Move}
 use Rattle.chess_game.specs.Game.{State, from_start, played, current}
@@ -10,8 +10,8 @@ use Rattle.chess_pgn.specs.GameRead.{pgn_read}
 use Rattle.chess_cecp.specs.declared.command.Command.TheVariants.{UserMove}
 use Rattle.chess_cecp.specs.Session.{becomes_judged, row}
 
--- from the game `s` on, sent by `usermove` to a session of games of at most `limit` half-moves, these moves are
--- accepted one after another: each is denoted by a text, and whichever text denotes it, the session plays it
+-- from the game `s` on, `usermove` plays these moves one after another: each is denoted by some text, and is played by
+-- whichever text denotes it. `limit` is the most half-moves of a game
 abbrev pub AreAccepted : Tags → ℕ → State → List Move → Type 0
 AreAccepted tags limit s [] = Unit {0}
 AreAccepted tags limit s (m ∷ ms) =
@@ -20,7 +20,7 @@ AreAccepted tags limit s (m ∷ ms) =
     → row tags limit s line word UserMove ≡ becomes_judged (played s m))
     × AreAccepted tags limit (played s m) ms
 
--- the moves of a game whose text was read without a fault are accepted from its start on; `tags` are the session's
+-- if a game is read without a fault, from the offset `at` of a PGN on, its moves are accepted; `tags` are the session's
 abbrev pub ReadGamesAreAccepted : Type 0
 ReadGamesAreAccepted =
     (tags : Tags) → (limit : ℕ) → (text : List ℕ) → (at : ℕ) → (end : PgnEnd)

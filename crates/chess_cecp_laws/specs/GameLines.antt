@@ -1,4 +1,4 @@
--- Lines of an interface that a session answers by its game, as texts (CECP, version 2; `claim` is this project's own).
+-- Lines that a session answers by its game (CECP, version 2; `claim` is this project's own).
 use Rattle.std.specs.Prelude.{◌≡◌, ◌<◌, ◌≤◌, Bool, true, false, [], ◌∷◌, ◌++◌, codes, length, replicate, None, Some}
 use Prim.Native.String.{String as Text}
 use Rattle.std.specs.List.{list_any}
@@ -43,7 +43,7 @@ pub record Plays (session : SessionSeen) (line answer : Text) (m : Move) : Type 
   pub text : (response_to session line).text ≡ codes answer
   pub state : (response_to session line).state ≡ record session { state = played session.state m }
 
--- the game from the initial position by 1 e4
+-- the game 1 e4
 abbrev pub after_e4 : State
 after_e4 = record {
   start = initial_setup;
@@ -51,7 +51,7 @@ after_e4 = record {
   declared = None;
 }
 
--- the result of a game that Black has resigned
+-- the result after Black resigned
 abbrev pub black_resigned : Declared
 black_resigned = record { outcome = WhiteWins; comment = codes "Black resigns" }
 
@@ -74,7 +74,7 @@ pub record ByTheGame (session : SessionSeen) : Type 0 where
       → IsAnswered session "usermove e4" "Illegal move (game over): e4\n"
   pub claim_after_end : is_over session.state ≡ true
       → IsAnswered session "claim" "Error (command not legal now): claim\n"
-  -- a game that has as many half-moves as it may have
+  -- a game that has the most half-moves
   pub too_long : is_over session.state ≡ false → session.limit ≤ length session.state.moves
       → IsAnswered session "usermove e4" "Error (game too long): e4\n"
   -- a game that is on, in which `e4` denotes a move that ends nothing, one that mates, several moves, or none
@@ -114,10 +114,10 @@ pub record ByTheGame (session : SessionSeen) : Type 0 where
   pub shown_result : session.state ≡ record after_e4 { declared = Some black_resigned }
       → IsAnswered session "showstate"
       "# state ply 1 rep 1 clock 0 claims none verdict none declared 1-0 {Black resigns}\n"
-  -- a game of one half-move: each line of its PGN has `# ` before it
+  -- each line of a PGN has `# ` before it
   pub shown_pgn : session.tags ≡ unknown_tags → session.state ≡ after_e4 → IsAnswered session "showpgn"
       "# [Event \"?\"]\n# [Site \"?\"]\n# [Date \"????.??.??\"]\n# [Round \"?\"]\n# [White \"?\"]\n# [Black \"?\"]\n# [Result \"*\"]\n# [Termination \"unterminated\"]\n# \n# 1. e4 *\n# \n"
-  -- a game in which no draw can be claimed, and one in which it can
+  -- games in which no draw can be claimed, and in which one can
   pub no_claim : is_over session.state ≡ false
       → draw_claim (claims session.state.start session.state.moves) ≡ None
       → IsAnswered session "claim" "Error (no claim): claim\n"
@@ -127,7 +127,7 @@ pub record ByTheGame (session : SessionSeen) : Type 0 where
   pub fifty_moves : is_over session.state ≡ false
       → draw_claim (claims session.state.start session.state.moves) ≡ Some FiftyMoves
       → Declares session "claim" "1/2-1/2 {50-move rule}\n" Draw "50-move rule"
-  -- a game without a verdict, with the same one, and with two others
+  -- a game without a verdict, with the same one, and with others
   pub new_result : verdict_now session.state ≡ None
       → Declares session "result 1-0 {Black resigns}" "" WhiteWins "Black resigns"
   pub same_result : verdict_now session.state ≡ Some WhiteMates
@@ -138,26 +138,26 @@ pub record ByTheGame (session : SessionSeen) : Type 0 where
   pub drawn_by_the_board : verdict_now session.state ≡ Some Stalemate
       → IsAnswered session "result 1-0 {Black resigns}"
       "Error (the board says otherwise): result 1-0 {Black resigns}\n"
-  -- a comment holds no brace: `?` takes the place of each
+  -- braces in a comment become `?`
   pub braces : verdict_now session.state ≡ None
       → Declares session "result 1-0 {Black {resigns}}" "" WhiteWins "Black ?resigns?"
-  -- FENs that are refused, each by its fault
+  -- FENs that are refused
   pub no_fen : session.state.start.variant ≡ Normal
       → IsAnswered session "setboard e4" "tellusererror Illegal position (fields)\n"
   pub no_king : session.state.start.variant ≡ Normal
       → IsAnswered session "setboard 8/8/8/8/8/8/8/4K3 w - - 0 1" "tellusererror Illegal position (kings)\n"
-  -- a FEN of a position that ends its game: a stalemate (5.2.1)
+  -- a FEN of a stalemate, which ends the game (5.2.1)
   pub ended : session.state.start.variant ≡ Normal
       → (response_to session "setboard 7k/5Q2/6K1/8/8/8/8/8 b - - 0 1").text ≡ codes "1/2-1/2 {Stalemate}\n"
 
--- in every session these lines are answered as `ByTheGame` says
+-- every session answers as `ByTheGame` says
 abbrev pub GameLinesAreAnswered : Type 0
 GameLinesAreAnswered = (session : SessionSeen) → ByTheGame session
 
 -- ---- moves without `usermove`
 
--- in every session: a line that is only a move, such as `e4`, gets the response of `usermove` with this move. Its first
--- word is none of `known_words`, and it has a move's shape
+-- in every session: a line that has a move's shape, such as `e4`, and whose first word is none of `known_words`, gets
+-- the response of `usermove` with this move
 abbrev pub BareMovesAreMoves : Type 0
 BareMovesAreMoves = (session : SessionSeen) (bare named : LineSeen) → bare.too_long ≡ false → named.too_long ≡ false
     → list_any (bytes_eq (word_of bare.text)) known_words ≡ false → shape bare.text ≡ true
@@ -165,12 +165,12 @@ BareMovesAreMoves = (session : SessionSeen) (bare named : LineSeen) → bare.too
 
 -- ---- draws that can be claimed
 
--- `showstate` shows these claims so
+-- `showstate` shows by this text which draws can be claimed
 abbrev pub AreShown : (threefold fifty_moves : Bool) → Text → Type 0
 AreShown threefold fifty_moves text =
     claims_text (record { threefold = threefold; fifty_moves = fifty_moves }) ≡ codes text
 
--- how claims are shown
+-- how claims are shown, in all cases
 pub record ClaimsAreShown : Type 0 where
   pub neither : AreShown false false "none"
   pub threefold : AreShown true false "threefold"
@@ -179,12 +179,12 @@ pub record ClaimsAreShown : Type 0 where
 
 -- ---- results that are declared
 
--- what follows `result ` declares this outcome, with this comment
+-- the argument of `result`, as this text, declares this outcome, with this comment
 abbrev pub IsResult : Text → Outcome → Text → Type 0
 IsResult text outcome comment =
     read_result (codes text) ≡ Some (record { outcome = outcome; comment = codes comment })
 
--- each outcome, with a comment, with an empty one, and without one
+-- how results are read: each outcome, with a comment, with an empty one, and without
 pub record ResultsAreRead : Type 0 where
   pub white_wins : IsResult "1-0 {Black resigns}" WhiteWins "Black resigns"
   pub black_wins : IsResult "0-1 {White resigns}" BlackWins "White resigns"
@@ -196,11 +196,11 @@ pub record ResultsAreRead : Type 0 where
 
 -- ---- faults of a FEN
 
--- `tellusererror Illegal position (NAME)` names this fault so
+-- the name of this fault in `tellusererror Illegal position (NAME)`
 abbrev pub IsNamed : FenFault → Text → Type 0
 IsNamed fault name = fen_fault_name fault ≡ codes name
 
--- how faults of a FEN are named: those of its fields, and those of the position
+-- the names of a FEN's faults
 pub record FaultsAreNamed : Type 0 where
   pub fields : IsNamed faults.Fields "fields"
   pub placement : IsNamed faults.Placement "placement"

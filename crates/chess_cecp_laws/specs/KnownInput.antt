@@ -1,5 +1,4 @@
--- What a server of lines, such as a session, answers where it is known which bytes its input has to give: however reads
--- cut them.
+-- What a server of lines, such as a session, answers to an input whose bytes are known, however reads cut them.
 use Rattle.std.specs.Prelude.{◌≡◌, ℕ, nat_lt, true, List, ◌++◌, length}
 use Rattle.std.specs.Option.{IfSome}
 use Rattle.byte_devices.specs.Transfers.{FromInput, Devices, OutputTook, all_flushed}
@@ -12,13 +11,13 @@ use Rattle.chess_cecp.specs.declared.session.TheConstants.{COMMAND_LEN}
 abbrev pub lines_of : List ℕ → List LineSeen
 lines_of bytes = stream_lines COMMAND_LEN true bytes
 
--- if it is known which bytes the input had to give, the lines that were read are the first of their lines
+-- if all bytes of the input are known, the lines that were read are the first of their lines
 abbrev pub AreFirstLines : Devices → FromInput → Type 0
 AreFirstLines d i = IfSome d.input.known_bytes (λ bytes. (more : List LineSeen)
     × (lines_of bytes ≡ lines_read i ++ more))
 
--- if it is known which bytes the input had to give, the server `respond` answered their lines, up to one with which it
--- ends; the answers were written and flushed. `s` and `s'` are its states before and after
+-- if all bytes of the input are known, the server `respond` answered their lines, up to one with which it ends; the
+-- answers were written and flushed. `s` and `s'` are its states before and after
 abbrev pub AnswersInput : {S : Type 0} → Server S → S → S → Devices → Devices → Type 0
 AnswersInput respond s s' d d' = IfSome d.input.known_bytes (λ bytes.
     let due = responses respond s (lines_of bytes) in

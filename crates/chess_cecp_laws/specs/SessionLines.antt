@@ -1,5 +1,4 @@
--- Lines of an interface and what every session answers to them, as texts (CECP, version 2); and how an input is cut
--- into lines.
+-- What every session answers to some lines (CECP, version 2), and how an input is cut into lines.
 use Rattle.std.specs.Prelude.{◌≡◌, Bool, true, false, List, [], ◌∷◌, ◌++◌, ℕ, codes, length, map, replicate}
 use Prim.Native.String.{String as Text}
 use Rattle.std.specs.List.{AllByRecursion, list_any}
@@ -17,8 +16,8 @@ use Rattle.chess_cecp.specs.Session.{session_response}
 
 -- ---- words that no command has
 
--- the first words of all lines that mean something to a session: of an empty line, of what concerns only an engine that
--- plays, and of what the session does
+-- the first words of all lines that a session knows: that of an empty line, of those that it ignores, since they
+-- concern an engine that plays, and of its commands
 abbrev pub known_words : List (List ℕ)
 known_words =
     [] ∷ codes "xboard" ∷ codes "accepted" ∷ codes "rejected" ∷ codes "force" ∷ codes "random" ∷ codes "hard"
@@ -28,7 +27,7 @@ known_words =
     ∷ codes "claim" ∷ codes "ping" ∷ codes "protover" ∷ codes "variant" ∷ codes "go" ∷ codes "showfen"
     ∷ codes "showmoves" ∷ codes "showstate" ∷ codes "showpgn" ∷ codes "quit" ∷ []
 
--- the session answers this line as an unknown command: the line is shown, and the session goes on as it was
+-- this line is answered as an unknown command, by its text, and the session goes on as it was
 pub record IsUnknown (session : SessionSeen) (line : LineSeen) : Type 0 where
   pub text : (session_response session line).text
       ≡ codes "Error (unknown command): " ++ (line.text ++ new_line ∷ [])
@@ -36,7 +35,7 @@ pub record IsUnknown (session : SessionSeen) (line : LineSeen) : Type 0 where
   pub goes_on : (session_response session line).ends ≡ false
 
 -- in every session: a line whose first word is none of `known_words`, and which has no move's shape, is answered as an
--- unknown command; it is not ignored
+-- unknown command
 abbrev pub OtherWordsAreUnknown : Type 0
 OtherWordsAreUnknown = (session : SessionSeen) (line : LineSeen) → line.too_long ≡ false
     → list_any (bytes_eq (word_of line.text)) known_words ≡ false → shape line.text ≡ false → IsUnknown session line
@@ -62,20 +61,19 @@ pub record Becomes (session : SessionSeen) (line : Text) (s : State) : Type 0 wh
   pub text : (response_to session line).text ≡ []
   pub state : (response_to session line).state ≡ record session { state = s }
 
--- what an engine would need, and an arbiter doesn't (CECP, sections 8 and 9): one line for each ignored command, and an
--- empty one
+-- a line for each command that an arbiter ignores, since it plays no side (CECP, sections 8 and 9), and an empty one
 abbrev pub lines_for_engines : List Text
 lines_for_engines =
     "" ∷ "xboard" ∷ "accepted ping" ∷ "rejected usermove" ∷ "force" ∷ "random" ∷ "hard" ∷ "easy" ∷ "post" ∷ "nopost"
     ∷ "?" ∷ "computer" ∷ "name Sjeng" ∷ "rating 2000 1900" ∷ "ics freechess.org" ∷ "draw" ∷ "level 40 5 0" ∷ "st 30"
     ∷ "sd 4" ∷ "time 30000" ∷ "otim 29000" ∷ []
 
--- the line by which a session says its features
+-- the line with a session's features
 abbrev pub feature_line : Text
 feature_line =
     "feature ping=1 setboard=1 playother=0 san=0 usermove=1 time=1 draw=1 sigint=0 sigterm=0 reuse=1 analyze=0 colors=0 debug=1 myname=\"CECP arbiter\" variants=\"normal,fischerandom\" done=1\n"
 
--- what this session does with some lines: it ignores them, answers them, or changes the game
+-- what this session does with some lines
 pub record LinesAreAnswered (session : SessionSeen) : Type 0 where
   pub ignored : AllByRecursion (IsIgnored session) lines_for_engines
   -- a number has at most nine digits; zeros at its front mean nothing
@@ -109,22 +107,22 @@ pub record LinesAreAnswered (session : SessionSeen) : Type 0 where
   pub undo : session.state.moves ≡ [] → IsAnswered session "undo" "Error (command not legal now): undo\n"
   pub remove : session.state.moves ≡ [] → IsAnswered session "remove" "Error (command not legal now): remove\n"
 
--- in every session these lines are answered as `LinesAreAnswered` says
+-- every session answers as `LinesAreAnswered` says
 abbrev pub SessionLinesAreAnswered : Type 0
 SessionLinesAreAnswered = (session : SessionSeen) → LinesAreAnswered session
 
 -- ---- lines of an input
 
--- the texts of the lines of an input that has ended, and that gave these bytes; no line has more than nine
+-- the texts of the lines of an input that has ended, and that gave these bytes; a line of more than nine is too long
 abbrev pub texts_of : List ℕ → List (List ℕ)
 texts_of bytes = map (λ (line : LineSeen). line.text) (stream_lines 9 true bytes)
 
 -- how an input is cut into lines
 pub record LinesAreCut : Type 0 where
-  -- a line's text is without a `\r` at its end, and then without spaces and tabs at both ends; it may be empty
+  -- a line's text is without a `\r` at its end, and then without spaces and tabs at both ends
   pub trimmed : texts_of (codes " go" ++ carriage_return ∷ new_line ∷ tab ∷ codes "ping 7 \n\nquit\n")
       ≡ codes "go" ∷ codes "ping 7" ∷ [] ∷ codes "quit" ∷ []
-  -- the `\r` is cut first, and only at the line's end: not one that a space comes after
+  -- a `\r` before a space is not at the line's end
   pub returns : texts_of (codes "go \r\nquit\r \n") ≡ codes "go" ∷ codes "quit\r" ∷ []
   -- what follows the last `\n` is a line only if the input has ended
   pub last : texts_of (codes "go\nquit") ≡ codes "go" ∷ codes "quit" ∷ []
@@ -132,7 +130,6 @@ pub record LinesAreCut : Type 0 where
   -- a line of four bytes, and one of five, where four are the most
   pub long : map (λ (line : LineSeen). line.too_long) (stream_lines 4 true (codes "quit\nquits\n"))
       ≡ false ∷ true ∷ []
-  -- of a line that is too long the first 64 bytes are kept, spaces and tabs too: here of a tab and 100 letters `z`,
-  -- where 100 bytes are the most
+  -- of a line that is too long the first 64 bytes are kept, spaces and tabs too
   pub kept : map (λ (line : LineSeen). line.text) (stream_lines 100 true (tab ∷ replicate 100 (byte "z")))
       ≡ (tab ∷ replicate 63 (byte "z")) ∷ []

@@ -1,5 +1,4 @@
--- A position that a session shows and a session sets (CECP, version 2: command `setboard`; `showfen` is this project's
--- own).
+-- `setboard` (CECP, version 2) of a position that `showfen` (this project's own) wrote.
 use Rattle.std.specs.Prelude.{◌≡◌, ℕ, false, List, [], ◌∷◌, ◌++◌, codes}
 use Rattle.byte_devices.specs.Bytes.{new_line}
 use Rattle.chess_game.specs.Game.{IsPlayable, current, from_start}
@@ -13,7 +12,7 @@ pub record IsLineOf (line : LineSeen) (text : List ℕ) : Type 0 where
   pub is : line.text ≡ text
 
 -- `setboard` of what `showfen` wrote, in the same session or in another one of the same variant, begins a game at the
--- position that was shown. `IsPlayable` holds of the game of every session
+-- position that was shown. `IsPlayable` holds of every session's game
 abbrev pub SetboardTakesShownFens : Type 0
 SetboardTakesShownFens = (shown set : SessionSeen) (asking setting : LineSeen) (fen : List ℕ)
     → IsPlayable (game_held shown) → set.state.start.variant ≡ shown.state.start.variant

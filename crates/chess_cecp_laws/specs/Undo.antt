@@ -1,4 +1,4 @@
--- Moves that are accepted and taken back (CECP, version 2: commands `usermove` and `undo`).
+-- Moves that are accepted and taken back (CECP, version 2: `usermove` and `undo`).
 use Rattle.std.specs.Prelude.{◌≡◌, ◌⊎◌, false, []}
 use Rattle.text_lines.specs.Lines.{LineSeen}
 use Rattle.chess_cecp.specs.Commands.{command_of}
@@ -16,8 +16,7 @@ pub record IsUndoLine (line : LineSeen) : Type 0 where
   pub fits : line.too_long ≡ false
   pub command : command_of line.text ≡ Undo
 
--- in every session: `undo` after a move that was not refused has no answer, and the session is as it was before the
--- move
+-- in every session: `undo` after a move that was not refused has no answer, and leaves the session as it was before
 abbrev pub UndoTakesAMoveBack : Type 0
 UndoTakesAMoveBack = (session : SessionSeen) (move undo : LineSeen) → IsMoveLine move → IsUndoLine undo
     → (IsRefusal (session_response session move).text → ⊥)

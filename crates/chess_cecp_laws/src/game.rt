@@ -21,6 +21,6 @@ pub fn undo_takes_a_move_back()
 pub fn shown_fens_are_set()
     ensures { SetboardTakesShownFens }
 {
-    // The prover wants this law: a FEN that was written is read back.
+    // The prover needs this law: a FEN that was written is read back.
     written_is_denoted();
 }

@@ -19,34 +19,34 @@ ghost use Rattle.text_lines.specs.Lines.{LineSeen};
 
 use chess_cecp::LineServer;
 
-/// States a law and does nothing: a line that is refused (`Error ..`, `Illegal move ..`, `tellusererror ..`) leaves
-/// start, moves and declared result as they were.
+/// States a law and does nothing: a line that is refused (`Error ..`, `Illegal move ..`, `tellusererror ..`) leaves the
+/// session as it was: start, moves and declared result.
 pub fn refusals_change_nothing()
     ensures { (session : SessionSeen) (line : LineSeen) → IsRefusal (session_response session line).text
         → (session_response session line).state ≡ session }
 {}
 
-/// States a law and does nothing: in a game of normal chess each command except `variant` and `protover` does what a
-/// table of commands says that is only for normal chess.
+/// States a law and does nothing: in a game of normal chess each command except `variant` and `protover` does what the
+/// table of commands for normal chess only (specs/Normal) says.
 pub fn normal_chess_keeps_its_rows()
     ensures { (tags : Tags) (limit : ℕ) (s : State) (text argument : List ℕ) (command : Command)
         → s.start.variant ≡ Normal → has_normal_row command ≡ true
         → row tags limit s text argument command ≡ normal_row_of tags limit s text argument command }
 {}
 
-/// States a law and does nothing: if the bytes that the input will give are known, the lines that are read are the
-/// first lines of these bytes, and a server of lines (a session, the stub, or any other `LineServer`) that ends without
-/// a fault answers these lines, up to the first with which it ends, such as `quit`. So the way in which reads cut the
-/// bytes changes no answer.
+/// States a law and does nothing: the way in which reads cut an input's bytes into pieces changes no answer. If the
+/// bytes that the input will give are known, the lines that are read are the first lines of these bytes. A server of
+/// lines (a session, the stub, or any other `LineServer`) that ends without a fault answers the lines of these bytes,
+/// up to the first with which it ends, such as `quit`.
 pub fn reads_change_no_answer<S: LineServer>()
     ensures lines { (d d2 : Devices) (i : FromInput) → InputGave d.input d2.input i → AreFirstLines d i }
     ensures answers { (s s2 : S) (end : End) (d d2 : Devices)
         → Ran (Served S.respond s s2 (Ok end)) d d2 → AnswersInput S.respond s s2 d d2 }
 {}
 
-/// States a law and does nothing: the moves of a game whose text `read_pgn` of chess_pgn reads without a fault are
-/// accepted, by the table of commands, in a session that is at the game's start and has the same limit of
-/// half-moves: sent one after another by `usermove`, each is played, whichever text denotes it.
+/// States a law and does nothing: a session accepts the moves of each game that `read_pgn` of chess_pgn reads without a
+/// fault. If the session is at the game's start, and has the same limit of half-moves, then each move sent by
+/// `usermove`, one after another, is played, whichever text denotes it.
 pub fn read_games_are_accepted()
     ensures { ReadGamesAreAccepted }
 {}

@@ -1,4 +1,5 @@
--- The moves of a match are legal, each in the position to which those before it lead.
+-- The moves of a match are legal, each in the position to which those before it lead: they were read from texts
+-- (ReadLaw), and a move that is read is legal, by a law of chess_text. Induction over the moves (`line_from`).
 use Rattle.std.proofs.Common.{ℕ, List, [], ◌∷◌, ◌++◌, subst}
 use Rattle.chess_base.specs.{Men.other, declared.man.Colour.Colour, declared.man.Move.Move, declared.setup.Setup.Setup}
 use Rattle.chess_game.specs.Line.{IsLine, position_after}

@@ -1,7 +1,6 @@
--- A scheme for laws of this form: what an engine O was sent by one kind of line is, in order, all that the match says
--- (`all`), but for at most one that is not sent yet (`rest`). `f` takes it out of a line, such as the text of a move.
--- Who shows for each event what it adds and sends (`Gives`), has the law at each moment (`given_at`). MoveLaw and
--- TimeLaw are such laws.
+-- A scheme for laws such as MoveLaw and TimeLaw: what an engine O was sent by one kind of line (`f` takes it out of a
+-- line, such as the text of a move) is, in order, all that the match says (`all`), but for at most one that is not sent
+-- yet (`rest`). If a law shows what each event adds and sends (`Gives`), it holds at each moment (`given_at`).
 use Rattle.std.proofs.Common.{◌≡◌, ℕ, ◌+◌, ◌-◌, ◌≤◌, ◌<◌, Bool, true, false, List, [], ◌∷◌, ◌++◌, length, length-append, refl, ap, sym, ◌∙◌, subst, append-nil, append_assoc, Option, arith, if◌then◌else◌, flat_map}
 use Rattle.std.proofs.lemmas.Grind.{flat_map-append}
 use Rattle.chess_base.specs.{declared.man.Colour.Colour, declared.man.Colour.TheVariants.White, declared.man.Colour.TheVariants.Black, declared.man.Move.Move, Men.other, Men.same_colour, Options.list_if}

@@ -1,4 +1,5 @@
--- Lines that say nothing are ignored, up to the 10,000th.
+-- Lines that say nothing are ignored, up to the 10,000th: in each phase, and for each kind of such a line, the rules
+-- lead to the same effect, which only counts it.
 use Rattle.std.proofs.Common.{◌≡◌, ℕ, ◌+◌, ◌-◌, ◌≤◌, Bool, true, false, List, [], length, refl, sym, ap, subst, arith, Option, Some, leb-false, leb-true, if◌then◌else◌, nat_le, nat_lt, ◌==◌}
 use Rattle.std.proofs.lemmas.Bool.Decides.{nat_tests}
 use Rattle.chess_base.specs.{declared.man.Colour.Colour, Men.other}

@@ -1,4 +1,5 @@
--- After the silence that ends a match no line is left over.
+-- After the silence that ends a match no line is left over: it is the last look for a line of its side (`last_found`),
+-- and when a look finds none, all lines that came were read (`all_if_silent`).
 use Rattle.std.proofs.Common.{◌≡◌, ℕ, Bool, true, List, [], ◌∷◌, ◌++◌, refl, ap, ◌∙◌, Option, None, Some}
 use Rattle.std.specs.List.{flat_map, last_or}
 use Rattle.chess_base.specs.{declared.man.Colour.Colour, Men.same_colour, Options.list_if}

@@ -1,5 +1,5 @@
 -- A line that is due (`IsDue`), by the lines that its engine was sent and has said, is one that the match expects in
--- its phase (`IsExpected`); so `due_is_expected`, from what holds whenever a line of S is read (`Facts`).
+-- its phase (`IsExpected`). The lemma `due_is_expected` follows from what holds whenever a line of S is read (`Facts`).
 use Rattle.std.proofs.Common.{◌≡◌, ◌∙◌, ℕ, ◌+◌, ◌-◌, ◌≤◌, ◌<◌, Bool, true, false, List, [], ◌∷◌, ◌++◌, length, length-append, refl, sym, ap, subst, append-nil, append_assoc, Option, None, arith, ◌/◌, codes, if◌then◌else◌, nat_lt}
 use Rattle.std.specs.List.{flat_map, list_any}
 use Rattle.std.proofs.lemmas.Bool.Decides.{nat_tests}

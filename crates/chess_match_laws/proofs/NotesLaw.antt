@@ -1,4 +1,5 @@
--- The notes of a match have all its events and all lines that are sent.
+-- The notes of a match have all its events, lines and moments, in order. For lines and moments by induction over the
+-- acts; for events too, from any state on, since a failed write is noted exactly if the match ended by it.
 use Rattle.std.proofs.Common.{◌≡◌, ℕ, Bool, true, false, List, [], ◌∷◌, ◌++◌, refl, ap, sym, subst, ◌∙◌, if◌then◌else◌}
 use Rattle.chess_base.specs.{declared.man.Colour.Colour, declared.man.Colour.TheVariants.White, declared.man.Colour.TheVariants.Black, Men.same_colour, Options.list_if}
 use Rattle.chess_match.specs.Acts.{Act, Block, Sends, SendFails, Happens, blocks_from, is_over}

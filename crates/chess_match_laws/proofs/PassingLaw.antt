@@ -1,5 +1,5 @@
 -- An open offer of a draw was passed on, and a side is sent at most one `draw` more than it has made moves. The
--- invariant is `SentTo`, which each event keeps (`tells`).
+-- invariant (`SentTo`), which each event keeps (`tells`): one more only while an offer is open, which was passed on.
 use Rattle.std.proofs.Common.{◌≡◌, ◌∙◌, ℕ, ◌+◌, ◌-◌, ◌≤◌, Bool, true, false, List, [], ◌∷◌, ◌++◌, length, length-append, refl, sym, ap, subst, append-nil, arith, codes, flat_map}
 use Rattle.std.proofs.lemmas.Grind.{flat_map-append}
 use Rattle.chess_base.specs.{declared.man.Colour.Colour, declared.man.Colour.TheVariants.White, declared.man.Colour.TheVariants.Black, declared.man.Move.Move, Men.other, Men.same_colour, Options.list_if}

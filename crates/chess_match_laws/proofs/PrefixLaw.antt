@@ -1,5 +1,5 @@
 -- Each move that an engine is sent has `usermove` before it, if the engine asked for it, and otherwise none has. The
--- invariant is `SentTo`, which each event keeps (`tells`).
+-- invariant (`SentTo`), which each event keeps (`tells`): no move is sent in a handshake, and each later one as asked.
 use Rattle.std.proofs.Common.{◌≡◌, ◌∙◌, ℕ, ◌-◌, Bool, true, false, List, [], ◌∷◌, ◌++◌, length, refl, sym, ap, subst, append-nil, arith, ◌/◌, codes, if◌then◌else◌, nat_lt}
 use Rattle.std.specs.List.{AllByRecursion, flat_map}
 use Rattle.std.proofs.lemmas.Grind.{flat_map-append}

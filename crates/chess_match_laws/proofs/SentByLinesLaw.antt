@@ -1,4 +1,4 @@
--- The two engines' lines alone say which moves each engine is sent: they fix the items known of each engine
+-- The two engines' lines fix which moves each engine is sent: they fix the items known of each engine
 -- (`items_are_said`) and the moves played (ReadLaw), and MoveLaw says which of these are sent, and how.
 use Rattle.std.proofs.Common.{◌≡◌, ℕ, ◌+◌, ◌-◌, ◌≤◌, Bool, true, false, List, [], ◌∷◌, ◌++◌, length, refl, ap, sym, ◌∙◌, append-nil, append_assoc, Option, arith, if◌then◌else◌}
 use Rattle.std.specs.List.{list_any}

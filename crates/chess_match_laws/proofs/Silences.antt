@@ -1,4 +1,5 @@
--- What silences do, and that they come only where the rules ask for them.
+-- What silences do. Rules without a limit to waiting allow none (`none_silent`); one ends the match exactly if its side
+-- is beyond its limit, phase by phase (`beyond`), and otherwise changes nothing (`within`).
 use Rattle.std.proofs.Common.{◌≡◌, ℕ, ◌-◌, ◌<◌, Bool, true, false, List, [], ◌∷◌, ◌++◌, length, refl, ap, sym, ◌∙◌, Option, None, Some, arith, if◌then◌else◌, is_some, nat_lt, slice_get, unwrap_or}
 use Rattle.std.specs.{List.list_any, Option.option_map_or}
 use Rattle.std.proofs.lemmas.Bool.{and_parts}

@@ -1,6 +1,6 @@
--- A scheme for laws of what an engine S was sent by one kind of line (`f` takes it out of a line): `Told` is said of a
--- match and of all that S was sent or is due. Who shows that each event keeps it (`Tells`) has at each moment what
--- follows of it (`told_at`). So in PingLaw, GoLaw, SetupLaw, PassingLaw, PrefixLaw, AnswerLaw and LinesDue.
+-- A scheme for laws of what an engine S was sent by one kind of line (`f` takes it out of a line): an invariant `Told`
+-- of the match and of all that S was sent or is due. If each event keeps it (`Tells`), what follows of it holds at each
+-- moment (`told_at`). PingLaw, GoLaw, SetupLaw, PassingLaw, PrefixLaw, AnswerLaw and LinesDue use it.
 use Rattle.std.proofs.Common.{◌≡◌, ◌∙◌, ℕ, true, false, List, [], ◌∷◌, ◌++◌, sym, ap, subst, append-nil, append_assoc, Option, if◌then◌else◌, flat_map}
 use Rattle.std.proofs.lemmas.Grind.{flat_map-append}
 use Rattle.chess_base.specs.{declared.man.Colour.Colour, declared.man.Colour.TheVariants.White, Men.same_colour, Options.list_if}

@@ -1,4 +1,6 @@
--- A side loses on time exactly if the clock showed more than it had left.
+-- A side loses on time exactly if the clock showed more than it had left. An act that shows this ends the match on time
+-- (`late_line`, `late_silence`), and nothing that comes in time ends it so (`line_timely`, `silence_timely`). Induction
+-- over the acts.
 use Rattle.std.proofs.Common.{◌≡◌, ℕ, ◌-◌, Bool, true, false, List, [], ◌∷◌, ◌++◌, refl, ap, sym, ◌∙◌, subst, Option, None, Some, arith, if◌then◌else◌, length, nat_le, nat_lt}
 use Rattle.std.specs.Option.{option_map_or}
 use Rattle.std.proofs.lemmas.Bool.{and_parts}

@@ -1,5 +1,5 @@
--- A match that ended for a verdict has it on the board (Verdicts.judged_at_end of chess_match), and the outcome that is
--- reported is that of its game.
+-- A match that ended for a verdict has it on the board (Verdicts.judged_at_end of chess_match), and the reported
+-- outcome is that of its game.
 use Rattle.std.proofs.Common.{◌≡◌, ℕ, List, refl, ap, sym, ◌∙◌, subst, Option, None, Some}
 use Rattle.std.specs.Option.{option_map, option_map_or, option_or}
 use Rattle.chess_game.specs.{declared.verdicts.Verdict.Verdict, Ends.verdict, Ends.verdict_result, Game.Seen, Game.outcome_now, declared.results.Outcome.Outcome, declared.results.Outcome.TheVariants.Unfinished, declared.tags.HowEnded.HowEnded}

@@ -1,5 +1,5 @@
--- How a turn is opened with a move in SAN, in an example that is proved by computation (`refl`). It is in a file of its
--- own, apart from the other lines of WorkedLines.
+-- How a turn is opened with a move in SAN, in an example that is proved by computation (`refl`); `unfolding` names the
+-- definitions that are opened for it.
 use Rattle.std.proofs.Common.{[], ◌∷◌, refl}
 use Rattle.std.specs.Fmt.{digits}
 use Rattle.chess_base.specs.Attacks.{is_clear, could_capture, attacks, is_attacked, is_in_check}

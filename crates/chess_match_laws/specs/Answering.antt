@@ -34,11 +34,11 @@ ends_in_ping [] = false
 ends_in_ping (line ∷ []) = nat_lt 0 (length (ping_text line))
 ends_in_ping (line ∷ next ∷ lines) = ends_in_ping (next ∷ lines)
 
--- a line of this kind of the side `S`, which comes at a moment (the last argument), is due after the acts `before`, by
--- the lines that `S` was sent and has said; the match is `m` then
+-- after the acts `before`, which led to the match `m`, the side `S` owes a line of this kind, or may send it, at this
+-- moment (the last argument)
 pub data IsDue (r : Rules) (S : Colour) (before : List Act) (m : Match) : LineKind → ℕ → Type 0 where
   -- before any `ping`, in its handshake: a `feature` line. If it has `done=1`, the engine lacks nothing for the match
-  -- by all items that it said; otherwise it is one of its first 999 lines
+  -- by all its items; otherwise it is one of its first 999 lines
   of_handshake : {text : List ℕ} {moment : ℕ} → flat_map ping_text (lines_given S before) ≡ []
       → (list_any ends_handshake (items_of text) ≡ true
       → missing r (items_said (lines_read S before) ++ items_of text) ≡ None)
@@ -47,41 +47,40 @@ pub data IsDue (r : Rules) (S : Colour) (before : List Act) (m : Match) : LineKi
   -- right after the n-th `ping`: `pong n`
   to_ping : {n moment : ℕ} → ends_in_ping (lines_given S before) ≡ true
       → n ≡ length (flat_map ping_text (lines_given S before)) → IsDue r S before m (Answers n) moment
-  -- in its turn: `move M`, where M denotes one legal move, within the time that it has left
+  -- in its turn: `move M`, where M denotes one legal move, in time
   to_turn : {text : List ℕ} {moment opened : ℕ} {made : Move} → m.phase ≡ BeforeMove S opened
       → reading (position_after r.start m.played) text ≡ reads.Move made → moment - opened ≤ clock r m S
       → IsDue r S before m (Moves text) moment
-  -- a line that means nothing, of fewer than 1,000 (in the handshake together with others), and in its turn within the
-  -- time that it has left
+  -- a line that means nothing, of fewer than 1,000 (in the handshake together with others); in its turn also in time
   idle : {moment : ℕ} → m.count + 1 < 1000
       → ((opened : ℕ) → m.phase ≡ BeforeMove S opened → moment - opened ≤ clock r m S)
       → IsDue r S before m SaysElse moment
 
--- by these acts of a match the engine of the side `S` answers, and says nothing else that counts
+-- in these acts of a match the engine of the side `S` answers, and says nothing else that counts
 pub record AnswersAll (r : Rules) (S : Colour) (H : List Act) : Type 0 where
   -- each of its lines was due when it came
   pub lines : (before after : List Act) (text : Option (List ℕ)) (moment : ℕ)
       → H ≡ before ++ Happens (Line S text moment) ∷ after
       → IsDue r S before (match_after r beginning.after before) (line_kind text) moment
-  -- whenever no line of it had come yet, its time was not over
+  -- whenever no line of it had come yet, it was still in time
   pub waits : (before after : List Act) (moment : ℕ) → H ≡ before ++ Happens (Silent S moment) ∷ after
       → let m = match_after r beginning.after before in is_beyond r m m.phase S moment ≡ false
-  -- its output did not end, and no read from it and no write to it failed
+  -- its output did not end, and no read or write failed
   pub goes_on : has_ended S H ≡ false
   pub is_read : has_failed_read S H ≡ false
   pub is_written : is_broken H S ≡ false
 
--- the verdict that this side mates the other
+-- the verdict that this side mates
 abbrev pub mates : Colour → Verdict
 mates S = by_colour WhiteMates BlackMates S
 
--- by this report of a match, which ended in the state `final`, the side `S` has no fault, and if it lost, it is mated
+-- in this report of a match, whose final state is `final`, the side `S` has no fault, and if it lost, it is mated
 pub record IsBlameless (r : Rules) (S : Colour) (final : Match) (end : MatchEnd) : Type 0 where
   pub no_fault : (fault : MatchFault) → end.fault ≡ Some (S, fault) → ⊥
   pub mated : end.outcome ≡ win_of (other S) → verdict r.start final.played ≡ Some (mates (other S))
 
--- in every match in which the engine of the side `S` answers, and says nothing else that counts (`AnswersAll`), `S` has
--- no fault in the report, and loses only by mate
+-- if the engine of the side `S` answers in a match (`AnswersAll`), `S` has no fault in the report, and loses only by
+-- mate
 abbrev pub AnsweringEnginesAreBlameless : Type 0
 AnsweringEnginesAreBlameless = (r : Rules) (S : Colour) (H : List Act) (final : Match) (reason : Reason) (end : MatchEnd)
     → IsMatch r H final → ReportedAs r H final reason end → AnswersAll r S H → IsBlameless r S final end

@@ -1,4 +1,4 @@
--- Handshakes: each feature that an engine says is answered, and which it must have (CECP, version 2: section 9).
+-- Handshakes: how features are answered, and which a match needs (CECP, version 2: section 9).
 use Rattle.std.specs.Prelude.{◌≡◌, ◌||◌, ℕ, Bool, true, false, List, [], ◌∷◌, map, drop, take, codes, is_some}
 use Rattle.std.specs.List.{AllByRecursion, flat_map, list_all, list_any}
 use Rattle.std.specs.Str.{bytes_eq}
@@ -15,7 +15,7 @@ use Rattle.chess_match_laws.specs.Streams.{items_said}
 
 -- ---- answers
 
--- what a line `accepted NAME` or `rejected NAME` names, as a list of one; empty for any other line
+-- the NAME in a line `accepted NAME` or `rejected NAME`, as a list of one; empty for other lines
 abbrev pub name_answered : SentLine → List (List ℕ)
 name_answered (Says text) =
     list_if (bytes_eq (take 9 text) (codes "accepted ") || bytes_eq (take 9 text) (codes "rejected "))
@@ -28,7 +28,7 @@ abbrev pub ItemsAreAnswered : Rules → Colour → List Act → Match → Type 0
 ItemsAreAnswered r S H m =
     flat_map name_answered (lines_given S H) ≡ map (λ i. i.name) (items_said (lines_read S H))
 
--- features of CECP that are accepted, and others, which are rejected
+-- some features that are accepted, and some that are rejected
 pub record NamesAreKnown : Type 0 where
   pub accepted : list_all is_known (codes "ping" ∷ codes "setboard" ∷ codes "playother" ∷ codes "san" ∷ codes "usermove"
       ∷ codes "time" ∷ codes "draw" ∷ codes "sigint" ∷ codes "sigterm" ∷ codes "reuse" ∷ codes "analyze"
@@ -39,8 +39,8 @@ pub record NamesAreKnown : Type 0 where
 
 -- ---- needed features
 
--- an engine that said these items has what a match by the rules `r` needs: `ping`; `setboard`, if a FEN is to be sent;
--- and Chess960, if the game is of it
+-- an engine with these items has what a match by the rules `r` needs: `ping`; `setboard`, if a FEN is to be sent; and
+-- Chess960, if the game is of it
 pub record HasNeeded (r : Rules) (items : List Item) : Type 0 where
   pub ping : takes (codes "ping") items ≡ true
   pub setboard : is_some (start_fen r.start) ≡ true → takes (codes "setboard") items ≡ true
@@ -52,13 +52,12 @@ BothHaveNeeded r S H m = (X : Colour) → HasNeeded r (m.seat X).items
 
 -- ---- `usermove`
 
--- whether a move is sent with `usermove` before it, as a list of one; empty for any other line
+-- whether a move is sent with `usermove` before it, as a list of one; empty for other lines
 abbrev pub prefix_of : SentLine → List Bool
 prefix_of (MoveSent prefixed text) = prefixed ∷ []
 prefix_of _ = []
 
--- of the moves that each side `S` is sent, each has `usermove` before it if its engine has that feature on, otherwise
--- none has
+-- each move that a side `S` is sent has `usermove` before it exactly if its engine has that feature on
 abbrev pub PrefixesAreAsAsked : Rules → List Act → Match → Type 0
 PrefixesAreAsAsked r H m = (S : Colour) → AllByRecursion (λ (b : Bool). b ≡ takes (codes "usermove") (m.seat S).items)
     (flat_map prefix_of (lines_given S H))

@@ -1,4 +1,4 @@
--- Lines of an engine that are ignored, and how many of them: a second account, by what such lines say.
+-- Lines of an engine that are ignored, and how many may be.
 use Rattle.std.specs.Prelude.{◌≡◌, ◌<◌, ◌≤◌, ◌+◌, ◌-◌, ◌==◌, ℕ, Bool, true, false, List, [], length, Option}
 use Rattle.chess_base.specs.declared.man.Colour.{Colour}
 use Rattle.chess_base.specs.Men.{other}
@@ -10,8 +10,8 @@ use Rattle.chess_match.specs.declared.reason.MatchFault.TheVariants.{Flood}
 use Rattle.chess_match.specs.declared.reason.Reason.TheVariants.{Faulted}
 use Rattle.chess_match.specs.laws.Laws.{is_pong, line_kind}
 
--- a line left phase, moves and seats of the match `m` as they were, and nothing was sent: one line more was ignored.
--- From when a reply is awaited (`since`) may change
+-- a line, which did `done`, left phase, moves and seats of the match `m` as they were, and nothing was sent; one more
+-- line was ignored. From when a reply is awaited (`since`) may change
 pub record ChangesNothing (m : Match) (done : Effect) : Type 0 where
   pub phase : done.after.phase ≡ m.phase
   pub played : done.after.played ≡ m.played
@@ -19,8 +19,8 @@ pub record ChangesNothing (m : Match) (done : Effect) : Type 0 where
   pub ignored : done.after.count ≡ m.count + 1
   pub sent : (X : Colour) → done.to X ≡ []
 
--- a line of the side `S` is ignored: with fewer than 9,999 before it, in this setup or turn, it changes nothing
--- (`ChangesNothing`); the 10,000th ends the match
+-- a line of the side `S` is ignored, with the effect `done`: with fewer than 9,999 before it, in this setup or turn, it
+-- changes nothing; the 10,000th ends the match
 pub record IsIgnored (S : Colour) (m : Match) (done : Effect) : Type 0 where
   pub few : m.count < 9999 → ChangesNothing m done
   pub many : 9999 ≤ m.count → done.after.phase ≡ Over (Faulted S Flood)
@@ -48,7 +48,7 @@ pub record OthersAreIgnored (r : Rules) (m : Match) (S : Colour) (text : Option 
   pub pongs : (n : ℕ) → m.phase ≡ AfterMove S → line_kind text ≡ Answers n
       → (n == length (m.seat S).used + 1) ≡ false → IsIgnored S m (effect r m (Line S text moment))
 
--- in every state of a match the lines that `OthersAreIgnored` names are ignored
+-- `OthersAreIgnored` holds of every line in every state of a match
 abbrev pub OtherLinesAreIgnored : Type 0
 OtherLinesAreIgnored = (r : Rules) (m : Match) (S : Colour) (text : Option (List ℕ)) (moment : ℕ)
     → OthersAreIgnored r m S text moment

@@ -1,5 +1,6 @@
--- Laws of the acts of a match. An act sends an engine a block of lines, or reads an event (`Act`); `H` is a list of
--- acts, in order.
+-- Laws of the acts of a match, `H` in order: each sends an engine a block of lines, or reads an event, such as a line
+-- (`Act`). Sent lines are `lines_sent`, or `lines_given`, with those of a block that could not be sent. Notes are what
+-- a witness, such as the log, is given.
 use Rattle.std.specs.Prelude.{◌≡◌, ◌<◌, ◌≤◌, ◌+◌, ◌-◌, ◌*◌, ◌^◌, ◌&&◌, ◌⊎◌, ℕ, Bool, true, false, if◌then◌else◌, List, [], ◌∷◌, ◌++◌, length, drop, take, nat_lt, sum, codes, slice_get, Option, None, Some, is_some, unwrap_or}
 use Rattle.std.specs.List.{flat_map, fold, list_any}
 use Rattle.std.specs.Option.{IfSome, option_map_or}
@@ -39,10 +40,10 @@ use Rattle.chess_match.specs.declared.run.Setup.{Setup}
 use Rattle.chess_game.specs.Game.{outcome_now}
 use Rattle.chess_game.specs.Ends.{claims, draw_claim, verdict}
 
--- ---- each match, and each moment of one
+-- ---- matches and their moments
 
--- the events of these acts, in order, if the match is `m` before them: those that were read, and a failed write, if the
--- match ended by it; one after the end is none
+-- the events of these acts, in order, from the state `m` of a match on: those read, and a write that failed before the
+-- end
 abbrev pub events_of : Rules → Match → List Act → List Event
 events_of r m [] = []
 events_of r m (Sends block ∷ H) = events_of r m H
@@ -51,53 +52,50 @@ events_of r m (SendFails block ∷ H) =
     if is_over m.phase then events_of r m H else failure ∷ events_of r (effect r m failure).after H
 events_of r m (Happens event ∷ H) = event ∷ events_of r (effect r m event).after H
 
--- in every match `P` holds of the rules, of all acts, and of the match at its end
+-- in every match `P` holds of the rules, all acts and the final state
 abbrev pub InEachMatch : (Rules → List Act → Match → Type 0) → Type 0
 InEachMatch P = (r : Rules) (H : List Act) (final : Match) → IsMatch r H final → P r H final
 
--- after any number of acts of every match `P` holds of the rules, of these acts (`before`), and of the match after
--- them; a line and the clock read after it are one act
+-- in every match, after any number of acts, `P` holds of the rules, these acts (`before`) and the state after them
 abbrev pub AtEachMoment : (Rules → List Act → Match → Type 0) → Type 0
 AtEachMoment P = (r : Rules) (before after : List Act) (final : Match) → IsMatch r (before ++ after) final
     → P r before (match_after r beginning.after before)
 
--- whenever a line of a side is read, `P` holds of the rules, of the side, of the acts before, and of the match then
+-- whenever a line of a side is read, `P` holds of the rules, the side, the acts before and the state then
 abbrev pub AtEachLine : (Rules → Colour → List Act → Match → Type 0) → Type 0
 AtEachLine P = (r : Rules) (before after : List Act) (S : Colour) (text : Option (List ℕ)) (moment : ℕ) (final : Match)
     → IsMatch r (before ++ Happens (Line S text moment) ∷ after) final
     → P r S before (match_after r beginning.after before)
 
--- whenever the clock is read for the opening of a side's turn, `P` holds of the rules, of the side, of the acts before,
--- and of the match then
+-- whenever the clock is read after the lines that ask a side for its move, `P` holds of the rules, the side, the acts
+-- before and the state then
 abbrev pub AtEachOpening : (Rules → Colour → List Act → Match → Type 0) → Type 0
 AtEachOpening P = (r : Rules) (before after : List Act) (S : Colour) (moment : ℕ) (final : Match)
     → IsMatch r (before ++ Happens (Opened S moment) ∷ after) final
     → P r S before (match_after r beginning.after before)
 
--- the match after all its acts is the match at its end
+-- the state after all acts is the final state
 abbrev pub EndsAfterItsActs : Rules → List Act → Match → Type 0
 EndsAfterItsActs r H m = match_after r beginning.after H ≡ m
 
 -- ---- order
 
--- among the steps of any acts, a match or not, from any state on: after a line is read, the next steps are to read the
--- clock for that side and to note the line with the moment that the clock showed
+-- in the steps of any acts (`watched`), a match or not: after a line is read, the next steps are to read the clock for
+-- that side and to note the line with the moment that it showed
 abbrev pub LinesAreReadInOrder : Type 0
 LinesAreReadInOrder = (r : Rules) (reason : Reason) (m : Match) (H : List Act) (before after : List Step) (S : Colour)
     (text : Option (List ℕ)) → watched r reason m H ≡ before ++ ReadsLine S text ∷ after
     → (moment : ℕ) × (rest : List Step)
     × (after ≡ ReadsClock S moment ∷ Notes (Happened (Line S text moment)) ∷ rest)
 
--- among the steps of any acts, as in `LinesAreReadInOrder`: after a look that found no line, the next steps are to read
--- the clock for that side and to note the silence with the moment that the clock showed
+-- the same for a silence: after a look that found no line, the clock is read, and the silence noted
 abbrev pub SilencesAreReadInOrder : Type 0
 SilencesAreReadInOrder = (r : Rules) (reason : Reason) (m : Match) (H : List Act) (before after : List Step)
     (S : Colour) → watched r reason m H ≡ before ++ FindsNoLine S ∷ after
     → (moment : ℕ) × (rest : List Step)
     × (after ≡ ReadsClock S moment ∷ Notes (Happened (Silent S moment)) ∷ rest)
 
--- in a match from any state on (`IsMatchFrom`): if the next act is an event (a line or the clock is read, no
--- line has come, an output ends, or a read fails), nothing is due
+-- in a match from any state on: if the next act is an event, no block is due to be sent
 abbrev pub NothingIsDueAtEvents : Type 0
 NothingIsDueAtEvents = (r : Rules) (m final : Match) (due : List Block) (event : Event) (H : List Act)
     → IsMatchFrom r m due (Happens event ∷ H) final → due ≡ []
@@ -111,16 +109,16 @@ blocks_given S (Sends block ∷ H) = list_if (same_colour block.to S) (block ∷
 blocks_given S (SendFails block ∷ H) = list_if (same_colour block.to S) (block ∷ []) ++ blocks_given S H
 blocks_given S (_ ∷ H) = blocks_given S H
 
--- in every match: after a block that could not be sent there is no block for the same side, sent or not
+-- in every match: after a block that could not be sent the same side has no block, sent or not
 abbrev pub FailedBlocksAreLast : Type 0
 FailedBlocksAreLast = (r : Rules) (before after : List Act) (block : Block) (final : Match)
     → IsMatch r (before ++ SendFails block ∷ after) final → blocks_given block.to after ≡ []
 
--- of the blocks for each side `S` at most one could not be sent
+-- at most one block for each side `S` could not be sent
 abbrev pub OneBlockFails : Rules → List Act → Match → Type 0
 OneBlockFails r H m = (S : Colour) → length (broken_blocks S H) ≤ 1
 
--- whether in this phase the match has ended because writing to the side `S` failed
+-- whether the match has ended because writing to the side `S` failed
 abbrev pub ended_by_write_to : Colour → Phase → Bool
 ended_by_write_to S (Over reason) = is_write_fault_of reason S
 ended_by_write_to S _ = false
@@ -129,44 +127,40 @@ ended_by_write_to S _ = false
 abbrev pub WriteFaultsAreOfBlocks : Rules → List Act → Match → Type 0
 WriteFaultsAreOfBlocks r H m = (S : Colour) → ended_by_write_to S m.phase ≡ true → is_broken H S ≡ true
 
--- ---- what two engines and a clock give fixes the match
+-- ---- engines and a clock fix the match
 
--- the looks for a line in the acts `H` that found none yet (silences) are just those that `silent` names; the looks of
--- each side are numbered from 0
+-- in the acts `H` just those looks for a line were silences (found none yet) that `silent` names, by side and number,
+-- from 0 on
 abbrev pub AreSilent : (Colour → ℕ → Bool) → List Act → Type 0
 AreSilent silent H = (S : Colour) (n : ℕ) → n < length (looks S H) → slice_get (looks S H) n ≡ Some (silent S n)
 
--- what the acts `H` read is what these engines and this clock (`s`) give: the lines read are the first of each engine's
--- lines, or all of them if its output ended or a read failed; none had come where `s.silent` says so; and the moments
--- shown are the first of the clock's
+-- the acts `H` read what these engines and this clock (`s`) give
 pub record ReadFrom (s : Streams) (H : List Act) : Type 0 where
   -- `rest` are the lines that were not read
   pub lines : (S : Colour) → (rest : List (Option (List ℕ))) × (s.lines S ≡ lines_read S H ++ rest)
-  -- an output that ended gave all its lines, and did not fail
+  -- an output that ended gave all its lines
   pub ends : (S : Colour) → has_ended S H ≡ true → (s.lines S ≡ lines_read S H) × (s.fails S ≡ false)
-  -- one of which a read failed gave all its lines, and fails
+  -- so did one of which a read failed
   pub failures : (S : Colour) → has_failed_read S H ≡ true → (s.lines S ≡ lines_read S H) × (s.fails S ≡ true)
   pub silences : AreSilent s.silent H
-  -- the moment at the index n is that of the reading n
+  -- the reading n of the clock shows `s.moments n`
   pub moments : (n : ℕ) → n < length (moments_shown H) → slice_get (moments_shown H) n ≡ Some (s.moments n)
 
--- the acts `H` come from these engines and this clock (`s`): they read what these give, and sending a block failed just
--- where `s.breaks` says. If that is `None` for both sides, each block was sent
+-- the acts `H` read what these engines and this clock (`s`) give, and sending a block failed just where `s.breaks` says
 pub record AreOf (s : Streams) (H : List Act) : Type 0 where
   pub reads : ReadFrom s H
-  -- if no block for `S` failed, `S` was sent at most as many as `s.breaks` says; any number, if it says `None`
+  -- if no block for `S` failed, `S` was sent at most as many as `s.breaks` says; `None` sets no limit
   pub sent : (S : Colour) → is_broken H S ≡ false → IfSome (s.breaks S) (λ n. length (blocks_sent S H) ≤ n)
   -- if one failed, `S` had been sent just as many
   pub broken : (S : Colour) → is_broken H S ≡ true → s.breaks S ≡ Some (length (blocks_sent S H))
 
--- two matches by the same rules, from the same engines and clock (`s`), are the same, act by act, and so are their
--- states at the end
+-- two matches by the same rules, from the same engines and clock (`s`), have the same acts and the same final state
 abbrev pub OnlyOneMatch : Type 0
 OnlyOneMatch = (r : Rules) (s : Streams) (H K : List Act) (final final' : Match) → IsMatch r H final
     → IsMatch r K final' → AreOf s H → AreOf s K → (H ≡ K) × (final ≡ final')
 
--- in two matches by the same rules that read what the same engines and clock give (`s`), neither of which ended because
--- a write failed, the same events happen, and the states at the end are the same. Which end lines could be sent may
+-- two matches by the same rules that read what the same engines and clock give (`s`), neither of which ended by a
+-- failed write, have the same events and the same final state. Which end lines (`result ..`, `quit`) could be sent may
 -- differ
 abbrev pub OneMatchButForEndLines : Type 0
 OneMatchButForEndLines = (r : Rules) (s : Streams) (H K : List Act) (final final' : Match) → IsMatch r H final
@@ -174,56 +168,56 @@ OneMatchButForEndLines = (r : Rules) (s : Streams) (H K : List Act) (final final
     → ((S : Colour) → ended_by_write_to S final'.phase ≡ false)
     → (events_of r beginning.after H ≡ events_of r beginning.after K) × (final ≡ final')
 
--- the states of an engine's input before a run (`w`) and after it (`w'`) show how many bytes of the run were flushed:
--- which bytes it took is known, and the count of those that are unflushed then is not full
+-- an engine's input before a run (`w`) and after it (`w'`) shows how many bytes were flushed: those that it took are
+-- known, and the count of unflushed ones is below its maximum
 pub record ShowsFlushed (w w' : OutputState) : Type 0 where
   pub bytes : is_some w.known_bytes ≡ true
   pub after : w'.unflushed < 2 ^ 64 - 1
 
--- everything is known about the devices of a run, `w` before and `w'` after it: which bytes each engine sends, and
--- which times the clock will give; no count of failed calls is full, so that a failure shows; and to each engine no
--- write or flush failed, or its input shows how much was flushed before
+-- everything is known about the devices of a run (`w` before it, `w'` after it): each engine's bytes and the clock's
+-- times; each failure, since no count of them is at its maximum; and, if a write or flush to an engine failed, how much
+-- was flushed before
 pub record ShowsAll (w w' : World) : Type 0 where
   pub bytes : (S : Colour) → is_some (w.engines S).input.known_bytes ≡ true
   pub reads : (S : Colour) → (w.engines S).input.failure_count < 2 ^ 64 - 1
   pub writes : (S : Colour) → (w.engines S).output.failure_count < 2 ^ 64 - 1
   pub moments : (n : ℕ) → is_some (w.coming n) ≡ true
-  -- no failure was counted, or the input shows how much was flushed
+  -- no failure was counted, or `ShowsFlushed`
   pub sent : (S : Colour) → ((w'.engines S).output.failure_count ≡ (w.engines S).output.failure_count)
       ⊎ ShowsFlushed (w.engines S).output (w'.engines S).output
 
--- no limit to waiting: neither flags nor replies have one
+-- no limit to waiting: flags fall only with a line, and replies have no limit
 abbrev pub endless : Patience
 endless = record { flag = false; reply = None }
 
--- in the acts `H` and `K` the same looks for a line found none yet, or the rules set no limit to waiting, so that in a
--- match no look does (the law `silences_end_matches`). Devices don't show which looks found none
+-- in the acts `H` and `K` the same looks for a line found none yet, or the rules set no limit to waiting (then none
+-- does: `SilencesAreAskedFor`)
 abbrev pub HaveSameSilences : Rules → List Act → List Act → Type 0
 HaveSameSilences r H K =
     (r.patience ≡ endless) ⊎ ((silent : Colour → ℕ → Bool) × AreSilent silent H × AreSilent silent K)
 
--- two matches by the same rules that were played from the world `w` to `w'` are the same, act by act, and so are their
--- states at the end, if everything is known about the devices, and the same looks for a line found none
+-- two matches by the same rules, played from the world `w` (devices and game) to `w'`, have the same acts and the same
+-- final state, if everything is known about the devices, and the same looks for a line found none
 abbrev pub OnlyOneMatchOfARun : Type 0
 OnlyOneMatchOfARun = (r : Rules) (H K : List Act) (final final' : Match) (w w' : World) → Passed r H final w w'
     → Passed r K final' w w' → ShowsAll w w' → HaveSameSilences r H K → (H ≡ K) × (final ≡ final')
 
 -- ---- ends
 
--- in every match in which draws are automatic: if a draw may be claimed after the moves played and the board has no
--- verdict, the match ended for this draw; or no move was played, and the match ended by a fault
+-- where draws are automatic: if a draw may be claimed after the moves of a match, and the board has no verdict, the
+-- match ended for this draw, or by a fault before its first move
 abbrev pub AutomaticDrawsEndMatches : Type 0
 AutomaticDrawsEndMatches = (r : Rules) (claim : DrawClaim) (H : List Act) (final : Match) → IsMatch r H final
     → r.draws ≡ Automatic → verdict r.start final.played ≡ None → draw_claim (claims r.start final.played) ≡ Some claim
     → (final.phase ≡ Over (Claimed claim))
     ⊎ ((final.played ≡ []) × (c : Colour) × (fault : MatchFault) × (final.phase ≡ Over (Faulted c fault)))
 
--- in every match that ended for the verdict `v` of the board: `v` is the verdict after the moves played
+-- if a match ended for the verdict `v` of the board, `v` is the verdict after the moves played
 abbrev pub DecidedByTheBoard : Type 0
 DecidedByTheBoard = (r : Rules) (v : Verdict) (H : List Act) (final : Match) → IsMatch r H final
     → final.phase ≡ Over (Decided v) → verdict r.start final.played ≡ Some v
 
--- in every match that was played: the outcome that is reported is that of its game
+-- the reported outcome of a match that was played is that of its game
 abbrev pub OutcomesAreOfTheGame : Type 0
 OutcomesAreOfTheGame = (H : List Act) (reason : Reason) (setup : Setup) (end : MatchEnd) (w w' : World)
     → PlayedBy H reason setup end w w' → end.outcome ≡ outcome_now w'.game.state
@@ -235,8 +229,8 @@ only_sends (Sends block ∷ H) = only_sends H
 only_sends (SendFails block ∷ H) = only_sends H
 only_sends (_ ∷ H) = false
 
--- in every match that the side `S` lost by a line of its own (`whose_line`), such as one with an illegal move: the last
--- event is a line of `S`, and after it there are only blocks
+-- if the side `S` lost a match by a line of its own (`whose_line`), such as an illegal move, the last event is a line
+-- of `S`, and after it there are only blocks
 abbrev pub LastLineIsTheirs : Type 0
 LastLineIsTheirs = (r : Rules) (reason : Reason) (S : Colour) (H : List Act) (final : Match) → IsMatch r H final
     → final.phase ≡ Over reason → whose_line r.patience reason ≡ Some S
@@ -245,35 +239,32 @@ LastLineIsTheirs = (r : Rules) (reason : Reason) (S : Colour) (H : List Act) (fi
 
 -- ---- moves
 
--- the moves played are what the two engines' `move` lines after their setup denote in turn, beginning with the side
+-- the moves played are what the two engines' `move` lines after their setups denote in turn, beginning with the side
 -- that moves first; at most one `move` line is left over
 abbrev pub MovesAreRead : Rules → List Act → Match → Type 0
 MovesAreRead r H m =
     AreRead r [] m.played (moves_of (lines_read r.start.side H)) (moves_of (lines_read (other r.start.side) H))
 
--- the items known of the engine of each side `S` are those of its `feature` lines, up to and with the line that has
--- `done=1`
+-- the items known of each side's engine are those of its `feature` lines, up to and with the one that has `done=1`
 abbrev pub ItemsAreSaid : Rules → List Act → Match → Type 0
 ItemsAreSaid r H m = (S : Colour) → (m.seat S).items ≡ items_said (lines_read S H)
 
--- what the side `O` is to be sent of the moves `ms` of a game: those of the other side, in SAN if its engine has `san`
--- on by these items, otherwise by squares
+-- what the side `O` is to be sent of a game's moves `ms`: the other side's, in SAN if its engine has `san` on by these
+-- items, otherwise by squares
 abbrev pub others_moves : Rules → Colour → List Item → List Move → List (List ℕ)
 others_moves r O items ms = texts_from r (takes (codes "san") items) (other O) r.start.side [] ms
 
--- each side `O` is sent the other side's moves, each once and in order (a block that could not be sent counts); `rest`
--- is what `O` was not sent yet, at most the last of them. While the `pong` of the side that made the last move is
--- awaited (`is_owed_move`), `rest` is that move, so `O` is not sent it before
+-- each side `O` is sent the other side's moves, each once and in order, but for `rest`: at most the last. While the
+-- `pong` after that move is awaited (`is_owed_move`), it is not sent yet
 abbrev pub MovesAreSent : Rules → List Act → Match → Type 0
 MovesAreSent r H m = (O : Colour) → (rest : List (List ℕ)) × (length rest ≤ 1)
     × (is_owed_move m.phase O ≡ true → length rest ≡ 1)
     × (moves_sent (lines_given O H) ++ rest ≡ others_moves r O (m.seat O).items m.played)
 
--- the engines' lines fix the moves that each engine is sent, but for the last: there are moves `ms`, which the two
--- engines' `move` lines denote in turn (all of them, or all but the last). Each side `O` is sent those of the other
--- side, each once, in order, in SAN or by squares, as its handshake asked for; a block that could not be sent counts.
--- `rest` is what `O` was not sent: at most the last of them; and nothing, if the match is whole (`whole`) and didn't
--- end because writing to `O` failed
+-- the engines' lines fix the moves that each is sent, but for the last: their `move` lines denote the moves `ms` in
+-- turn (at most one line is left over), and each side `O` is sent the other side's, each once and in order, in SAN or
+-- by squares, as its handshake asked for. `rest` is not sent: at most the last, and nothing, if the match is over
+-- (`whole`) and not because writing to `O` failed
 abbrev pub EachIsSentOthersMoves : Bool → Rules → List Act → Match → Type 0
 EachIsSentOthersMoves whole r H m =
     (ms : List Move)
@@ -282,34 +273,33 @@ EachIsSentOthersMoves whole r H m =
     × (whole ≡ true → ended_by_write_to O m.phase ≡ false → rest ≡ [])
     × (moves_sent (lines_given O H) ++ rest ≡ others_moves r O (items_said (lines_read O H)) ms))
 
--- the blocks for each side `O` have all moves of the other side, each once and in order, if the match didn't end
--- because writing to `O` failed. The last block, with the end lines, may have failed
+-- the blocks for each side `O` have just the other side's moves, in order, unless the match ended because writing to
+-- `O` failed
 abbrev pub AllMovesAreGiven : Rules → List Act → Match → Type 0
 AllMovesAreGiven r H m = (O : Colour) → ended_by_write_to O m.phase ≡ false
     → moves_sent (lines_given O H) ≡ others_moves r O (m.seat O).items m.played
 
--- each side `O` was sent all moves of the other side, each once and in order, if each block for `O` was sent
+-- if each block for the side `O` was sent, `O` was sent just the other side's moves, in order
 abbrev pub AllMovesAreSent : Rules → List Act → Match → Type 0
 AllMovesAreSent r H m = (O : Colour) → is_broken H O ≡ false
     → moves_sent (lines_sent O H) ≡ others_moves r O (m.seat O).items m.played
 
--- the side `S` was sent all moves of the other side, each once and in order
+-- the side `S` was sent just the other side's moves, in order
 abbrev pub IsSentAllMoves : Rules → Colour → List Act → Match → Type 0
 IsSentAllMoves r S H m = moves_sent (lines_sent S H) ≡ others_moves r S (m.seat S).items m.played
 
--- the side `S` was sent a move if and only if the other side has made one (`used` has a time for each), as is tested
--- when `S` sends `Illegal move` (`turn_row`)
+-- the side `S` was sent a move if and only if the other side has made one (`used` has a time for each)
 abbrev pub MovesSentAreKnown : Rules → Colour → List Act → Match → Type 0
 MovesSentAreKnown r S H m =
     nat_lt 0 (length (m.seat (other S)).used) ≡ nat_lt 0 (length (moves_sent (lines_sent S H)))
 
--- in every match of chess: each move played is legal in the position in which it is made, from the start on
+-- each move of a match is legal in the position in which it is made, from the start on
 abbrev pub GamesAreLines : Type 0
 GamesAreLines = (start : Position) (level : Colour → LevelSeen) (patience : Patience) (draws : Draws) (limit : ℕ) (H : List Act)
     (final : Match) → IsMatch (rules_of start level patience draws limit) H final → IsLine start final.played
 
--- the match has no more moves than the limit, none after a verdict of the board, and where draws are automatic none
--- after one that may be claimed: after fewer than all of its moves there is neither
+-- the match has no more half-moves than the limit, none after a verdict of the board, and where draws are automatic
+-- none after one that may be claimed
 abbrev pub EndsAtVerdicts : Rules → List Act → Match → Type 0
 EndsAtVerdicts r H m = (length m.played ≤ r.limit)
     × ((k : ℕ) → k < length m.played → verdict r.start (take k m.played) ≡ None)
@@ -318,16 +308,14 @@ EndsAtVerdicts r H m = (length m.played ≤ r.limit)
 -- ---- clocks
 
 -- the `time` lines that each side `S` is sent show its own clock before its first move and after each of its moves, in
--- order (none, if its engine has `time=0`; those of a block that could not be sent count). `rest` is what is missing:
--- at most the last one
+-- order, but for `rest`: at most the last; none with `time=0`
 abbrev pub TimesAreClocks : Rules → List Act → Match → Type 0
 TimesAreClocks r H m = (S : Colour) → (rest : List ℕ) × (length rest ≤ 1)
     × (flat_map time_sent (lines_given S H) ++ rest
     ≡ (if takes (codes "time") (m.seat S).items then centiseconds (r.level S) 0 0 (m.seat S).used else []))
 
 -- the `otim` lines that each side `S` is sent show the other's clock after each of the other's moves, in order, and
--- before the first of them if `S` moves first (none, if its engine has `time=0`). `rest` is what is missing: at most
--- the last one
+-- before the first of them if `S` moves first, but for `rest`: at most the last; none with `time=0`
 abbrev pub OtherTimesAreClocks : Rules → List Act → Match → Type 0
 OtherTimesAreClocks r H m = (S : Colour) → (rest : List ℕ) × (length rest ≤ 1)
     × (flat_map otim_sent (lines_given S H) ++ rest
@@ -337,9 +325,9 @@ OtherTimesAreClocks r H m = (S : Colour) → (rest : List ℕ) × (length rest �
     else drop 1 (centiseconds (r.level (other S)) 0 0 (m.seat (other S)).used))
     else []))
 
--- the times in these acts, in milliseconds, from when each turn of the side `S` was opened to its first `move` line
--- after that (0 if the clock went back). `opened` is when the present turn of `S` was opened before them; `None` if no
--- move of `S` is awaited
+-- the milliseconds in these acts from the opening of each turn of the side `S` to its first `move` line after that (0
+-- if the clock went back). `opened` is when the present turn of `S` was opened before them; `None` if no move of `S` is
+-- awaited
 abbrev pub move_times : Colour → Option ℕ → List Act → List ℕ
 move_times S opened [] = []
 move_times S opened (Happens (Line side text moment) ∷ H) =
@@ -350,14 +338,13 @@ move_times S opened (Happens (Opened side moment) ∷ H) =
     move_times S (if same_colour side S then Some moment else None) H
 move_times S opened (_ ∷ H) = move_times S opened H
 
--- the times charged to each side `S` are those from when each of its turns was opened to its `move` line. `rest` is
--- what was not charged: at most the last, of a line that ended the match, and nothing while the match is on
+-- the times charged to each side `S` are those from the opening of each of its turns to its `move` line, but for
+-- `rest`: at most the last, if that line ended the match
 abbrev pub UsedTimesAreDifferences : Rules → List Act → Match → Type 0
 UsedTimesAreDifferences r H m = (S : Colour) → (rest : List ℕ) × (length rest ≤ 1)
     × (move_times S None H ≡ (m.seat S).used ++ rest) × (is_over m.phase ≡ false → rest ≡ [])
 
--- the time that each side `S` has left and the sum of what its moves took are together what it was given so far, so
--- that its clock never goes below 0
+-- what each side `S` has left and its moves took is together what it was given so far: its clock never goes below 0
 abbrev pub ClocksDoNotUnderflow : Rules → List Act → Match → Type 0
 ClocksDoNotUnderflow r H m =
     (S : Colour) → clock r m S + sum (m.seat S).used ≡ allotted (r.level S) (length (m.seat S).used)
@@ -369,14 +356,13 @@ abbrev pub is_silent : Act → Bool
 is_silent (Happens (Silent side moment)) = true
 is_silent _ = false
 
--- in every match by rules that set no limit to waiting: no act is a silence, so each look for a line found one, the end
--- or a failure
+-- in every match by rules that set no limit to waiting no act is a silence
 abbrev pub SilencesAreAskedFor : Type 0
 SilencesAreAskedFor = (r : Rules) (H : List Act) (final : Match) → IsMatch r H final → r.patience ≡ endless
     → (list_any is_silent H ≡ false) × AreSilent (λ S n. false) H
 
--- whether at this moment the side `S`, whose line is awaited, is beyond its limit: before its move, if the time used is
--- more than it had left; otherwise, if it has owed its line for longer than the rules allow
+-- whether the side `S`, whose line is awaited, is beyond its limit at this moment: before its move, if it used more
+-- time than it had left; otherwise, if it owed its line for longer than the rules allow
 abbrev pub is_beyond : Rules → Match → Phase → Colour → ℕ → Bool
 is_beyond r m (BeforeMove side opened) S moment = nat_lt (clock r m S) (moment - opened)
 is_beyond r m _ S moment =
@@ -389,8 +375,8 @@ SilencesEndMatches = (r : Rules) (before after : List Act) (S : Colour) (moment 
     → let m = match_after r beginning.after before in
     is_over (effect r m (Silent S moment)).after.phase ≡ is_beyond r m m.phase S moment
 
--- in every match: a silence of the side `S` that was not beyond its limit changed nothing, and no line was sent, if the
--- time for a reply ran already; otherwise that time may run from this silence on
+-- in every match: a silence of the side `S` within its limit changed nothing, and no line was sent, if the time for a
+-- reply ran already (`since`)
 abbrev pub SilencesChangeNothing : Type 0
 SilencesChangeNothing = (r : Rules) (before after : List Act) (S : Colour) (moment : ℕ) (final : Match)
     → IsMatch r (before ++ Happens (Silent S moment) ∷ after) final
@@ -398,8 +384,8 @@ SilencesChangeNothing = (r : Rules) (before after : List Act) (S : Colour) (mome
     is_beyond r m m.phase S moment ≡ false → is_some m.since ≡ true
     → ((effect r m (Silent S moment)).after ≡ m) × ((X : Colour) → (effect r m (Silent S moment)).to X ≡ [])
 
--- in every match that was played and ended by a silence of the side `S`, after which only blocks were sent: of what was
--- read from the engine of `S` no line is left over. The bytes `i.text` have just the lines that were read in the match
+-- if a match that was played ended by a silence of the side `S`, all lines in the bytes that were read from its engine
+-- (`i.text`) were read in the match
 abbrev pub SilencesLeaveNoLine : Type 0
 SilencesLeaveNoLine = (before after : List Act) (S : Colour) (moment : ℕ) (reason : Reason) (setup : Setup)
     (end : MatchEnd) (w w' : World) → let H = before ++ Happens (Silent S moment) ∷ after in
@@ -415,33 +401,32 @@ shows_fallen r m (BeforeMove side opened) S (Happens (Silent c moment)) =
     same_colour side S && nat_lt (clock r m S) (moment - opened)
 shows_fallen r m _ S _ = false
 
--- at some moment of a turn of the side `S`, with a line or without, the clock showed more than `S` had left
+-- at some moment the flag of the side `S` had fallen (`shows_fallen`)
 abbrev pub OverstepsTime : Rules → List Act → Colour → Type 0
 OverstepsTime r H S = (before : List Act) × (act : Act) × (after : List Act) × (H ≡ before ++ act ∷ after)
     × (let m = match_after r beginning.after before in shows_fallen r m m.phase S act ≡ true)
 
--- at a moment of a turn of the side `S` at which the clock showed more than `S` had left, the match ended: after the
--- act that shows it only blocks were sent
+-- the flag of the side `S` had fallen, and by that the match ended: afterwards only blocks were sent
 abbrev pub EndsOverstepped : Rules → List Act → Colour → Type 0
 EndsOverstepped r H S = (before : List Act) × (act : Act) × (after : List Act) × (H ≡ before ++ act ∷ after)
     × (only_sends after ≡ true)
     × (let m = match_after r beginning.after before in shows_fallen r m m.phase S act ≡ true)
 
--- `final`, the end of the match of the acts `H`, is a loss on time exactly if the clock showed so
+-- a match of the acts `H`, which ended in the state `final`, ended on time exactly if a side overstepped its time
 pub record TimeForfeitsAreShown (r : Rules) (H : List Act) (final : Match) : Type 0 where
   -- a side that oversteps its time loses, or draws against a bare king
   pub overstepped : (S : Colour) → OverstepsTime r H S
       → final.phase ≡ Over (if has_bare_king (other S) (position_after r.start final.played).men then ForfeitsToBareKing
       else Forfeits S)
-  -- a side that lost on time overstepped it, and by that the match ended
+  -- a side that lost on time overstepped it, which ended the match
   pub lost : (S : Colour) → final.phase ≡ Over (Forfeits S) → EndsOverstepped r H S
-  -- if a match ended on time against a bare king, a side overstepped its time, and by that the match ended
+  -- in a draw against a bare king a side overstepped its time, which ended the match
   pub drawn : final.phase ≡ Over ForfeitsToBareKing → (S : Colour) × EndsOverstepped r H S
 
 -- ---- few lines
 
--- there are not more than 22,000 + 10,002 * (limit + 1) lines of both engines, where `limit` is the most half-moves:
--- two handshakes, two setups, and in each turn the ignored lines, an offer, the move and the pong
+-- at most this many lines are read of both engines: 1,000 in each handshake, 10,000 in each setup, and in each of
+-- `limit` + 1 turns 9,999 ignored ones, an offer of a draw, the move and the `pong`
 abbrev pub LinesAreFew : Rules → List Act → Match → Type 0
 LinesAreFew r H m = length (lines_read White H) + length (lines_read Black H) ≤ 22000 + 10002 * (r.limit + 1)
 
@@ -451,27 +436,26 @@ LinesAreFew r H m = length (lines_read White H) + length (lines_read Black H) �
 abbrev pub after_events : Rules → Match → List Event → Match
 after_events r m events = fold (λ n e. (effect r n e).after) m events
 
--- in every match that ended for this reason: the events among its notes lead from the beginning to its end
+-- if a match ended for this reason, the events in its notes lead from the beginning to the final state
 abbrev pub NotesHaveTheEvents : Type 0
 NotesHaveTheEvents = (r : Rules) (reason : Reason) (H : List Act) (final : Match) → IsMatch r H final
     → final.phase ≡ Over reason → final ≡ after_events r beginning.after (events_in (notes_given reason H))
 
--- in every match that ended for this reason: the events among its notes are just the events of the match, in order
+-- if a match ended for this reason, the events in its notes are just its events, in order
 abbrev pub NotesAreInOrder : Type 0
 NotesAreInOrder = (r : Rules) (reason : Reason) (H : List Act) (final : Match) → IsMatch r H final
     → final.phase ≡ Over reason → events_in (notes_given reason H) ≡ events_of r beginning.after H
 
--- for any acts, a match or not: the bytes in the notes for the side `S`, one after another, are those of all lines of
--- the blocks for `S`, also of those that could not be sent
+-- in the notes of any acts the bytes for the side `S` are those of all lines of its blocks, in order
 abbrev pub NotesHaveAllLines : Type 0
 NotesHaveAllLines = (reason : Reason) (H : List Act) (S : Colour)
     → given_in S (notes_given reason H) ≡ bytes_of (lines_given S H)
 
--- in every match: the lines of each side `S` in the notes are just those that were read of it, in order
+-- in the notes of a match the lines of the side `S` are just those that were read of it, in order
 abbrev pub NotesHaveLinesRead : Type 0
 NotesHaveLinesRead = (r : Rules) (reason : Reason) (H : List Act) (final : Match) (S : Colour) → IsMatch r H final
     → lines_noted S (notes_given reason H) ≡ lines_read S H
 
--- for any acts, a match or not: the moments in the notes are just those that the clock showed, in order
+-- in the notes of any acts the moments are just those that the clock showed, in order
 abbrev pub NotesHaveMoments : Type 0
 NotesHaveMoments = (reason : Reason) (H : List Act) → moments_noted (notes_given reason H) ≡ moments_shown H

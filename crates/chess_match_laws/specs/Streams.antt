@@ -1,4 +1,5 @@
--- What the laws of a match speak of: what two engines and a clock give, what lines say, and what notes have.
+-- What engines and a clock give, what lines say, and what notes contain. Of lines that are read `None` is one that was
+-- too long.
 use Rattle.std.specs.Prelude.{◌≡◌, ℕ, ◌+◌, ◌-◌, ◌/◌, ◌≤◌, Bool, true, false, if◌then◌else◌, List, [], ◌∷◌, ◌++◌, length, Option}
 use Rattle.std.specs.List.{flat_map, list_any}
 use Rattle.chess_base.specs.declared.man.Colour.{Colour}
@@ -21,11 +22,11 @@ use Rattle.chess_match.specs.laws.Laws.{line_kind, items_in_line, move_said, is_
 
 -- ---- what acts did at each device
 
--- of each look for a line of the side `S` in these acts, in order: whether it is a silence (no line had come yet)
+-- whether each look for a line of the side `S` in these acts is a silence (no line had come yet), in order
 abbrev pub looks : Colour → List Act → List Bool
 looks S H = flat_map (look S) H
 
--- the blocks that the side `S` was sent, in order; without one that could not be sent
+-- the blocks that the side `S` was sent, without one that could not be sent
 abbrev pub blocks_sent : Colour → List Act → List Block
 blocks_sent S [] = []
 blocks_sent S (Sends block ∷ H) = list_if (same_colour block.to S) (block ∷ []) ++ blocks_sent S H
@@ -39,14 +40,14 @@ given_in S [] = []
 given_in S (Happened e ∷ notes) = given_in S notes
 given_in S (Gives c text ∷ notes) = list_if (same_colour c S) text ++ given_in S notes
 
--- the lines of the side `S` among these notes, in order; `None` stands for a line that was too long
+-- the lines of the side `S` among these notes, in order
 abbrev pub lines_noted : Colour → List Note → List (Option (List ℕ))
 lines_noted S [] = []
 lines_noted S (Happened (Line side text moment) ∷ notes) =
     list_if (same_colour side S) (text ∷ []) ++ lines_noted S notes
 lines_noted S (_ ∷ notes) = lines_noted S notes
 
--- the moments among these notes, those of lines, of silences and of openings, in order
+-- the moments of lines, silences and openings among these notes, in order
 abbrev pub moments_noted : List Note → List ℕ
 moments_noted [] = []
 moments_noted (Happened (Line side text moment) ∷ notes) = moment ∷ moments_noted notes
@@ -58,9 +59,9 @@ moments_noted (_ ∷ notes) = moments_noted notes
 
 -- what two engines and a clock give
 pub record Streams : Type 0 where
-  -- each engine's lines (`None` is one that was too long)
+  -- each engine's lines
   pub lines : Colour → List (Option (List ℕ))
-  -- whether no line of an engine has come yet at its look with this number; the first look has the number 0
+  -- whether no line of an engine has come yet at its look with this number, from 0 on
   pub silent : Colour → ℕ → Bool
   -- whether reading from an engine fails after its lines; otherwise its output ends there
   pub fails : Colour → Bool
@@ -71,17 +72,17 @@ pub record Streams : Type 0 where
 
 -- ---- moves sent
 
--- the text of the move in a line that is sent, as a list of one; empty if it has none
+-- the text of the move in a sent line, as a list of one; empty for other lines
 abbrev pub move_sent : SentLine → List (List ℕ)
 move_sent (MoveSent prefixed text) = text ∷ []
 move_sent _ = []
 
--- the texts of the moves in these lines that are sent, in order
+-- the texts of the moves in these sent lines
 abbrev pub moves_sent : List SentLine → List (List ℕ)
 moves_sent lines = flat_map move_sent lines
 
--- of the moves `ms`, which are made in turn after the moves `before`, first by the side `c`: the texts of those that
--- the side `S` makes, in SAN or by squares (`as_san`)
+-- of the moves `ms`, made in turn after the moves `before`, first by the side `c`: the texts of those of the side `S`,
+-- in SAN or by squares (`as_san`)
 abbrev pub texts_from : Rules → Bool → Colour → Colour → List Move → List Move → List (List ℕ)
 texts_from r as_san S c before [] = []
 texts_from r as_san S c before (m ∷ ms) =
@@ -95,31 +96,28 @@ abbrev pub is_move : LineKind → Bool
 is_move (Moves text) = true
 is_move _ = false
 
--- an engine's lines after the one that ends its handshake (with `done=1`), without that one; none if no line does.
--- `None` in the list stands for a line that was too long
+-- an engine's lines after the one that ends its handshake (with `done=1`); none if no line does
 abbrev pub lines_after_handshake : List (Option (List ℕ)) → List (Option (List ℕ))
 lines_after_handshake [] = []
 lines_after_handshake (l ∷ ls) =
     if list_any ends_handshake (items_in_line (line_kind l)) then ls else lines_after_handshake ls
 
--- the lines after the first `pong 1`, without that one; none if there is no `pong 1`. `None` in the list stands for a
--- line that was too long
+-- the lines after the first `pong 1`; none if no line is one
 abbrev pub lines_after_pong : List (Option (List ℕ)) → List (Option (List ℕ))
 lines_after_pong [] = []
 lines_after_pong (l ∷ ls) = if is_pong 1 (line_kind l) then ls else lines_after_pong ls
 
--- the texts of the `move` lines among these lines, in order; `None` stands for a line that was too long
+-- the texts of the moves in `move` lines
 abbrev pub moves_said : List (Option (List ℕ)) → List (List ℕ)
 moves_said [] = []
 moves_said (l ∷ ls) = move_said (line_kind l) ++ moves_said ls
 
--- the texts of an engine's `move` lines after its handshake and setup, in order; `None` stands for a line that was too
--- long
+-- the texts of the moves in an engine's `move` lines after its handshake and setup, in order
 abbrev pub moves_of : List (Option (List ℕ)) → List (List ℕ)
 moves_of lines = moves_said (lines_after_pong (lines_after_handshake lines))
 
--- after the moves `before`, the moves `ms` are what the texts of two engines' `move` lines denote in turn: `mine` are
--- those of the side to move, `theirs` the other's. At most one text is left over: the one that ended the match
+-- after the moves `before`, the texts of two engines' `move` lines denote the moves `ms` in turn: `mine` are those of
+-- the side to move. At most one text is left over: the one that ended the match
 abbrev pub AreRead : Rules → List Move → List Move → List (List ℕ) → List (List ℕ) → Type 0
 AreRead r before [] mine theirs = length mine + length theirs ≤ 1
 AreRead r before (m ∷ ms) mine theirs =
@@ -127,8 +125,7 @@ AreRead r before (m ∷ ms) mine theirs =
     × (reading (position_after r.start before) text ≡ reads.Move m)
     × AreRead r (before ++ m ∷ []) ms theirs rest
 
--- the items of an engine's `feature` lines, up to and with the line that has `done=1`, which ends its handshake, or of
--- all if none has it; `None` stands for a line that was too long
+-- the items of an engine's `feature` lines, up to and with the line that has `done=1`; of all if none has it
 abbrev pub items_said : List (Option (List ℕ)) → List Item
 items_said [] = []
 items_said (l ∷ ls) =
@@ -137,8 +134,8 @@ items_said (l ∷ ls) =
 
 -- ---- clocks
 
--- what the clock of a side shows, in centiseconds rounded down: before the first of its moves that took these
--- milliseconds, and after each of them. `k` moves, which took `spent` milliseconds in all, came before
+-- a side's clock in centiseconds, rounded down: before the first of its moves that took these milliseconds, and after
+-- each of them. `k` moves came before, which took `spent` milliseconds in all
 abbrev pub centiseconds : LevelSeen → ℕ → ℕ → List ℕ → List ℕ
 centiseconds level k spent [] = (allotted level k - spent) / 10 ∷ []
 centiseconds level k spent (u ∷ us) = (allotted level k - spent) / 10 ∷ centiseconds level (k + 1) (spent + u) us

@@ -56,22 +56,22 @@ pub record LinesSay : Type 0 where
   pub no_draw : IsLine "offer peace" SaysElse
   pub no_number : IsLine "pong one" SaysElse
 
--- an item of a `feature` line: its name, and its value without quotes
+-- the name of an item of a `feature` line, and its value without quotes
 abbrev pub name_and_value : Item → List ℕ × List ℕ
 name_and_value i = (i.name, i.value.text)
 
--- the items of a `feature` line: none after the one that ends the handshake
+-- the items of a `feature` line: none after `done=1`
 abbrev pub ItemsAreRead : Type 0
 ItemsAreRead = map name_and_value
     (items_of (codes "ping=1 myname=\"Sjeng 11\" usermove=0 done=1 san=1"))
     ≡ (codes "ping", codes "1") ∷ (codes "myname", codes "Sjeng 11") ∷ (codes "usermove", codes "0")
     ∷ (codes "done", codes "1") ∷ []
 
--- whether an engine whose `feature` lines have these items has this feature on
+-- whether an engine with these items of `feature` lines has this feature on
 abbrev pub is_on : Text → Text → Bool
 is_on name items = takes (codes name) (items_of (codes items))
 
--- which features an engine has on: the last item of a name counts, 1 in quotes is not 1, and what isn't said is CECP's
+-- which features an engine has on: of a name the last item counts, 1 in quotes is not 1, and what isn't said is CECP's
 -- default
 pub record FeaturesAreOn : Type 0 where
   pub said : is_on "ping" "san=1 ping=1" ≡ true
@@ -85,7 +85,7 @@ pub record FeaturesAreOn : Type 0 where
   pub draws : is_on "draw" "" ≡ true
   pub no_times : is_on "time" "time=0" ≡ false
   pub no_draws : is_on "draw" "draw=0" ≡ false
-  -- an item without a space after its value, or without a value, is none, and ends the line's items
+  -- an item without a space after its value, or without a value, ends the line's items
   pub no_space : is_on "ping" "ping=1,san=1" ≡ false
   pub no_value : is_on "san" "ping=x san=1" ≡ false
   pub chess960 : plays_fischerandom (items_of (codes "variants=\"normal,fischerandom\"")) ≡ true
@@ -94,15 +94,15 @@ pub record FeaturesAreOn : Type 0 where
 
 -- ---- time controls
 
--- the time control `40 5 0`: 40 moves in 5 minutes
+-- 40 moves in 5 minutes
 abbrev pub forty_in_five : LevelSeen
 forty_in_five = record { moves = 40; base = 300000; increment = 0 }
 
--- the time control `0 2 12`: 2 minutes for the game, and 12 seconds more for each move
+-- 2 minutes for the game, and 12 seconds more for each move
 abbrev pub two_and_twelve : LevelSeen
 two_and_twelve = record { moves = 0; base = 120000; increment = 12000 }
 
--- what these time controls are, and how many milliseconds they give
+-- some time controls, and how many milliseconds they give after some moves
 pub record LevelsGive : Type 0 where
   pub forty : level_of (codes "40 5 0") ≡ Some forty_in_five
   pub twelve : level_of (codes "0 2 12") ≡ Some two_and_twelve
@@ -117,23 +117,23 @@ pub record LevelsGive : Type 0 where
   pub seconds : level_of (codes "0 0:60 0") ≡ None
   pub shown : level_text (record { moves = 0; base = 8500; increment = 100 }) ≡ codes "0 0:08.5 0.1"
   pub minutes_shown : level_text (record { moves = 40; base = 305000; increment = 2000 }) ≡ codes "40 5:05 2"
-  -- before the first move, after 39 moves, and after 40, with which the second session begins
+  -- before the first move, after 39 moves, and after 40
   pub first : allotted forty_in_five 0 ≡ 300000
   pub last : allotted forty_in_five 39 ≡ 300000
   pub second : allotted forty_in_five 40 ≡ 600000
-  -- after 80 moves and after 120, with which the third and the fourth begin
+  -- after 80 moves and after 120
   pub third : allotted forty_in_five 80 ≡ 900000
   pub fourth : allotted forty_in_five 120 ≡ 1200000
-  -- 12 seconds more for each move made
+  -- 12 seconds for each move made
   pub increments : allotted two_and_twelve 3 ≡ 156000
 
 -- ---- clocks
 
--- the clocks of a game for which White has 40 moves in 5 minutes, and Black 2 minutes and 12 seconds more for each move
+-- clocks of a game in which White has 40 moves in 5 minutes, and Black 2 minutes and 12 seconds more for each move
 abbrev pub two_clocks : ClocksSeen
 two_clocks = new_clocks (by_colour forty_in_five two_and_twelve)
 
--- the clocks after these moves, each given by its side and the milliseconds that it took
+-- the clocks after these moves, each a side and its milliseconds
 abbrev pub after_times : ClocksSeen → List (Colour × ℕ) → ClocksSeen
 after_times clocks [] = clocks
 after_times clocks (move ∷ moves) = after_times (charged clocks move.0 move.1) moves
@@ -146,11 +146,11 @@ HaveLeft moves white black = (remaining (after_times two_clocks moves) White ≡
 -- what moves leave on the clocks
 pub record ClocksGoOn : Type 0 where
   pub start : HaveLeft [] 300000 120000
-  -- White moves in 1,001 milliseconds, Black in 5 seconds, and gets 12, and White again in 2 seconds
+  -- White moves in 1,001 milliseconds, Black in 5 seconds (and gets 12 more), and White again in 2
   pub white : HaveLeft ((White, 1001) ∷ []) 298999 120000
   pub black : HaveLeft ((White, 1001) ∷ (Black, 5000) ∷ []) 298999 127000
   pub again : HaveLeft ((White, 1001) ∷ (Black, 5000) ∷ (White, 2000) ∷ []) 296999 127000
-  -- White makes 39 moves, of a second each, and the 40th, with which it gets 5 minutes more
+  -- White makes 39 moves in a second each, and a 40th, for which it gets 5 minutes more
   pub last : HaveLeft (replicate 39 (White, 1000)) 261000 120000
   pub next_session : HaveLeft (replicate 40 (White, 1000)) 560000 120000
   -- a move that takes all that White has
@@ -158,12 +158,12 @@ pub record ClocksGoOn : Type 0 where
 
 -- ---- lines that are sent
 
--- a match from the initial position, of 40 moves in 5 minutes for each side, in which draws are claimed
+-- rules of a match from the initial position, 40 moves in 5 minutes, in which draws must be claimed
 abbrev pub worked_rules : Rules
 worked_rules =
     rules_of initial_setup (λ S. forty_in_five) (record { flag = false; reply = None }) rules_of_draws.Claimed 20000
 
--- an engine that said these items, and whose moves took so many milliseconds
+-- an engine with these items, whose moves took so many milliseconds
 abbrev pub seat_of : Text → List ℕ → Seat
 seat_of items used = record { items = items_of (codes items); used = used; offers = false }
 
@@ -175,7 +175,7 @@ e4 = record { from = 12; to = 28; promotion = None }
 abbrev pub e5 : Move
 e5 = record { from = 52; to = 36; promotion = None }
 
--- this match after 1 e4, for which White took 1,001 milliseconds; Black's engine has `usermove` on, White's has not
+-- a match after 1 e4, which took White 1,001 milliseconds; only Black's engine has `usermove` on
 abbrev pub after_e4 : Match
 after_e4 = record {
   phase = AfterMove White;
@@ -185,7 +185,7 @@ after_e4 = record {
   since = None;
 }
 
--- this match after 1 e4 e5; for e5 Black took 2,000 milliseconds
+-- the match after 1 e4 e5, which took Black 2,000 milliseconds
 abbrev pub after_e5 : Match
 after_e5 = record {
   phase = AfterMove Black;
@@ -199,17 +199,15 @@ after_e5 = record {
 abbrev pub AreSentAs : List SentLine → Text → Type 0
 AreSentAs lines text = bytes_of lines ≡ codes text
 
--- the lines that engines are sent in a match by `worked_rules`: those that begin the handshakes, first White's, and
--- those that open three turns
+-- what engines are sent: the lines that begin the handshakes, first White's, and that open three turns
 pub record LinesAreSent : Type 0 where
   pub handshake : AreSentAs (beginning.to White) "xboard\nprotover 2\n"
   pub only_white : AreSentAs (beginning.to Black) ""
   pub second_handshake : AreSentAs ((handshake_done worked_rules White beginning.after).to Black) "xboard\nprotover 2\n"
   pub first_turn : AreSentAs (opening worked_rules beginning.after White) "time 30000\notim 30000\ngo\n"
-  -- a first turn after a move: the move comes before the clocks, which are rounded down: White has
-  -- 298,999 milliseconds
+  -- a first turn after a move: the move comes before the clocks, which are rounded down
   pub answer : AreSentAs (opening worked_rules after_e4 Black) "usermove e2e4\ntime 30000\notim 29899\ngo\n"
-  -- a later turn: the move comes after them
+  -- a later turn: the move comes after the clocks
   pub later_turn : AreSentAs (opening worked_rules after_e5 White) "time 29899\notim 29800\ne7e5\n"
   -- in SAN, if the engine has `san` on
   pub in_san : AreSentAs (opening worked_rules
@@ -221,22 +219,22 @@ pub record LinesAreSent : Type 0 where
 
 -- ---- bare kings
 
--- whether White has only its king, with these pieces on the board
+-- whether White has only its king on this board
 abbrev pub is_bare : List (Option Man) → Bool
 is_bare men = has_bare_king White men
 
--- a bare king, whatever the other side has, and kings that are not bare
+-- bare kings, whatever the other side has, and others
 pub record KingsAreBare : Type 0 where
   pub king : is_bare (man_of White King ∷ None ∷ man_of Black King ∷ man_of Black Queen ∷ []) ≡ true
   pub queen : is_bare (man_of White King ∷ man_of White Queen ∷ man_of Black King ∷ []) ≡ false
   pub knight : is_bare (man_of White King ∷ man_of White Knight ∷ man_of Black King ∷ []) ≡ false
   pub pawn : is_bare (man_of Black King ∷ man_of White King ∷ man_of White Pawn ∷ []) ≡ false
-  -- Black's
+  -- Black's king
   pub black_king : has_bare_king Black (man_of White King ∷ man_of White Pawn ∷ man_of Black King ∷ []) ≡ true
 
 -- ---- ends
 
--- who wins, by why the match ended
+-- who wins, by the match's end
 pub record LosersLose : Type 0 where
   pub white_resigns : outcome_by_reason (over_by.Resigns White) ≡ BlackWins
   pub black_resigns : outcome_by_reason (over_by.Resigns Black) ≡ WhiteWins
@@ -257,7 +255,7 @@ pub record LosersLose : Type 0 where
   pub too_long : outcome_by_reason GameTooLong ≡ Unfinished
   pub faults : (c : Colour) (fault : MatchFault) → outcome_by_reason (Faulted c fault) ≡ Unfinished
 
--- what kind of end it was, for the tag Termination: whoever breaks a rule loses by that, and not in the normal way
+-- the kind of end for the tag Termination: whoever breaks a rule loses by that, and not in the normal way
 pub record EndsAreOfKinds : Type 0 where
   pub errs : (c : Colour) → ended_by (MovesIllegally c) ≡ how.RulesInfraction
   pub moves_twice : (c : Colour) → ended_by (MovesOutOfTurn c) ≡ how.RulesInfraction
@@ -270,18 +268,18 @@ pub record EndsAreOfKinds : Type 0 where
   pub decided : (v : Verdict) → ended_by (over_by.Decided v) ≡ how.Normal
   pub claimed : (claim : DrawClaim) → ended_by (over_by.Claimed claim) ≡ how.Normal
 
--- which fault is reported, and of which side, by whether writing the last lines failed
+-- which fault is reported, and of which side, by whether writing each side's last lines failed
 pub record FaultsAreReported : Type 0 where
   pub ending : reported_fault (Faulted Black Flood) (λ S. true) ≡ Some (Black, Flood)
   pub both_unwritten : reported_fault Agreed (λ S. true) ≡ Some (White, Write)
   pub black_unwritten : reported_fault Agreed (by_colour false true) ≡ Some (Black, Write)
   pub written : reported_fault Agreed (λ S. false) ≡ None
 
--- the comment on a match that ended for this reason is this
+-- this is the comment on a match that ended for this reason
 abbrev pub IsWorded : Reason → Text → Type 0
 IsWorded reason comment = comment_of reason ≡ codes comment
 
--- how ends are worded
+-- the comments on ends
 pub record EndsAreWorded : Type 0 where
   pub resigns : IsWorded (over_by.Resigns Black) "Black resigns"
   pub agreed : IsWorded Agreed "Draw agreed"

@@ -1,6 +1,4 @@
--- What lines of engines do in a match, worked out: who loses by claiming a result or rejecting a move, what an offer of
--- a draw does, when the count of ignored lines begins anew, how long a handshake and a reply are awaited, from which
--- line on the time for a reply runs, and what engines are sent at the end.
+-- What lines and silences of engines do in a match, worked out.
 use Rattle.std.specs.Prelude.{◌≡◌, ℕ, Bool, true, false, List, [], ◌∷◌, codes, map, option_map, Option, None, Some}
 use Prim.Native.String.{String as Text}
 use Rattle.std.specs.Result.{result_ok}
@@ -21,7 +19,7 @@ use Rattle.chess_match.specs.declared.reason.MatchFault.TheVariants.{NoAnswer, N
 use Rattle.chess_match.specs.declared.reason.Reason.TheVariants as over_by
 use Rattle.chess_match_laws.specs.Worked.{AreSentAs, after_e4, e4, seat_of, worked_rules}
 
--- a match of 40 moves in 5 minutes in this phase, before any move; at the moment 2,000 came the last line that counted
+-- a match in this phase, before any move; at the moment 2,000 came the last line that counted
 abbrev pub match_in : Phase → Match
 match_in phase = record {
   phase = phase;
@@ -31,7 +29,7 @@ match_in phase = record {
   since = Some 2000;
 }
 
--- what this line of the side `S` does in the match `m`, at the moment 3,000
+-- what this line of the side `S` at the moment 3,000 does in the match `m`
 abbrev pub by_line : Match → Colour → Text → Effect
 by_line m S line = effect worked_rules m (Line S (Some (codes line)) 3000)
 
@@ -41,18 +39,18 @@ by_line m S line = effect worked_rules m (Line S (Some (codes line)) 3000)
 abbrev pub phase_after : Phase → Colour → Text → Phase
 phase_after phase S line = (by_line (match_in phase) S line).after.phase
 
--- in its turn, which began at the moment 1,000, a side that claims to have won loses by a false claim, since a mate
--- needs no claim; one that says that the other side has won resigns
+-- a side that claims to have won loses by a false claim, since a mate needs no claim; one that says that the other side
+-- has won resigns
 pub record ClaimsAreJudged : Type 0 where
   pub white_claims : phase_after (BeforeMove White 1000) White "1-0 {White mates}" ≡ Over (over_by.ClaimsFalsely White)
   pub black_claims : phase_after (BeforeMove Black 1000) Black "0-1 {Black mates}" ≡ Over (over_by.ClaimsFalsely Black)
   pub white_gives_in : phase_after (BeforeMove White 1000) White "0-1 {White resigns}" ≡ Over (over_by.Resigns White)
   pub black_gives_in : phase_after (BeforeMove Black 1000) Black "1-0 {Black resigns}" ≡ Over (over_by.Resigns Black)
   pub resigns : phase_after (BeforeMove White 1000) White "resign" ≡ Over (over_by.Resigns White)
-  -- one that rejects the move that it was sent, which was legal, loses by that
+  -- one that rejects the move that it was sent, which was legal, loses
   pub rejects : (by_line (record after_e4 { phase = BeforeMove Black 1000 }) Black "Illegal move: e2e4").after.phase
       ≡ Over (over_by.RejectsLegalMove Black)
-  -- White was sent none yet, so the line is ignored
+  -- White was sent none yet, so its line is ignored
   pub rejects_nothing : (by_line after_e4 White "Illegal move: e2e4").after.phase ≡ AfterMove White
   -- also once it has moved
   pub claims_later : phase_after (AfterMove White) White "1-0 {White mates}" ≡ Over (over_by.ClaimsFalsely White)
@@ -60,7 +58,7 @@ pub record ClaimsAreJudged : Type 0 where
 
 -- ---- offers of a draw
 
--- a match in White's turn, before any move, in which White's and Black's offers of a draw are open or not
+-- a match in White's turn, before any move, in which White's offer of a draw is open or not, and Black's
 abbrev pub offered_by : Bool → Bool → Match
 offered_by white black = record (match_in (BeforeMove White 1000)) {
   seat = by_colour (record (seat_of "ping=1" []) { offers = white }) (record (seat_of "ping=1" []) { offers = black });
@@ -78,7 +76,7 @@ pub record OffersAreJudged : Type 0 where
   pub is_open : ((by_line (offered_by false false) White "offer draw").after.seat White).offers ≡ true
   -- White offers again
   pub again : SendsBlack (by_line (offered_by true false) White "offer draw") ""
-  -- the other side has offered a draw: so both agree
+  -- Black has offered one too: so both agree
   pub agreed : (by_line (offered_by false true) White "offer draw").after.phase ≡ Over over_by.Agreed
   -- a claim of a draw where none may be claimed is an offer too
   pub claim : SendsBlack (by_line (offered_by false false) White "1/2-1/2") "draw\n"
@@ -86,20 +84,20 @@ pub record OffersAreJudged : Type 0 where
 
 -- ---- ignored lines
 
--- after 9,998 lines that were ignored the count begins anew with each setup and each turn, but not with a turn's move
+-- when the count of ignored lines begins anew: with each setup and each turn, but not with a turn's move
 pub record IgnoredAreCounted : Type 0 where
   pub setup : (by_line (record (match_in (Setup White)) { count = 9998 }) White "pong 1").after.count ≡ 0
   pub turn : (by_line (record after_e4 { count = 9998 }) White "pong 2").after.count ≡ 0
-  -- those before the side's move and those after it, up to its `pong`, are counted together
+  -- those before a move and those after it, up to the `pong`, are counted together
   pub move : (moved White e4 2000 (record (match_in (BeforeMove White 1000)) { count = 9998 })).count ≡ 9998
 
 -- ---- before the game
 
--- the phase of the match after one more line of White's handshake, without `done=1`, that comes after so many others
+-- the phase of the match after one more line of White's handshake, without `done=1`, after so many
 abbrev pub handshake_after : ℕ → Phase
 handshake_after lines = (by_line (record (match_in (Handshake White)) { count = lines }) White "# loading").after.phase
 
--- what an engine with these items lacks for a match of Chess960, in which a FEN is sent
+-- what an engine with these items lacks for a match of Chess960 with a FEN
 abbrev pub lacks : Text → Option MatchFault
 lacks items = missing (record worked_rules { start = initial_setup_of Fischerandom }) (items_of (codes items))
 
@@ -114,7 +112,7 @@ pub record HandshakesEnd : Type 0 where
   -- `done=1` in the 1,000th line is in time
   pub in_time : (by_line (record (match_in (Handshake White)) { count = 999 }) White "feature done=1").after.phase
       ≡ Handshake Black
-  -- of what an engine lacks the first of `ping`, `setboard` and Chess960 is reported
+  -- the first of `ping`, `setboard` and Chess960 that an engine lacks is reported
   pub no_ping : lacks "variants=\"normal\"" ≡ Some NoPing
   pub no_setboard : lacks "ping=1 variants=\"normal\"" ≡ Some NoSetboard
   pub no_variant : lacks "ping=1 setboard=1 variants=\"normal\"" ≡ Some NoVariant
@@ -132,22 +130,21 @@ pub record HandshakesEnd : Type 0 where
 
 -- ---- silences
 
--- the rules of the match, but that a reply is awaited for 5,000 milliseconds
+-- `worked_rules`, but with a limit of 5,000 milliseconds for a reply
 abbrev pub five_seconds : Rules
 five_seconds = record worked_rules { patience = record { flag = false; reply = Some 5000 } }
 
--- the phase of the match, whose last line that counted came at the moment 2,000, after a silence of White at this
--- moment
+-- the phase of the match, by these rules, after a silence of White at this moment
 abbrev pub after_silence : Phase → ℕ → Phase
 after_silence phase moment = (effect five_seconds (match_in phase) (Silent White moment)).after.phase
 
--- what a silence does: the match goes on, or it ends by the fault that says what was awaited
+-- what a silence does: the match goes on, or it ends by the fault that says what was missing
 pub record SilencesAreJudged : Type 0 where
   pub in_time : after_silence (Setup White) 7000 ≡ Setup White
   pub handshake : after_silence (Handshake White) 7001 ≡ Over (over_by.Faulted White NoHandshake)
   pub setup : after_silence (Setup White) 7001 ≡ Over (over_by.Faulted White NoAnswer)
   pub moved : after_silence (AfterMove White) 7001 ≡ Over (over_by.Faulted White NoAnswer)
-  -- the first silence begins the time of a reply, if no line has, and no other does
+  -- the first silence begins the time of a reply, if no line has
   pub first : (effect five_seconds beginning.after (Silent White 3000)).after.since ≡ Some 3000
   pub later : (effect five_seconds (match_in (Setup White)) (Silent White 3000)).after.since ≡ Some 2000
 
@@ -159,7 +156,7 @@ after_lines m [] = m
 after_lines m (line ∷ lines) =
     after_lines (effect worked_rules m (Line White (Some (codes line.0)) line.1)).after lines
 
--- from which moment on the time for White's reply runs after these lines, in the match `m`
+-- from which moment on the time for White's reply runs after these lines in the match `m`
 abbrev pub runs_from : Match → List (Text × ℕ) → Option ℕ
 runs_from m lines = (after_lines m lines).since
 
@@ -179,11 +176,11 @@ pub record RepliesAreTimed : Type 0 where
 
 -- ---- ends
 
--- White resigns in its first turn, before it moves
+-- White resigns before its first move
 abbrev pub resigned : Effect
 resigned = by_line (match_in (BeforeMove White 1000)) White "resign"
 
--- White resigns after 1 e4, while its `pong` is awaited, so that Black was not sent the move yet
+-- White resigns after 1 e4, before its `pong`, so that Black was not sent the move yet
 abbrev pub resigned_later : Effect
 resigned_later = by_line after_e4 White "resign"
 
@@ -191,19 +188,19 @@ resigned_later = by_line after_e4 White "resign"
 abbrev pub broken : Effect
 broken = effect worked_rules after_e4 (FailsToWrite Black)
 
--- what Black is sent if the output of White's engine ends in the handshake of a match that begins with the position of
--- this FEN of normal chess; `None` if the FEN is refused
+-- what Black is sent if the output of White's engine ends in the handshake of a match from this FEN of normal chess;
+-- `None` if the FEN is refused
 abbrev pub sent_at_fault : Text → Option (List ℕ)
 sent_at_fault fen = option_map
     (λ start. bytes_of ((effect (record worked_rules { start = start }) beginning.after (OutputEnds White)).to Black))
     (result_ok (fen_reading_as Normal (codes fen)))
 
--- the sides to which blocks are due after this line of the side `S` in the match `m`, in their order
+-- the sides that are sent blocks after this line of the side `S` in the match `m`, in order
 abbrev pub sides_due : Match → Colour → Text → List Colour
 sides_due m S line =
     map (λ (block : Block). block.to) (due_after (Line S (Some (codes line)) 3000) (by_line m S line))
 
--- what engines are sent at the end, and which engine first (CECP, version 2: section 8)
+-- what engines are sent at the end, and which one first (CECP, version 2: section 8)
 pub record EndLinesAreSent : Type 0 where
   -- both sides are sent the result and `quit`, Black after the move that it was not sent yet
   pub white : AreSentAs (resigned.to White) "result 0-1 {White resigns}\nquit\n"
@@ -213,7 +210,7 @@ pub record EndLinesAreSent : Type 0 where
   -- a side to which writing failed is sent nothing more
   pub broken_off : AreSentAs (broken.to Black) ""
   pub others : AreSentAs (broken.to White) "result * {Black can not be written}\nquit\n"
-  -- a start that ends the game is the result, also if a fault ends the match
+  -- if the start ends the game, that is the result, also after a fault
   pub stalemate : sent_at_fault "7k/5Q2/6K1/8/8/8/8/8 b - - 0 1" ≡ Some (codes "result 1/2-1/2 {Stalemate}\nquit\n")
   -- the end is sent to White first; before it, the side whose line came is sent its block first
   pub at_the_end : sides_due (match_in (BeforeMove Black 1000)) Black "resign" ≡ White ∷ Black ∷ []

@@ -1,4 +1,5 @@
-//! Laws of matches, said of their acts. A caller learns one by calling its function, which does nothing.
+//! Laws of matches, said of their acts: a block of lines that an engine is sent, or an event that is read, such as an
+//! engine's line and the clock. A caller learns one by calling its function, which does nothing.
 
 ghost use Rattle.std.specs.Prelude.{true, false};
 ghost use Rattle.chess_match_laws.specs.Answering.{AnsweringEnginesAreBlameless};
@@ -8,63 +9,62 @@ ghost use Rattle.chess_match.specs.laws.Laws.{VerdictsEndMatches};
 
 use chess_text::read_moves_are_legal;
 
-/// States a law and does nothing: by the same rules, two engines and a clock fix the match. Two matches with the same
-/// lines, ends and moments, in which the same looks for a line found none yet, are the same, act by act, if in both
-/// each block was sent, or sending failed after as many blocks to each engine. If neither ended because a write failed,
-/// their events and their ends are the same, whichever end lines could be sent. And two matches of one run are the
-/// same, act by act, on devices about which everything is known, after a failed write also how much was flushed before,
-/// if the same looks found none; without a limit to waiting none does.
+/// States a law and does nothing: the rules, two engines and a clock fix the match. Two matches by the same rules are
+/// the same, act by act, if engines and clock give the same lines, ends and moments, the same looks for a line found
+/// none yet, and to each engine sending fails after the same number of blocks, or never. If neither ended by a failed
+/// write, their events and their ends are the same, whichever end lines (`result ..`, `quit`) could be sent. And two
+/// matches of one run are the same, act by act, if everything is known about its devices, and the same looks found
+/// none; without a limit to waiting none does.
 pub fn match_is_the_only_one()
     ensures of_streams { OnlyOneMatch }
     ensures events { OneMatchButForEndLines }
     ensures of_a_run { OnlyOneMatchOfARun }
 {}
 
-/// States a law and does nothing: after a block that could not be sent to an engine, no block for this engine is sent
-/// or tried. So at most one block for each engine fails. A match that ended because writing to an engine failed has
-/// one.
+/// States a law and does nothing: after a block of lines that could not be sent to an engine, none is sent to it, or
+/// tried. So at most one block for each engine fails. If a match ended because writing to an engine failed, a block for
+/// this engine failed.
 pub fn failed_blocks_are_last()
     ensures last { FailedBlocksAreLast }
     ensures single { InEachMatch OneBlockFails }
     ensures reason { InEachMatch WriteFaultsAreOfBlocks }
 {}
 
-/// States a law and does nothing: a match that ended for a verdict of the board has this verdict after its moves; and
-/// if the board has a verdict then, the match ended for it, or by a fault before its first move. Then too the verdict
-/// is the result: the outcome that is reported of a match is always that of its game.
+/// States a law and does nothing: a match that ended for a verdict of the board, such as mate, has this verdict after
+/// its moves. If the board has a verdict then, the match ended for it, or by a fault before its first move. The outcome
+/// that is reported of a match is always that of its game.
 pub fn verdicts_end_matches()
     ensures decided { DecidedByTheBoard }
     ensures verdicts { VerdictsEndMatches }
     ensures outcomes { OutcomesAreOfTheGame }
 {}
 
-/// States a law and does nothing: where draws are automatic, a match after whose moves a draw may be claimed, and the
-/// board has no verdict, ended for this draw, or by a fault before its first move.
+/// States a law and does nothing: where draws are automatic, a match ends when a draw may be claimed. If after its
+/// moves one may be claimed, and the board has no verdict, it ended for this draw, or by a fault before its first move.
 pub fn automatic_draws_end_matches()
     ensures { AutomaticDrawsEndMatches }
 {}
 
-/// States a law and does nothing: in a match that ended for what a side's line did (it resigned, made an illegal move,
-/// moved out of turn, made a false claim, rejected a legal move, or lost on time where flags fall only with a line),
-/// the last line read is of that side. Then the clock was read, and after that only blocks were sent, or could not be
-/// sent.
+/// States a law and does nothing: if a side lost by a line of its own (it resigned, made an illegal move, moved out of
+/// turn, made a false claim, rejected a legal move, or lost on time where flags fall only with a line), the last line
+/// read is of that side. After that line and its moment only blocks were sent, or could not be sent.
 pub fn last_line_is_theirs()
     ensures { LastLineIsTheirs }
 {}
 
 /// States a law and does nothing: the moves of a match are read off the two engines' lines. Each is the one legal move
-/// that the next `move` line of the side to move denotes; lines before the end of a side's setup don't count, and one
-/// last line may be left over. It holds at each moment while a match is on, too.
+/// that the next `move` line of the side to move denotes. Lines before the end of a side's setup don't count, and one
+/// last line may be left over. This holds at each moment of a match.
 pub fn moves_are_read()
     ensures whole { InEachMatch MovesAreRead }
     ensures so_far { AtEachMoment MovesAreRead }
 {}
 
-/// States a law: the game of a match is one of the Laws of Chess, in which each move is legal where it is made.
+/// States a law: each move of a match is legal where it is made, so that its game is one of the Laws of Chess.
 pub fn games_are_lines()
     ensures { GamesAreLines }
 {
-    // The prover wants this law: a move that is read is legal.
+    // The prover needs this law: a move that is read is legal.
     read_moves_are_legal();
 }
 
@@ -74,9 +74,10 @@ pub fn games_end_at_verdicts()
     ensures { InEachMatch EndsAtVerdicts }
 {}
 
-/// States a law and does nothing: the two engines' lines say which moves each is sent, but for the last. Their `move`
-/// lines denote moves in turn, and each engine is sent the other's, each once and in order, in SAN or by squares, as
-/// its handshake asks for; at most the last is not sent. So far too, while the match is on.
+/// States a law and does nothing: the two engines' lines fix which moves each is sent, but for the last. Their `move`
+/// lines denote moves in turn. Each engine is sent the other's, each once and in order, in SAN or by squares, as its
+/// handshake asks for. At most the last is not sent, and at the end only if the match ended because writing to the
+/// engine failed. This holds at each moment of a match.
 pub fn each_is_sent_the_others()
     ensures said { InEachMatch ItemsAreSaid }
     ensures sent { InEachMatch (EachIsSentOthersMoves true) }
@@ -85,8 +86,8 @@ pub fn each_is_sent_the_others()
 {}
 
 /// States a law and does nothing: an engine is sent the other's moves, each once and in order, and no others. The last
-/// one is not sent while the `pong` of the engine that made it is awaited. All are sent by the end, unless a write to
-/// the engine failed, and whenever a line of it is read or the clock is read for the opening of its turn. If only its
+/// one is not sent while the `pong` of the engine that made it is awaited. All were sent whenever a line of the engine
+/// is read, or the clock for the opening of its turn; and in the end, unless a write to the engine failed. If only its
 /// end lines could not be sent, its blocks have all moves.
 pub fn moves_are_sent_once()
     ensures whole { InEachMatch AllMovesAreSent }
@@ -97,14 +98,14 @@ pub fn moves_are_sent_once()
 {}
 
 /// States a law and does nothing: an engine of which a line is read was sent a move if and only if its opponent has
-/// moved. And the match at its end is the one after all its acts.
+/// moved. And a match ends in the state after all its acts.
 pub fn moves_sent_are_known()
     ensures whole { AtEachLine MovesSentAreKnown }
     ensures after { InEachMatch EndsAfterItsActs }
 {}
 
 /// States a law and does nothing: the number in each `time` line is the engine's own clock in centiseconds, rounded
-/// down, and the number in each `otim` line is its opponent's. It holds at each moment while a match is on, too.
+/// down, and the number in each `otim` line is its opponent's. This holds at each moment of a match.
 pub fn times_are_clocks()
     ensures own { InEachMatch TimesAreClocks }
     ensures others { InEachMatch OtherTimesAreClocks }
@@ -113,29 +114,29 @@ pub fn times_are_clocks()
 {}
 
 /// States a law and does nothing: the time that a move used is the moment of its line less the moment when its turn was
-/// opened, or 0 if that is negative. It holds at each moment while a match is on, too.
+/// opened, or 0 if that is negative. This holds at each moment of a match.
 pub fn used_times_are_differences()
     ensures whole { InEachMatch UsedTimesAreDifferences }
     ensures so_far { AtEachMoment UsedTimesAreDifferences }
 {}
 
 /// States a law and does nothing: the moves of a side take no more time than it was given. What it has left and what
-/// they took are together what it was given. It holds at each moment while a match is on, too.
+/// they took are together what it was given. This holds at each moment of a match.
 pub fn clocks_do_not_underflow()
     ensures whole { InEachMatch ClocksDoNotUnderflow }
     ensures so_far { AtEachMoment ClocksDoNotUnderflow }
 {}
 
-/// States a law and does nothing: a side loses on time, or draws against a bare king, exactly if at some moment of its
-/// turn, with a line or without, the clock showed more than it had left.
+/// States a law and does nothing: a side loses on time, or draws against a bare king, exactly if its flag fell: at some
+/// moment of its turn, when a line had come or none yet, the clock showed more than it had left.
 pub fn time_forfeits_are_shown()
     ensures { InEachMatch TimeForfeitsAreShown }
 {}
 
-/// States a law and does nothing: no act is a silence unless flags or replies have a limit. After a silence the match
-/// is over exactly if the side that was silent was beyond its limit: before its move, if it used more time than it had
-/// left; otherwise, if it owed its line for longer than the rules allow. A silence that is not beyond the limit changes
-/// nothing, except that the first one of a match may begin the time for a reply.
+/// States a law and does nothing: a silence (a look for an engine's line that found none yet) ends the match exactly if
+/// this side was beyond its limit: before its move, if it used more time than it had left; otherwise, if it owed its
+/// line for longer than the rules allow. A silence within the limit changes nothing, except that the first one of a
+/// match may begin the time for a reply. Without a limit for flags and replies there are no silences.
 pub fn silences_end_matches()
     ensures asked_for { SilencesAreAskedFor }
     ensures beyond { SilencesEndMatches }
@@ -143,22 +144,23 @@ pub fn silences_end_matches()
 {}
 
 /// States a law and does nothing: if a match ended by a silence, so that a side lost on time without a line or did not
-/// answer, all lines in the bytes that were read from its engine are lines of the match. None was read and passed over.
+/// answer, all lines in the bytes that were read from its engine are lines of the match. None was passed over.
 pub fn silences_leave_no_line()
     ensures { SilencesLeaveNoLine }
 {}
 
 /// States a law and does nothing: in a game of at most `limit` half-moves at most 22,000 + 10,002 * (limit + 1) lines
-/// of both engines together are read. It holds at each moment while a match is on, too.
+/// of both engines together are read. This holds at each moment of a match.
 pub fn lines_are_few()
     ensures whole { InEachMatch LinesAreFew }
     ensures so_far { AtEachMoment LinesAreFew }
 {}
 
-/// States a law and does nothing: the events among the notes of a match are just its events, in order, so they lead
-/// from the beginning to its end. A failed write is an event only if the match ended by it. For each engine the notes
-/// have the bytes of all lines that it is sent, also of a block that could not be sent. The lines of each side in the
-/// notes are just those that were read of it, and the moments just those that the clock showed, all in order.
+/// States a law and does nothing: the notes of a match, which its witness (such as the log) is given, are complete and
+/// in order. Their events are just those of the match, so they lead from the beginning to its end; a failed write is an
+/// event only if the match ended by it. For each engine the notes have the bytes of all lines that it is sent, also of
+/// a block that could not be sent. Their lines of each side are just those that were read of it, and their moments just
+/// those that the clock showed.
 pub fn notes_have_all()
     ensures of_matches { NotesHaveTheEvents }
     ensures in_order { NotesAreInOrder }
@@ -167,55 +169,54 @@ pub fn notes_have_all()
     ensures moments { NotesHaveMoments }
 {}
 
-/// States a law and does nothing: in a match nothing is due when a line is read or none has come, an output ends, a
-/// read fails or the clock is read. After each line the next steps are to read the clock and to note the line with that
-/// moment; after each look that found no line, to read the clock and to note the silence.
+/// States a law and does nothing: right after a line is read, or a look for one found none, the clock is read, and the
+/// line or silence is noted with that moment. And whenever an event is read (a line, a silence, the clock, an output's
+/// end or a failure), no block is still to be sent.
 pub fn acts_are_in_order()
     ensures lines { LinesAreReadInOrder }
     ensures silences { SilencesAreReadInOrder }
     ensures events { NothingIsDueAtEvents }
 {}
 
-/// States a law and does nothing: an engine is set up by these lines, which it is sent last before its `pong 1`. Two
-/// examples are worked out: normal chess from the initial position, if the engine's own level is 40 moves in 5 minutes,
-/// and Chess960 from any position, if it is 2 minutes and 12 seconds for each move.
+/// States a law and does nothing: the lines that an engine is sent last before its `pong 1` set it up. Two examples are
+/// worked out: normal chess from the initial position, if the engine's own level is 40 moves in 5 minutes, and Chess960
+/// from any position, if it is 2 minutes and 12 seconds for each move.
 pub fn setups_are_these_lines()
     ensures { AtEachLine IsSetUp }
 {}
 
-/// States a law and does nothing: the n-th `ping` that an engine is sent has the number n. It holds at each moment
-/// while a match is on, too.
+/// States a law and does nothing: the n-th `ping` that an engine is sent has the number n. This holds at each moment of
+/// a match.
 pub fn pings_are_numbered()
     ensures whole { InEachMatch PingsAreNumbered }
     ensures so_far { AtEachMoment PingsAreNumbered }
 {}
 
-/// States a law and does nothing: each engine is sent `go` at most once, and it was sent when the clock is read for the
-/// opening of one of its turns.
+/// States a law and does nothing: each engine is sent `go` at most once, and was sent it whenever the clock is read for
+/// the opening of one of its turns.
 pub fn go_is_sent_once()
     ensures whole { InEachMatch GoIsSentOnce }
     ensures so_far { AtEachMoment GoIsSentOnce }
     ensures opened { AtEachOpening WasSentGo }
 {}
 
-/// States a law and does nothing: each turn is opened once. The clock was read for a side's openings as often as it has
-/// moved, or once more, if its move is awaited or the match ended before it. It holds at each moment while a match is
-/// on, too.
+/// States a law and does nothing: each turn is opened once. The clock was read for a side's openings (the lines that
+/// ask for its move) as often as it has moved, or once more, if its move is awaited or the match ended before it. This
+/// holds at each moment of a match.
 pub fn turns_are_opened_once()
     ensures whole { InEachMatch TurnsAreOpenedOnce }
     ensures so_far { AtEachMoment TurnsAreOpenedOnce }
 {}
 
 /// States a law and does nothing: in a match that ended by agreement one side offered a draw, and then the other, by
-/// the last line that was read; and in between the latter made no move, since by its move the offer would have lapsed.
+/// the last line that was read. In between the latter made no move, by which the offer would have lapsed.
 pub fn agreed_draws_are_offered()
     ensures { InEachMatch AgreedDrawsAreOffered }
 {}
 
-/// States a law and does nothing: whenever a line of a side is read while an offer of a draw by the other side is open,
-/// the side that sent the line was sent `draw`, unless its engine has the feature off. A side is sent `draw` at most as
-/// often as the other side offers a draw, and at most once more than it makes moves; so an offer that is repeated is
-/// not passed on again.
+/// States a law and does nothing: whenever a line of a side is read while the other side's offer of a draw is open, the
+/// side of this line was sent `draw`, unless its engine has the feature off. A side is sent `draw` at most as often as
+/// the other side offers a draw, and at most once more than it makes moves; so a repeated offer is not passed on again.
 pub fn offers_are_passed_on()
     ensures passed { AtEachLine OffersArePassedOn }
     ensures offered { AtEachMoment DrawsAreOffered }

@@ -4,8 +4,8 @@
 ghost use Rattle.std.specs.Prelude.{◌≡◌, ◌≤◌, ℕ, List, Some};
 ghost use Rattle.cecp_engine.specs.Levels.{LevelSeen, level_of, level_text};
 
-/// States a law and does nothing: what is written of a level is parsed as the same level, if it was parsed before or
-/// its numbers are within the ranges of levels.
+/// States a law and does nothing: a level (time control) that is written is parsed as the same level, if it was parsed
+/// before, or if it has at most 999 moves, a base below 60,000,000 and an increment below 1,000,000 milliseconds.
 pub fn levels_are_parsed_back()
     ensures parsed { (text : List ℕ) (level : LevelSeen) → level_of text ≡ Some level
         → level_of (level_text level) ≡ Some level }

@@ -4,9 +4,9 @@
 ghost use Rattle.chess_match_laws.specs.Worked.{ClocksGoOn, EndsAreOfKinds, EndsAreWorded, FaultsAreReported, FeaturesAreOn, ItemsAreRead, KingsAreBare, LevelsGive, LinesAreSent, LinesSay, LosersLose};
 ghost use Rattle.chess_match_laws.specs.WorkedTurns.{ClaimsAreJudged, EndLinesAreSent, HandshakesEnd, IgnoredAreCounted, OffersAreJudged, RepliesAreTimed, SilencesAreJudged};
 
-/// States a law and does nothing: what some lines of engines say, which items a `feature` line has, which features an
-/// engine has on by them, that lines that are ignored are counted anew in each setup and each turn, how handshakes
-/// end, and of several features that an engine lacks which one is reported.
+/// States a law and does nothing: examples of lines of engines: what they say, which items a `feature` line has, and
+/// which features are on by them; that ignored lines are counted anew in each setup and each turn; how handshakes end,
+/// and which of several missing features is reported.
 ///
 /// It refuses a `pong` that takes fewer than nine digits or more, a quoted 1 that counts as 1, and a lack of `setboard`
 /// that is reported before that of `ping`.
@@ -19,7 +19,7 @@ pub fn engine_lines_are_worked_out()
 {}
 
 /// States a law and does nothing: what some time controls are, how much time they give after some moves, and what moves
-/// leave on the clocks of a game in which each side has its own.
+/// leave on the clocks of a game with two time controls.
 ///
 /// It refuses a clock that the other side's move runs down, an increment or a new session that is left out, and moves
 /// of which only the last counts.
@@ -28,10 +28,10 @@ pub fn levels_are_worked_out()
     ensures clocks { ClocksGoOn }
 {}
 
-/// States a law and does nothing: the lines by which handshakes and turns are opened in a match of 40 moves in 5
-/// minutes, byte by byte: in an engine's first turn the move comes before the clocks, in later turns after them; in
-/// SAN, and without clocks, if the engine asked for that. And those at the end: the last move, if the engine was not
-/// sent it yet, the result and `quit`, to White first.
+/// States a law and does nothing: the lines that engines are sent in examples, byte by byte. Those of handshakes and
+/// openings, in a match of 40 moves in 5 minutes: in an engine's first turn the move comes before the clocks, in later
+/// turns after them; in SAN, and without clocks, if the engine asked for that. And those at the end: the last move, if
+/// the engine was not sent it yet, the result and `quit`, to White first.
 ///
 /// It refuses another version of the protocol, `time` and `otim` that are exchanged, clocks that are rounded up, an end
 /// without `quit`, and a result that is sent before the last move.
@@ -40,16 +40,16 @@ pub fn sent_lines_are_worked_out()
     ensures ends { EndLinesAreSent }
 {}
 
-/// States a law and does nothing: with a king alone, whatever the other side has, a side has a bare king; with a queen,
+/// States a law and does nothing: a side with only its king has a bare king, whatever the other side has; with a queen,
 /// a knight or a pawn more it has not.
 pub fn bare_kings_are_worked_out()
     ensures { KingsAreBare }
 {}
 
 /// States a law and does nothing: the side that resigns, forfeits on time, moves illegally or out of turn, claims
-/// falsely or rejects a legal move loses; against a bare king, and by agreement, the game is drawn; after a fault, and
-/// at the limit of half-moves, it has no outcome. And the comments on ends, word for word, which ends are losses on
-/// time or against the rules, as PGN's tag Termination distinguishes them, and which fault is reported.
+/// falsely or rejects a legal move loses. Against a bare king, and by agreement, the game is drawn; after a fault, and
+/// at the limit of half-moves, it has no outcome. Also the comments on ends, letter by letter; which ends are losses on
+/// time or against the rules, for PGN's tag Termination; and which fault is reported.
 pub fn losers_lose()
     ensures outcomes { LosersLose }
     ensures comments { EndsAreWorded }
@@ -57,28 +57,30 @@ pub fn losers_lose()
     ensures faults { FaultsAreReported }
 {}
 
-/// States a law and does nothing: a side that says in its turn, by `1-0` or `0-1`, that it has won loses by a false
+/// States a law and does nothing: in its turn a side that says, by `1-0` or `0-1`, that it has won loses by a false
 /// claim; one that says that the other side has won resigns. One that answers a move by `Illegal move` loses by that;
 /// without a move to reject the line is ignored.
 ///
-/// It refuses to call the second a false claim, and a move that may be rejected, or that nobody made.
+/// It refuses that a resignation by `1-0` or `0-1` is a false claim, that a legal move may be rejected, and that one
+/// may be rejected which nobody made.
 pub fn claims_are_worked_out()
     ensures { ClaimsAreJudged }
 {}
 
-/// States a law and does nothing: `offer draw` is passed on to the other side as `draw`, once, and if that side has
-/// offered a draw, both agree. So it is with `1/2-1/2` where no draw may be claimed.
+/// States a law and does nothing: `offer draw` is passed on to the other side as `draw`, once; if that side has offered
+/// a draw, both agree. The same holds of `1/2-1/2` where no draw may be claimed.
 ///
-/// It refuses an offer that is ignored, is sent back, or is never agreed to, and such a claim that is no offer.
+/// It refuses an offer that is ignored, is sent back, or is never agreed to, and a `1/2-1/2` without a claim that is no
+/// offer.
 pub fn offers_are_worked_out()
     ensures { OffersAreJudged }
 {}
 
-/// States a law and does nothing: from which line on the time for a reply runs, in examples. In a handshake each
-/// `feature` line begins it anew, and in a setup `pong 1`; other lines don't, such as a remark. And by which fault a
-/// match ends whose reply is owed for longer than the rules allow.
+/// States a law and does nothing: examples of the time for a reply: from which line on it runs, and by which fault a
+/// match ends whose reply is owed for longer than the rules allow. In a handshake each `feature` line begins it anew,
+/// and in a setup `pong 1`; other lines, such as a remark, don't.
 ///
-/// It refuses an engine that gets more time by any line, and one whose answer to a `ping` is missing that is said to
+/// It refuses that an engine gets more time by any line, and that one whose answer to a `ping` is missing is said to
 /// have sent no `done=1`.
 pub fn reply_times_are_worked_out()
     ensures times { RepliesAreTimed }

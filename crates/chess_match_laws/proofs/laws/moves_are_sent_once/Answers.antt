@@ -1,4 +1,4 @@
--- An engine is sent the other's moves, each once and in order (MoveLaw).
+-- An engine is sent the other's moves, each once and in order (MoveLaw): at each moment, and in the whole match.
 use Rattle.chess_match_laws.proofs.MoveLaw.{all_moves_are_given, all_moves_are_sent, all_sent_at_lines, all_sent_at_openings, moves_are_sent}
 use Rattle.chess_match_laws.proofs.laws.moves_are_sent_once.Goals as goal
 
