@@ -1,4 +1,4 @@
--- After a line's first tag come 255 parts at most (Parts).
+-- A line's front has at most 256 tags and the like, its first tag and 255 others (Parts.one_fewer).
 use Rattle.std.proofs.Common.{◌≡◌, Some, None, refl, sym, ap, ◌∙◌}
 use Rattle.pgn_pieces.specs.{Pieces.after_part, ties.Fronts.after_value}
 use Rattle.pgn_pieces.proofs.Parts.{at_tag, no_part, one_fewer, stays}
