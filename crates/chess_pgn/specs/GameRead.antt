@@ -74,10 +74,9 @@ closed_by draws limit s = if is_some (ending draws s) then Some AfterEnd
 -- ---- after the tags
 
 -- what is read of the game `s`, whose tags and first moves were read, from the tokens after them. `draws`: whether
--- fivefold repetition and 75 moves end it; `limit`: how many half-moves it may have; `total`: the text's length, so a
--- token is at the offset `total - left`; `cause`: what the tag Termination names
+-- fivefold repetition and 75 moves end it; `limit`: its most half-moves; `total`: the text's length, so a token is at
+-- the offset `total - left`; `cause`: what the tag Termination names
 abbrev pub moves_read : Bool → ℕ → ℕ → Option Termination → State → List (ℕ × Token) → GameRead
--- without a termination marker there is a fault at the text's end
 moves_read draws limit total cause s [] = failed s NoResult total
 moves_read draws limit total cause s ((left, Skip) ∷ ts) = moves_read draws limit total cause s ts
 -- an outcome such as `1-0` ends the game after its last byte. A number and marks such as `!?` are passed over; any
@@ -88,11 +87,11 @@ moves_read draws limit total cause s ((left, Word word) ∷ ts) = option_map_or 
 }) (outcome_of word) (if list_all is_digit word || is_marks word then moves_read draws limit total cause s ts
     else word_gives (closed_by draws limit s) (λ m. moves_read draws limit total cause (played s m) ts)
     (λ kind. failed s kind (total - left)) (reading (current s) word))
--- the fault is at the comment's `{`, `brace` bytes before the text's end; it may be inside a variation
+-- the fault is at the comment's `{`, which may be inside a variation
 moves_read draws limit total cause s ((left, Unclosed_comment brace) ∷ ts) = failed s UnclosedComment (total - brace)
 moves_read draws limit total cause s ((left, Unclosed_variation) ∷ ts) = failed s UnclosedVariation (total - left)
 moves_read draws limit total cause s ((left, Bad) ∷ ts) = failed s BadToken (total - left)
--- a tag, even a bad one, is the next game's, so this one has no outcome, which is a fault
+-- a tag, even a bad one, is the next game's, so this one has no outcome
 moves_read draws limit total cause s ((left, _) ∷ ts) = failed s NoResult (total - left)
 
 -- ---- the tags
@@ -121,17 +120,17 @@ tagged_variant tags = option_map_or (λ t. unwrap_or (known_variant t.0) Normal)
 
 -- what is read of the game `s`, which is at its start, from the tokens after its tag section `tags`: a bad tag at their
 -- front is the fault; otherwise they are its moves. `draws`: whether fivefold repetition and 75 moves end it; `limit`:
--- how many half-moves it may have; `total`: the text's length. The last tag Termination counts, even if it names no
--- value of the standard
+-- its most half-moves; `total`: the text's length. The last tag Termination counts, even if it names no value of the
+-- standard
 abbrev pub read_after_tags : Bool → ℕ → ℕ → State → List (ℕ × Token) → List (ℕ × Token) → GameRead
 read_after_tags draws limit total s tags ((to_end, Bad_tag) ∷ rest) = failed s BadTag (total - to_end)
 read_after_tags draws limit total s tags rest = moves_read draws limit total
     (option_and_then (λ tag. termination_named tag.0) (last_tag (codes "Termination") tags)) s rest
 
 -- what is read of the game at the front of these tokens, in a text of `total` bytes. `draws`: whether fivefold
--- repetition and 75 moves end it; `limit`: how many half-moves it may have. There is no game if no token says anything
--- of one. The last tag Variant gives the variant, and the last FEN the start, which is otherwise the variant's initial
--- position. The first FEN that denotes no position is the fault, and the FENs before it give the start
+-- repetition and 75 moves end it; `limit`: its most half-moves. There is no game if no token says anything of one. The
+-- last tag Variant gives the variant, and the last FEN the start, otherwise the variant's initial position. The first
+-- FEN that denotes no position is the fault, and the FENs before it give the start
 abbrev pub read_of_split : Bool → ℕ → ℕ → List (ℕ × Token) → GameRead
 read_of_split draws limit total tokens = let tags = tag_section tokens in let v = tagged_variant tags in
     let fens = map (fen_read total v) (filter_map (λ t. named_tag (codes "FEN") t.1) tags) in
@@ -141,13 +140,13 @@ read_of_split draws limit total tokens = let tags = tag_section tokens in let v 
     (read_after_tags draws limit total s tags (drop (length tags) tokens))
 
 -- what is read of a text from the offset `at` on: the game up to its termination marker, that no game is left, or the
--- first fault. `draws`: whether fivefold repetition and 75 moves end a game; `limit`: how many half-moves it may have
+-- first fault. `draws`: whether fivefold repetition and 75 moves end a game; `limit`: its most half-moves
 unfoldable pub pgn_read : Bool → ℕ → List ℕ → ℕ → GameRead
 pgn_read draws limit text at =
     read_of_split draws limit (length text) (tokens_from text (after_byte_order_mark text at))
 
--- what `pgn_read` gives, defined without `tokens_from`: `r` is what is read of some split of the text into tokens.
--- There is exactly one such `r` (law `a_game_is_tags_and_moves`)
+-- what `pgn_read` gives, defined without `tokens_from`: `r` is what is read of a split of the text into tokens. There
+-- is exactly one such `r`
 pub record IsRead (draws : Bool) (limit : ℕ) (text : List ℕ) (at : ℕ) (r : GameRead) : Type 0 where
   pub tokens : List (ℕ × Token)
   pub split : IsSplit text (after_byte_order_mark text at) tokens

@@ -14,7 +14,6 @@ pub record Stands (draws : Bool) (g s : State) : Type 0 where
 -- what the code returned of a game is what was read of it (`r`)
 abbrev pub IsAnswer : GameRead → Result (Option ReadGame) PgnFault → Type 0
 IsAnswer r (Ok None) = r.answer ≡ Ok None
--- a game: its end, its start, and how many moves it has
 IsAnswer r (Ok (Some game)) = (r.answer ≡ Ok (Some game.end)) × (game.start ≡ r.state.start)
     × (game.plies ≡ length r.state.moves)
 IsAnswer r (Err fault) = r.answer ≡ Err fault

@@ -1,8 +1,8 @@
 -- What is read of the variations of a game (PGN standard of 1994, section 8.2.5). A variation replaces the move just
--- before it, so its moves begin in the position before that move; a variation in it replaces one of its own moves. A
--- *line* is a game's own moves, or those of a variation. This project's own: which words are taken; that a result is
--- passed over in a variation, and a tag there is a fault, since a `)` in its string may end the variation (pgn_tokens'
--- `Split`); that no draw ends a variation; and how deep they may be nested.
+-- before it, so its moves begin in the position before that move. A *line* is a game's own moves, or those of a
+-- variation. This project's own: which words are taken; that a result is passed over in a variation, and a tag there is
+-- a fault, since a `)` in its string may end the variation; that no draw ends a variation; and how deep they may be
+-- nested.
 use Rattle.std.specs.Prelude.{ℕ, zero, suc, ◌+◌, ◌-◌, Bool, true, false, ◌||◌, if◌then◌else◌, List, [], ◌∷◌, codes, length, take, drop, Option, Some, None, is_some}
 use Rattle.std.specs.List.{list_all}
 use Rattle.std.specs.Option.{option_map_or, option_or}
@@ -40,7 +40,7 @@ line_fault tags text inside before p ((left, Word word) ∷ more) =
     then line_fault tags text inside before p more
     else word_gives None (λ m. line_fault tags text inside (Some p) (after p m) more)
     (λ kind. Some (record { kind = kind; offset = length text - left })) (reading p word)
--- a `)`, which can't be read as a token, ends the line of a variation
+-- a `)` ends the line of a variation
 line_fault tags text inside before p ((left, Bad) ∷ more) = let at = length text - left in
     if bytes_eq (take 1 (drop at text)) (codes ")") then None else Some (record { kind = BadToken; offset = at })
 -- a `[` that begins no tag, or a comment or variation that isn't closed
@@ -56,7 +56,7 @@ variation_fault tokens (suc depth) text start at =
 
 -- the first fault in the variations of a game that has no other fault, and whose text goes from the offset `at` to the
 -- end of `text`; `None` if there is none. `start`: the game's start; `tokens` gives the tokens of a text from an offset
--- on. At most 64 variations (`MOST_NESTED`) may be open. The game's own tags are passed over (`true`)
+-- on. At most 64 variations (`MOST_NESTED`) may be open
 abbrev pub variations_fault : (List ℕ → ℕ → List (ℕ × Token)) → List ℕ → Setup → ℕ → Option PgnFault
 variations_fault tokens text start at = if has_variation text (tokens text at)
     then line_fault true text (λ p from. variation_fault tokens MOST_NESTED text p from) None start (tokens text at)

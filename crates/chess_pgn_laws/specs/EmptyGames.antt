@@ -93,12 +93,12 @@ pub record PercentLinesAreSkipped : Type 0 where
   -- nor within a line of a variation
   pub in_variation : EndsAt "(%)*" 4
   pub return_in_variation : EndsAt "(\r%)*" 5
-  -- in a tag, where it begins a line
+  -- in a tag only where it begins a line
   pub in_tag : EndsAt "[A\n%]\n\"b\"]*" 11
   pub in_line_of_tag : FailsAt "[A %\n\"b\"]*" BadTag 0
   pub after_bracket : FailsAt "[%\nA \"b\"]*" BadTag 0
   pub return_in_tag : FailsAt "[A\r%\n\"b\"]*" BadTag 0
-  -- a game that is read from within a line on begins no line
+  -- reading from an offset begins a line only where one begins
   pub second : (pgn_read true 1 (codes "*\n%1-0\n*") 2).answer ≡ Ok (Some (unfinished_at 8))
   pub second_in_line : (pgn_read true 1 (codes "*%\n*") 1).answer ≡ Err (record { kind = BadToken; offset = 1 })
   -- a byte order mark is skipped, and begins no line

@@ -73,14 +73,12 @@ pub record TextsAreRead : Type 0 where
       → reading (current (from_start (initial_setup_of Normal))) (codes "e4") ≡ reads.Move m
       → IsRead true 1 (codes "[Event \"a\"]\n1. e4 *") 0
       (finished (played (from_start (initial_setup_of Normal)) m) Unfinished None 19)
-  -- only what is skipped
   pub no_game : IsRead true 1 (codes " {a}") 0
       (record { state = from_start (initial_setup_of Normal); answer = Ok None })
   pub no_result : IsRead true 1 (codes "[A \"b\"]") 0
       (failed (from_start (initial_setup_of Normal)) NoResult 7)
   pub bad_tag : IsRead true 1 (codes "[A \"b\"][A b]") 0
       (failed (from_start (initial_setup_of Normal)) BadTag 7)
-  -- a FEN of one field
   pub bad_fen : IsRead true 1 (codes "[FEN \"x\"] *") 0
       (failed (from_start (initial_setup_of Normal)) (BadFen Fields) 6)
   pub variations : VariationsAreCounted

@@ -67,8 +67,8 @@ can_be_taken v begun (Tag name text to_end) = not begun && (not (is_fen name) ||
 can_be_taken v begun (Word word) = not (is_outcome (word_kind word))
 can_be_taken v begun _ = false
 
--- whether reading goes on after each of these tokens; `v`: the variant by which a FEN is read, `begun`: a number or
--- move came before them
+-- whether reading goes on after each of these tokens; `v`: the variant of a FEN, `begun`: a number or move came before
+-- them
 abbrev pub can_all_be_taken : Variant → Bool → List (ℕ × Token) → Bool
 can_all_be_taken v begun [] = true
 can_all_be_taken v begun (t ∷ ts) = can_be_taken v begun t.1 && can_all_be_taken v (begun || begins t.1) ts
@@ -123,7 +123,6 @@ game_by start ms = record { start = start; moves = ms; declared = None }
 -- moves end it
 abbrev pub AreReadAs : Bool → ℕ → Setup → List Played → List (List ℕ) → List Played → Type 0
 AreReadAs draws limit start done [] [] = Unit {0}
--- more moves than words, or fewer
 AreReadAs draws limit start done [] (m ∷ ms) = ⊥
 AreReadAs draws limit start done (w ∷ ws) [] = ⊥
 AreReadAs draws limit start done (w ∷ ws) (m ∷ ms) =
@@ -193,7 +192,7 @@ StopsAt draws limit total v taken [] s (Ok (Some e)) = ⊥
 StopsAt draws limit total v taken [] s (Err f) =
     (s.declared ≡ None) × (list_any (λ t. counts t.1) taken ≡ true) × (f ≡ record { kind = NoResult; offset = total })
 StopsAt draws limit total v taken (t ∷ ts) s (Ok None) = ⊥
--- the next token is the word of an outcome
+-- the next token is an outcome's word
 StopsAt draws limit total v taken (t ∷ ts) s (Ok (Some e)) =
     (word : List ℕ) × (t.1 ≡ Word word) × (word_kind word ≡ End e.outcome)
     × (s.declared ≡ declared_after (is_some (verdict_now s)) e.outcome)
@@ -207,7 +206,6 @@ StopsAt draws limit total v taken (t ∷ ts) s (Err f) =
 -- `draws`: whether fivefold repetition and 75 moves end it; `limit`: its most half-moves; `total`: the text's length
 pub record IsOfTokens (draws : Bool) (limit total : ℕ) (v : Variant) (tokens : List (ℕ × Token))
     (r : GameRead) : Type 0 where
-  -- the game's tokens, and those after them
   pub taken : List (ℕ × Token)
   pub others : List (ℕ × Token)
   pub all : taken ++ others ≡ tokens

@@ -30,11 +30,10 @@ pub data IsLegalLine (tokens : ℕ → List (ℕ × Token)) (text : List ℕ) : 
   -- the variation's `)`
   closed : {before : Option Setup} {p : Setup} {left : ℕ} {token : Token} {more : List (ℕ × Token)}
       → is_end text (length text - left) token ≡ true → IsLegalLine tokens text before p ((left, token) ∷ more)
-  -- a token that is passed over
   passed : {before : Option Setup} {p : Setup} {left : ℕ} {token : Token} {more : List (ℕ × Token)}
       → is_variation text (length text - left) token ≡ false → is_passed token ≡ true
       → IsLegalLine tokens text before p more → IsLegalLine tokens text before p ((left, token) ∷ more)
-  -- a word that denotes a legal move, and no other; the line continues in the position after it
+  -- a word that denotes a legal move; the line continues in the position after it
   move : {before : Option Setup} {p : Setup} {left : ℕ} {word : List ℕ} {more : List (ℕ × Token)}
       (m : Move) → reading p word ≡ reads.Move m → IsTrue (is_legal p m)
       → IsLegalLine tokens text (Some p) (after p m) more

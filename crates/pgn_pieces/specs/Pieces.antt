@@ -79,22 +79,22 @@ unfoldable pub after_parts : ℕ → List ℕ → List ℕ
 after_parts zero text = text
 after_parts (suc more) text = option_map_or (after_parts more) (after_part text) text
 
--- whether a text ends within the tag with which it begins, so that more bytes may close it: in the name, in the string,
--- or in the spaces and tabs after one of these
+-- whether a text ends within the tag with which it begins, which more bytes may close: in the name, in the string, or
+-- in the spaces and tabs after one of these
 abbrev pub ends_in_tag : List ℕ → Bool
 ends_in_tag text = bytes_eq (take 1 text) (codes "[")
     && ((length (after_name text) == 0) || begins_tag text && (length (after_string text) == 0))
 
 -- whether a tag line has more than tags, by what comes after its tags, comments, glyphs, dots and marks: a byte that
--- neither ends the line nor begins a comment, as of a move, a variation or a tag that isn't closed. `ended`: the line's
--- end was seen; if not, a tag in which what was seen ends doesn't count
+-- neither ends the line nor begins a comment, as of a move. `ended`: the line's end was seen; if not, a tag in which
+-- what was seen ends doesn't count
 abbrev pub has_more : Bool → List ℕ → Bool
 has_more ended rest = list_any (λ c. not (list_any (λ k. c == k) (codes "\r\n{;"))) (take 1 rest)
     && (ended || not (ends_in_tag rest))
 
--- whether a line counts as one of moves: one that is neither a tag line nor empty (so also one inside a `{` comment,
--- and a tag such as `[ Event "x" ]`); or a tag line whose front has more than tags: `[White "a"] {x} 1. e4`, or
--- `[White "a`. A front has at most 256 tags and the like
+-- whether a line counts as one of moves: one that is neither a tag line nor empty (also one inside a `{` comment, and
+-- `[ Event "x" ]`); or a tag line with more than tags: `[White "a"] {x} 1. e4`, or `[White "a`. A front has at most 256
+-- tags and the like
 abbrev pub is_moves_line : List ℕ → Bool
 is_moves_line line = let front = front_of line in
     if is_tag_line line then has_more (list_any breaks_line front) (after_parts 256 front) else not (is_empty_line line)
@@ -114,8 +114,7 @@ with_line [] line = (line ∷ []) ∷ []
 with_line (last ∷ before) line =
     if begins_piece last line then (line ∷ []) ∷ last ∷ before else (last ++ line ∷ []) ∷ before
 
--- the pieces that a text is cut into, in order, each as its bytes: one begins at the first line, and at each for which
--- `begins_piece` holds
+-- the pieces that a text is cut into, in order, each as its bytes
 abbrev pub cut : List ℕ → List (List ℕ)
 cut text = reverse (map concat (fold with_line [] (lines_of text)))
 
@@ -127,7 +126,7 @@ known_pieces ended text = let all = cut text in if ended then all else take (len
 -- ---- what was read of an input
 
 -- between the states `r` and `r'` of the input just this text was read, and no failed read and no silence was counted.
--- `ended`: the end of the input was reached, and was reported by one read
+-- `ended`: the input's end was reached, and reported by one read
 pub record HasRead (ended : Bool) (r r' : InputState) (text : List ℕ) : Type 0 where
   pub bytes : Consumes r.known_bytes r'.known_bytes text
   pub failures : r'.failure_count ≡ r.failure_count

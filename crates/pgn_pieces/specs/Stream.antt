@@ -35,17 +35,16 @@ with_offsets offset [] = []
 with_offsets offset (bytes ∷ rest) =
     record { offset = offset; bytes = bytes } ∷ with_offsets (offset + length bytes) rest
 
--- the pieces that are known (`known_pieces`) of a text that begins at this offset of the input. `ended`: the input ends
--- with the text; if not, the last piece may go on and is left out
+-- the known pieces of a text that begins at this offset of the input. `ended`: the input ends with the text; if not,
+-- the last piece may go on and is left out
 unfoldable pub pieces : Bool → ℕ → List ℕ → List Piece
 pieces ended offset text = with_offsets offset (known_pieces ended text)
 
--- what a caller sees of a piece: the offsets in the input of its first byte and of the one after its last, how it
--- begins, how many lines end in it, and its bytes
+-- what a caller sees of a piece: the offsets in the input of its first byte and of the one after its last, its first 40
+-- bytes, how many lines end in it, and its bytes
 pub record PieceSeen : Type 0 where
   pub offset : ℕ
   pub end : ℕ
-  -- its first 40 bytes
   pub beginning : List ℕ
   pub line_ends : ℕ
   -- `None` if it has more than 16,777,216

@@ -1,5 +1,4 @@
--- How a game's text is split into tokens (PGN standard of 1994, sections 5 to 8.2): from left to right, each the
--- longest at its offset, up to the text's end or to where no token can be read. This project's own: the bytes of a
+-- How a game's text is split into tokens (PGN standard of 1994, sections 5 to 8.2). This project's own: the bytes of a
 -- word; that `$` may have no digits; that a `%` line is skipped also in a tag and in a variation; that a string may
 -- have tabs and more than 255 bytes, and a backslash in it may keep any byte.
 use Rattle.std.specs.Prelude.{◌≡◌, ℕ, ◌+◌, ◌-◌, ◌<◌, ◌≤◌, Bool, true, false, not, ◌&&◌, ◌||◌, List, [], ◌∷◌, ◌++◌, length, drop, codes, ◌==◌}
@@ -18,7 +17,7 @@ lacks b text = list_all (λ c. not (c == b)) text
 abbrev pub skips_line : Bool → ℕ → Bool
 skips_line line_begins c = line_begins && c == byte "%" || c == byte ";"
 
--- ---- variations (section 8.2.5): `(`, what is inside, `)`
+-- ---- variations (section 8.2.5)
 
 -- the text may be between a variation's `(` and its `)`, as in `4. Ng5 d5 (4... Bc5)`: the parts below, one after
 -- another, or none. `b`: whether its first byte begins a line, as after `\n`, and not after `(`, `)` or `}`
@@ -27,7 +26,7 @@ pub data IsInside : Bool → List ℕ → Type 0 where
   -- a `%` line or `;` comment, with its `\n`, and then more
   line : {b : Bool} {c : ℕ} (text : List ℕ) {more : List ℕ} → skips_line b c ≡ true → lacks new_line text ≡ true
       → IsInside true more → IsInside b (c ∷ text ++ new_line ∷ more)
-  -- a comment from `{` to the next `}`, and then more
+  -- a `{` comment, and then more
   comment : {b : Bool} (text : List ℕ) {more : List ℕ} → lacks (byte "}") text ≡ true → IsInside false more
       → IsInside b (byte "{" ∷ text ++ byte "}" ∷ more)
   -- a variation, and then more
@@ -43,7 +42,7 @@ pub data IsInside : Bool → List ℕ → Type 0 where
 -- a line, where `%` begins a `%` line
 pub data IsGap : Bool → List ℕ → Type 0 where
   nothing : {b : Bool} → IsGap b []
-  -- a byte of white space, and then more
+  -- white space, and then more
   blank : {b : Bool} {c : ℕ} {more : List ℕ} → is_white_space c ≡ true → IsGap (c == new_line) more → IsGap b (c ∷ more)
   -- a `%` line with its `\n`, and then more
   line : (text : List ℕ) {more : List ℕ} → lacks new_line text ≡ true → IsGap true more
@@ -55,19 +54,19 @@ pub data OpensTag (name : List ℕ) : List ℕ → Type 0 where
   opens : {before after : List ℕ} → IsGap false before → 0 < length name → list_all is_name_byte name ≡ true
       → IsGap false after → OpensTag name (byte "[" ∷ (before ++ (name ++ (after ++ codes "\""))))
 
--- the text may be between a string's quotes (section 7), as `a\"b`, or empty: no quotes, backslashes and `\n`, but
--- pairs of a backslash and the byte that it keeps from ending the string, any but `\n`
+-- the text may be between a string's quotes (section 7), as `a\"b`: bytes other than quotes, backslashes and `\n`, and
+-- pairs of a backslash and the byte that it keeps from ending the string
 pub data IsString : List ℕ → Type 0 where
   nothing : IsString []
   -- a backslash and the byte that it keeps
   kept : {c : ℕ} {more : List ℕ} → (c == new_line) ≡ false → IsString more → IsString (byte "\\" ∷ c ∷ more)
-  -- any byte but these
+  -- any byte but backslashes, quotes and `\n`
   char : {c : ℕ} {more : List ℕ} → list_any (λ k. c == k) (codes "\\\"\n") ≡ false → IsString more → IsString (c ∷ more)
 
 -- ---- tokens
 
--- the text as a whole is this token (see `Token`). `b`: whether the text's first byte begins a line; `left`: how many
--- bytes of the game's text come after the token
+-- the text as a whole is this token. `b`: whether its first byte begins a line; `left`: how many bytes of the game's
+-- text come after it
 pub data IsToken (b : Bool) (left : ℕ) : List ℕ → Token → Type 0 where
   blank : {c : ℕ} → (is_white_space c || c == byte ".") ≡ true → IsToken b left (c ∷ []) Skip
   -- a `%` line or `;` comment, without its `\n`
@@ -102,26 +101,22 @@ pub data HasOpenComment : List ℕ → ℕ → Type 0 where
   deeper : {parts inner : List ℕ} {to_end : ℕ} → IsInside false parts → HasOpenComment inner to_end
       → HasOpenComment (parts ++ byte "(" ∷ inner) to_end
 
--- this token is the fault of the text, which begins with no token (as `IsSplit` claims): its first byte decides, and
--- after `(` whether a comment inside isn't closed
+-- this token is the fault of the text, which begins with no token: its first byte decides, and after `(` whether a
+-- comment inside isn't closed
 pub data IsFaultOf : List ℕ → Token → Type 0 where
-  -- a comment isn't closed
   comment : {text : List ℕ} → IsFaultOf (byte "{" ∷ text) (Unclosed_comment (length (byte "{" ∷ text)))
   -- a comment in a variation isn't closed; `n` bytes are left at its `{`
   inner_comment : {text : List ℕ} {n : ℕ} → HasOpenComment text n → IsFaultOf (byte "(" ∷ text) (Unclosed_comment n)
   -- a variation isn't closed, and all comments in it are
   variation : {text : List ℕ} → ((n : ℕ) → HasOpenComment text n → ⊥) → IsFaultOf (byte "(" ∷ text) Unclosed_variation
-  -- a `[` that begins no tag
   tag : {text : List ℕ} → IsFaultOf (byte "[" ∷ text) Bad_tag
-  -- a byte that begins no token
   other : {c : ℕ} {text : List ℕ} → list_any (λ k. c == k) (codes "{([") ≡ false → IsFaultOf (c ∷ text) Bad
 
 -- ---- the split
 
--- the text from the offset `at` on is split into these tokens, each paired with the number of bytes left where it
--- begins: `e4 *` from 0 on into `(4, Word e4)`, `(2, Skip)`, `(1, Word *)`
+-- the text from the offset `at` on is split into these tokens from left to right, each paired with the number of bytes
+-- left where it begins: `e4 *` from 0 on into `(4, Word e4)`, `(2, Skip)`, `(1, Word *)`
 pub data IsSplit (text : List ℕ) : ℕ → List (ℕ × Token) → Type 0 where
-  -- at the text's end
   ended : {at : ℕ} → drop at text ≡ [] → IsSplit text at []
   -- the longest token there, and then the tokens after it
   token : {at : ℕ} {front : List ℕ} {t : Token} {tokens : List (ℕ × Token)} → IsTokenAt text at front t

@@ -1,6 +1,5 @@
--- The tokens of a game's text (PGN standard of 1994, sections 5 to 7 and 8.2): tags, words, and what is skipped; the
--- first that can't be read is the last. This project's own is what Split names, and that the bytes EF BB BF at offset 0
--- are skipped.
+-- The tokens of a game's text (PGN standard of 1994, sections 5 to 7 and 8.2). This project's own is what Split names,
+-- and that the bytes EF BB BF at offset 0 are skipped.
 use Rattle.std.specs.Prelude.{ℕ, zero, suc, ◌-◌, Bool, false, not, ◌&&◌, ◌||◌, List, [], ◌∷◌, ◌++◌, length, take, drop, slice_index, Option, Some, None, codes, ◌==◌, if◌then◌else◌, option_and_then}
 use Rattle.byte_devices.specs.Bytes.{is_digit, byte, carriage_return, new_line, space, tab, is_name_byte, after_byte}
 use Rattle.std.specs.List.{list_all, list_any, join_with_byte, prefix_len, position_or_len, take_while}
@@ -21,7 +20,6 @@ pub data Token : Type 0 where
   Bad_tag : Token
   -- a comment without its `}`; `to_end` counts from its `{`
   Unclosed_comment : (to_end : ℕ) → Token
-  -- a `(` whose variation isn't closed
   Unclosed_variation : Token
   -- a byte that begins no token
   Bad : Token
@@ -57,8 +55,8 @@ after_white_space text = drop (prefix_len is_white_space text) text
 abbrev pub is_gap_line : List ℕ → Bool
 is_gap_line line = bytes_eq (take 1 line) (codes "%") || list_all is_white_space line
 
--- the text of these lines, which come without their `\n`, after the gap at its front: after the lines that are skipped
--- whole, and the white space that follows
+-- the text of these lines, which come without their `\n`, after the lines that are skipped whole and the white space
+-- after those: after the gap at its front
 unfoldable pub after_gap_lines : List (List ℕ) → List ℕ
 after_gap_lines lines = after_white_space (join_with_byte new_line (drop (prefix_len is_gap_line lines) lines))
 
@@ -77,12 +75,10 @@ after_gap text =
 abbrev pub variation_at : Option (ℕ × Token) → Bool → ℕ → List ℕ → Token × List ℕ
 -- the variation's `)` was read
 variation_at comment line_begins zero text = (Skip, text)
--- the text ended before that
 variation_at comment line_begins (suc depth) [] = (option_map_or (λ skipped. skipped.1) comment Unclosed_variation, [])
 -- a byte of a comment or of a `%` line
 variation_at (Some comment) line_begins (suc depth) (c ∷ rest) =
     variation_at (if c == comment.0 then None else Some comment) (c == new_line) (suc depth) rest
--- any other byte
 variation_at None line_begins (suc depth) (c ∷ rest) =
     if line_begins && c == byte "%" || c == byte ";"
     then variation_at (Some (new_line, Unclosed_variation)) false (suc depth) rest
@@ -135,13 +131,13 @@ tag_at text = do
 
 -- ---- tokens
 
--- the token of a `{` comment and the text after it. `after` is the text after its `}`, or `None` without one, which is
--- a fault; `to_end` counts the bytes from its `{` on
+-- the token of a `{` comment and the text after it. `after`: the text after its `}`, if it has one; `to_end`: how many
+-- bytes come from its `{` on
 abbrev pub comment_at : ℕ → Option (List ℕ) → Token × List ℕ
 comment_at to_end after = option_map_or (λ rest. (Skip, rest)) after (Unclosed_comment to_end, [])
 
--- the first token of the text `c ∷ rest`, and the text after it, which is empty after a token that can't be read.
--- `line_begins`: `c` begins a line, where `%` skips the line
+-- the first token of the text `c ∷ rest`, and the text after it, empty after a token that can't be read. `line_begins`:
+-- `c` begins a line
 unfoldable pub token_at : Bool → ℕ → List ℕ → Token × List ℕ
 token_at line_begins c rest =
     if line_begins && c == byte "%" then (Skip, line_end rest)
@@ -167,8 +163,7 @@ tokens_of (suc most) line_begins (c ∷ rest) =
 
 -- ---- a text from an offset on
 
--- whether a line of the text begins at this offset: it is 0, or the byte before it is `\n`. So none begins right after
--- a byte order mark or a `\r`
+-- whether a line of the text begins at this offset: at 0, and after `\n`; so not after a byte order mark or a `\r`
 abbrev pub begins_line : List ℕ → ℕ → Bool
 begins_line text offset = (offset == 0) || (slice_index text (offset - 1) == new_line)
 

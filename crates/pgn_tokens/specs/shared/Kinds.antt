@@ -66,8 +66,8 @@ token_of Variation text to_end = Skip
 abbrev pub HasNoToken : Bool → List ℕ → Type 0
 HasNoToken b text = (kind : Kind) (front rest : List ℕ) → text ≡ front ++ rest → IsOf b kind front → ⊥
 
--- the text begins with a comment that isn't closed, or with a variation in which a comment isn't; so many bytes are
--- left at the comment's brace
+-- the text begins with a comment that isn't closed, or with a variation in which one isn't; so many bytes are left at
+-- its brace
 abbrev pub HasUnclosedComment : List ℕ → ℕ → Type 0
 HasUnclosedComment text to_end =
     ((comment : List ℕ) × (text ≡ byte "{" ∷ comment) × (lacks (byte "}") comment ≡ true) × (to_end ≡ length text))
@@ -76,13 +76,11 @@ HasUnclosedComment text to_end =
 -- this token is the fault of a text that begins with no token (`HasNoToken`, which is not claimed here), by the text's
 -- first byte. After `(` it is an unclosed comment inside if there is one, otherwise the unclosed variation
 abbrev pub IsFault : List ℕ → Token → Type 0
--- a comment, perhaps in a variation, without its `}`
 IsFault text (Unclosed_comment to_end) = HasUnclosedComment text to_end
 IsFault text Unclosed_variation =
     ((rest : List ℕ) × (text ≡ byte "(" ∷ rest)) × ((to_end : ℕ) → HasUnclosedComment text to_end → ⊥)
 IsFault text Bad_tag = (rest : List ℕ) × (text ≡ byte "[" ∷ rest)
 IsFault text Bad = (c : ℕ) × (rest : List ℕ) × (text ≡ c ∷ rest) × (list_any (λ k. c == k) (codes "{([") ≡ false)
--- the other tokens are no faults
 IsFault text Skip = ⊥
 IsFault text (Tag name string to_end) = ⊥
 IsFault text (Word word) = ⊥
@@ -97,6 +95,5 @@ pub data IsSplitByKinds (text : List ℕ) : ℕ → List (ℕ × Token) → Type
   token : {at : ℕ} (kind : Kind) (front rest : List ℕ) {tokens : List (ℕ × Token)} → drop at text ≡ front ++ rest
       → IsLongest (IsOf (begins_line text at) kind) front rest → IsSplitByKinds text (at + length front) tokens
       → IsSplitByKinds text at ((length text - at, token_of kind front (length rest)) ∷ tokens)
-  -- the fault of a text that begins with no token
   stopped : {at : ℕ} {fault : Token} → HasNoToken (begins_line text at) (drop at text) → IsFault (drop at text) fault
       → IsSplitByKinds text at ((length text - at, fault) ∷ [])

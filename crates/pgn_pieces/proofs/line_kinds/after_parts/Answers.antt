@@ -1,4 +1,5 @@
--- A line's front has at most 256 tags and the like, its first tag and 255 others (Parts.one_fewer).
+-- After its first tag a line has 255 more tags and the like at most (Parts.one_fewer); where none begins, what is left
+-- stays (Parts.stays).
 use Rattle.std.proofs.Common.{◌≡◌, Some, None, refl, sym, ap, ◌∙◌}
 use Rattle.pgn_pieces.specs.{Pieces.after_part, ties.Fronts.after_value}
 use Rattle.pgn_pieces.proofs.Parts.{at_tag, no_part, one_fewer, stays}
