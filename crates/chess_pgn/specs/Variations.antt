@@ -48,7 +48,7 @@ line_fault tags text inside before p ((left, _) ∷ more) = Some (record { kind 
 
 -- the first fault of the variation whose `(` is at the offset `at` of the text, and whose moves begin in the position
 -- `start`; `None` if there is none. `tokens` gives the tokens of a text from an offset on. The second argument: how
--- deep variations may be nested, this one included; with 0 this one is the fault. In it a tag is a fault (`false`)
+-- deep variations may be nested, this one included; with 0 this one is the fault
 unfoldable pub variation_fault : (List ℕ → ℕ → List (ℕ × Token)) → ℕ → List ℕ → Setup → ℕ → Option PgnFault
 variation_fault tokens zero text start at = Some (record { kind = TooLong; offset = at })
 variation_fault tokens (suc depth) text start at =

@@ -82,15 +82,13 @@ pub record PercentLinesAreSkipped : Type 0 where
   pub later : EndsAt "12\n%1-0\n*" 9
   pub both : EndsAt "%0-1\n%1-0\n*" 11
   pub to_end : (read_of "%*").answer ≡ Ok None
-  -- not within a line
   pub in_line : FailsAt "12 %\n*" BadToken 3
   pub after_blank : FailsAt " %\n*" BadToken 1
   -- a line begins after a line feed, not after a carriage return alone or a comment
   pub after_return : FailsAt "\r%\n*" BadToken 1
   pub after_comment : FailsAt "{\n}%\n*" BadToken 3
-  -- nor in a comment
   pub in_comment : EndsAt "{\n%}*" 5
-  -- nor within a line of a variation
+  -- nothing in a comment, nor within a line of a variation
   pub in_variation : EndsAt "(%)*" 4
   pub return_in_variation : EndsAt "(\r%)*" 5
   -- in a tag only where it begins a line
@@ -136,7 +134,7 @@ pub record TokensEnd : Type 0 where
   pub none_next : IsNextToken [] 0 (Ok None)
   pub bad_tag_next : IsNextToken (codes "12[") 2 (Err token_faults.BadTag)
   pub unclosed_next : IsNextToken (codes "12 {a") 3 (Err (token_faults.UnclosedComment 2))
-  -- no token begins with a vertical tab (11), a form feed (12), or one of the others
+  -- no token begins with one of these; 11 is a vertical tab, 12 a form feed
   pub no_token : map (λ c. tokens_from (c ∷ []) 0) (11 ∷ 12 ∷ codes ")}]<>,@~'") ≡ replicate 11 ((1, Bad) ∷ [])
 
 -- ---- tags (section 8.1)
@@ -151,9 +149,8 @@ two_tags = codes "[A \"b\"][C \"d\"]12[E \"f\"]*"
 
 -- what is a tag of a game, and which of its tags count
 pub record TagsAreFound : Type 0 where
-  -- lines may end in a tag
+  -- lines may end in a tag, also with a carriage return alone
   pub gaps : EndsAt "[ A\n\"b\"\n]*" 10
-  -- also with a carriage return alone, as in some old files
   pub returns : EndsAt "[\rA\r\"b\"\r]*" 10
   -- a name has letters, digits and `_`, and nothing else
   pub name : EndsAt "[A_1 \"b\"]*" 10
@@ -168,7 +165,6 @@ pub record TagsAreFound : Type 0 where
   -- so a game's own tags are those before it, in order, each with the offset of its text
   pub in_order : game_tags_of (length two_tags) (tokens_from two_tags 0)
       ≡ tag_found "A" "b" 4 ∷ tag_found "C" "d" 11 ∷ []
-  -- after them comes the number
   pub passed : IsAfterTags two_tags 0 14
   -- marks and comments are no game, but a tag is one without a result
   pub only_marks : (read_of "!? {a}").answer ≡ Ok None
@@ -193,7 +189,7 @@ unknown_at text = unknown_variant_in (length (codes text)) (tokens_from (codes t
 abbrev pub result_tag : Text → Option ResultTag
 result_tag text = result_tag_of (length (codes text)) (tokens_from (codes text) 0)
 
--- what texts name
+-- what the texts of tags and words name
 pub record NamesAreKnown : Type 0 where
   pub normal : map known_variant
       (codes "normal" ∷ codes "Standard" ∷ codes "CHESS" ∷ codes "Classical" ∷ codes "From Position" ∷ [])

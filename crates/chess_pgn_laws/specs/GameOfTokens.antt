@@ -179,9 +179,9 @@ token_fault draws limit total v begun s to_end Bad = fault_at (total - to_end) (
 
 -- ---- the game
 
--- why reading stopped after the tokens `taken`, before the others (the next argument), in a text of `total` bytes: at
--- its end with no game (`Ok None`), at an outcome (`Ok (Some e)`), or at a fault. `s` is the game then. `draws`:
--- whether fivefold repetition and 75 moves end it; `limit`: its most half-moves
+-- why reading stopped after the tokens `taken`, before the others (the next argument), in a text of `total` bytes. `s`
+-- is the game then, of the variant `v`. `draws`: whether fivefold repetition and 75 moves end it; `limit`: its most
+-- half-moves
 abbrev pub StopsAt : Bool → ℕ → ℕ → Variant → List (ℕ × Token) → List (ℕ × Token) → State
     → Result (Option PgnEnd) PgnFault
     → Type 0
@@ -201,9 +201,9 @@ StopsAt draws limit total v taken (t ∷ ts) s (Ok (Some e)) =
 StopsAt draws limit total v taken (t ∷ ts) s (Err f) =
     (s.declared ≡ None) × (token_fault draws limit total v (list_any (λ u. begins u.1) taken) s t.0 t.1 ≡ Some f)
 
--- the game read (`r`) is that of the first tokens, `taken`: its start is what their last FEN denotes, otherwise the
--- initial position of the variant `v`; its moves are those of their words; and reading stopped after them as it must.
--- `draws`: whether fivefold repetition and 75 moves end it; `limit`: its most half-moves; `total`: the text's length
+-- the game read (`r`) is that of the first tokens, `taken`: these give its start, from the variant `v`, and its moves,
+-- and reading stopped after them as it must. `draws`: whether fivefold repetition and 75 moves end it; `limit`: its
+-- most half-moves; `total`: the text's length
 pub record IsOfTokens (draws : Bool) (limit total : ℕ) (v : Variant) (tokens : List (ℕ × Token))
     (r : GameRead) : Type 0 where
   pub taken : List (ℕ × Token)

@@ -22,12 +22,12 @@ lines_of (c ∷ cs) = if breaks_line c then (c ∷ []) ∷ lines_of cs else onto
 abbrev pub drop_while : (ℕ → Bool) → List ℕ → List ℕ
 drop_while test text = drop (prefix_len test text) text
 
--- the front of a line, which decides its kind: its first 256 bytes, without a byte order mark (EF BB BF) at their
--- beginning, and then without spaces and tabs there
+-- the front of a line, which decides its kind: its first 256 bytes, without a byte order mark (EF BB BF) and then
+-- without spaces and tabs at their beginning
 abbrev pub front_of : List ℕ → List ℕ
 front_of line = let first = take 256 line in drop_while is_blank (drop (after_byte_order_mark first 0) first)
 
--- the name in a line's front after its first byte, the `[` of a tag line: `Event` in `[Event "x"]`; maybe empty
+-- the name in a line's front after its first byte, `[`: `Event` in `[Event "x"]`; maybe empty
 abbrev pub tag_name : List ℕ → List ℕ
 tag_name front = take_while is_name_byte (drop 1 front)
 
@@ -48,8 +48,7 @@ is_tag_line line = begins_tag (front_of line)
 abbrev pub is_event_line : List ℕ → Bool
 is_event_line line = is_tag_line line && bytes_eq (tag_name (front_of line)) (codes "Event")
 
--- whether a line counts as empty: its first byte is `%`, or its front begins with `;`, or has nothing but spaces, tabs,
--- `\r` and `\n`
+-- whether a line counts as empty: its first byte is `%`, or its front begins with `;`, or has nothing but white space
 abbrev pub is_empty_line : List ℕ → Bool
 is_empty_line line = bytes_eq (take 1 line) (codes "%") || bytes_eq (take 1 (front_of line)) (codes ";")
     || list_all (λ c. is_blank c || (c == 13) || (c == 10)) (front_of line)
@@ -142,11 +141,10 @@ pub record GaveThenFailed (r r' : InputState) (text : List ℕ) : Type 0 where
   pub ends : r'.end_count ≡ r.end_count
   pub silences : r'.silence_count ≡ r.silence_count
 
--- this fault may be why nothing was read after this text, between the input's states `r` and `r'`; the end of the input
--- was not reported
+-- this fault may be why nothing was read after this text, between the input's states `r` and `r'`; its end was not
+-- reported
 abbrev pub IsCause : InputState → InputState → List ℕ → PieceFault → Type 0
 IsCause r r' text ReadFailed = GaveThenFailed r r' text
 -- memory ran out, which the input doesn't show
 IsCause r r' text NoMemory = HasRead false r r' text
--- the text has at least 2^63 - 65,536 bytes
 IsCause r r' text InputTooLong = HasRead false r r' text × (2 ^ 63 ≤ length text + 2 ^ 16)

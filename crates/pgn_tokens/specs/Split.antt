@@ -91,10 +91,8 @@ IsTokenAt text at front t =
 -- ---- what can't be read
 
 -- the text, which begins right after a variation's `(`, has a comment that isn't closed; the number counts the bytes
--- from its `{` to the text's end, 2 in `d4 {a`. Before the comment are only whole parts (`IsInside false`: no line
--- begins after a `(`) and `(`s
+-- from its `{` to the text's end, 2 in `d4 {a`. Before the comment are only whole parts (`IsInside`) and `(`s
 pub data HasOpenComment : List ℕ → ℕ → Type 0 where
-  -- the comment, after whole parts
   here : {parts : List ℕ} (text : List ℕ) → IsInside false parts → lacks (byte "}") text ≡ true
       → HasOpenComment (parts ++ byte "{" ∷ text) (length (byte "{" ∷ text))
   -- a variation, after whole parts, in which the comment is
@@ -105,9 +103,9 @@ pub data HasOpenComment : List ℕ → ℕ → Type 0 where
 -- comment inside isn't closed
 pub data IsFaultOf : List ℕ → Token → Type 0 where
   comment : {text : List ℕ} → IsFaultOf (byte "{" ∷ text) (Unclosed_comment (length (byte "{" ∷ text)))
-  -- a comment in a variation isn't closed; `n` bytes are left at its `{`
+  -- a comment in the variation isn't closed
   inner_comment : {text : List ℕ} {n : ℕ} → HasOpenComment text n → IsFaultOf (byte "(" ∷ text) (Unclosed_comment n)
-  -- a variation isn't closed, and all comments in it are
+  -- the variation isn't closed, and all comments in it are
   variation : {text : List ℕ} → ((n : ℕ) → HasOpenComment text n → ⊥) → IsFaultOf (byte "(" ∷ text) Unclosed_variation
   tag : {text : List ℕ} → IsFaultOf (byte "[" ∷ text) Bad_tag
   other : {c : ℕ} {text : List ℕ} → list_any (λ k. c == k) (codes "{([") ≡ false → IsFaultOf (c ∷ text) Bad

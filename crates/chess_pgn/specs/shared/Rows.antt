@@ -33,9 +33,8 @@ unless_over draws limit s at allowed = if is_some (ending draws s) then Fails Af
     else if nat_lt (length s.moves) limit then allowed
     else Fails TooLong at
 
--- what a word at the offset `at` does that is taken as a move, by what it denotes in the game `s` of at most `limit`
--- half-moves; without a move's shape it is always a bad token. `draws`: whether fivefold repetition and 75 moves end
--- the game
+-- what a word at the offset `at`, taken as a move, does in the game `s` of at most `limit` half-moves, by what it
+-- denotes there. `draws`: whether fivefold repetition and 75 moves end the game
 abbrev pub move_row : Bool → ℕ → State → ℕ → Reading → Row
 move_row draws limit s at reads.NotAMove = Fails BadToken at
 move_row draws limit s at (reads.Move m) = unless_over draws limit s at (Goes_on (played s m))
@@ -43,8 +42,7 @@ move_row draws limit s at reads.Ambiguous = unless_over draws limit s at (Fails 
 move_row draws limit s at reads.NoSuch = unless_over draws limit s at (Fails IllegalMove at)
 
 -- what a token after the tags does in the game `s` of at most `limit` half-moves. `left` of the text's `total` bytes
--- are left at the token, so its offset is `total - left`. `draws`: whether fivefold repetition and 75 moves end the
--- game
+-- are left at the token. `draws`: whether fivefold repetition and 75 moves end the game
 abbrev pub row : Bool → ℕ → ℕ → State → ℕ × Token → Row
 row draws limit total s (left, Skip) = Goes_on s
 -- an outcome such as `1-0` ends the game; a number and marks such as `!?` are passed over; any other word is taken as a
@@ -52,7 +50,6 @@ row draws limit total s (left, Skip) = Goes_on s
 row draws limit total s (left, Word word) = option_map_or (λ o. Ends o (total - left + length word)) (outcome_of word)
     (if list_all is_digit word || is_marks word then Goes_on s
     else move_row draws limit s (total - left) (reading (current s) word))
--- the fault is at the comment's `{`, which may be inside a variation
 row draws limit total s (left, Unclosed_comment brace) = Fails UnclosedComment (total - brace)
 row draws limit total s (left, Unclosed_variation) = Fails UnclosedVariation (total - left)
 row draws limit total s (left, Bad) = Fails BadToken (total - left)

@@ -17,8 +17,8 @@ IsTag name string closing text =
 
 -- ---- tokens
 
--- the kinds of tokens: white space or a dot, a skipped line, a comment, a numeric annotation glyph (`Nag`), a
--- variation, a tag with its name, string and closing, `*`, and a word (a symbol)
+-- the kinds of tokens: `Blank` is white space or a dot, `Line` a skipped line, `Nag` a numeric annotation glyph,
+-- `Symbol` a word
 pub data Kind : Type 0 where
   Blank : Kind
   Line : Kind
@@ -32,7 +32,6 @@ pub data Kind : Type 0 where
 -- the text is a token of this kind; `b`: whether its first byte begins a line
 abbrev pub IsOf : Bool → Kind → List ℕ → Type 0
 IsOf b Blank text = (c : ℕ) × (text ≡ c ∷ []) × ((is_white_space c || c == byte ".") ≡ true)
--- a `%` line or `;` comment
 IsOf b Line text = (c : ℕ) × (rest : List ℕ) × (text ≡ c ∷ rest) × (skips_line b c ≡ true)
     × (lacks new_line rest ≡ true)
 IsOf b Comment text = (inside : List ℕ) × (text ≡ byte "{" ∷ inside ++ byte "}" ∷ []) × (lacks (byte "}") inside ≡ true)
