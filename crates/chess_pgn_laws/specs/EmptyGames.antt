@@ -87,8 +87,8 @@ pub record PercentLinesAreSkipped : Type 0 where
   -- a line begins after a line feed, not after a carriage return alone or a comment
   pub after_return : FailsAt "\r%\n*" BadToken 1
   pub after_comment : FailsAt "{\n}%\n*" BadToken 3
+  -- in a comment, and within a line of a variation, it skips nothing
   pub in_comment : EndsAt "{\n%}*" 5
-  -- nothing in a comment, nor within a line of a variation
   pub in_variation : EndsAt "(%)*" 4
   pub return_in_variation : EndsAt "(\r%)*" 5
   -- in a tag only where it begins a line

@@ -75,12 +75,12 @@ can_all_be_taken v begun (t ∷ ts) = can_be_taken v begun t.1 && can_all_be_tak
 
 -- ---- what they say
 
--- the word, as a list, if its kind says that it may be a move; otherwise none
+-- the word as a list of one, if by its kind it may be a move; otherwise `[]`
 abbrev pub if_move : List ℕ → WordKind → List (List ℕ)
 if_move word Move = word ∷ []
 if_move word _ = []
 
--- the token's word, as a list, if it may be a move; otherwise none
+-- the token's word as a list of one, if it may be a move; otherwise `[]`
 abbrev pub move_words_of : Token → List (List ℕ)
 move_words_of (Word word) = if_move word (word_kind word)
 move_words_of _ = []
@@ -201,9 +201,9 @@ StopsAt draws limit total v taken (t ∷ ts) s (Ok (Some e)) =
 StopsAt draws limit total v taken (t ∷ ts) s (Err f) =
     (s.declared ≡ None) × (token_fault draws limit total v (list_any (λ u. begins u.1) taken) s t.0 t.1 ≡ Some f)
 
--- the game read (`r`) is that of the first tokens, `taken`: these give its start, from the variant `v`, and its moves,
--- and reading stopped after them as it must. `draws`: whether fivefold repetition and 75 moves end it; `limit`: its
--- most half-moves; `total`: the text's length
+-- the game read (`r`) is that of the first tokens, `taken`: they say its start (in the variant `v`) and its moves, and
+-- reading stopped after them as it must. `draws`: whether fivefold repetition and 75 moves end it; `limit`: its most
+-- half-moves; `total`: the text's length
 pub record IsOfTokens (draws : Bool) (limit total : ℕ) (v : Variant) (tokens : List (ℕ × Token))
     (r : GameRead) : Type 0 where
   pub taken : List (ℕ × Token)

@@ -107,7 +107,7 @@ begins_piece piece line = is_tag_line line
     && (list_any is_moves_line piece || (is_event_line line && list_any is_event_line piece))
 
 -- these pieces (each the list of its lines, the last piece first) with one line more, which begins a piece if it is the
--- first line or if `begins_piece` holds; otherwise it ends the last piece
+-- first line or if `begins_piece` holds; otherwise it is added to the last piece
 abbrev pub with_line : List (List (List ℕ)) → List ℕ → List (List (List ℕ))
 with_line [] line = (line ∷ []) ∷ []
 with_line (last ∷ before) line =

@@ -19,7 +19,7 @@ token_seen token.Skip = tokens.Skip
 token_seen (token.Tag t) = tokens.Tag t.name.now t.text.now t.to_end
 token_seen (token.Word word) = tokens.Word word.now
 
--- the code's fault as one of the definitions' tokens, of which what can't be read is one too
+-- the code's fault as a token of the definitions, where what can't be read is a token too
 abbrev pub fault_seen : TokenFault → tokens.Token
 fault_seen fault.BadTag = tokens.Bad_tag
 fault_seen (fault.UnclosedComment to_end) = tokens.Unclosed_comment to_end

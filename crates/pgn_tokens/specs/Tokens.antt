@@ -55,8 +55,8 @@ after_white_space text = drop (prefix_len is_white_space text) text
 abbrev pub is_gap_line : List ℕ → Bool
 is_gap_line line = bytes_eq (take 1 line) (codes "%") || list_all is_white_space line
 
--- the text of these lines, which come without their `\n`, after the lines that are skipped whole and the white space
--- after those: after the gap at its front
+-- the text of these lines (each without its `\n`) after the gap at its front: the lines that are skipped whole, and the
+-- white space that follows them
 unfoldable pub after_gap_lines : List (List ℕ) → List ℕ
 after_gap_lines lines = after_white_space (join_with_byte new_line (drop (prefix_len is_gap_line lines) lines))
 

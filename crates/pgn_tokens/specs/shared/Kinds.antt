@@ -44,7 +44,7 @@ IsOf b Symbol text = (0 < length text) × (list_all is_word_byte text ≡ true)
 -- of `front ++ rest`, `front` is the longest beginning of which P holds
 pub record IsLongest (P : List ℕ → Type 0) (front rest : List ℕ) : Type 0 where
   pub is : P front
-  -- no longer beginning has P
+  -- P holds of no longer beginning
   pub longest : (more others : List ℕ) → rest ≡ more ++ others → P (front ++ more) → more ≡ []
 
 -- the token that reading makes of a text of this kind, after which `to_end` bytes come. In a tag's token, its number
