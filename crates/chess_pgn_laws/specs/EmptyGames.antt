@@ -128,7 +128,6 @@ pub record TokensEnd : Type 0 where
   pub word : tokens_from (codes "aZ09_+#=-/!?:*") 0 ≡ (14, Word (codes "aZ09_+#=-/!?:")) ∷ (1, Word (codes "*")) ∷ []
   pub draw : (read_of "1/2-1/2").answer ≡ Ok (Some (record { outcome = Draw; termination = None; offset = 7 }))
   pub lost : (read_of "0-1").answer ≡ Ok (Some (record { outcome = BlackWins; termination = None; offset = 3 }))
-  -- only what is skipped comes before the move
   pub skips : SkipsTo (codes ". e4") 0 2
   -- the next token: none is left, or it can't be read
   pub none_next : IsNextToken [] 0 (Ok None)

@@ -104,7 +104,7 @@ abbrev pub tagged_start : Variant → Setup → List (ℕ × Token) → Setup
 tagged_start v p [] = p
 tagged_start v p (t ∷ ts) = tagged_start v (start_by v p t.1) ts
 
--- the Termination after one more token: what a tag Termination names; otherwise `o`, the one so far
+-- the Termination after one more token: what a tag of this name says; otherwise `o`, the one so far
 abbrev pub termination_by_token : Option Termination → Token → Option Termination
 termination_by_token o (Tag name text to_end) = termination_after o name text
 termination_by_token o _ = o

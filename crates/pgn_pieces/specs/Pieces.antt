@@ -85,8 +85,8 @@ ends_in_tag text = bytes_eq (take 1 text) (codes "[")
     && ((length (after_name text) == 0) || begins_tag text && (length (after_string text) == 0))
 
 -- whether a tag line has more than tags, by what comes after its tags, comments, glyphs, dots and marks: a byte that
--- neither ends the line nor begins a comment, as of a move. `ended`: the line's end was seen; if not, a tag in which
--- what was seen ends doesn't count
+-- neither ends the line nor begins a comment, such as a move's. `ended`: the line's end was seen; if not, a tag in
+-- which what was seen ends doesn't count
 abbrev pub has_more : Bool → List ℕ → Bool
 has_more ended rest = list_any (λ c. not (list_any (λ k. c == k) (codes "\r\n{;"))) (take 1 rest)
     && (ended || not (ends_in_tag rest))

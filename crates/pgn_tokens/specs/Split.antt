@@ -55,7 +55,7 @@ pub data OpensTag (name : List ℕ) : List ℕ → Type 0 where
       → IsGap false after → OpensTag name (byte "[" ∷ (before ++ (name ++ (after ++ codes "\""))))
 
 -- the text may be between a string's quotes (section 7), as `a\"b`: bytes other than quotes, backslashes and `\n`, and
--- pairs of a backslash and the byte that it keeps from ending the string
+-- pairs of a backslash and the byte that it keeps from ending the string, not `\n`
 pub data IsString : List ℕ → Type 0 where
   nothing : IsString []
   -- a backslash and the byte that it keeps

@@ -1,5 +1,4 @@
--- What a token does in a line of moves, which is a game's own or those of a variation: `line_fault` by the kinds of
--- tokens.
+-- What one token does in a line of moves (a game's own, or those of a variation); `line_fault` says the same of all.
 use Rattle.std.specs.Prelude.{ℕ, Bool, ◌||◌, if◌then◌else◌, Option, Some, None, is_some, Result, Ok, Err}
 use Rattle.std.specs.List.{list_all}
 use Rattle.byte_devices.specs.Bytes.{is_digit}

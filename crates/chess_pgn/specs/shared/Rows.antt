@@ -1,4 +1,4 @@
--- What a token after a game's tags does, as a row of a table: `moves_read` token by token.
+-- What one token after a game's tags does, as a row of a table; `moves_read` says the same of all tokens.
 use Rattle.std.specs.Prelude.{ℕ, ◌+◌, ◌-◌, nat_lt, Bool, ◌||◌, if◌then◌else◌, List, length, Option, Some, None, is_some, Result, Ok, Err}
 use Rattle.std.specs.List.{list_all, last_or}
 use Rattle.std.specs.Option.{option_map_or, unwrap_or}
