@@ -1,21 +1,19 @@
--- What is returned of a game that may go on after one of the two draws of 2014.
+-- What is returned of a game that may go on after fivefold repetition or 75 moves, the draws of 2014.
 use Rattle.std.specs.Prelude.{◌≡◌, Bool, length, Option, Some, None, Result, Ok, Err}
 use Rattle.chess_game.specs.Game.{State, current}
 use Rattle.chess_pgn.specs.declared.past_draws.ReadGame.{ReadGame}
 use Rattle.chess_pgn.specs.declared.read.PgnFault.{PgnFault}
 use Rattle.chess_pgn.specs.GameRead.{GameRead, ending}
 
--- the game `g` is at the position of the game `s`, and the same verdict ends both, if any. `draws`: whether the two
--- draws of 2014 end a game
+-- the games `g` and `s` are at the same position, and the same verdict ends both, if any. `draws`: whether the draws of
+-- 2014 end a game
 pub record Stands (draws : Bool) (g s : State) : Type 0 where
   pub position : current g ≡ current s
   pub ends : ending draws g ≡ ending draws s
 
--- what code returned of a game is what was read of it (`r`)
+-- what the code returned of a game is what was read of it (`r`)
 abbrev pub IsAnswer : GameRead → Result (Option ReadGame) PgnFault → Type 0
--- no game
 IsAnswer r (Ok None) = r.answer ≡ Ok None
--- a game: its end and its start, and how many moves it has
 IsAnswer r (Ok (Some game)) = (r.answer ≡ Ok (Some game.end)) × (game.start ≡ r.state.start)
     × (game.plies ≡ length r.state.moves)
 IsAnswer r (Err fault) = r.answer ≡ Err fault

@@ -1,12 +1,11 @@
--- Tags Variant that name no variant that is known.
+-- Tags Variant that name no known variant.
 use Rattle.std.specs.Prelude.{ℕ, ◌-◌, List, codes, Option, Some, None, is_some, if◌then◌else◌, option_and_then}
 use Rattle.pgn_tokens.specs.LastTags.{tag_section, last_tag}
 use Rattle.pgn_tokens.specs.Tokens.{Token}
 use Rattle.chess_pgn.specs.GameRead.{known_variant}
 
 -- if the last tag Variant of a game with these tokens names no known variant, as `atomic`: the offset of the text
--- between its quotes, in a text of `total` bytes; `None` if it names a known one (`known_variant`), or if there is no
--- such tag
+-- between its quotes, in a text of `total` bytes; `None` if it names a known one, or without such a tag
 abbrev pub unknown_variant_in : ℕ → List (ℕ × Token) → Option ℕ
 unknown_variant_in total ts = option_and_then (λ t. if is_some (known_variant t.0) then None else Some (total - t.1))
     (last_tag (codes "Variant") (tag_section ts))

@@ -1,4 +1,4 @@
--- What a word of a game's text gives that is taken as a move.
+-- What a word of a game's text gives if it is taken as a move.
 use Rattle.std.specs.Prelude.{Option}
 use Rattle.std.specs.Option.{option_map_or, unwrap_or}
 use Rattle.chess_base.specs.declared.man.Move.{Move}
@@ -7,10 +7,9 @@ use Rattle.chess_text.specs.declared.reading.Reading.TheVariants as reads
 use Rattle.chess_pgn.specs.declared.read.PgnFaultKind.{PgnFaultKind}
 use Rattle.chess_pgn.specs.declared.read.PgnFaultKind.TheVariants.{BadToken, IllegalMove, AmbiguousMove}
 
--- what a word gives that is taken as a move, by what it is read as (the last argument). `closed`: the fault of any move
--- here, as after mate; `None` if a move may come. Without a move's shape, as `Nf9`, the word gives `failed BadToken`.
--- Otherwise, if there is a fault in `closed`, it gives `failed` of that; if not, a legal move m gives `made m`, and any
--- other word `failed` of its own fault
+-- what a word gives that is taken as a move, by what it is read as (the last argument): a legal move m gives `made m`,
+-- any other word `failed` of its fault. `closed`: the fault of any move here, as after mate (`None`: a move may come),
+-- which comes before the word's own; but a word without a move's shape, as `Nf9`, is always a bad token
 abbrev pub word_gives : {A : Type 0} → Option PgnFaultKind → (Move → A) → (PgnFaultKind → A) → Reading → A
 word_gives closed made failed reads.NotAMove = failed BadToken
 word_gives closed made failed (reads.Move m) = option_map_or failed closed (made m)

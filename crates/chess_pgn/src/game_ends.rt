@@ -15,8 +15,9 @@ use byte_devices::after_byte_order_mark;
 use pgn_tokens::{Token, after_tags, next_token};
 use pgn_writer::outcome_of;
 
-// Where a token after a game's tags ends the game, in a text of `len` bytes: after a termination marker, or before a
-// tag. `None` for any other. `to_end` bytes are left where the token begins.
+// The offset at which a token after a game's tags ends the game, in a text of `len` bytes: after a termination marker,
+// or before a tag, which is the next game's. `None` for any other token. `to_end` bytes are left where the token
+// begins.
 fn ends_at(token: &Token<'_>, len: usize, to_end: usize) -> Option<usize>
     requires to_end { to_end ≤ len }
     requires within { IsWithin to_end (token_seen token.now) }

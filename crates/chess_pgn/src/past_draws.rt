@@ -118,7 +118,7 @@ fn closing_fault<B: Board>(game: &Game<B>, plies: usize) -> Option<PgnFaultKind>
     }
 }
 
-// The position after the move that a word denotes in the game of so many half-moves, or the fault to report.
+// The position after the move that a word denotes in the game of so many half-moves (`plies`), or the fault to report.
 fn next_position<B: Board>(
     game: &Game<B>,
     plies: usize,
@@ -140,7 +140,8 @@ fn next_position<B: Board>(
     }
 }
 
-// What a word at `offset` does that is taken as a move, in the game of so many half-moves.
+// What a word at `offset` does that is taken as a move, in the game of so many half-moves (`plies`): it leaves the
+// position after the move, or is a fault.
 fn move_effect<B: Board>(
     game: &Game<B>,
     plies: usize,
@@ -156,7 +157,8 @@ fn move_effect<B: Board>(
     }
 }
 
-// What a word at `offset` does in the game of so many half-moves.
+// What a word at `offset` does in the game of so many half-moves (`plies`): it ends the game, is passed over, makes a
+// move, or is a fault.
 fn word_effect<B: Board>(
     game: &Game<B>,
     plies: usize,
@@ -173,8 +175,8 @@ fn word_effect<B: Board>(
     }
 }
 
-// What the token at `offset` of a text of `len` bytes does after the tags, in the game of so many half-moves. A tag
-// begins the next game, so this game has no termination marker.
+// What the token at `offset` of a text of `len` bytes does after the tags, in the game of so many half-moves (`plies`),
+// or its fault. A tag is one: it begins the next game, so this game has no termination marker.
 fn token_effect<B: Board>(
     game: &Game<B>,
     plies: usize,
@@ -223,8 +225,9 @@ fn unread_fault(fault: TokenFault, len: usize, offset: usize) -> PgnFault
 }
 
 // Reads the moves of the game that starts in the position `start` from the offset `at` on, where its tags end, to its
-// termination marker. Returns the end and how many half-moves there are. `termination` is what its last tag
-// `Termination` says. `game` is then at the position in which reading stopped.
+// termination marker. Returns the end and how many half-moves there are, or the first fault. `termination` is what its
+// last tag `Termination` says. `game` begins anew after each move, so it is then at the position in which reading
+// stopped.
 fn read_moves<B: Board>(
     text: &[u8],
     at: usize,
@@ -296,6 +299,7 @@ fn read_anew<B: Board>(
 }
 
 // Reads a game again for which `read_pgn` has returned this fault, if it is a move after one of the two draws of 2014.
+// Any other fault is returned.
 fn read_again<B: Board>(
     text: &[u8],
     at: usize,

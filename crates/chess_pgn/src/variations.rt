@@ -27,11 +27,11 @@ use chess_moves::Board;
 use chess_text::{Reading, read_move};
 use pgn_tokens::{Token, TokenFault, has_variation, is_variation, next_token};
 
-/// How many variations may be open at a place of a game's text: so many calls of `read_line` may be in one another.
+/// How deep variations may be nested: so many may be open anywhere in a game's text, each with a call of `read_line`.
 pub const MOST_NESTED: usize = 64;
 
-// The legal move that a word denotes in the board's position (`Some`, as in `token_move`), or the fault of the word if
-// it denotes none or several.
+// The legal move that a word denotes in the board's position, never `None`; or the fault of the word if it denotes no
+// legal move, or several.
 fn word_move<B: Board>(board: &B, word: &[u8]) -> Result<Option<Move>, PgnFaultKind>
     ensures value { result ≡ word_move (reading (B.position board.now) word.now) }
     ensures legal { IfOk result (λ o. IfSome o (λ m. IsTrue (is_legal (B.position board.now) m))) }
@@ -56,9 +56,9 @@ fn is_passed(word: &[u8]) -> bool
     }
 }
 
-// The legal move that a token of a line denotes in the board's position; `None` if the token is passed over; or its
-// fault, if it is a word that denotes no legal move or several, or a tag that is not passed over. `tags`: whether tags
-// are, as in a game.
+// The legal move that a token of a line denotes in the board's position; `None` if the token is passed over; or the
+// fault of a word that denotes no legal move or several, or of a tag that is not passed over. `tags`: whether tags are
+// passed over, as in a game's own line.
 fn token_move<B: Board>(
     tags: bool,
     board: &B,

@@ -1,4 +1,5 @@
--- The text of the last tag of a name, token by token, is that of the definition.
+-- The text of the last tag with a name, found token by token with the last one so far in hand (`text_from`), is that of
+-- the definition (text_is): by induction on the tokens.
 use Rattle.std.proofs.Common.{◌≡◌, ℕ, Bool, true, false, cond, List, [], ◌∷◌, Option, Some, None, refl, sym, ap, ◌∙◌, if◌then◌else◌}
 use Rattle.std.specs.Option.{option_map, option_or}
 use Rattle.pgn_tokens.specs.LastTags.{may_precede_tags, named_tag, tag_section, last_tag}

@@ -1,4 +1,5 @@
--- A FEN that is written can stand in a tag as it is: none of its bytes ends a line or has to be escaped in a string.
+-- A FEN that is written can be a tag's string as it is: it has only printable ASCII, without quotes and backslashes, so
+-- none of its bytes ends a line or has to be escaped.
 use Rattle.std.proofs.Common.{◌≡◌, ◌≢◌, ℕ, ◌≤◌, true, false, eqb, List, [], ◌∷◌, refl, arith}
 use Rattle.std.specs.List.{list_all}
 use Rattle.std.proofs.{lemmas.Bool.and_from, lemmas.Bool.Decides.nat_tests}

@@ -39,7 +39,7 @@ string_of name v (tag ∷ tags) = string_of name (cond (bytes_eq tag.0 name) (So
 abbrev fen_tags : Setup → List (List ℕ × List ℕ)
 fen_tags start = (codes "FEN", fen start) ∷ (codes "SetUp", codes "1") ∷ []
 
--- the tags that tell a game's start: none for the initial position of normal chess
+-- the tags that give a game's start: none for the initial position of normal chess
 abbrev start_tags : Variant → Setup → List (List ℕ × List ℕ)
 start_tags Normal start = cond (is_initial start) [] (fen_tags start)
 start_tags Fischerandom start = fen_tags start

@@ -1,6 +1,5 @@
--- Texts of games without a move, in which a number, a comment or a variation could be taken for moves or for a result;
--- what tags and a result say without one (PGN standard of 1994, sections 5 to 7, 8.1, 8.2 and 9.8.1); and what a word is
--- where the game has ended before a move.
+-- Small texts, most of games without a move, and what each is read as (PGN standard of 1994, sections 5 to 7, 8.1, 8.2
+-- and 9.8.1).
 use Rattle.std.specs.Prelude.{◌≡◌, ℕ, true, List, [], ◌∷◌, codes, length, map, replicate, Option, Some, None, Ok, Err}
 use Prim.Native.String.{String as Text}
 use Rattle.byte_devices.specs.Bytes.{tab}
@@ -36,17 +35,16 @@ read_of text = pgn_read true 1 (codes text) 0
 abbrev pub unfinished_at : ℕ → PgnEnd
 unfinished_at end = record { outcome = Unfinished; termination = None; offset = end }
 
--- the text is read, from its first byte on, as a game without moves and with the marker `*`, which ends at this offset
--- and declares nothing
+-- the text is read as a game without moves and with the marker `*`, which ends at this offset and declares nothing
 abbrev pub IsEmptyGame : Text → ℕ → Type 0
 IsEmptyGame text end = ((read_of text).state.moves ≡ []) × ((read_of text).state.declared ≡ None)
     × ((read_of text).answer ≡ Ok (Some (unfinished_at end)))
 
--- the text is read, from its first byte on, as a game with the marker `*`, which ends at this offset
+-- the text is read as a game with the marker `*`, which ends at this offset
 abbrev pub EndsAt : Text → ℕ → Type 0
 EndsAt text end = (read_of text).answer ≡ Ok (Some (unfinished_at end))
 
--- the first fault of the text, read from its first byte on, is of this kind and at this offset
+-- the first fault of the text is of this kind and at this offset
 abbrev pub FailsAt : Text → PgnFaultKind → ℕ → Type 0
 FailsAt text kind at = (read_of text).answer ≡ Err (record { kind = kind; offset = at })
 
@@ -54,11 +52,10 @@ FailsAt text kind at = (read_of text).answer ≡ Err (record { kind = kind; offs
 
 -- where the string of a tag ends
 pub record StringsEnd : Type 0 where
-  -- it may be empty
   pub empty : EndsAt "[A \"\"]*" 7
   -- not at a quote after a backslash
   pub quote : EndsAt "[A \"\\\"\"]*" 9
-  -- at a quote after two backslashes, which are one that is kept, but not at a quote after three
+  -- at a quote after two backslashes, but not at one after three
   pub backslash : EndsAt "[A \"\\\\\"]*" 9
   pub both : EndsAt "[A \"\\\\\\\"\"]*" 11
   -- not at bytes that mean something elsewhere
@@ -67,12 +64,12 @@ pub record StringsEnd : Type 0 where
   pub line_end : FailsAt "[A \"b\n\"]*" BadTag 0
   pub kept_line_end : FailsAt "[A \"b\\\n\"]*" BadTag 0
   pub unclosed_line : FailsAt "[A \"b\n]*" BadTag 0
-  -- nor can a tag whose string has no closing quote, or only one that a backslash keeps
+  -- nor can one without a closing quote, or with one that a backslash keeps
   pub unclosed : FailsAt "[A \"b]*" BadTag 0
   pub kept_quote : FailsAt "[A \"\\\"]*" BadTag 0
-  -- a tag's text is what comes between its quotes, with the backslashes: this names no termination
+  -- a tag's text keeps its backslashes: this names no termination
   pub backslash_stays : EndsAt "[Termination \"time\\ forfeit\"]*" 30
-  -- the fault of a FEN is at the first byte after its quote, whatever string came before
+  -- a FEN's fault is right after its own quote
   pub after_quote : FailsAt "[A \"\\\"\"][FEN \"x\"]*" (BadFen Fields) 14
   -- among moves there are no strings
   pub outside : FailsAt "12 \"*\"" BadToken 3
@@ -81,30 +78,28 @@ pub record StringsEnd : Type 0 where
 
 -- where a `%` skips the rest of its line, and where it doesn't
 pub record PercentLinesAreSkipped : Type 0 where
-  -- in each line that it begins, also in the last
+  -- in each line that it begins
   pub later : EndsAt "12\n%1-0\n*" 9
   pub both : EndsAt "%0-1\n%1-0\n*" 11
   pub to_end : (read_of "%*").answer ≡ Ok None
-  -- within a line it begins no token
   pub in_line : FailsAt "12 %\n*" BadToken 3
   pub after_blank : FailsAt " %\n*" BadToken 1
-  -- a line ends with a line feed, not with a carriage return alone, and not with a comment
+  -- a line begins after a line feed, not after a carriage return alone or a comment
   pub after_return : FailsAt "\r%\n*" BadToken 1
   pub after_comment : FailsAt "{\n}%\n*" BadToken 3
-  -- in a comment it skips nothing
+  -- in a comment, and within a line of a variation, it skips nothing
   pub in_comment : EndsAt "{\n%}*" 5
-  -- nor does it within a line of a variation
   pub in_variation : EndsAt "(%)*" 4
   pub return_in_variation : EndsAt "(\r%)*" 5
-  -- in a tag it does as elsewhere
+  -- in a tag only where it begins a line
   pub in_tag : EndsAt "[A\n%]\n\"b\"]*" 11
   pub in_line_of_tag : FailsAt "[A %\n\"b\"]*" BadTag 0
   pub after_bracket : FailsAt "[%\nA \"b\"]*" BadTag 0
   pub return_in_tag : FailsAt "[A\r%\n\"b\"]*" BadTag 0
-  -- a game that is read from inside a line on begins no line
+  -- reading from an offset begins a line only where one begins
   pub second : (pgn_read true 1 (codes "*\n%1-0\n*") 2).answer ≡ Ok (Some (unfinished_at 8))
   pub second_in_line : (pgn_read true 1 (codes "*%\n*") 1).answer ≡ Err (record { kind = BadToken; offset = 1 })
-  -- a byte order mark is skipped, and no line begins after it
+  -- a byte order mark is skipped, and begins no line
   pub order_mark : (pgn_read true 1 (239 ∷ 187 ∷ 191 ∷ codes "*") 0).answer ≡ Ok (Some (unfinished_at 4))
   pub after_order_mark : (pgn_read true 1 (239 ∷ 187 ∷ 191 ∷ codes "%\n*") 0).answer
       ≡ Err (record { kind = BadToken; offset = 3 })
@@ -113,34 +108,32 @@ pub record PercentLinesAreSkipped : Type 0 where
 
 -- where other tokens end
 pub record TokensEnd : Type 0 where
-  -- white space and dots
   pub white_space : (pgn_read true 1 (tab ∷ codes "\r\n .*") 0).answer ≡ Ok (Some (unfinished_at 6))
-  -- a comment at its first `}`, whatever it has
+  -- a comment at its first `}`
   pub brace_in_comment : EndsAt "{{}*" 4
   pub semicolon_in_comment : EndsAt "{;}*" 4
-  -- one from `;` on with its line
+  -- a `;` comment with its line
   pub brace_in_line : EndsAt ";{\n*" 4
-  -- a variation at its own `)`, and not at one in a comment
+  -- a variation at its own `)`, not at one in a comment
   pub nested : EndsAt "((1-0)0-1)*" 11
   pub comment_inside : EndsAt "({)})*" 6
-  -- those that aren't closed; a comment in a variation is the fault itself
+  -- what isn't closed; a comment in a variation is the fault itself
   pub unclosed_comment : FailsAt "12 {*" UnclosedComment 3
   pub unclosed_variation : FailsAt "12 (a(b)" UnclosedVariation 3
   pub unclosed_inside : FailsAt "12 (a({)" UnclosedComment 6
-  -- a glyph with its digits, maybe none
+  -- a glyph after its digits, maybe none
   pub no_digits : EndsAt "$*" 2
   pub glyph : tokens_from (codes "$14a") 0 ≡ (4, Skip) ∷ (1, Word (codes "a")) ∷ []
   -- a word after the last byte that may be in one; `*` is a word by itself
   pub word : tokens_from (codes "aZ09_+#=-/!?:*") 0 ≡ (14, Word (codes "aZ09_+#=-/!?:")) ∷ (1, Word (codes "*")) ∷ []
   pub draw : (read_of "1/2-1/2").answer ≡ Ok (Some (record { outcome = Draw; termination = None; offset = 7 }))
   pub lost : (read_of "0-1").answer ≡ Ok (Some (record { outcome = BlackWins; termination = None; offset = 3 }))
-  -- from one offset to another there may be only what is skipped, as here up to the move
   pub skips : SkipsTo (codes ". e4") 0 2
-  -- what a reader of single tokens returns: that none is left, or the first that can't be read
+  -- the next token: none is left, or it can't be read
   pub none_next : IsNextToken [] 0 (Ok None)
   pub bad_tag_next : IsNextToken (codes "12[") 2 (Err token_faults.BadTag)
   pub unclosed_next : IsNextToken (codes "12 {a") 3 (Err (token_faults.UnclosedComment 2))
-  -- no token begins with any of these bytes: a vertical tab (11), a form feed (12), and others
+  -- no token begins with one of these; 11 is a vertical tab, 12 a form feed
   pub no_token : map (λ c. tokens_from (c ∷ []) 0) (11 ∷ 12 ∷ codes ")}]<>,@~'") ≡ replicate 11 ((1, Bad) ∷ [])
 
 -- ---- tags (section 8.1)
@@ -155,27 +148,24 @@ two_tags = codes "[A \"b\"][C \"d\"]12[E \"f\"]*"
 
 -- what is a tag of a game, and which of its tags count
 pub record TagsAreFound : Type 0 where
-  -- lines may end in a tag
+  -- lines may end in a tag, also with a carriage return alone
   pub gaps : EndsAt "[ A\n\"b\"\n]*" 10
-  -- also with a carriage return alone, as in some old files
   pub returns : EndsAt "[\rA\r\"b\"\r]*" 10
   -- a name has letters, digits and `_`, and nothing else
   pub name : EndsAt "[A_1 \"b\"]*" 10
   pub hyphen : FailsAt "[A-1 \"b\"]*" BadTag 0
-  -- one without a name, or a second one that can't be read, is the fault
+  -- a tag without a name, or one that can't be read after others, is the fault
   pub no_name : FailsAt "[\"b\"]*" BadTag 0
   pub second_bad : FailsAt "[A \"b\"][A]*" BadTag 7
-  -- tags may come after marks
   pub after_marks : EndsAt "!?[A \"b\"]*" 10
-  -- after a number a tag is the next game's, also one that can't be read
+  -- after a number a tag, even a bad one, is the next game's
   pub late : FailsAt "12[A \"b\"]*" NoResult 2
   pub late_bad : FailsAt "12[*" NoResult 2
-  -- so a game's own tags are those before it, in their order, each with the offset of its text
+  -- so a game's own tags are those before it, in order, each with the offset of its text
   pub in_order : game_tags_of (length two_tags) (tokens_from two_tags 0)
       ≡ tag_found "A" "b" 4 ∷ tag_found "C" "d" 11 ∷ []
-  -- the offset after them is that of the number
   pub passed : IsAfterTags two_tags 0 14
-  -- only marks and comments are no game, but a tag is one without a result
+  -- marks and comments are no game, but a tag is one without a result
   pub only_marks : (read_of "!? {a}").answer ≡ Ok None
   pub only_tag : FailsAt "[A \"b\"]" NoResult 7
   -- of several tags with a name the last counts, also if it names nothing
@@ -184,14 +174,13 @@ pub record TagsAreFound : Type 0 where
   pub last_unknown : EndsAt "[Termination \"time forfeit\"][Termination \"x\"]*" 46
   -- but the first FEN that can't be read is the fault
   pub first_bad_fen : FailsAt "[FEN \"x\"][FEN \"y\"]*" (BadFen Fields) 6
-  -- a FEN is read by the rules of the tag Variant: here `A` is a right, as only in Chess960, so the counter is the fault
+  -- a FEN is read by the tag Variant: only in Chess960 is `A` a right, so the counter is the fault
   pub by_variant : FailsAt "[Variant \"Chess960\"][FEN \"8/8/8/8/8/8/8/8 w A - x 1\"]*" (BadFen Counters) 26
-  -- a name in small letters is another name
   pub small_name : EndsAt "[fen \"x\"]*" 10
 
 -- ---- names (sections 8.1.1.7, 8.2.6 and 9.8.1)
 
--- the offset at which the text of the last tag Variant begins, if it names no known variant
+-- the offset of the text of the last tag Variant, if it names no known variant
 abbrev pub unknown_at : Text → Option ℕ
 unknown_at text = unknown_variant_in (length (codes text)) (tokens_from (codes text) 0)
 
@@ -199,7 +188,7 @@ unknown_at text = unknown_variant_in (length (codes text)) (tokens_from (codes t
 abbrev pub result_tag : Text → Option ResultTag
 result_tag text = result_tag_of (length (codes text)) (tokens_from (codes text) 0)
 
--- what texts name, in capital or small letters where a tag has them
+-- what the texts of tags and words name
 pub record NamesAreKnown : Type 0 where
   pub normal : map known_variant
       (codes "normal" ∷ codes "Standard" ∷ codes "CHESS" ∷ codes "Classical" ∷ codes "From Position" ∷ [])
@@ -207,7 +196,7 @@ pub record NamesAreKnown : Type 0 where
   pub chess960 : map known_variant (codes "fischerandom" ∷ codes "Fischerrandom" ∷ codes "CHESS960" ∷ [])
       ≡ replicate 3 (Some Fischerandom)
   pub other_variants : map known_variant (codes "Atomic" ∷ codes "chess 960" ∷ [] ∷ []) ≡ replicate 3 None
-  -- the fault of a tag with another name is where its text begins; a known one has none
+  -- the fault of an unknown name is where the tag's text begins
   pub atomic : unknown_at "[Variant \"Atomic\"]*" ≡ Some 10
   pub standard : unknown_at "[Variant \"Standard\"]*" ≡ None
   pub terminations : map termination_named (codes "Abandoned" ∷ codes "adjudication" ∷ codes "death"
@@ -218,54 +207,51 @@ pub record NamesAreKnown : Type 0 where
       ∷ Some how.TimeForfeit ∷ Some how.Unterminated ∷ None ∷ []
   pub outcomes : map outcome_of (codes "1-0" ∷ codes "0-1" ∷ codes "1/2-1/2" ∷ codes "*" ∷ codes "1/2" ∷ codes "0-0"
       ∷ []) ≡ Some WhiteWins ∷ Some BlackWins ∷ Some Draw ∷ Some Unfinished ∷ None ∷ None ∷ []
-  -- a tag Result with an outcome, and one with none
   pub lost : result_tag "[Result \"0-1\"]*" ≡ Some (record { outcome = Some BlackWins; offset = 9; len = 3 })
   pub no_outcome : result_tag "[Result \"lost\"]*" ≡ Some (record { outcome = None; offset = 9; len = 4 })
-  -- the Laws have had fivefold repetition and the 75-move rule only since 2014, and the other verdicts before
+  -- only fivefold repetition and the 75-move rule are draws of 2014
   pub of_2014 : map not_of_2014
       (WhiteMates ∷ BlackMates ∷ Stalemate ∷ InsufficientMaterial ∷ FivefoldRepetition ∷ SeventyFiveMoves ∷ [])
       ≡ Some WhiteMates ∷ Some BlackMates ∷ Some Stalemate ∷ Some InsufficientMaterial ∷ None ∷ None ∷ []
 
 -- ---- all
 
--- these texts are such games
+-- what is read of these texts
 pub record EmptyGamesAreRead : Type 0 where
-  -- a number and its dots, as before a move of Black that doesn't come
+  -- a number and its dots, as before a move of Black
   pub number : IsEmptyGame "12... *" 7
-  -- moves and results in comments and in a variation
+  -- moves and results that are skipped
   pub semicolon : IsEmptyGame "; 1. e4 1-0\n*" 13
   pub percent : IsEmptyGame "%1. e4 1-0\n*" 12
   pub braces : IsEmptyGame "{1. e4 1-0}*" 12
   pub variation : IsEmptyGame "(1. e4 1-0)*" 12
-  -- a `)` in a comment doesn't end the variation that the comment is in, nor does one in a `%` line
+  -- a `)` in a comment or `%` line doesn't end the variation around it
   pub semicolon_inside : IsEmptyGame "(;)\n)*" 6
   pub percent_inside : IsEmptyGame "(\n%)\n)*" 7
-  -- a glyph, and marks
   pub glyph : IsEmptyGame "$4 *" 4
   pub marks : IsEmptyGame "!? *" 4
-  -- a number with its dots, and nothing more: a game too, but without a result
+  -- a number alone is a game without a result
   pub no_result : (read_of "12...").answer ≡ Err (record { kind = NoResult; offset = 5 })
   -- another marker than `*` is declared, without a comment
   pub won : (read_of "1-0").state.declared ≡ Some (record { outcome = WhiteWins; comment = [] })
   pub lost : (read_of "0-1").state.declared ≡ Some (record { outcome = BlackWins; comment = [] })
   pub drawn : (read_of "1/2-1/2").state.declared ≡ Some (record { outcome = Draw; comment = [] })
-  -- where variations are read, one before the first move is a fault, since there is no move that it replaces
+  -- where variations are read, one before the first move is a fault
   pub no_move_before : variations_fault tokens_from (codes "1. (e4) *") (initial_setup_of Normal) 0
       ≡ Some (record { kind = BadToken; offset = 3 })
   -- the game's own tags are no fault
   pub tag_before : variations_fault tokens_from (codes "[A \"b\"] (e4) *") (initial_setup_of Normal) 0
       ≡ Some (record { kind = BadToken; offset = 8 })
-  -- and a variation is a fault where none may be nested any more, whatever is in it
+  -- a variation is a fault where no more may be nested
   pub too_deep : (p : Setup) → variation_fault tokens_from 0 (codes "(e4)") p 0
       ≡ Some (record { kind = TooLong; offset = 0 })
-  -- what a tag names may be in capital or small letters: a variant, and how the game ended
+  -- a tag's value may be in capital or small letters
   pub variant : (read_of "[Variant \"Chess960\"] *").state.start ≡ initial_setup_of Fischerandom
   pub termination : (read_of "[Termination \"Time forfeit\"] *").answer
       ≡ Ok (Some (record { outcome = Unfinished; termination = Some TimeForfeit; offset = 30 }))
-  -- a word where a mate has ended the game: no move is legal there, but this is a move after the end, no illegal one
+  -- after a mate a word is a move after the end, not an illegal one
   pub after_mate : (read_of "[FEN \"7k/6Q1/6K1/8/8/8/8/8 b - - 0 1\"] O-O").answer
       ≡ Err (record { kind = AfterEnd; offset = 39 })
-  -- strings, `%` lines, other tokens, tags and names, row by row
   pub strings : StringsEnd
   pub percent_lines : PercentLinesAreSkipped
   pub tokens : TokensEnd

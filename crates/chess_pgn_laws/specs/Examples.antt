@@ -1,5 +1,4 @@
--- Small texts by which the law `texts_are_worked_out` shows what the definitions of a split, of a game that is read and
--- of a game's text mean.
+-- Small texts that show what the definitions of a split, of a game that is read and of a game's text mean.
 use Rattle.std.specs.Prelude.{◌≡◌, ℕ, suc, true, List, [], ◌∷◌, ◌++◌, length, codes, Option, Some, None, Ok, is_some}
 use Rattle.std.specs.Option.{option_or}
 use Rattle.chess_base.specs.declared.fen_fault.FenFault.TheVariants.{Fields}
@@ -25,8 +24,7 @@ use Rattle.chess_pgn.specs.GameRead.{GameRead, declared_after, failed}
 use Rattle.chess_pgn.specs.GameRead.{IsRead}
 use Rattle.chess_pgn.specs.Variations.{variation_fault, variations_fault}
 
--- what is read if the game `s` was read and then the termination marker of this outcome. `offset` is that of the byte
--- after the marker
+-- what is read of the game `s` and then the termination marker `o`; `offset` is that of the byte after the marker
 abbrev pub finished : State → Outcome → Option Termination → ℕ → GameRead
 finished s o termination offset = record {
   state = record s { declared = declared_after (is_some (verdict_now s)) o };
@@ -35,8 +33,8 @@ finished s o termination offset = record {
 
 -- examples of texts that are split into tokens
 pub record TextsAreSplit : Type 0 where
-  -- a tag, a blank, a word, a comment, a variation and an outcome, each after how many bytes are left where it begins;
-  -- 14 are left at the tag's string
+  -- a tag, a space, a word, a comment, a variation and an outcome, each after how many bytes are left at it; 14 are
+  -- left at the tag's string
   pub tokens : IsSplit (codes "[A \"b\"] e4{!}(d4)*") 0
       ((18, Tag (codes "A") (codes "b") 14) ∷ (11, Skip) ∷ (10, Word (codes "e4")) ∷ (8, Skip) ∷ (5, Skip)
       ∷ (1, Word (codes "*")) ∷ [])
@@ -44,11 +42,9 @@ pub record TextsAreSplit : Type 0 where
   pub lines : IsSplit (codes "%a\n%b") 0 ((5, Skip) ∷ (3, Skip) ∷ (2, Skip) ∷ [])
   -- a string may hold a quote after a backslash, and a gap may come before the bracket
   pub string : IsSplit (codes "[A\"\\\"\" ]") 0 ((8, Tag (codes "A") (codes "\\\"") 5) ∷ [])
-  -- a tag without quotes
   pub no_string : IsSplit (codes "[A b]") 0 ((5, Bad_tag) ∷ [])
-  -- a variation that isn't closed
   pub no_end : IsSplit (codes "(a(b)") 0 ((5, Unclosed_variation) ∷ [])
-  -- one in which a comment isn't closed, with 2 bytes left at its brace
+  -- a comment in a variation isn't closed, with 2 bytes left at its brace
   pub no_comment_end : IsSplit (codes "(a(b{c") 0 ((6, Unclosed_comment 2) ∷ [])
 
 -- the tokens of `e4 (e4 (e4 (` and so on without end, as tokens of the text `e4 (`: wherever reading begins, a move and
@@ -56,13 +52,13 @@ pub record TextsAreSplit : Type 0 where
 abbrev pub endless : List ℕ → ℕ → List (ℕ × Token)
 endless text at = (4, Word (codes "e4")) ∷ (1, Skip) ∷ []
 
--- the first fault of a variation of this text, whose moves begin in the position `p`, if so many variations may be
--- open, this one included
+-- the first fault of a variation of `e4 (` whose moves begin in the position `p`, if so many variations may be open,
+-- this one included
 abbrev pub fault_with : ℕ → Setup → Option PgnFault
 fault_with most p = variation_fault endless most (codes "e4 (") p 3
 
--- how many variations may be open, where each is in another one and replaces the move m: one of a game may be the
--- first of 64, one in it of one less, and so on; where none may be open, it is the fault
+-- how deep variations may be nested, where each replaces the move m: one of a game is the first of 64, one in it the
+-- first of one fewer, and where none may be open it is the fault
 pub record VariationsAreCounted : Type 0 where
   pub of_a_game : (p : Setup) (m : Move) → reading p (codes "e4") ≡ reads.Move m
       → variations_fault endless (codes "e4 (") p 0 ≡ option_or (fault_with 64 p) None
@@ -77,19 +73,14 @@ pub record TextsAreRead : Type 0 where
       → reading (current (from_start (initial_setup_of Normal))) (codes "e4") ≡ reads.Move m
       → IsRead true 1 (codes "[Event \"a\"]\n1. e4 *") 0
       (finished (played (from_start (initial_setup_of Normal)) m) Unfinished None 19)
-  -- only what is skipped: no game
   pub no_game : IsRead true 1 (codes " {a}") 0
       (record { state = from_start (initial_setup_of Normal); answer = Ok None })
-  -- a tag, and then nothing
   pub no_result : IsRead true 1 (codes "[A \"b\"]") 0
       (failed (from_start (initial_setup_of Normal)) NoResult 7)
-  -- a tag that can't be read, after one that can
   pub bad_tag : IsRead true 1 (codes "[A \"b\"][A b]") 0
       (failed (from_start (initial_setup_of Normal)) BadTag 7)
-  -- a FEN of one field: the fault is at the first byte of its text
   pub bad_fen : IsRead true 1 (codes "[FEN \"x\"] *") 0
       (failed (from_start (initial_setup_of Normal)) (BadFen Fields) 6)
-  -- variations in variations
   pub variations : VariationsAreCounted
 
 -- examples of how tokens are laid out in lines

@@ -1,5 +1,5 @@
--- What the tokens of a game's text say, with no reader: which are taken, the start, the moves and how the game ended;
--- and why the next one is not taken.
+-- What the tokens of a game's text say, without reading one after another: which are taken, the start, the moves and
+-- how the game ended; and why the next token is not taken.
 use Rattle.std.specs.Prelude.{◌≡◌, ℕ, ◌+◌, ◌-◌, ◌<◌, nat_lt, Bool, true, false, not, ◌&&◌, ◌||◌, if◌then◌else◌, List, [], ◌∷◌, ◌++◌, length, Option, Some, None, is_some, Result, Ok, Err, codes}
 use Rattle.std.specs.List.{list_any, flat_map}
 use Rattle.std.specs.Option.{option_map}
@@ -42,7 +42,7 @@ abbrev pub is_outcome : WordKind → Bool
 is_outcome (End o) = true
 is_outcome _ = false
 
--- whether a token is a number or a move: after it no tag belongs to the game
+-- whether a token is a number or a move, after which no tag belongs to the game
 abbrev pub begins : Token → Bool
 begins (Word word) = is_number_or_move (word_kind word)
 begins _ = false
@@ -53,35 +53,34 @@ counts (Tag name text to_end) = true
 counts (Word word) = is_number_or_move (word_kind word)
 counts _ = false
 
--- whether a tag with this name gives the game's start: the name is FEN
+-- whether a tag with this name is a FEN, which gives the game's start
 abbrev pub is_fen : List ℕ → Bool
 is_fen name = bytes_eq name (codes "FEN")
 
--- ---- what can be taken: a tag before the first number or move, a FEN tag only if it denotes a sound position; a word
--- that is no outcome; never a token that can't be read
+-- ---- what can be taken
 
--- whether reading goes on after a token: it is skipped, a word but no outcome, or a tag before the first number or
--- move (`begun` says if that came), where FEN must denote a sound position of the variant `v`
+-- whether reading goes on after a token: it is skipped, a word but no outcome, or a tag before the first number or move
+-- (`begun`: one came before), where a FEN must denote a sound position of the variant `v`
 abbrev pub can_be_taken : Variant → Bool → Token → Bool
 can_be_taken v begun Skip = true
 can_be_taken v begun (Tag name text to_end) = not begun && (not (is_fen name) || is_ok (fen_reading_as v text))
 can_be_taken v begun (Word word) = not (is_outcome (word_kind word))
 can_be_taken v begun _ = false
 
--- whether reading goes on after each of these tokens; `v` is the variant by which a FEN is read, `begun`: a number or
--- move came before them
+-- whether reading goes on after each of these tokens; `v`: the variant of a FEN, `begun`: a number or move came before
+-- them
 abbrev pub can_all_be_taken : Variant → Bool → List (ℕ × Token) → Bool
 can_all_be_taken v begun [] = true
 can_all_be_taken v begun (t ∷ ts) = can_be_taken v begun t.1 && can_all_be_taken v (begun || begins t.1) ts
 
 -- ---- what they say
 
--- the word as a list of one, if its kind says that it may be a move, otherwise the empty list
+-- the word as a list of one, if by its kind it may be a move; otherwise `[]`
 abbrev pub if_move : List ℕ → WordKind → List (List ℕ)
 if_move word Move = word ∷ []
 if_move word _ = []
 
--- the token's word as a list of one, if it may be a move, otherwise the empty list
+-- the token's word as a list of one, if it may be a move; otherwise `[]`
 abbrev pub move_words_of : Token → List (List ℕ)
 move_words_of (Word word) = if_move word (word_kind word)
 move_words_of _ = []
@@ -90,25 +89,22 @@ move_words_of _ = []
 abbrev pub move_words : List (ℕ × Token) → List (List ℕ)
 move_words tokens = flat_map (λ t. move_words_of t.1) tokens
 
--- the start that a tag FEN gives, by what its text was read as: that position, or `p`, the start so far, if it has a
--- fault
+-- the start that a tag FEN gives, by what its text was read as: that position, or after a fault `p`, the start so far
 abbrev pub if_read : Setup → Result Setup FenFault → Setup
 if_read p (Ok start) = start
 if_read p (Err fault) = p
 
--- the game's start after one more token: what a tag FEN denotes, read as one of the variant `v`; otherwise `p`, the
--- start so far
+-- the game's start after one more token: what a tag FEN denotes in the variant `v`; otherwise `p`, the start so far
 abbrev pub start_by : Variant → Setup → Token → Setup
 start_by v p (Tag name text to_end) = if is_fen name then if_read p (fen_reading_as v text) else p
 start_by v p _ = p
 
--- the start that the last tag FEN of these tokens denotes, read as one of the variant `v`; `p`, if there is none that
--- denotes a position
+-- the position of the last tag FEN of these tokens that denotes one in the variant `v`; `p` if there is none
 abbrev pub tagged_start : Variant → Setup → List (ℕ × Token) → Setup
 tagged_start v p [] = p
 tagged_start v p (t ∷ ts) = tagged_start v (start_by v p t.1) ts
 
--- what is known of Termination after one more token: what a tag Termination names; otherwise `o`, what was known so far
+-- the Termination after one more token: what a tag of this name says; otherwise `o`, the one so far
 abbrev pub termination_by_token : Option Termination → Token → Option Termination
 termination_by_token o (Tag name text to_end) = termination_after o name text
 termination_by_token o _ = o
@@ -122,12 +118,11 @@ tagged_termination o (t ∷ ts) = tagged_termination (termination_by_token o t.1
 abbrev pub game_by : Setup → List Played → State
 game_by start ms = record { start = start; moves = ms; declared = None }
 
--- after the moves `done` from a start, each of the words denotes the move at its index, in the position reached by
--- then, where no verdict has ended the game (`draws`: whether the draws of 2014 end one) and it has fewer than `limit`
--- moves
+-- after the moves `done` from a start, each word denotes the move at its index, in the position reached by then, where
+-- no verdict has ended the game and it has fewer than `limit` half-moves. `draws`: whether fivefold repetition and 75
+-- moves end it
 abbrev pub AreReadAs : Bool → ℕ → Setup → List Played → List (List ℕ) → List Played → Type 0
 AreReadAs draws limit start done [] [] = Unit {0}
--- more moves than words, or fewer
 AreReadAs draws limit start done [] (m ∷ ms) = ⊥
 AreReadAs draws limit start done (w ∷ ws) [] = ⊥
 AreReadAs draws limit start done (w ∷ ws) (m ∷ ms) =
@@ -137,36 +132,37 @@ AreReadAs draws limit start done (w ∷ ws) (m ∷ ms) =
 -- ---- why a token is not taken
 
 -- why a move is not played in the game `s`: AfterEnd if a verdict has ended it, TooLong if it has `limit` half-moves,
--- otherwise `kind`, the fault of the move itself (or none)
+-- otherwise `kind`, the fault of the move itself (or none). `draws`: whether fivefold repetition and 75 moves end it
 abbrev pub unless_closed : Bool → ℕ → State → Option PgnFaultKind → Option PgnFaultKind
 unless_closed draws limit s kind = if is_some (ending draws s) then Some AfterEnd else
     (if nat_lt (length s.moves) limit then kind else Some TooLong)
 
--- why the move of a word is not played in the game `s`, by what the word denotes there; none if it is played. `limit`
--- is the most half-moves of a game
+-- why the move of a word is not played in the game `s`, by what the word denotes there; `None` if it is played.
+-- `draws`: whether fivefold repetition and 75 moves end the game; `limit`: its most half-moves
 abbrev pub move_fault : Bool → ℕ → State → Reading → Option PgnFaultKind
 move_fault draws limit s reads.NotAMove = Some BadToken
 move_fault draws limit s (reads.Move m) = unless_closed draws limit s None
 move_fault draws limit s reads.Ambiguous = unless_closed draws limit s (Some AmbiguousMove)
 move_fault draws limit s reads.NoSuch = unless_closed draws limit s (Some IllegalMove)
 
--- why a word of this kind can't be taken in the game `s`; none if it can. `limit` is the most half-moves of a game
+-- why a word of this kind can't be taken in the game `s`; `None` if it can. `draws`: whether fivefold repetition and 75
+-- moves end the game; `limit`: its most half-moves
 abbrev pub word_fault : Bool → ℕ → State → List ℕ → WordKind → Option PgnFaultKind
 word_fault draws limit s word Move = move_fault draws limit s (reading (current s) word)
 word_fault draws limit s word _ = None
 
--- a fault of this kind at this offset; none if there is no kind
+-- a fault of this kind at this offset; `None` without a kind
 abbrev pub fault_at : ℕ → Option PgnFaultKind → Option PgnFault
 fault_at offset kind = option_map (λ k. record { kind = k; offset = offset }) kind
 
--- the fault of a tag FEN whose text was read with this result; none if it denotes a position
+-- the fault of a tag FEN whose text was read with this result; `None` if it denotes a position
 abbrev pub fen_fault : Result Setup FenFault → Option PgnFaultKind
 fen_fault (Ok start) = None
 fen_fault (Err fault) = Some (BadFen fault)
 
--- why a token can't be taken in the game `s` of the variant `v`, with the fault's offset; none if it can. `limit` is
--- the most half-moves of a game, `total` the text's length, `to_end` how many bytes are left from the token on;
--- `begun`: a number or move came before it
+-- why a token can't be taken in the game `s` of the variant `v`, with the fault's offset; `None` if it can. `draws`:
+-- whether fivefold repetition and 75 moves end the game; `limit`: its most half-moves; `total`: the text's length;
+-- `to_end`: how many bytes are left at the token; `begun`: a number or move came before it
 abbrev pub token_fault : Bool → ℕ → ℕ → Variant → Bool → State → ℕ → Token → Option PgnFault
 token_fault draws limit total v begun s to_end Skip = None
 token_fault draws limit total v begun s to_end (Tag name text string) =
@@ -183,48 +179,44 @@ token_fault draws limit total v begun s to_end Bad = fault_at (total - to_end) (
 
 -- ---- the game
 
--- why reading stopped after the tokens `taken`, before the others (the next argument), in a text of `total` bytes: at
--- the text's end with no game (`Ok None`), at an outcome (`Ok (Some e)`), or at a fault. `s` is the game then; only an
--- outcome declares a result. `limit` is the most half-moves
+-- why reading stopped after the tokens `taken`, before the others (the next argument), in a text of `total` bytes. `s`
+-- is the game then, of the variant `v`. `draws`: whether fivefold repetition and 75 moves end it; `limit`: its most
+-- half-moves
 abbrev pub StopsAt : Bool → ℕ → ℕ → Variant → List (ℕ × Token) → List (ℕ × Token) → State
     → Result (Option PgnEnd) PgnFault
     → Type 0
--- at the text's end
+-- the text ended before a tag, number or move came
 StopsAt draws limit total v taken [] s (Ok None) = (s.declared ≡ None) × (list_any (λ t. counts t.1) taken ≡ false)
--- no outcome is there
 StopsAt draws limit total v taken [] s (Ok (Some e)) = ⊥
 -- a game was begun, and has no result
 StopsAt draws limit total v taken [] s (Err f) =
     (s.declared ≡ None) × (list_any (λ t. counts t.1) taken ≡ true) × (f ≡ record { kind = NoResult; offset = total })
--- before the token `t`
 StopsAt draws limit total v taken (t ∷ ts) s (Ok None) = ⊥
--- it is the word of an outcome
+-- the next token is an outcome's word
 StopsAt draws limit total v taken (t ∷ ts) s (Ok (Some e)) =
     (word : List ℕ) × (t.1 ≡ Word word) × (word_kind word ≡ End e.outcome)
     × (s.declared ≡ declared_after (is_some (verdict_now s)) e.outcome)
     × (e.termination ≡ tagged_termination None taken) × (e.offset ≡ total - t.0 + length word)
--- it can't be taken
+-- the next token can't be taken
 StopsAt draws limit total v taken (t ∷ ts) s (Err f) =
     (s.declared ≡ None) × (token_fault draws limit total v (list_any (λ u. begins u.1) taken) s t.0 t.1 ≡ Some f)
 
--- the game read (`r`) is that of a first part of the tokens, `taken`: its start is what their last FEN denotes,
--- otherwise the initial position of variant `v`, its moves are those of their words, and reading stopped rightly after
--- them. `limit` is the most half-moves of a game, `total` the text's length
+-- the game read (`r`) is that of the first tokens, `taken`: they say its start (in the variant `v`) and its moves, and
+-- reading stopped after them as it must. `draws`: whether fivefold repetition and 75 moves end it; `limit`: its most
+-- half-moves; `total`: the text's length
 pub record IsOfTokens (draws : Bool) (limit total : ℕ) (v : Variant) (tokens : List (ℕ × Token))
     (r : GameRead) : Type 0 where
-  -- the tokens of the game, and those after them
   pub taken : List (ℕ × Token)
   pub others : List (ℕ × Token)
   pub all : taken ++ others ≡ tokens
-  -- reading goes on after each
   pub can_be : can_all_be_taken v false taken ≡ true
   pub start : r.state.start ≡ tagged_start v (initial_setup_of v) taken
   pub moves : AreReadAs draws limit r.state.start [] (move_words taken) r.state.moves
   pub stop : StopsAt draws limit total v taken others r.state r.answer
 
--- each game that is read is that of its text's first tokens: its start is their last FEN's, its moves their words', and
--- the next token ends the game, or can't be taken, or there is none. `at` is the offset where reading begins, `limit`
--- the most half-moves
+-- each game that is read from an offset `at` on is that of the first tokens there: its start is their last FEN's, its
+-- moves their words', and the next token ends the game, can't be taken, or isn't there. `draws`: whether fivefold
+-- repetition and 75 moves end it; `limit`: its most half-moves
 abbrev pub GamesAreOfTokens : Type 0
 GamesAreOfTokens =
     (draws : Bool) (limit : ℕ) (text : List ℕ) (at : ℕ) (r : GameRead) (read : IsRead draws limit text at r)

@@ -1,5 +1,4 @@
--- The moves of variations as claims: without a fault each is legal where it is made (PGN standard of 1994, section
--- 8.2.5).
+-- The moves of variations: without a fault each is legal where it is made (PGN standard of 1994, section 8.2.5).
 use Rattle.std.specs.Prelude.{◌≡◌, ℕ, ◌+◌, ◌-◌, Bool, true, false, ◌||◌, List, [], ◌∷◌, length, Option, Some, None, is_some, IsTrue}
 use Rattle.std.specs.List.{list_all}
 use Rattle.byte_devices.specs.Bytes.{is_digit}
@@ -23,34 +22,31 @@ is_passed (Word word) = is_some (outcome_of word) || (list_all is_digit word || 
 is_passed _ = false
 
 -- a line of the text (a game's own moves, or those of a variation) is legal from the position `p` on, with its
--- variations. Its tokens from there on are the last argument; `before` is the position before its last move, if it has
+-- variations. The last argument is its tokens from there on; `before` is the position before its last move, if it has
 -- one; `tokens` gives the tokens of the text from an offset on
 pub data IsLegalLine (tokens : ℕ → List (ℕ × Token)) (text : List ℕ) : Option Setup → Setup → List (ℕ × Token)
     → Type 0 where
-  -- the text ends
   no_more : {before : Option Setup} {p : Setup} → IsLegalLine tokens text before p []
-  -- the `)` of the variation
+  -- the variation's `)`
   closed : {before : Option Setup} {p : Setup} {left : ℕ} {token : Token} {more : List (ℕ × Token)}
       → is_end text (length text - left) token ≡ true → IsLegalLine tokens text before p ((left, token) ∷ more)
-  -- a token that is passed over
   passed : {before : Option Setup} {p : Setup} {left : ℕ} {token : Token} {more : List (ℕ × Token)}
       → is_variation text (length text - left) token ≡ false → is_passed token ≡ true
       → IsLegalLine tokens text before p more → IsLegalLine tokens text before p ((left, token) ∷ more)
-  -- a word that denotes a legal move, and no other; the line continues in the position after it
+  -- a word that denotes a legal move; the line continues in the position after it
   move : {before : Option Setup} {p : Setup} {left : ℕ} {word : List ℕ} {more : List (ℕ × Token)}
       (m : Move) → reading p word ≡ reads.Move m → IsTrue (is_legal p m)
       → IsLegalLine tokens text (Some p) (after p m) more
       → IsLegalLine tokens text before p ((left, Word word) ∷ more)
-  -- a variation: what comes after its `(` is a legal line from the position before the line's last move on; the line
-  -- continues where it was
+  -- a variation: what comes after its `(` is a legal line from the position before the line's last move on
   variation : {start p : Setup} {left : ℕ} {token : Token} {more : List (ℕ × Token)}
       → is_variation text (length text - left) token ≡ true
       → IsLegalLine tokens text None start (tokens (length text - left + 1))
       → IsLegalLine tokens text (Some start) p more
       → IsLegalLine tokens text (Some start) p ((left, token) ∷ more)
 
--- if a game with a variation has no fault in its variations, then its moves, from the offset `at` of its text on, are a
--- legal line
+-- if a game has a variation and no fault in its variations, its moves, from the offset `at` of its text on, are a legal
+-- line
 abbrev pub VariationsAreLegal : Type 0
 VariationsAreLegal = (tokens : List ℕ → ℕ → List (ℕ × Token)) (text : List ℕ) (start : Setup) (at : ℕ)
     → has_variation text (tokens text at) ≡ true → variations_fault tokens text start at ≡ None

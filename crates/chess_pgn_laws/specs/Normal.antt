@@ -22,7 +22,7 @@ use Rattle.pgn_tokens.specs.Tokens.{Token, tokens_from}
 use Rattle.byte_devices.specs.Bytes.{after_byte_order_mark}
 use Rattle.pgn_writer.specs.Written.{tag_line}
 
--- the lines of the tags of the game `s`, for a game of normal chess: no tag Variant
+-- the lines of the tags of the game `s`, if it is one of normal chess: no tag Variant
 abbrev pub normal_tag_lines : Tags → State → List (List ℕ)
 normal_tag_lines t s =
     tag_line (codes "Event") t.event ∷ tag_line (codes "Site") t.site ∷ tag_line (codes "Date") t.date
@@ -32,8 +32,8 @@ normal_tag_lines t s =
     (tag_line (codes "FEN") (fen s.start) ∷ tag_line (codes "SetUp") (codes "1") ∷ [])
     ++ tag_line (codes "Termination") (termination_text (termination_of t.ended (outcome_now s))) ∷ []
 
--- what is read of these tokens, in a text of `total` bytes, if there were no Chess960: FEN is read as one of normal
--- chess, and without it the game begins at the initial position. `limit` is the most half-moves of a game
+-- what is read of these tokens, in a text of `total` bytes, as if there were no Chess960: a FEN is one of normal chess.
+-- `draws`: whether fivefold repetition and 75 moves end the game; `limit`: its most half-moves
 abbrev pub normal_read : Bool → ℕ → ℕ → List (ℕ × Token) → GameRead
 normal_read draws limit total tokens =
     let tags = tag_section tokens in

@@ -23,8 +23,7 @@ pub record AreTagTexts (t : Tags) : Type 0 where
   pub black : IsTagText t.black
 
 -- reading the written text of the game `s` gave its start, moves and outcome and this termination. `text_end` is the
--- offset after its text; the game ends two bytes before (after its outcome come the ends of its last line and of an
--- empty one)
+-- offset after its text
 pub record IsReadBack (s : State) (termination : Termination) (text_end : ℕ) (r : GameRead) : Type 0 where
   pub start : r.state.start ≡ s.start
   pub moves : r.state.moves ≡ s.moves
@@ -33,11 +32,11 @@ pub record IsReadBack (s : State) (termination : Termination) (text_end : ℕ) (
   pub offset : ℕ
   pub answer : r.answer ≡ Ok
       (Some (record { outcome = outcome_now s; termination = Some termination; offset = offset }))
-  -- after it come two bytes: the line's end and the empty line
+  -- after it come the end of its line and an empty line
   pub two_before_end : offset + 2 ≡ text_end
 
--- the text that is written of a playable game `s` of at most `limit` half-moves, with no line prefix, is read back as
--- that game, whatever text comes before and after it, and whether the draws of 2014 end a game (`draws`) or not
+-- the text that is written of a playable game `s` of at most `limit` half-moves, without line prefixes, is read back as
+-- that game, whatever text comes before and after it. `draws`: whether fivefold repetition and 75 moves end a game
 abbrev pub PgnIsReadBack : Type 0
 PgnIsReadBack =
     (draws : Bool) → (limit : ℕ) → (tags : Tags) → (s : State) → (before after : List ℕ) → AreTagTexts tags
@@ -45,8 +44,7 @@ PgnIsReadBack =
     → IsReadBack s (termination_of tags.ended (outcome_now s)) (length (before ++ pgn [] tags s))
     (pgn_read draws limit (before ++ pgn [] tags s ++ after) (length before))
 
--- the last tag Result of a playable game's text, as it is written, names the game's outcome, whatever text comes before
--- and after it
+-- the last tag Result in the written text of a playable game names its outcome
 abbrev pub ResultIsWritten : Type 0
 ResultIsWritten =
     (limit : ℕ) → (tags : Tags) → (s : State) → (before after : List ℕ) → AreTagTexts tags
@@ -54,8 +52,7 @@ ResultIsWritten =
     (tokens : List (ℕ × Token)) → IsSplit text (after_byte_order_mark text (length before)) tokens
     → option_and_then (λ tag. tag.outcome) (result_tag_of (length text) tokens) ≡ Some (outcome_now s)
 
--- the last tag Variant of a playable game's text, as it is written, names a variant that is known, if there is such a
--- tag, whatever text comes before and after it
+-- the last tag Variant in the written text of a playable game, if there is one, names a known variant
 abbrev pub VariantIsWritten : Type 0
 VariantIsWritten =
     (limit : ℕ) → (tags : Tags) → (s : State) → (before after : List ℕ) → AreTagTexts tags

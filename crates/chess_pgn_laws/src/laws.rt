@@ -55,7 +55,7 @@ pub fn normal_is_kept()
 {}
 
 /// States a law and does nothing: from each offset on, a text can be split into tokens in exactly one way, which is
-/// `tokens_from`. A split (`IsSplit`) takes the tokens from left to right, each the longest at its place. It ends at
+/// `tokens_from`. A split (`IsSplit`) takes the tokens from left to right, each the longest at its offset. It ends at
 /// the text's end, or with a fault at the first offset where no token can be read.
 pub fn a_text_has_one_split()
     ensures read { (text : List ℕ) → (at : ℕ) → IsSplit text at (tokens_from text at) }
@@ -65,8 +65,8 @@ pub fn a_text_has_one_split()
 
 /// States a law and does nothing: three definitions of what is read of a text agree. `IsRead` takes any split of the
 /// text into tokens, first its tags and then its moves; `pgn_read` is the only result of which `IsRead` holds; and
-/// `tokens_read` takes the tokens one after another, with a step for each. So it is whether the draws of 2014 end a
-/// game (`draws`) or not.
+/// `tokens_read` takes the tokens one after another, with a step for each. This holds whether fivefold repetition and
+/// 75 moves end a game (`draws`) or not.
 pub fn a_game_is_tags_and_moves()
     ensures read { (draws : Bool) → (limit : ℕ) → (text : List ℕ) → (at : ℕ)
         → IsRead draws limit text at (pgn_read draws limit text at) }
@@ -119,15 +119,15 @@ pub fn texts_are_worked_out()
     ensures laid_out { TextsAreLaidOut }
 {}
 
-/// States a law and does nothing: some texts are games without moves, though a number, a comment or a variation in them
-/// could be taken for moves or for a result. `*` declares nothing, `1-0` does. The tags Variant and Termination name in
-/// capital or small letters what they name. A word in a mate is a move after the end. Row by row it is shown where
-/// strings, comments, variations, glyphs and words end, where `%` skips a line, which tags count, by which rules a FEN
-/// is read, and which names of variants, terminations and outcomes are known.
+/// States a law and does nothing: what small texts are read as, most of them games without moves, in which a number, a
+/// comment or a variation could be taken for moves or for a result. `*` declares nothing, `1-0` does. The tags Variant
+/// and Termination name in capital or small letters what they name. A word after a mate is a move after the end. The
+/// texts show where strings, comments, variations, glyphs and words end, where `%` skips a line, which tags count, by
+/// which rules a FEN is read, and which names of variants, terminations and outcomes are known.
 ///
-/// It refuses a number that is compared with the moves, moves of a comment that count, a variation that ends in a
-/// comment, a string that ends at a quote after a backslash, a `%` within a line that skips its rest, and a word after a
-/// mate that is called an illegal move.
+/// No definition fits that compares numbers with the moves, counts moves in a comment, ends a variation inside a
+/// comment or a string at a quote after a backslash, lets a `%` within a line skip its rest, or calls a word after a
+/// mate an illegal move.
 pub fn empty_games_are_read()
     ensures { EmptyGamesAreRead }
 {

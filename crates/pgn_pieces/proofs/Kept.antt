@@ -1,4 +1,6 @@
--- Of bytes that were let go the first 40 are kept, and the others are counted.
+-- Of bytes that were let go (dropped from memory) the first 40 are kept, and the others are counted, as `\n` or other
+-- bytes. Such a record and more bytes have the counts of all these bytes, both if fewer than 40 were kept before and if
+-- not (counts_added).
 use Rattle.std.proofs.Common.{◌≡◌, ◌≤◌, ◌<◌, ◌⊎◌, ℕ, zero, suc, ◌+◌, ◌-◌, List, [], ◌∷◌, ◌++◌, length, take, drop, refl, sym, ap, ◌∙◌, inl, inr, append-nil, length-append, length-drop, arith, ap₂, replicate, min}
 use Rattle.std.proofs.{lemmas.Bool.cases_lt, lemmas.Grind.common_steps}
 use Rattle.std.proofs.lemmas.List.{take-append-drop, take-append-le, take_all, length-take-le, length-replicate, nil_from_length}

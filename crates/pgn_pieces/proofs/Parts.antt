@@ -1,4 +1,5 @@
--- The tags, comments, glyphs, dots and marks with which a line's front begins, one by one.
+-- Passing over the tags, comments, glyphs, dots and marks with which a line's front begins, one by one: after one of
+-- them (one_fewer), where none begins (no_part, stays), and after the first tag, whose name is known already (at_tag).
 use Rattle.std.proofs.Common.{◌≡◌, ℕ, zero, suc, Bool, true, false, ◌&&◌, ◌||◌, ◌==◌, if◌then◌else◌, List, [], ◌∷◌, take, Option, Some, None, codes, refl, sym, ap, ◌∙◌}
 use Rattle.std.specs.List.{list_any}
 use Rattle.std.specs.Option.{option_map, option_map_or}

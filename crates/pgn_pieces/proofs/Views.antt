@@ -1,5 +1,5 @@
--- What is held in the buffer is the state of reading, also after bytes come to the piece, and after those of a piece
--- that is too long are let go.
+-- The parts of the buffer that is held give the state of cutting (viewed); it stays right when bytes are added to the
+-- piece (passed_on), and when those of a piece that is too long are let go (let_gone).
 use Rattle.std.proofs.Common.{◌≡◌, ◌≤◌, ◌<◌, ℕ, ◌+◌, ◌-◌, Bool, List, ◌++◌, length, take, drop, refl, sym, ap, subst, ◌∙◌, append_assoc, append-nil, length-append, length-drop, arith, ap₂, take-add}
 use Rattle.std.proofs.lemmas.List.{drop-drop, length-take-le, take_rest}
 use Rattle.pgn_pieces.specs.{Stream.State, declared.pieces.TheConstants.PIECE_LEN, ties.Held.passed, ties.Held.SameCounts, ties.Held.LetGo}

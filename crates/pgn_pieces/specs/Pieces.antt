@@ -12,8 +12,8 @@ use Rattle.pgn_pieces.specs.declared.pieces.PieceFault.TheVariants.{ReadFailed, 
 
 -- ---- the lines of a text
 
--- the lines of a text, each with the `\n` or `\r` that ends it, if one does; the empty text has none. The `\n` of
--- `\r\n` is a line of its own, which counts as empty: `a\r\nb` has the lines `a\r`, `\n` and `b`
+-- the lines of a text, each with the `\n` or `\r` that ends it, if one does. The `\n` of `\r\n` is a line of its own,
+-- which counts as empty: `a\r\nb` has the lines `a\r`, `\n` and `b`
 abbrev pub lines_of : List ℕ → List (List ℕ)
 lines_of [] = []
 lines_of (c ∷ cs) = if breaks_line c then (c ∷ []) ∷ lines_of cs else onto_first c (lines_of cs)
@@ -22,26 +22,25 @@ lines_of (c ∷ cs) = if breaks_line c then (c ∷ []) ∷ lines_of cs else onto
 abbrev pub drop_while : (ℕ → Bool) → List ℕ → List ℕ
 drop_while test text = drop (prefix_len test text) text
 
--- the front of a line, which decides the line's kind: its first 256 bytes, without a byte order mark (EF BB BF) at
--- their beginning, and then without spaces and tabs there
+-- the front of a line, which decides its kind: its first 256 bytes, without a byte order mark (EF BB BF) and then
+-- without spaces and tabs at their beginning
 abbrev pub front_of : List ℕ → List ℕ
 front_of line = let first = take 256 line in drop_while is_blank (drop (after_byte_order_mark first 0) first)
 
--- the name in a line's front after its first byte, the `[` of a tag line: `Event` in `[Event "x"]`; maybe empty
+-- the name in a line's front after its first byte, `[`: `Event` in `[Event "x"]`; maybe empty
 abbrev pub tag_name : List ℕ → List ℕ
 tag_name front = take_while is_name_byte (drop 1 front)
 
--- what comes in a line's front after the name (`tag_name`) and any spaces and tabs: `"x"]` in `[Event "x"]`
+-- what comes in a line's front after the name and any spaces and tabs: `"x"]` in `[Event "x"]`
 abbrev pub after_name : List ℕ → List ℕ
 after_name front = drop_while is_blank (drop (length (tag_name front)) (drop 1 front))
 
--- whether a text, such as a line's front, begins with a tag: `[`, a name of one byte or more, any spaces and tabs, and
--- `"`
+-- whether a text, such as a line's front, begins as a tag does: `[`, a name, any spaces and tabs, and `"`
 abbrev pub begins_tag : List ℕ → Bool
 begins_tag front = bytes_eq (take 1 front) (codes "[") && nat_lt 0 (length (tag_name front))
     && bytes_eq (take 1 (after_name front)) (codes "\"")
 
--- whether a line is a tag line, such as `[Event "Oslo"]`: its front begins with a tag (`begins_tag`)
+-- whether a line is a tag line, such as `[Event "Oslo"]`
 abbrev pub is_tag_line : List ℕ → Bool
 is_tag_line line = begins_tag (front_of line)
 
@@ -49,20 +48,19 @@ is_tag_line line = begins_tag (front_of line)
 abbrev pub is_event_line : List ℕ → Bool
 is_event_line line = is_tag_line line && bytes_eq (tag_name (front_of line)) (codes "Event")
 
--- whether a line counts as empty: its first byte is `%`, or its front begins with `;`, or has nothing but spaces, tabs,
--- `\r` and `\n`
+-- whether a line counts as empty: its first byte is `%`, or its front begins with `;`, or has nothing but white space
 abbrev pub is_empty_line : List ℕ → Bool
 is_empty_line line = bytes_eq (take 1 line) (codes "%") || bytes_eq (take 1 (front_of line)) (codes ";")
     || list_all (λ c. is_blank c || (c == 13) || (c == 10)) (front_of line)
 
--- a text from the first quote on that no backslash keeps from closing a string; empty if there is none. `kept`: the byte
--- before the text is such a backslash. Of `a\"b"]` it is `"]`
+-- a text from the first quote on that no backslash keeps from closing a string: of `a\"b"]` it is `"]`; empty if there
+-- is none. `kept`: the byte before the text is such a backslash
 abbrev pub from_quote : Bool → List ℕ → List ℕ
 from_quote kept [] = []
 from_quote kept (c ∷ rest) = if not kept && c == byte "\"" then c ∷ rest else from_quote (not kept && c == byte "\\") rest
 
--- what comes after the string of the tag with which a text begins, and any spaces and tabs: `] e4` in `[a "b" ] e4`.
--- Empty if the string isn't closed
+-- what comes after the string of the tag with which a text begins, and any spaces and tabs: `] e4` in `[a "b" ] e4`;
+-- empty if the string isn't closed
 abbrev pub after_string : List ℕ → List ℕ
 after_string text = drop_while is_blank (drop 1 (from_quote false (drop 1 (after_name text))))
 
@@ -74,28 +72,28 @@ after_part text = option_map (drop_while is_blank) (if begins_tag text then afte
     else (if bytes_eq (take 1 text) (codes "$") then Some (drop_while is_digit (drop 1 text))
     else (if list_any (λ c. list_any (λ k. c == k) (codes ".!?")) (take 1 text) then Some (drop 1 text) else None))))
 
--- what comes after the tags, comments, glyphs, dots and marks with which a text begins (`after_part`): the text itself
--- if it begins with none. At most as many are passed over as the first argument says
+-- what comes after the tags, comments, glyphs, dots and marks with which a text begins (`after_part`); the first
+-- argument is the most that are passed over
 unfoldable pub after_parts : ℕ → List ℕ → List ℕ
 after_parts zero text = text
 after_parts (suc more) text = option_map_or (after_parts more) (after_part text) text
 
--- whether a text ends within the tag with which it begins, which may so be closed further on: in the name, in the
--- string, or in the spaces and tabs after one of these
+-- whether a text ends within the tag with which it begins, which more bytes may close: in the name, in the string, or
+-- in the spaces and tabs after one of these
 abbrev pub ends_in_tag : List ℕ → Bool
 ends_in_tag text = bytes_eq (take 1 text) (codes "[")
     && ((length (after_name text) == 0) || begins_tag text && (length (after_string text) == 0))
 
--- whether a tag line has more than tags, from what comes after its tags, comments, glyphs, dots and marks (`after_part`):
--- a byte that neither ends the line nor begins a comment, such as that of a move, a variation or a tag that isn't
--- closed. `ended`: the line's end was seen; if not, a tag in which what was seen ends doesn't count
+-- whether a tag line has more than tags, by what comes after its tags, comments, glyphs, dots and marks: a byte that
+-- neither ends the line nor begins a comment, such as a move's. `ended`: the line's end was seen; if not, a tag in
+-- which what was seen ends doesn't count
 abbrev pub has_more : Bool → List ℕ → Bool
 has_more ended rest = list_any (λ c. not (list_any (λ k. c == k) (codes "\r\n{;"))) (take 1 rest)
     && (ended || not (ends_in_tag rest))
 
--- whether a line counts as one of moves: one that is neither a tag line nor empty (so also one inside a `{` comment,
--- and a tag such as `[ Event "x" ]`); or a tag line whose front has more than tags (`has_more`): `[White "a"] {x} 1. e4`,
--- or `[White "a`. (256: a front has at most so many tags and the like)
+-- whether a line counts as one of moves: one that is neither a tag line nor empty (also one inside a `{` comment, and
+-- `[ Event "x" ]`); or a tag line with more than tags: `[White "a"] {x} 1. e4`, or `[White "a`. A front has at most 256
+-- tags and the like
 abbrev pub is_moves_line : List ℕ → Bool
 is_moves_line line = let front = front_of line in
     if is_tag_line line then has_more (list_any breaks_line front) (after_parts 256 front) else not (is_empty_line line)
@@ -108,15 +106,14 @@ abbrev pub begins_piece : List (List ℕ) → List ℕ → Bool
 begins_piece piece line = is_tag_line line
     && (list_any is_moves_line piece || (is_event_line line && list_any is_event_line piece))
 
--- these pieces (each the list of its lines, the last piece first) with one line more: the line begins a piece if it is
--- the first one or if `begins_piece` holds; otherwise it goes to the end of the last piece
+-- these pieces (each the list of its lines, the last piece first) with one line more, which begins a piece if it is the
+-- first line or if `begins_piece` holds; otherwise it is added to the last piece
 abbrev pub with_line : List (List (List ℕ)) → List ℕ → List (List (List ℕ))
 with_line [] line = (line ∷ []) ∷ []
 with_line (last ∷ before) line =
     if begins_piece last line then (line ∷ []) ∷ last ∷ before else (last ++ line ∷ []) ∷ before
 
--- the pieces that a text is cut into, in order, each as its bytes: one begins at the first line, and at each for which
--- `begins_piece` holds. The empty text has none
+-- the pieces that a text is cut into, in order, each as its bytes
 abbrev pub cut : List ℕ → List (List ℕ)
 cut text = reverse (map concat (fold with_line [] (lines_of text)))
 
@@ -127,32 +124,27 @@ known_pieces ended text = let all = cut text in if ended then all else take (len
 
 -- ---- what was read of an input
 
--- between two states of the input, `r` and then `r'`, just this text was read, no read failed, and no silence was
--- counted. `ended`: the end of the input was reached, and was reported by one read
+-- between the states `r` and `r'` of the input just this text was read, and no failed read and no silence was counted.
+-- `ended`: the input's end was reached, and reported by one read
 pub record HasRead (ended : Bool) (r r' : InputState) (text : List ℕ) : Type 0 where
   pub bytes : Consumes r.known_bytes r'.known_bytes text
   pub failures : r'.failure_count ≡ r.failure_count
-  -- a reported end is counted
   pub ends : r'.end_count ≡ (if ended then saturating_increment r.end_count else r.end_count)
   pub silences : r'.silence_count ≡ r.silence_count
-  -- after the end no known byte is left
   pub at_end : ended ≡ true → IsAtEnd r'.known_bytes
 
--- between two states of the input, `r` and then `r'`, this text was read, and then one read failed; no silence was
+-- between the states `r` and `r'` of the input this text was read, and then one read failed; no end and no silence was
 -- counted
 pub record GaveThenFailed (r r' : InputState) (text : List ℕ) : Type 0 where
   pub bytes : Consumes r.known_bytes r'.known_bytes text
-  -- one failure more is counted, and no end and no silence
   pub failures : r'.failure_count ≡ saturating_increment r.failure_count
   pub ends : r'.end_count ≡ r.end_count
   pub silences : r'.silence_count ≡ r.silence_count
 
--- this fault may be why nothing was read after this text, between the input's states `r` and `r'`; the end of the input
--- was not reported
+-- this fault may be why nothing was read after this text, between the input's states `r` and `r'`; its end was not
+-- reported
 abbrev pub IsCause : InputState → InputState → List ℕ → PieceFault → Type 0
--- a read failed
 IsCause r r' text ReadFailed = GaveThenFailed r r' text
--- memory ran out, which the input doesn't show: no read failed
+-- memory ran out, which the input doesn't show
 IsCause r r' text NoMemory = HasRead false r r' text
--- the text has at least 2^63 - 65,536 bytes; no read failed
 IsCause r r' text InputTooLong = HasRead false r r' text × (2 ^ 63 ≤ length text + 2 ^ 16)

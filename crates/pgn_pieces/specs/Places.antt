@@ -2,8 +2,8 @@
 use Rattle.std.specs.Prelude.{ℕ, ◌+◌, ◌==◌, Bool, ◌||◌, not, List, take}
 use Rattle.std.specs.List.{count_by, suffix_len}
 
--- whether a byte ends a line, as a collection is cut into lines: it is `\n`, or `\r`, which alone ends the lines of
--- some old files
+-- whether a byte ends a line of a collection that is cut into pieces: `\n`, or `\r`, which alone ends the lines of some
+-- old files
 abbrev pub breaks_line : ℕ → Bool
 breaks_line c = (c == 10) || (c == 13)
 
@@ -11,11 +11,11 @@ breaks_line c = (c == 10) || (c == 13)
 abbrev pub line_ends : List ℕ → ℕ
 line_ends text = count_by (λ c. c == 10) text
 
--- the line of the byte at this offset of a text: one more than how often `\n` comes before it
+-- the line of the byte at this offset of a text
 abbrev pub line_of : List ℕ → ℕ → ℕ
 line_of text offset = count_by (λ c. c == 10) (take offset text) + 1
 
--- the column of the byte at this offset of a text: one more than the number of bytes between it and the last `\n` or
--- `\r` before it, or the text's beginning
+-- the column of the byte at this offset of a text, counted from the `\n` or `\r` before it, or from the text's
+-- beginning
 abbrev pub column_of : List ℕ → ℕ → ℕ
 column_of text offset = suffix_len (λ c. not (breaks_line c)) (take offset text) + 1

@@ -6,23 +6,21 @@ use Rattle.pgn_pieces.specs.declared.pieces.TheConstants.{PIECE_LEN}
 use Rattle.pgn_pieces.specs.Pieces.{known_pieces, HasRead, IsCause}
 use Rattle.pgn_pieces.specs.Places.{line_ends}
 
--- how far an input is cut
+-- how far an input is cut into pieces
 pub record State : Type 0 where
   -- where the current piece begins in the input
   pub offset : ℕ
-  -- its bytes so far; if the piece is too long, only some bytes with the same length, the same first 40 bytes and the
-  -- same number of line ends
+  -- its bytes so far; if it is too long, only some bytes with the same length, first 40 bytes and number of line ends
   pub part : List ℕ
   -- the bytes that were read after these
   pub coming : List ℕ
-  -- whether the input has ended
   pub ended : Bool
 
--- the state before the first read: no bytes are held, and the input has not ended
+-- the state before the first read
 abbrev pub unread : State
 unread = record { offset = 0; part = []; coming = []; ended = false }
 
--- the state after the current piece of `s`: the next one begins at that one's end, and has no bytes so far
+-- the state once the current piece of `s` has ended: the next one has no bytes so far
 abbrev pub past_piece : State → State
 past_piece s = record { offset = s.offset + length s.part; part = []; coming = s.coming; ended = s.ended }
 
@@ -31,29 +29,28 @@ pub record Piece : Type 0 where
   pub offset : ℕ
   pub bytes : List ℕ
 
--- the pieces whose bytes are given, one after another in the input; the first begins at this offset
+-- the pieces with these bytes, one after another in the input; the first begins at this offset
 abbrev pub with_offsets : ℕ → List (List ℕ) → List Piece
 with_offsets offset [] = []
 with_offsets offset (bytes ∷ rest) =
     record { offset = offset; bytes = bytes } ∷ with_offsets (offset + length bytes) rest
 
--- the pieces that are known (`known_pieces`) of a text of the input, each with its offset: the first begins with the
--- text, at the given one. `ended`: the input ends with the text; if not, the last piece may go on and is left out
+-- the known pieces of a text that begins at this offset of the input. `ended`: the input ends with the text; if not,
+-- the last piece may go on and is left out
 unfoldable pub pieces : Bool → ℕ → List ℕ → List Piece
 pieces ended offset text = with_offsets offset (known_pieces ended text)
 
--- what a caller sees of a piece: the offset of its first byte in the input, the one after its last, its first 40 bytes,
--- how many lines end in it, and its bytes, or `None` if it has more than 16,777,216
+-- what a caller sees of a piece: the offsets in the input of its first byte and of the one after its last, its first 40
+-- bytes, how many lines end in it, and its bytes
 pub record PieceSeen : Type 0 where
   pub offset : ℕ
   pub end : ℕ
-  -- its first 40 bytes
   pub beginning : List ℕ
   pub line_ends : ℕ
-  -- `None` if it is too long
+  -- `None` if it has more than 16,777,216
   pub bytes : Option (List ℕ)
 
--- what a caller sees of the piece with these bytes, of which the first is at that offset of the input
+-- what a caller sees of the piece with these bytes, which begins at this offset of the input
 abbrev pub piece_at : ℕ → List ℕ → PieceSeen
 piece_at offset bytes = record {
   offset = offset;
@@ -63,32 +60,33 @@ piece_at offset bytes = record {
   bytes = if nat_le (length bytes) PIECE_LEN then Some bytes else None;
 }
 
--- what a caller sees of the pieces of a text of the input (`pieces`) that begins at this offset
+-- what a caller sees of the pieces of a text that begins at this offset of the input. `ended`: the input ends with the
+-- text; if not, the last piece is left out
 abbrev pub pieces_seen : Bool → ℕ → List ℕ → List PieceSeen
 pieces_seen ended offset text = map (λ (piece : Piece). piece_at piece.offset piece.bytes) (pieces ended offset text)
 
--- what a caller sees of the current piece of the state s, with the bytes that it has so far
+-- what a caller sees of the current piece of the state `s`, with the bytes that it has so far
 abbrev pub current : State → PieceSeen
 current s = piece_at s.offset s.part
 
--- the pieces that are still to come of a text: the first of them begins at that offset, `part` is what was read of it,
--- and the last argument is the text after that part. `ended`: the input ends there; if not, the last piece is left out
+-- the pieces still to come of a text: the first begins at this offset, and `part` of it was read. `ended`: the input
+-- ends with `text`; if not, the last piece is left out
 abbrev pub pieces_after_part : Bool → ℕ → List ℕ → List ℕ → List PieceSeen
 pieces_after_part ended offset part text = pieces_seen ended offset (part ++ text)
 
--- the pieces that are still to come in the state `s`, the current one first, if the bytes `rest` follow those that were
--- read. `ended`: the input ends after them; if not, the last piece may go on and is left out
+-- the pieces still to come in the state `s`, the current one first, if the bytes `rest` follow those that were read.
+-- `ended`: the input ends after them; if not, the last piece is left out
 abbrev pub pieces_held : Bool → State → List ℕ → List PieceSeen
 pieces_held ended s rest = pieces_after_part ended s.offset s.part (s.coming ++ rest)
 
--- whether the input may still continue with the bytes `rest`, and end after them if `ended` says so. If it has ended
--- already (the first argument), only with no bytes and the end
+-- the input may still give the bytes `rest`, and end after them if `ended` says so. If it has ended already (the first
+-- argument), it gives no bytes and stays at its end
 abbrev pub MayFollow : Bool → Bool → List ℕ → Type 0
 MayFollow false ended rest = Unit {0}
 MayFollow true ended rest = (ended ≡ true) × (rest ≡ [])
 
--- `s` is the state of cutting an input into pieces once just this text of it was read, which took the input from its
--- state `r` to `r'`; all bytes of the text are accounted for in `s`
+-- `s` is the state of cutting an input once just this text of it was read, between the input's states `r` and `r'`; all
+-- bytes of the text are accounted for in `s`
 pub record IsStateOf (s : State) (r r' : InputState) (text : List ℕ) : Type 0 where
   pub read : HasRead s.ended r r' text
   pub all : s.offset + (length s.part + length s.coming) ≡ length text

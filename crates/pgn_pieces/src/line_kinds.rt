@@ -39,9 +39,9 @@ pub(crate) struct Kind {
 }
 
 // The kind of a line: `[Event "Oslo"]` is a tag line and an Event line, `[White "Carlsen"]` only a tag line, and
-// `1. e4 e5` a line of moves. A line that counts as empty (`is_empty`) is none of these. `line`
-// may have its line end or not, and may be only the beginning of a line that isn't all read (`Seen::see_open`).
-// `moves`: whether its piece has a line of moves before it; then nobody looks whether it is one too.
+// `1. e4 e5` a line of moves. A line that counts as empty (`is_empty`) is none of these. `line` may have its line end
+// or not, and may be only the beginning of a line that isn't all read (`Seen::see_open`). `moves`: whether its piece
+// has a line of moves before it; then it isn't tested whether this line is one too.
 #[inline(always)]
 pub(crate) fn kind_of(line: &[u8], moves: bool) -> Kind
     ensures tag { result.is_tag ≡ is_tag_line line.now }
@@ -72,8 +72,8 @@ pub(crate) fn kind_of(line: &[u8], moves: bool) -> Kind
     }
 }
 
-// Whether a tag line with this front has more than tags, such as moves, or a tag that isn't closed on the line.
-// `value` is the front from its first tag's value on: `"Oslo"]` for `[Event "Oslo"]`.
+// Whether a tag line with this front has more than tags, such as moves or a tag that isn't closed on the line. `value`
+// is the front from its first tag's value on: `"Oslo"]` for `[Event "Oslo"]`.
 #[inline(never)]
 fn has_moves(front: &[u8], value: &[u8]) -> bool
     requires value { value.now ≡ after_name front.now }
@@ -86,7 +86,7 @@ fn has_moves(front: &[u8], value: &[u8]) -> bool
     }
 }
 
-// Whether a text ends within the tag with which it begins.
+// Whether a text ends within the tag with which it begins, as `[White "a` does.
 fn ends_in_tag(text: &[u8]) -> bool
     ensures { result ≡ ends_in_tag text.now }
 {
@@ -111,7 +111,7 @@ fn from_quote(text: &[u8]) -> &[u8]
     rest
 }
 
-// Whether this is a text's first byte.
+// Whether a text begins with this byte.
 #[inline(always)]
 fn begins_with(text: &[u8], byte: u8) -> bool
     ensures { result ≡ bytes_eq (take 1 text.now) (byte ∷ []) }
@@ -312,8 +312,8 @@ fn after_name<'t>(front: &'t [u8], name: &[u8]) -> &'t [u8]
     without_blanks(&rest[name.len()..])
 }
 
-// Whether a line whose front begins with `[`, this name and then, after any spaces and tabs, these bytes is a tag line:
-// the name has one byte or more, and `"` follows.
+// Whether a line's front is that of a tag line, by the name after its `[` and by what follows the name and any spaces
+// and tabs (`after_name`): the name isn't empty, and `"` follows.
 #[inline(always)]
 fn has_tag(name: &[u8], after_name: &[u8]) -> bool
     ensures { result ≡ (nat_lt 0 (length name.now) && bytes_eq (take 1 after_name.now) (codes "\"")) }

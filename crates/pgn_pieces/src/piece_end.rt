@@ -71,7 +71,8 @@ impl Seen {
         kind.is_tag && (self.moves || (kind.is_event && self.event))
     }
 
-    // Notes that a line of this kind belongs to the piece. `goes_on`: the line's end isn't read yet.
+    // Notes that a line of this kind belongs to the piece. `kind.moves` is also true if a line before it has moves.
+    // `goes_on`: the line's end isn't read yet.
     #[inline(always)]
     fn add(&mut self, kind: Kind, goes_on: bool)
         ensures moves { self.new.moves ≡ kind.moves }

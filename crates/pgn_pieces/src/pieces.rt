@@ -33,7 +33,7 @@ pub enum PieceFault {
     /// A read failed.
     #[error("a read failed")]
     ReadFailed,
-    /// We ran out of memory for a piece.
+    /// Memory ran out for a piece.
     #[error("there is no memory for a piece")]
     NoMemory,
     /// The input has nearly 2^63 bytes or more.

@@ -1,5 +1,5 @@
--- One step of what skips bytes: of `after_gap` a byte of white space, or a `%` line up to its end; of `after_brace` a
--- comment up to its `}`, if it has one. The definition, from before the step, leaves what it leaves from after it.
+-- One step of skipping: in `after_gap` over a byte of white space, or a `%` line up to its end; in `after_brace` over a
+-- comment up to its `}`, if it has one. What the definition leaves is the same from before the step as from after it.
 use Rattle.std.proofs.Common.{◌≡◌, ℕ, suc, ◌+◌, ◌-◌, ◌<◌, ◌≤◌, Bool, true, false, not, cond, eqb, List, [], ◌∷◌, length, get_or, take, drop, add-one, Option, Some, None, refl, sym, ap, ◌∙◌, arith, ◌==◌, drop-cons}
 use Rattle.std.specs.List.{position_or_len}
 use Rattle.std.proofs.{lemmas.Bool.Decides.nat_tests, lemmas.List.drop_all, lemmas.List.take_rest}

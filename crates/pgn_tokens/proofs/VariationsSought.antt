@@ -12,7 +12,7 @@ use Rattle.pgn_tokens.proofs.Walk.{shorter}
 
 -- ---- the next `(`
 
--- before the place of the first `(` (byte 40) there is none
+-- before the offset of the first `(` (byte 40) there is none
 pub none_before : (text : List ℕ) (at place : ℕ) → place ≡ at + position_or_len (λ c. eqb c 40) (drop at text)
     → HasNone text at place
 none_before text at place is n low high =

@@ -13,15 +13,15 @@ pub record TagPair : Type 0 where
   -- the offset in the whole text of the first of these bytes
   pub offset : ℕ
 
--- the tag that a token of a text of `total` bytes is; none for any other token
+-- the tag that a token is, in a text of `total` bytes; `None` for any other token
 abbrev pub tag_pair : ℕ → Token → Option TagPair
 tag_pair total (Tag name text to_end) = Some (record { name = name; text = text; offset = total - to_end })
 tag_pair total _ = None
 
--- the tags of a game with these tokens, in order, in a text of `total` bytes: those of its tag section (`tag_section`)
+-- the tags of the game with these tokens, in order, in a text of `total` bytes: those of its tag section
 abbrev pub game_tags_of : ℕ → List (ℕ × Token) → List TagPair
 game_tags_of total tokens = filter_map (λ t. tag_pair total t.1) (tag_section tokens)
 
--- the tag, as the definitions have it, that the code's tag stands for
+-- the code's tag as a `TagPair`
 abbrev pub pair_of : PgnTag → TagPair
 pair_of tag = record { name = tag.name.now; text = tag.text.now; offset = tag.offset }

@@ -23,13 +23,13 @@ abbrev pub named_tag : List ℕ → Token → Option (List ℕ × ℕ)
 named_tag name (Tag other text to_end) = if bytes_eq other name then Some (text, to_end) else None
 named_tag name _ = None
 
--- of a game's tokens from its first one on, those of its tag section, in which all its tags are: all before the first
--- word that is not marks (a number, a move, an outcome or any other) and before the first token that can't be read. A
--- tag FEN that is a fault doesn't end the section
+-- the tag section of a game, which has all its tags: its tokens before the first word that is not marks (a number, a
+-- move, an outcome or any other), and before the first token that can't be read. A tag FEN that is a fault doesn't end
+-- it
 abbrev pub tag_section : List (ℕ × Token) → List (ℕ × Token)
 tag_section tokens = take_while (λ t. may_precede_tags t.1) tokens
 
--- the last tag with this name among these tokens: the bytes between its quotes, and how many bytes of the text are left
--- after its first quote; `None` if there is no such tag
+-- the last tag with this name among these tokens: its text, and how many bytes are left after its first quote; `None`
+-- without one
 abbrev pub last_tag : List ℕ → List (ℕ × Token) → Option (List ℕ × ℕ)
 last_tag name tags = last_or None (filter_map (λ t. named_tag name t.1) tags)

@@ -1,8 +1,6 @@
--- How a game's text is split into tokens (PGN standard of 1994, sections 5 to 8.2): from left to right, each token the
--- longest at its place, up to the text's end or to the first place where no token can be read. There is only one such
--- split (the law `a_text_has_one_split`). This project's own: the bytes of a word; that `$` may have no digits; that a
--- `%` line is skipped also in a tag and in a variation; that a string may have tabs and more than 255 bytes, and a
--- backslash in it may keep any byte.
+-- How a game's text is split into tokens (PGN standard of 1994, sections 5 to 8.2). This project's own: the bytes of a
+-- word; that `$` may have no digits; that a `%` line is skipped also in a tag and in a variation; that a string may
+-- have tabs and more than 255 bytes, and a backslash in it may keep any byte.
 use Rattle.std.specs.Prelude.{◌≡◌, ℕ, ◌+◌, ◌-◌, ◌<◌, ◌≤◌, Bool, true, false, not, ◌&&◌, ◌||◌, List, [], ◌∷◌, ◌++◌, length, drop, codes, ◌==◌}
 use Rattle.std.specs.List.{list_all, list_any}
 use Rattle.byte_devices.specs.Bytes.{is_digit, byte, new_line, is_name_byte}
@@ -14,23 +12,21 @@ use Rattle.pgn_tokens.specs.Tokens.{Token, Skip, Tag, Word, Bad_tag, Unclosed_co
 abbrev pub lacks : ℕ → List ℕ → Bool
 lacks b text = list_all (λ c. not (c == b)) text
 
--- whether all from the byte c to the end of its line is skipped: c is `;` (section 5), or `%` where a line begins
--- (`line_begins`; section 6)
+-- whether all from the byte c to the end of its line is skipped: c is `;` (section 5), or a `%` that begins the line
+-- (section 6)
 abbrev pub skips_line : Bool → ℕ → Bool
 skips_line line_begins c = line_begins && c == byte "%" || c == byte ";"
 
--- ---- variations (section 8.2.5): `(`, what is inside, `)`
+-- ---- variations (section 8.2.5)
 
--- the text may be between a variation's `(` and its `)`, as `4. Ng5 d5 (4... Bc5)`: it has only the parts below, one
--- after another, or none. `b`, the first argument: whether the text's first byte begins a line, as after `\n` (`true`),
--- and not after `(`, `)` or `}` (`false`)
+-- the text may be between a variation's `(` and its `)`, as in `4. Ng5 d5 (4... Bc5)`: the parts below, one after
+-- another, or none. `b`: whether its first byte begins a line, as after `\n`, and not after `(`, `)` or `}`
 pub data IsInside : Bool → List ℕ → Type 0 where
-  -- no parts
   nothing : {b : Bool} → IsInside b []
-  -- a `%` line, or from `;` to the end of the line, with its `\n`, and then more
+  -- a `%` line or `;` comment, with its `\n`, and then more
   line : {b : Bool} {c : ℕ} (text : List ℕ) {more : List ℕ} → skips_line b c ≡ true → lacks new_line text ≡ true
       → IsInside true more → IsInside b (c ∷ text ++ new_line ∷ more)
-  -- a comment from `{` to the next `}`, and then more
+  -- a `{` comment, and then more
   comment : {b : Bool} (text : List ℕ) {more : List ℕ} → lacks (byte "}") text ≡ true → IsInside false more
       → IsInside b (byte "{" ∷ text ++ byte "}" ∷ more)
   -- a variation, and then more
@@ -42,53 +38,49 @@ pub data IsInside : Bool → List ℕ → Type 0 where
 
 -- ---- tags (section 8.1), as `[Event "a"]`: an opening (`[Event "`), the string (`a`), and a closing (`"]`)
 
--- the text may be between two parts of a tag: white space and `%` lines, or nothing. `b`, the first argument: whether
--- the text's first byte begins a line, where `%` begins a `%` line
+-- the text may be between two parts of a tag: white space and `%` lines, or nothing. `b`: whether its first byte begins
+-- a line, where `%` begins a `%` line
 pub data IsGap : Bool → List ℕ → Type 0 where
   nothing : {b : Bool} → IsGap b []
-  -- a byte of white space, and then more
+  -- white space, and then more
   blank : {b : Bool} {c : ℕ} {more : List ℕ} → is_white_space c ≡ true → IsGap (c == new_line) more → IsGap b (c ∷ more)
   -- a `%` line with its `\n`, and then more
   line : (text : List ℕ) {more : List ℕ} → lacks new_line text ≡ true → IsGap true more
       → IsGap true (byte "%" ∷ text ++ new_line ∷ more)
 
--- the text is the opening of a tag with this name, such as `[Event "`: `[`, a gap, the name (letters, digits and `_`,
--- at least one), a gap, a quote. A gap (`IsGap`) may be empty; its front begins no line (`false`)
+-- the text is the opening of a tag with this name, such as `[Event "`: `[`, a gap, the name (letters, digits and `_`),
+-- a gap, a quote. A gap (`IsGap`) may be empty; its front begins no line (`false`)
 pub data OpensTag (name : List ℕ) : List ℕ → Type 0 where
   opens : {before after : List ℕ} → IsGap false before → 0 < length name → list_all is_name_byte name ≡ true
       → IsGap false after → OpensTag name (byte "[" ∷ (before ++ (name ++ (after ++ codes "\""))))
 
--- the text may be between a string's quotes (section 7), as `a\"b`, or empty: bytes other than quotes, backslashes and
--- `\n`; and pairs of a backslash and the byte that it keeps from ending the string, any but `\n`
+-- the text may be between a string's quotes (section 7), as `a\"b`: bytes other than quotes, backslashes and `\n`, and
+-- pairs of a backslash and the byte that it keeps from ending the string, not `\n`
 pub data IsString : List ℕ → Type 0 where
   nothing : IsString []
   -- a backslash and the byte that it keeps
   kept : {c : ℕ} {more : List ℕ} → (c == new_line) ≡ false → IsString more → IsString (byte "\\" ∷ c ∷ more)
-  -- any other byte: no backslash, quote or `\n`
+  -- any byte but backslashes, quotes and `\n`
   char : {c : ℕ} {more : List ℕ} → list_any (λ k. c == k) (codes "\\\"\n") ≡ false → IsString more → IsString (c ∷ more)
 
 -- ---- tokens
 
--- the text as a whole is this token (see `Token`). `b`: whether the text's first byte begins a line; `left`: how many
--- bytes of the game's text come after the token
+-- the text as a whole is this token. `b`: whether its first byte begins a line; `left`: how many bytes of the game's
+-- text come after it
 pub data IsToken (b : Bool) (left : ℕ) : List ℕ → Token → Type 0 where
-  -- a byte of white space, or a dot
   blank : {c : ℕ} → (is_white_space c || c == byte ".") ≡ true → IsToken b left (c ∷ []) Skip
-  -- a `%` line, or from `;` to the end of the line, without its `\n`
+  -- a `%` line or `;` comment, without its `\n`
   line : {c : ℕ} {text : List ℕ} → skips_line b c ≡ true → lacks new_line text ≡ true → IsToken b left (c ∷ text) Skip
-  -- a comment from `{` to the next `}`
   comment : (text : List ℕ) → lacks (byte "}") text ≡ true → IsToken b left (byte "{" ∷ text ++ byte "}" ∷ []) Skip
   -- a numeric annotation glyph: `$` and digits, maybe none
   glyph : {digits : List ℕ} → list_all is_digit digits ≡ true → IsToken b left (byte "$" ∷ digits) Skip
-  -- a variation, from `(` to its own `)`
   variation : {inner : List ℕ} → IsInside false inner → IsToken b left (byte "(" ∷ inner ++ byte ")" ∷ []) Skip
   -- a tag: an opening, a string, a closing (a quote, a gap and `]`). Its `to_end` counts the bytes from the string on
   tag : {name opening string gap closing : List ℕ} → OpensTag name opening → IsString string → IsGap false gap
       → closing ≡ byte "\"" ∷ (gap ++ codes "]")
       → IsToken b left (opening ++ (string ++ closing)) (Tag name string (length (string ++ closing) + left))
-  -- `*`
   asterisk : IsToken b left (codes "*") (Word (codes "*"))
-  -- a word (a symbol): bytes of words, at least one
+  -- a word, in PGN a symbol
   word : {text : List ℕ} → 0 < length text → list_all is_word_byte text ≡ true → IsToken b left text (Word text)
 
 -- the text has `front` at the offset `at`, and `front` is the token `t`
@@ -98,39 +90,33 @@ IsTokenAt text at front t =
 
 -- ---- what can't be read
 
--- the text, which begins right after a variation's `(`, has a comment that isn't closed; the number: how many bytes
--- from the comment's `{` to the text's end, 2 in `d4 {a`. Before the comment are only whole parts (`IsInside false`: no
--- line begins after a `(`) and `(`s
+-- the text, which begins right after a variation's `(`, has a comment that isn't closed; the number counts the bytes
+-- from its `{` to the text's end, 2 in `d4 {a`. Before the comment are only whole parts (`IsInside`) and `(`s
 pub data HasOpenComment : List ℕ → ℕ → Type 0 where
-  -- the comment, after whole parts
   here : {parts : List ℕ} (text : List ℕ) → IsInside false parts → lacks (byte "}") text ≡ true
       → HasOpenComment (parts ++ byte "{" ∷ text) (length (byte "{" ∷ text))
   -- a variation, after whole parts, in which the comment is
   deeper : {parts inner : List ℕ} {to_end : ℕ} → IsInside false parts → HasOpenComment inner to_end
       → HasOpenComment (parts ++ byte "(" ∷ inner) to_end
 
--- this token is the fault at the front of the text, where no token can be read (as `IsSplit` claims): which one is
--- decided by the first byte, and after `(` by whether a comment inside isn't closed
+-- this token is the fault of the text, which begins with no token: its first byte decides, and after `(` whether a
+-- comment inside isn't closed
 pub data IsFaultOf : List ℕ → Token → Type 0 where
-  -- a comment isn't closed; the number is how many bytes are left at its `{`
   comment : {text : List ℕ} → IsFaultOf (byte "{" ∷ text) (Unclosed_comment (length (byte "{" ∷ text)))
-  -- a comment in a variation isn't closed; `n` bytes are left at its `{`
+  -- a comment in the variation isn't closed
   inner_comment : {text : List ℕ} {n : ℕ} → HasOpenComment text n → IsFaultOf (byte "(" ∷ text) (Unclosed_comment n)
-  -- a variation isn't closed, and all comments in it are
+  -- the variation isn't closed, and all comments in it are
   variation : {text : List ℕ} → ((n : ℕ) → HasOpenComment text n → ⊥) → IsFaultOf (byte "(" ∷ text) Unclosed_variation
-  -- a `[` that begins no tag
   tag : {text : List ℕ} → IsFaultOf (byte "[" ∷ text) Bad_tag
-  -- a byte that begins no token
   other : {c : ℕ} {text : List ℕ} → list_any (λ k. c == k) (codes "{([") ≡ false → IsFaultOf (c ∷ text) Bad
 
 -- ---- the split
 
--- the text from the offset `at` on is split into these tokens, each paired with the number of bytes left where it
--- begins: `e4 *` from 0 on into `(4, Word e4)`, `(2, Skip)`, `(1, Word *)`
+-- the text from the offset `at` on is split into these tokens from left to right, each paired with the number of bytes
+-- left where it begins: `e4 *` from 0 on into `(4, Word e4)`, `(2, Skip)`, `(1, Word *)`
 pub data IsSplit (text : List ℕ) : ℕ → List (ℕ × Token) → Type 0 where
-  -- at the text's end
   ended : {at : ℕ} → drop at text ≡ [] → IsSplit text at []
-  -- a token, the longest there, and then the tokens after it
+  -- the longest token there, and then the tokens after it
   token : {at : ℕ} {front : List ℕ} {t : Token} {tokens : List (ℕ × Token)} → IsTokenAt text at front t
       → ((other : List ℕ) (u : Token) → IsTokenAt text at other u → length other ≤ length front)
       → IsSplit text (at + length front) tokens → IsSplit text at ((length text - at, t) ∷ tokens)

@@ -4,7 +4,7 @@ use Rattle.std.specs.List.{list_any}
 use Rattle.byte_devices.specs.Bytes.{byte}
 use Rattle.pgn_tokens.specs.Tokens.{Token, Skip}
 
--- whether a token, which begins at the offset `at` of the text, is a variation: it is skipped, and begins with `(`
+-- whether a token at the offset `at` of the text is a variation: it is skipped, and begins with `(`
 abbrev pub is_variation : List ℕ → ℕ → Token → Bool
 is_variation text at Skip = slice_index text at == byte "("
 is_variation text at _ = false

@@ -1,5 +1,5 @@
--- Definitions for private contracts and proofs of this crate and of crates above: equal to those at the top of specs/,
--- or parts of them.
+-- Definitions for private contracts and proofs, here and in crates above: equal to those at the top of specs/, or parts
+-- of them.
 pub mod Kinds
 pub mod TagParts
 pub mod Gaps

@@ -36,9 +36,8 @@ pub fn named_tag<'t>(name: &[u8], token: &Token<'t>) -> Option<Tag<'t>>
 /// first number, move or outcome, or before what can't be read. `at` is the offset from which on tags are looked at,
 /// mostly that at which the game's text begins.
 ///
-/// Each call reads these tags again. It is made for one tag that a caller asks for, as in `tag_text`. Where chess_pgn
-/// reads games, it goes over tokens in the same way, but applies them to a game; here there is no game, or it can't
-/// begin before its variant is known.
+/// Each call reads these tags again: it is for callers that ask for one tag, such as `tag_text`. chess_pgn's
+/// `read_normal_tags` goes over the same tokens, but applies each to a game.
 pub fn last_tag<'t>(text: &'t [u8], at: usize, name: &[u8]) -> Option<Tag<'t>>
     requires { at ≤ length text.now }
     ensures tag { found_seen result ≡ last_tag name.now (tag_section (tokens_from text.now at)) }

@@ -64,8 +64,8 @@ fn tag_in<'t>(len: usize, token: &Token<'t>) -> Option<PgnTag<'t>>
     })
 }
 
-// The first tag of a game that is read from the offset `at` on, and the offset after it. `None` if a number, a move, an
-// outcome, what can't be read or the text's end comes first.
+// The first tag of a game that is read from the offset `at` on, and the offset after it and the white space and dots
+// that follow. `None` if a number, a move, an outcome, what can't be read or the text's end comes first.
 fn next_tag(text: &[u8], at: usize) -> Option<(PgnTag<'_>, usize)>
     requires { at ≤ length text.now }
     ensures tag { MatchOption result (tags_left text.now at ≡ [])

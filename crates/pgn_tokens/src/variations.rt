@@ -11,7 +11,7 @@ ghost use Rattle.pgn_tokens.specs.ties.Parentheses.{HasNone};
 use crate::token::{Token, next_token};
 use byte_devices::len_before;
 
-/// Whether a token, which begins at the offset `at`, is a variation.
+/// Whether a token, which begins at the offset `at`, is a variation: it is skipped, and begins with `(`.
 pub fn is_variation(text: &[u8], at: usize, token: &Token<'_>) -> bool
     requires { at + 1 ≤ length text.now }
     ensures { result ≡ is_variation text.now at (token_seen token.now) }
@@ -30,8 +30,8 @@ fn next_parenthesis(text: &[u8], at: usize) -> usize
     at + len_before(&text[at..], b'(')
 }
 
-// The offset of the first `(` from the offset `at` on, where `known` is that of the first from an earlier offset on: a
-// `(` is looked for only if `known` comes before `at`, so that no byte is looked at twice.
+// The offset of the first `(` from the offset `at` on, where `known` is that of the first from an earlier offset on. It
+// is looked for only if `known` comes before `at`, so that no byte is looked at twice.
 fn parenthesis_from(text: &[u8], at: usize, known: usize) -> usize
     requires { at ≤ length text.now }
     ensures { (from : ℕ) → from ≤ at → HasNone text.now from known → HasNone text.now at result }

@@ -2,14 +2,14 @@
 use Rattle.std.specs.Prelude.{◌≤◌, ℕ, ◌+◌, Bool, List, length, IfOk, IfErr, IfSome}
 use Rattle.chess_pgn.specs.GameRead.{pgn_read}
 
--- if reading from `at` on finds a fault, its offset is from `at` to the text's length; `limit` is the most half-moves
--- of a game, and `draws` says whether the draws of 2014 end it
+-- if a text that is read from the offset `at` on has a fault, its offset is from `at` to the text's length; `limit` is
+-- the most half-moves of a game, and `draws` says whether fivefold repetition and 75 moves end it
 abbrev pub FaultsHaveOffsets : Type 0
 FaultsHaveOffsets = (draws : Bool) (limit : ℕ) (text : List ℕ) (at : ℕ) → at ≤ length text
     → IfErr (pgn_read draws limit text at).answer (λ f. (at ≤ f.offset) × (f.offset ≤ length text))
 
 -- a game that is read from the offset `at` on without a fault has at most as many half-moves as bytes from there to its
--- end; `limit` is the most half-moves of a game, and `draws` says whether the draws of 2014 end it
+-- end; `limit` is the most half-moves of a game, and `draws` says whether fivefold repetition and 75 moves end it
 abbrev pub HalfMovesHaveBytes : Type 0
 HalfMovesHaveBytes =
     (draws : Bool) (limit : ℕ) (text : List ℕ) (at : ℕ) → at ≤ length text

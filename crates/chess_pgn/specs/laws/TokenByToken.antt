@@ -52,15 +52,16 @@ ends g o offset = Stop (record {
 })
 
 -- `next`, if one more move may be played in the game so far (`g`); otherwise a fault at `offset`, that of the move's
--- word: AfterEnd if a verdict has ended the game, or else TooLong, as it has `limit` half-moves or more. `draws`, here
--- and below: whether fivefold repetition and 75 moves, draws of the Laws since 2014, end a game
+-- word: AfterEnd if a verdict has ended the game, or else TooLong, as it has `limit` half-moves or more. `draws`:
+-- whether fivefold repetition and 75 moves end a game
 abbrev pub unless_full : Bool → ℕ → SoFar → ℕ → Step → Step
 unless_full draws limit g offset next =
     if is_some (ending draws g.state) then fails g AfterEnd offset
     else (if nat_lt (length g.state.moves) limit then next else fails g TooLong offset)
 
--- what follows from a word that may be a move, by what it denotes in the current position: the move is played, or
--- there is a fault at the word's offset. `limit` is the most half-moves of a game
+-- what follows from a word that may be a move, by what it denotes in the current position: the move is played, or there
+-- is a fault at the word's offset. `limit` is the most half-moves of a game, and `draws` says whether fivefold
+-- repetition and 75 moves end it
 abbrev pub move_step : Bool → ℕ → SoFar → ℕ → Reading → Step
 move_step draws limit g offset reads.NotAMove = fails g BadToken offset
 move_step draws limit g offset (reads.Move m) = unless_full draws limit g offset
@@ -69,7 +70,8 @@ move_step draws limit g offset reads.Ambiguous = unless_full draws limit g offse
 move_step draws limit g offset reads.NoSuch = unless_full draws limit g offset (fails g IllegalMove offset)
 
 -- what follows from a word of the given kind at the given offset: an outcome ends the game `g`, a number begins its
--- moves, marks such as `!?` are skipped, a move is played. `limit` is the most half-moves of a game
+-- moves, marks such as `!?` are skipped, a move is played. `limit` is the most half-moves of a game, and `draws` says
+-- whether fivefold repetition and 75 moves end it
 abbrev pub word_step : Bool → ℕ → SoFar → ℕ → List ℕ → WordKind → Step
 word_step draws limit g offset word (End o) = ends g o (offset + length word)
 word_step draws limit g offset word Number = On (record g { is_met = true; is_begun = true })
@@ -84,8 +86,8 @@ abbrev pub fen_step : SoFar → ℕ → Result Setup FenFault → Step
 fen_step g offset (Ok start) = On (record g { state = from_start start; is_met = true })
 fen_step g offset (Err fault) = fails g (BadFen fault) offset
 
--- what the last tag Termination read so far says, once a tag with this name and text is read: what that tag says, if
--- its name is Termination, otherwise `before`, what was known before it
+-- what the last tag Termination names, once a tag with this name and text is read: what that tag says, if its name is
+-- Termination, otherwise `before`, what was known before it
 abbrev pub termination_after : Option Termination → List ℕ → List ℕ → Option Termination
 termination_after before name text = if bytes_eq name (codes "Termination") then termination_named text else before
 
@@ -98,8 +100,9 @@ tag_step g name text offset =
 
 -- ---- tokens, in a text of so many bytes; each with how many bytes are left where it begins
 
--- what follows from one token for the game so far (`g`). `limit` is the most half-moves of a game, `total` the text's
--- length, and `to_end` how many bytes are left from the token on, so that its offset is `total - to_end`
+-- what follows from one token for the game so far (`g`). `limit` is the most half-moves of a game, `draws` says whether
+-- fivefold repetition and 75 moves end it, `total` is the text's length, and `to_end` how many bytes are left from the
+-- token on, so that its offset is `total - to_end`
 abbrev pub step : Bool → ℕ → ℕ → SoFar → ℕ → Token → Step
 step draws limit total g to_end Skip = On g
 step draws limit total g to_end (Tag name text string) =
@@ -122,8 +125,9 @@ abbrev pub read_rest_with : Step → (SoFar → GameRead) → GameRead
 read_rest_with (On g) later = later g
 read_rest_with (Stop read) later = read
 
--- what was read in the end, from the game so far (`g`) and the tokens that are left, each after how many bytes are left
--- where it begins. `limit` is the most half-moves of a game, `total` the text's length
+-- what was read in the end, from the game so far (`g`) and the tokens that are left, each paired with how many bytes
+-- are left at it. `limit` is the most half-moves of a game, `draws` says whether fivefold repetition and 75 moves end
+-- it, `total` is the text's length
 abbrev pub game_of : Bool → ℕ → ℕ → SoFar → List (ℕ × Token) → GameRead
 game_of draws limit total g [] = at_text_end total g
 game_of draws limit total g (t ∷ ts) =
@@ -136,8 +140,9 @@ nothing_read v =
 
 -- ---- the game
 
--- what was read from these tokens, each after how many bytes are left where it begins, in the variant that their tags
--- name. `limit` is the most half-moves of a game, `total` the text's length
+-- what was read from these tokens, each paired with how many bytes are left at it, in the variant that their tags name.
+-- `limit` is the most half-moves of a game, `draws` says whether fivefold repetition and 75 moves end it, `total` is
+-- the text's length
 abbrev pub tokens_read : Bool → ℕ → ℕ → List (ℕ × Token) → GameRead
 tokens_read draws limit total tokens =
     game_of draws limit total (nothing_read (tagged_variant (tag_section tokens))) tokens

@@ -18,7 +18,7 @@ is_unreadable text at BadToken = not (list_any is_word_byte (take 1 (drop at tex
 is_unreadable text at _ = false
 
 -- a game with such a fault has no end: its tokens stop there, and none before ends it. `limit` is the most half-moves
--- of a game, and `draws` says whether the draws of 2014 end it
+-- of a game, and `draws` says whether fivefold repetition and 75 moves end it
 abbrev pub UnreadableGamesHaveNoEnd : Type 0
 UnreadableGamesHaveNoEnd = (draws : Bool) (limit : ℕ) (text : List ℕ) (at : ℕ)
     → IfErr (pgn_read draws limit text at).answer (λ fault. is_unreadable text fault.offset fault.kind ≡ true

@@ -1,4 +1,4 @@
--- How a word begins, as the reader asks it.
+-- How a word begins.
 use Rattle.std.specs.Prelude.{ℕ, Bool, false, List, [], ◌∷◌, nat_le}
 use Rattle.byte_devices.specs.Bytes.{byte}
 

@@ -1,4 +1,4 @@
--- What a token does in a line of moves: `line_fault` says the same by the kinds of tokens (`line_by_kind`).
+-- What one token does in a line of moves (a game's own, or those of a variation); `line_fault` says the same of all.
 use Rattle.std.specs.Prelude.{ℕ, Bool, ◌||◌, if◌then◌else◌, Option, Some, None, is_some, Result, Ok, Err}
 use Rattle.std.specs.List.{list_all}
 use Rattle.byte_devices.specs.Bytes.{is_digit}
@@ -15,16 +15,15 @@ use Rattle.chess_pgn.specs.declared.read.PgnFaultKind.TheVariants.{BadToken, Ill
 use Rattle.pgn_tokens.specs.Tokens.{Token, Skip, Tag, Word}
 use Rattle.pgn_tokens.specs.Marks.{is_marks}
 
--- what a word that is taken as a move does, by what it denotes in the line's position: a legal move is made, anything
--- else is a fault
+-- what a word that is taken as a move does, by what it denotes: a legal move is made, anything else is a fault
 abbrev pub word_move : Reading → Result (Option Move) PgnFaultKind
 word_move (reads.Move m) = Ok (Some m)
 word_move reads.NotAMove = Err BadToken
 word_move reads.Ambiguous = Err AmbiguousMove
 word_move reads.NoSuch = Err IllegalMove
 
--- what a token does in a line whose position is `p`: the move to be made, if it is one. What is skipped, a tag if
--- `tags` says so, a result, a number, and marks such as `!?` are passed over; any other token is a fault
+-- what a token does in a line whose position is `p`: the move to be made, if it is one; nothing (`Ok None`) if it is
+-- passed over; or a fault. `tags`: whether tags are passed over
 abbrev pub token_move : Bool → Setup → Token → Result (Option Move) PgnFaultKind
 token_move tags p Skip = Ok None
 token_move tags p (Tag name text to_end) = if tags then Ok None else Err BadToken

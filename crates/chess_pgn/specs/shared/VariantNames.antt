@@ -1,4 +1,4 @@
--- What the text of a tag Variant names, as the code asks it.
+-- What the text of a tag Variant names.
 use Rattle.std.specs.Prelude.{ℕ, Bool, List, is_some}
 use Rattle.std.specs.Option.{unwrap_or}
 use Rattle.chess_base.specs.declared.man.Variant.{Variant}

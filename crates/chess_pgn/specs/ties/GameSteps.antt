@@ -59,7 +59,7 @@ StopsAt game (t ∷ ts) = IsLeft game t.1
 abbrev pub begun : Progress → Progress
 begun p = record { is_met = true; is_begun = true; termination = p.termination }
 
--- whether a word was taken as a number or move. If it was, reading goes on, as `step` says for what was read before the
+-- whether a word was taken as a number or move. If it was, reading goes on as `step` says for what was read before the
 -- word and for its offset, whatever these are; if not, nothing changed. `old` and `new` are the game before and after
 abbrev pub IsTaken : Bool → Seen → Seen → (SoFar → ℕ → Step) → Type 0
 IsTaken true old new step =

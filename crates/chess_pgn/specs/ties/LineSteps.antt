@@ -30,20 +30,24 @@ IsLineToken text at (Ok (Some r)) = (tokens_from text at ≡ (length text - at, 
 IsLineToken text at (Err fault) = (fault ≡ record { kind = BadToken; offset = at })
     × ((t : Token) × (tokens_from text at ≡ (length text - at, t) ∷ []) × IsUnread t × (is_end text at t ≡ false))
 
--- the first fault of a line from a token on, by what the code did with it: `q` is the position after it
+-- the first fault of a line from a token on, by what the code did with that token: it passed over it, made a move in
+-- the position `p`, or returned a fault. `before`: the position before the last move until then; `q`: the position
+-- after the token; `later`: the fault from the next token on
 abbrev pub played : Option Setup → Result (Option Setup) PgnFault → Setup → (Option Setup → Setup → Option PgnFault)
     → Option PgnFault
 played before (Ok None) q later = later before q
 played before (Ok (Some p)) q later = later (Some p) q
 played before (Err fault) q later = Some fault
 
--- where a variation at the offset `at` begins, and how many may be open in it: `before` is the position before the move
--- that it replaces, and `depth` how many may be open in the line that it is in
+-- the position in which the moves of a variation at the offset `at` begin, and how many variations may be open in it.
+-- `before` is the position before the move that it replaces (`None`: there is no such move), and `depth` how many may
+-- be open in the line that it is in
 abbrev pub opening : ℕ → Option Setup → ℕ → Result (Setup × ℕ) PgnFault
 opening depth None at = Err (record { kind = BadToken; offset = at })
 opening zero (Some start) at = Err (record { kind = TooLong; offset = at })
 opening (suc depth) (Some start) at = Ok (start, depth)
 
--- the first fault of the variation of a line at an offset, where so many may be open
+-- the first fault of the variation whose `(` is at the offset `from`, and whose moves begin in the position `p`; so
+-- many variations may be open there (`depth`)
 abbrev pub inside : ℕ → List ℕ → Setup → ℕ → Option PgnFault
 inside depth text = λ p from. variation_fault tokens_from depth text p from

@@ -21,7 +21,8 @@ use Rattle.chess_pgn.specs.laws.WordKinds.{word_kind}
 use Rattle.pgn_tokens.specs.Tokens.{Token, Skip, Word, Unclosed_comment, Unclosed_variation, Bad}
 use Rattle.chess_pgn.specs.GameRead.{GameRead, ending}
 
--- whether a fault of this kind is a move after one of the two draws of 2014, which has ended the game `s`
+-- whether a fault of this kind is a move after fivefold repetition or 75 moves, the draws of 2014, which has ended the
+-- game `s`
 abbrev pub is_past_draw : PgnFaultKind → State → Bool
 is_past_draw AfterEnd s = is_none (ending false s)
 is_past_draw _ s = false
@@ -44,25 +45,26 @@ IsReadAgain r (Err fault) g = (r.answer ≡ Err fault) × (g ≡ from_start (cur
 
 -- ---- one token
 
--- the fault of any move in a game of so many half-moves that this verdict ends, if any; `None` if a move may be played
+-- the fault of any move in a game of so many half-moves (`plies`), which this verdict ends, if any; `None` if a move
+-- may be played
 abbrev pub closing_fault : Option Verdict → ℕ → Option PgnFaultKind
 closing_fault verdict plies = if is_some verdict then Some AfterEnd
     else if nat_lt plies MOST_MOVES then None else Some TooLong
 
--- what a word that is read so gives in the position `p`: the position after the move, or a fault. `closing` is the
--- fault of any move there
+-- what a word gives in the position `p`, by what it is read as there: the position after the move, or a fault.
+-- `closing` is the fault of any move there
 abbrev pub next_position : Option PgnFaultKind → Setup → Reading → Result Setup PgnFaultKind
 next_position closing p reads.NotAMove = Err BadToken
 next_position closing p (reads.Move m) = option_map_or Err closing (Ok (after p m))
 next_position closing p reads.Ambiguous = Err (unwrap_or closing AmbiguousMove)
 next_position closing p reads.NoSuch = Err (unwrap_or closing IllegalMove)
 
--- what a word at the offset does that is taken as a move, by the position after it, or its fault
+-- what a word at the offset does that is taken as a move, by the position after it, or by its fault
 abbrev pub move_effect : ℕ → Result Setup PgnFaultKind → Result code.Effect PgnFault
 move_effect offset (Ok p) = Ok (does.Move p)
 move_effect offset (Err kind) = Err (record { kind = kind; offset = offset })
 
--- what a word of this kind at the offset does in the game `g`, of so many half-moves
+-- what a word of this kind at the offset does in the game `g`, of so many half-moves (`plies`)
 abbrev pub word_effect : ℕ → State → ℕ → List ℕ → WordKind → Result code.Effect PgnFault
 word_effect plies g offset word (End o) = Ok (does.End o (offset + length word))
 word_effect plies g offset word Number = Ok does.Nothing
@@ -78,7 +80,8 @@ unread_fault total left Unclosed_variation = record { kind = UnclosedVariation; 
 unread_fault total left Bad = record { kind = BadToken; offset = total - left }
 unread_fault total left _ = record { kind = NoResult; offset = total - left }
 
--- what a token after the tags does in the game `g`, of so many half-moves
+-- what a token after the tags does in the game `g`, of so many half-moves (`plies`); `left` of the text's `total` bytes
+-- are left at it
 abbrev pub token_effect : ℕ → ℕ → State → ℕ → Token → Result code.Effect PgnFault
 token_effect plies total g left Skip = Ok does.Nothing
 token_effect plies total g left (Word word) = word_effect plies g (total - left) word (word_kind word)

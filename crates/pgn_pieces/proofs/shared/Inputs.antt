@@ -1,4 +1,4 @@
--- For crates that take pieces from an input: what was read of it, and more of it afterwards.
+-- For crates that take pieces from an input: what was read of it, and what is read afterwards.
 use Rattle.std.proofs.Common.{◌≡◌, ℕ, ◌==◌, Bool, true, false, if◌then◌else◌, List, [], ◌++◌, length, refl, ap, subst, append-nil, ◌∙◌, arith}
 use Rattle.std.proofs.lemmas.Bool.Decides.{nat_tests}
 use Rattle.byte_devices.specs.Devices.{InputState, GavePiece, FailedToRead, saturating_increment}

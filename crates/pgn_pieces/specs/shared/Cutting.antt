@@ -1,5 +1,4 @@
--- The pieces that `cut` makes, found from the first line on, as code and its proofs find them: where a piece ends, it
--- is done with. That they are the same is `cut_is` of proofs/CutLines.
+-- The pieces that `cut` makes, found from the first line on: where a piece ends, it is done with.
 use Rattle.std.specs.Prelude.{ℕ, if◌then◌else◌, List, [], ◌∷◌, ◌++◌}
 use Rattle.std.specs.List.{concat}
 use Rattle.pgn_pieces.specs.Pieces.{begins_piece}
@@ -9,8 +8,8 @@ abbrev pub piece_of : List ℕ → List (List ℕ)
 piece_of [] = []
 piece_of (c ∷ cs) = (c ∷ cs) ∷ []
 
--- the pieces of the lines `before` and of those that follow them (the last argument), where `before` all belong to the
--- first piece
+-- the pieces of the lines `before`, all of which belong to the first piece, and of the lines after them (the last
+-- argument)
 abbrev pub cut_lines : List (List ℕ) → List (List ℕ) → List (List ℕ)
 cut_lines before [] = piece_of (concat before)
 cut_lines before (line ∷ lines) =

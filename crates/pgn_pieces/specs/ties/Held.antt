@@ -38,7 +38,7 @@ pub record SameKind (line line' : List ℕ) : Type 0 where
   pub event : is_event_line line ≡ is_event_line line'
   pub moves : is_moves_line line ≡ is_moves_line line'
 
--- both lines are tag lines alike
+-- either line is a tag line or an Event line if the other is one
 pub record SameTag (line line' : List ℕ) : Type 0 where
   pub tag : is_tag_line line ≡ is_tag_line line'
   pub event : is_event_line line ≡ is_event_line line'
@@ -47,7 +47,8 @@ pub record SameTag (line line' : List ℕ) : Type 0 where
 abbrev pub IsDecided : List ℕ → Type 0
 IsDecided line = (more : List ℕ) → SameKind (line ++ more) line
 
--- whether the last line of a piece may continue (true); then its kind is known
+-- `line` are the bytes of a piece's last line: with `true` it may continue, and its kind is known; with `false` a new
+-- line begins next, and it has no bytes
 abbrev pub MayGoOn : Bool → List ℕ → Type 0
 MayGoOn false line = line ≡ []
 MayGoOn true line = IsDecided line

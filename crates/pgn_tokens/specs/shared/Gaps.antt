@@ -1,10 +1,10 @@
--- A gap byte by byte.
+-- The gap between two parts of a tag, byte by byte.
 use Rattle.std.specs.Prelude.{ℕ, Bool, true, false, not, ◌&&◌, List, [], ◌∷◌, ◌==◌, if◌then◌else◌}
 use Rattle.byte_devices.specs.Bytes.{byte, new_line}
 use Rattle.pgn_tokens.specs.Tokens.{is_white_space}
 
--- the text after the white space and `%` lines at its front. `skips` is whether its first byte is inside such a line
--- already, and `begins` whether this byte is the first of its line
+-- the text after the white space and `%` lines at its front. `skips`: its first byte is inside a `%` line already;
+-- `begins`: that byte is the first of its line
 abbrev pub gap_left : Bool → Bool → List ℕ → List ℕ
 gap_left skips begins [] = []
 gap_left true begins (c ∷ rest) = gap_left (not (c == new_line)) true rest

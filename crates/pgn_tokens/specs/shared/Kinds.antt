@@ -17,13 +17,12 @@ IsTag name string closing text =
 
 -- ---- tokens
 
--- the kinds of tokens: a blank or a dot, a skipped line, a comment, a numeric annotation glyph, a variation, a tag with
--- its name, string and closing, `*`, and a word (a symbol)
+-- the kinds of tokens: `Blank` is white space or a dot, `Line` a skipped line, `Nag` a numeric annotation glyph,
+-- `Symbol` a word
 pub data Kind : Type 0 where
   Blank : Kind
   Line : Kind
   Comment : Kind
-  -- a numeric annotation glyph
   Nag : Kind
   Variation : Kind
   Tag_pair : (name string closing : List ℕ) → Kind
@@ -32,32 +31,24 @@ pub data Kind : Type 0 where
 
 -- the text is a token of this kind; `b`: whether its first byte begins a line
 abbrev pub IsOf : Bool → Kind → List ℕ → Type 0
--- a blank or a dot
 IsOf b Blank text = (c : ℕ) × (text ≡ c ∷ []) × ((is_white_space c || c == byte ".") ≡ true)
--- a `%` line, or from `;` to the end of the line
 IsOf b Line text = (c : ℕ) × (rest : List ℕ) × (text ≡ c ∷ rest) × (skips_line b c ≡ true)
     × (lacks new_line rest ≡ true)
--- a comment from `{` to the next `}`
 IsOf b Comment text = (inside : List ℕ) × (text ≡ byte "{" ∷ inside ++ byte "}" ∷ []) × (lacks (byte "}") inside ≡ true)
--- `$` and digits
 IsOf b Nag text = (digits : List ℕ) × (text ≡ byte "$" ∷ digits) × (list_all is_digit digits ≡ true)
--- a variation, from `(` to its own `)`
 IsOf b Variation text = (inside : List ℕ) × (text ≡ byte "(" ∷ inside ++ byte ")" ∷ []) × IsInside false inside
--- a tag
 IsOf b (Tag_pair name string closing) text = IsTag name string closing text
--- `*`
 IsOf b Asterisk text = text ≡ codes "*"
--- a word: bytes of words, at least one
 IsOf b Symbol text = (0 < length text) × (list_all is_word_byte text ≡ true)
 
 -- of `front ++ rest`, `front` is the longest beginning of which P holds
 pub record IsLongest (P : List ℕ → Type 0) (front rest : List ℕ) : Type 0 where
   pub is : P front
-  -- if P holds of a beginning that goes on after `front` by `more`, then `more` is empty
+  -- P holds of no longer beginning
   pub longest : (more others : List ℕ) → rest ≡ more ++ others → P (front ++ more) → more ≡ []
 
--- the token that reading a game makes of a text of this kind, after which `to_end` bytes come. A tag is
--- given with the number of bytes that are left at the first byte of its string
+-- the token that reading makes of a text of this kind, after which `to_end` bytes come. In a tag's token, its number
+-- counts the bytes left at the tag's string
 abbrev pub token_of : Kind → List ℕ → ℕ → Token
 token_of (Tag_pair name string closing) text to_end = Tag name string (length (string ++ closing) + to_end)
 token_of Asterisk text to_end = Word text
@@ -74,27 +65,21 @@ token_of Variation text to_end = Skip
 abbrev pub HasNoToken : Bool → List ℕ → Type 0
 HasNoToken b text = (kind : Kind) (front rest : List ℕ) → text ≡ front ++ rest → IsOf b kind front → ⊥
 
--- the text begins with a comment that isn't closed, or with a variation in which a comment isn't; so many bytes are
--- left at the comment's brace
+-- the text begins with a comment that isn't closed, or with a variation in which one isn't; so many bytes are left at
+-- its brace
 abbrev pub HasUnclosedComment : List ℕ → ℕ → Type 0
 HasUnclosedComment text to_end =
     ((comment : List ℕ) × (text ≡ byte "{" ∷ comment) × (lacks (byte "}") comment ≡ true) × (to_end ≡ length text))
     ⊎ ((inner : List ℕ) × (text ≡ byte "(" ∷ inner) × HasOpenComment inner to_end)
 
 -- this token is the fault of a text that begins with no token (`HasNoToken`, which is not claimed here), by the text's
--- first byte. If that is `(`, the fault is an unclosed comment in the variation if there is one, otherwise the unclosed
--- variation
+-- first byte. After `(` it is an unclosed comment inside if there is one, otherwise the unclosed variation
 abbrev pub IsFault : List ℕ → Token → Type 0
--- a comment, perhaps in a variation, without its `}`
 IsFault text (Unclosed_comment to_end) = HasUnclosedComment text to_end
--- a variation without its `)`, in which each comment is closed
 IsFault text Unclosed_variation =
     ((rest : List ℕ) × (text ≡ byte "(" ∷ rest)) × ((to_end : ℕ) → HasUnclosedComment text to_end → ⊥)
--- a `[`
 IsFault text Bad_tag = (rest : List ℕ) × (text ≡ byte "[" ∷ rest)
--- a byte that is none of `{`, `(` and `[`
 IsFault text Bad = (c : ℕ) × (rest : List ℕ) × (text ≡ c ∷ rest) × (list_any (λ k. c == k) (codes "{([") ≡ false)
--- the other tokens are no faults
 IsFault text Skip = ⊥
 IsFault text (Tag name string to_end) = ⊥
 IsFault text (Word word) = ⊥
@@ -104,12 +89,10 @@ IsFault text (Word word) = ⊥
 -- the text from the offset `at` on is split into these tokens, each paired with the number of bytes left where it
 -- begins
 pub data IsSplitByKinds (text : List ℕ) : ℕ → List (ℕ × Token) → Type 0 where
-  -- at the text's end
   ended : {at : ℕ} → drop at text ≡ [] → IsSplitByKinds text at []
   -- `front`, the longest token of some kind, and then the tokens of the rest
   token : {at : ℕ} (kind : Kind) (front rest : List ℕ) {tokens : List (ℕ × Token)} → drop at text ≡ front ++ rest
       → IsLongest (IsOf (begins_line text at) kind) front rest → IsSplitByKinds text (at + length front) tokens
       → IsSplitByKinds text at ((length text - at, token_of kind front (length rest)) ∷ tokens)
-  -- the fault of a text that begins with no token
   stopped : {at : ℕ} {fault : Token} → HasNoToken (begins_line text at) (drop at text) → IsFault (drop at text) fault
       → IsSplitByKinds text at ((length text - at, fault) ∷ [])

@@ -1,9 +1,9 @@
--- The places that a token names.
+-- Where the strings and comments that a token names are.
 use Rattle.std.specs.Prelude.{ℕ, ◌≤◌, length}
 use Rattle.pgn_tokens.specs.Tokens.{Token, Skip, Tag, Word, Bad_tag, Unclosed_comment, Unclosed_variation, Bad}
 
--- the places that a token names are inside the token and what follows: at most `to_end` bytes, those from its first
--- byte on, are left at each
+-- a token, from whose first byte on the text has `to_end` bytes, names nothing before itself: at its string or comment
+-- at most so many bytes are left, and its word is no longer
 abbrev pub IsWithin : ℕ → Token → Type 0
 IsWithin to_end Skip = Unit {0}
 IsWithin to_end (Tag name text string) = string ≤ to_end

@@ -1,4 +1,4 @@
--- What the functions answer that cut the first token, a tag or a variation off a text, in the words of the definitions.
+-- What the code returns that cuts the first token, a tag or a variation off a text, in the types of the definitions.
 use Rattle.std.specs.Prelude.{List, [], ℕ, Option, Some, None, Result, Ok, Err}
 use Rattle.std.specs.Borrow.{Bor}
 use Rattle.pgn_tokens.specs.declared.tag.Tag.{Tag}

@@ -1,4 +1,4 @@
--- The definition counts a word's place from the text's end, the code from its front: both are the same offset.
+-- The definition counts a word's offset back from the text's end, the code from its front: both are the same.
 use Rattle.std.proofs.Common.{◌≡◌, ◌-◌, arith}
 use Rattle.chess_pgn.proofs.past_draws.token_effect.Goals as goal
 

@@ -1,5 +1,6 @@
--- The loop ends since each token has a byte; the calls of `read_line` by itself end since in each one variation fewer
--- may be open.
+-- The loop's invariant: the first fault from `offset` on, in the position reached, is that of the line (LineReads of
+-- LinesRead). The loop ends since each token has a byte; the calls of `read_line` by itself end since in each one
+-- variation fewer may be open.
 use Rattle.std.proofs.Common.{length, ◌-◌}
 use Rattle.chess_pgn.proofs.LinesRead.{LineReads}
 use Rattle.chess_pgn.proofs.variations.+read_line.Given as goal

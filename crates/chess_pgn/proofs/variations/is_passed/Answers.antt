@@ -1,4 +1,4 @@
--- Whether a word is passed over goes with its kind; each kind is gone through (PassedWords.passed_by_kind).
+-- Whether a word is passed over depends only on its kind, so each kind is gone through (PassedWords.passed_by_kind).
 use Rattle.std.proofs.Common.{◌∙◌, ap}
 use Rattle.chess_pgn.proofs.PassedWords.{passes, passed_by_kind}
 use Rattle.chess_pgn.proofs.variations.is_passed.Goals as goal

@@ -1,4 +1,4 @@
--- A game that is read is that of its tokens (OfTokens).
+-- A game that is read is that of its tokens (OfTokens.game_of_tokens).
 use Rattle.chess_pgn_laws.proofs.OfTokens.{game_of_tokens}
 use Rattle.chess_pgn_laws.proofs.laws.games_are_of_tokens.Goals as goal
 

@@ -1,4 +1,5 @@
--- After a line's first tag come 255 parts at most (Parts).
+-- After its first tag a line has 255 more tags and the like at most (Parts.one_fewer); where none begins, what is left
+-- stays (Parts.stays).
 use Rattle.std.proofs.Common.{◌≡◌, Some, None, refl, sym, ap, ◌∙◌}
 use Rattle.pgn_pieces.specs.{Pieces.after_part, ties.Fronts.after_value}
 use Rattle.pgn_pieces.proofs.Parts.{at_tag, no_part, one_fewer, stays}

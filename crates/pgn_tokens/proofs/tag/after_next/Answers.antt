@@ -1,5 +1,5 @@
--- The short cut, for a text that begins with the byte that is looked for: it is no white space, so no gap is before it,
--- and the definition finds it there too (Gaps.next_at_once).
+-- The short cut, for a text that begins with the byte that is looked for: that byte is no white space, so no gap comes
+-- before it, and the definition finds it there too (Gaps.next_at_once).
 use Rattle.pgn_tokens.proofs.Gaps.{next_at_once}
 use Rattle.pgn_tokens.proofs.tag.after_next.Goals as goal
 

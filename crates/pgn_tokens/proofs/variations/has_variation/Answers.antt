@@ -1,4 +1,4 @@
--- A token that is no variation keeps the invariant (VariationsSought.sought_on). The search ends at a variation, behind
+-- A token that is no variation keeps the invariant (VariationsSought.sought_on). The search ends at a variation, after
 -- the last `(`, at the text's end and at what can't be read, each by one lemma of VariationsSought.
 use Rattle.std.proofs.Common.{refl, sym, ◌∙◌, arith}
 use Rattle.pgn_tokens.specs.Seen.{token_seen}

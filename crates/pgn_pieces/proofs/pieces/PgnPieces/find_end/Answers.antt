@@ -1,4 +1,4 @@
--- The bytes up to the piece's end are added to it, or those of lines whose kind is known (Views.passed_on).
+-- The bytes up to the piece's end, or up to a line that waits for more bytes, are added to the piece (Views.passed_on).
 use Rattle.std.proofs.Common.{◌+◌, ap, subst, ◌∙◌}
 use Rattle.pgn_pieces.specs.{Stream.State, ties.Held.Looks, ties.Held.passed}
 use Rattle.pgn_pieces.proofs.Views.{passed_on, slice_is}

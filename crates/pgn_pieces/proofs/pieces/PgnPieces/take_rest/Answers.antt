@@ -1,4 +1,4 @@
--- All bytes that are held come to the piece (Views.passed_on).
+-- All bytes that are held after the piece are added to it (Views.passed_on).
 use Rattle.std.proofs.Common.{◌≡◌, ◌+◌, ◌-◌, length, drop, ap, ◌∙◌, length-drop, arith}
 use Rattle.pgn_pieces.specs.{Stream.State, ties.Held.passed}
 use Rattle.pgn_pieces.proofs.Views.{viewed, passed_on}
