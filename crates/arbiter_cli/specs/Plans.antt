@@ -82,9 +82,9 @@ verify_options_of value = let is_strict = is_set (codes "strict") value in recor
 
 -- ---- of `match`
 
--- the position in which each game of a match starts: the one that the value of `--fen` denotes in the variant that is
--- asked for, or the FEN's fault; without `--fen` the initial position of normal chess, in that variant: Chess960 with
--- `--variant fischerandom`, otherwise normal chess
+-- the position in which each game of a match starts: the one that `--fen` denotes, or without it the initial position
+-- of normal chess, both in the variant that `--variant` asks for (Chess960 with `fischerandom`, otherwise normal
+-- chess); or the FEN's fault
 abbrev pub start_asked : Values → Result Setup FenFault
 start_asked value = let v = if has_value (codes "variant") (codes "fischerandom") value then Fischerandom else Normal in
     option_map_or (fen_reading_as v) (value (codes "fen")) (Ok (initial_setup_of v))
@@ -138,9 +138,9 @@ IsPlanOf said (Verify keep_going options) = (said.command ≡ codes "verify") ×
 IsPlanOf said (Stub arguments) = (said.command ≡ codes "stub") × (map (λ w. w.now) arguments.items ≡ said.replies)
 IsPlanOf said (Match plan) = (said.command ≡ codes "match") × IsMatchPlan said.value plan
 
--- the result of reading arguments is right. `kinds`: the kinds of fault, apart from out of memory, that `clap`, the
--- parser of arguments, may report for them (a request for help or for the version is one), empty if it accepts them;
--- `said`: what they say
+-- the result of reading arguments is right. `said` is what they say; `kinds` are the kinds of fault, apart from out of
+-- memory, that `clap`, the parser of arguments, may report for them (help and the version count as such), none if it
+-- accepts them
 abbrev pub IsReadAs : Kinds → Said → Result Plan WordsFault → Type 0
 -- the plan that they ask for
 IsReadAs kinds said (Ok plan) = (kinds ≡ []) × IsPlanOf said plan
@@ -155,15 +155,15 @@ IsReadAs kinds said (Err f) = (kinds ≡ []) × (said.command ≡ codes "match")
 
 -- ---- by the grammar
 
--- what the arguments say if they have no fault; no subcommand says `session`. `p` is the subcommand's name and its
--- options as `clap` matches them: the first value of an option counts, and `words` are the positional arguments.
--- `names`: those that `--variant` and `--draws` take
+-- what the arguments say if they have no fault; no subcommand says `session`. `p` is what `clap` matches: the
+-- subcommand's name and its options, of which the first value counts; `words` are the positional arguments. `names`:
+-- those that `--variant` and `--draws` take
 abbrev pub said_by : OptionNames → List Text → Said
 said_by names arguments = let p = unwrap_or (subcommand_of (arbiter_app names) arguments) (codes "session", []) in
     record { command = p.0; value = λ name. first_of name p.1; replies = unwrap_or (all_of (codes "words") p.1) [] }
 
--- the result of reading these arguments, which come without the program's name, is right by the grammar of the command
--- line; `names` may be anywhere in memory. For plain arguments the same is said without the grammar (law
+-- the result of reading these arguments, without the program's name, is right by the grammar of the command line;
+-- `names` may be anywhere in memory. For plain arguments it is also said without the grammar (law
 -- `plain_arguments_are_followed`)
 abbrev pub IsReading : List Text → Result Plan WordsFault → Type 0
 IsReading arguments result =

@@ -48,8 +48,8 @@ abbrev pub stub_app : App
 stub_app =
     with_rule (new_app (codes "stub")) (record (new_rule (codes "words")) { action = Some Append; value_names = 1 })
 
--- the whole grammar: `arbiter` with its subcommands. It has `--version` but no subcommand `help`, and its arguments
--- don't begin with the program's name; `top` is `clap`'s name for what an app is apart from its subcommands
+-- the whole grammar: `arbiter` with its subcommands and `--version`, but no subcommand `help`. Its arguments don't
+-- begin with the program's name. `top` is `clap`'s name for what an app is apart from its subcommands
 abbrev pub arbiter_app : OptionNames → App
 arbiter_app names = let a = new_app (codes "arbiter") in fold with_subcommand
     (record a { top = record a.top { has_version = true; no_binary_name = true; disable_help_subcommand = true } })
@@ -83,7 +83,7 @@ HasNumber name most rows = (t : Text) → first_of name rows ≡ Some t → is_u
 abbrev pub HasNumbers : List Row → Type 0
 HasNumbers rows = HasNumber (codes "games") 1000 rows × HasNumber (codes "reply-timeout") 999 rows
 
--- what was matched is a subcommand with all that it needs: of `match` both engines, and valid numbers where they are
--- given. `p` is the subcommand's name and its options
+-- a subcommand was matched with all that it needs: of `match` both engines, and valid numbers where they are given. `p`
+-- is its name and its options
 abbrev pub IsComplete : Text × List Row → Type 0
 IsComplete p = NamesBoth p × IsCommand p.0 × HasNumbers p.1

@@ -96,8 +96,8 @@ IsOfMatch (flag name) = (name ≡ codes "log") ⊎ (name ≡ codes "flag")
 abbrev pub EachOnce : (Given → Type 0) → List Given → Type 0
 EachOnce IsOf options = AllByRecursion IsOf options × AllPairs (λ g h. name_of g ≢ name_of h) options
 
--- the command line is plain: its subcommand has these options, each given at most once; a match names both engines; and
--- nothing that a stub plays begins with a hyphen
+-- the command line is plain: each option is one of its subcommand's, and given at most once; a match names both
+-- engines; nothing that a stub plays begins with a hyphen
 abbrev pub IsPlain : CommandLine → Type 0
 IsPlain empty = ⊤
 IsPlain session = ⊤

@@ -1,5 +1,4 @@
--- What options mean, worked out: of a match its time controls, start and date, the patience with its engines, whether
--- draws must be claimed, and how many games are played; of `verify` what it looks for and writes.
+-- Worked examples of what the options of `match` and `verify` mean.
 use Rattle.std.specs.Prelude.{◌≡◌, true, false, List, [], ◌∷◌, codes, replicate, Some, None, Result, Ok, Err}
 use Rattle.std.specs.Result.{result_map_both}
 use Rattle.byte_devices.specs.Bytes.{byte, tab}

@@ -39,9 +39,8 @@ abbrev pub fault_status : ProgramFault → ℕ
 fault_status InvalidArguments = 2
 fault_status _ = 1
 
--- the server `respond` began in the state `s` and answered the lines of the input on the output; the devices went from
--- the states `d` to `d'`. `result` is how that ended, `s'` the server's state then. The exit status is 1 if a read, a
--- write or a flush failed, otherwise 0
+-- the server `respond` began in the state `s` and answered the lines of the input on the output (`Served`), which took
+-- the devices from `d` to `d'`. The exit status is 1 if a read, a write or a flush failed, otherwise 0
 abbrev pub Serves : {S : Type 0} → Server S → S → Devices → Devices → ℕ → Type 0
 Serves {S} respond s d d' status =
     (result : Result End Fault) × (s' : S) × Ran (Served respond s s' result) d d' × (status ≡ status_of result)
@@ -51,9 +50,9 @@ abbrev pub verify_status : Result Verified VerifyFault → ℕ
 verify_status (Ok EachGame) = 0
 verify_status _ = 1
 
--- some text, such as the help, was written to the output, which went from the state `w` to `w'` (which text is not
--- said). With the exit status 0 all of it was written and flushed. With 1 the output is as before, as when memory ran
--- out, or a write or a flush failed after a beginning of the text, maybe nothing or all
+-- some text (which is not said) was written to the output, which went from the state `w` to `w'`. With the exit status
+-- 0 all of it was written and flushed. With 1 a write or a flush failed after a beginning of it, maybe nothing or all;
+-- or the output is as before, as when memory ran out
 abbrev pub WritesHelp : OutputState → OutputState → ℕ → Type 0
 WritesHelp w w' status = ((status ≡ 0) × (text : List ℕ) × OutputTook w w' (all_of text))
     ⊎ ((status ≡ 1) × ((w' ≡ w) ⊎ ((text : List ℕ) × (o : ToOutput) × OutputTook w w' o × BreaksOffIn nothing text o)))

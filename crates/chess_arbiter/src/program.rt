@@ -191,8 +191,8 @@ fn report_words<E: Output>(errors: &mut E, arguments: &[&str], error: &Error) {
     }
 }
 
-// Reports why the arguments ask for nothing, and returns the exit status: help and the version go to the output, all
-// else to the error output.
+// Reports why there is no plan for these arguments, and returns the exit status: help and the version go to the output,
+// all else to the error output.
 fn report_arguments<W: Output, E: Output>(
     alloc: Global,
     arguments: &[&str],

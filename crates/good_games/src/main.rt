@@ -46,6 +46,7 @@ fn copy_good<R: Input, W: Output>(alloc: Global, input: &mut R, output: &mut W) 
     Ok(())
 }
 
+// Copies the good pieces of standard input to standard output.
 fn main(rt: HostRuntime) -> Result<()> {
     let mut input = Counted::reading(rt.stdin());
     let mut output = Counted::writing(rt.stdout());

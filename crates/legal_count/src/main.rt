@@ -39,6 +39,7 @@ fn answer<R: BufRead + Drop, W: Write>(alloc: Global, input: R, output: &mut W) 
     output.flush()
 }
 
+// Answers standard input on standard output.
 fn main(rt: HostRuntime) -> io::Result<()> {
     let input = BufReader::new(rt.alloc(), rt.reader())?;
     let mut output = BufWriter::new(rt.alloc(), io::writer(&rt))?;

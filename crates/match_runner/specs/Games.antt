@@ -107,10 +107,9 @@ pub record GameRecord : Type 0 where
 abbrev pub none_killed : ByColour Bool
 none_killed = record { white = false; black = false }
 
--- `played` is the record of a game that was played as the plan says for the game of this number, with at most 20,000
--- half-moves. Without a limit for replies no engine was killed. Some acts `H` of the arbiter, whose notes are the
--- record's, led from `before` to `after`, and for some reason to the end `end` (`PlayedBy`). `steps_by` says which
--- engines played
+-- `played` was played as the plan says for the game of this number, with at most 20,000 half-moves; without a limit for
+-- replies no engine was killed. Some acts `H` of the arbiter, whose notes are the record's, led from `before` to
+-- `after` and ended as `end` says (`PlayedBy`). `steps_by` says which engines played
 abbrev pub IsOfPlan : GamesPlan → ℕ → GameRecord → Type 0
 IsOfPlan plan number played = (played.before.game.limit ≡ MOST_MOVES)
     × (plan.patience.reply ≡ None → played.killed ≡ none_killed)
@@ -174,8 +173,8 @@ LogsGames plan l l' games = Logged l l' (game_by_game (game_log plan) games)
 abbrev pub count_of : (ℕ → Outcome) → List GameRecord → ℕ
 count_of wanted games = count_by (λ g. same_outcome g.1.end.outcome (wanted g.0)) (enumerate_from 1 games)
 
--- the last line that a match of these games writes to the output, such as
--- `score first 1 second 0 drawn 2 unfinished 0`. The engine of `--white` is the first
+-- the last line of a match of these games, such as `score first 1 second 0 drawn 2 unfinished 0`. The engine of
+-- `--white` is the first
 abbrev pub score_line : List GameRecord → List ℕ
 score_line games = codes "score first " ++ decimal (count_of (λ number. win_of (first_side number)) games)
     ++ codes " second " ++ decimal (count_of (λ number. win_of (other (first_side number))) games)
@@ -221,9 +220,9 @@ WritesGames plan (Err fault) games None o = FaultlessGames plan games × (length
 -- no other result comes with an unwritten game
 WritesGames plan _ games (Some unwritten) o = ⊥
 
--- what playing a match does, by its result, to the output (from `w` to `w'`) and the log (from `l` to `l'`). Either
--- `games`, maybe none, were written, and maybe one more, `unwritten`, was played but could not be written
--- (`WritesGames`); all of them were logged. Or memory ran out first, and nothing was written or logged
+-- what playing a match does, by its result, to the output (from `w` to `w'`) and the log (from `l` to `l'`): `games`
+-- were written, and all games logged, also `unwritten`, which could not be written, if there is one. Or memory ran out
+-- first, and nothing was written or logged
 abbrev pub PlaysGames : GamesPlan → Result (Unit {0}) GamesFault → OutputState → OutputState → LogSeen → LogSeen
     → Type 0
 PlaysGames plan result w w' l l' =

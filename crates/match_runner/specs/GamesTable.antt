@@ -1,5 +1,5 @@
--- The steps of a match: the calls of its host, which starts and ends engines and has the clock, and of the table at
--- which its games are played.
+-- The steps of a match: calls of its host, which starts and ends engines and has the clock, and of the table at which
+-- its games are played.
 use Rattle.std.specs.Prelude.{◌≡◌, ⊤, ◌⊎◌, ℕ, ◌+◌, Bool, if◌then◌else◌, List, [], ◌∷◌, ◌++◌, length, flat_map, Option, None, Some, Result, Ok, Err}
 use Rattle.std.specs.Option.{option_to_list}
 use Rattle.chess_base.specs.declared.man.Colour.{Colour}
@@ -24,12 +24,11 @@ pub data HostStep : Type 0 where
   Starts : (white : List ℕ) → (black : List ℕ) → (limit : Option ℕ) → (engines : Colour → Devices) → HostStep
   -- starting the engines with these commands failed, and neither runs; `fault` says why
   StartFails : (white : List ℕ) → (black : List ℕ) → (limit : Option ℕ) → (fault : GamesFault) → HostStep
-  -- the inputs of the engines with these pipes were closed, and their ends were waited for; `killed` says which had not
-  -- ended after `limit` milliseconds (`None`: no limit), and were killed
+  -- the engines with these pipes were ended: their inputs were closed, and those that had not ended after `limit`
+  -- milliseconds (`None`: no limit) were killed, as `killed` says
   Finishes : (engines : Colour → Devices) → (limit : Option ℕ) → (killed : ByColour Bool) → HostStep
 
--- the step of starting engines with the commands `white` and `black`, by its result; `engines` gives the pipes of what
--- was started
+-- the step of starting engines with the commands `white` and `black`, by its result; `engines` gives their pipes
 abbrev pub starting : {E : Type 0} → (E → Colour → Devices) → List ℕ → List ℕ → Option ℕ → Result E GamesFault
     → HostStep
 starting engines white black limit (Ok started) = Starts white black limit (engines started)
@@ -70,14 +69,13 @@ HostFuture = List HostStep → Type 0
 abbrev pub anything : HostFuture
 anything steps = ⊤
 
--- what contracts see of a table: the same claim of its steps
+-- what contracts see of a table: of each list of steps, the claim that just these may come there from now on
 abbrev pub GamesFuture : Type 1
 GamesFuture = List GamesStep → Type 0
 
--- these steps passed at a host or a table, in this order. `old` says which steps may come there from before them on,
--- `new` from after them on (`HostFuture`, `GamesFuture`): if `new` holds of a list, `old` holds of `steps` followed by
--- it. So if each holds of just one list, that of `old` is `steps` followed by that of `new`; if `old` is `anything`,
--- nothing is claimed
+-- these steps passed at a host or a table, in this order: any list that may come after them (`new`) may, with `steps`
+-- in front, come from before them on (`old`). So if each holds of just one list, that of `old` is `steps` followed by
+-- that of `new`; if `old` is `anything`, nothing is claimed
 pub record StepsPass {S : Type 0} (old new : List S → Type 0) (steps : List S) : Type 0 where
   pub extends : (after : List S) → new after → old (steps ++ after)
 
@@ -113,8 +111,7 @@ last_steps plan number (Err (CanNotStart command)) None = unstarted_steps plan n
 -- any other result: no next game was begun
 last_steps plan number _ None = []
 
--- these pipes are as those of an engine that was just started: no failure, end, silence or unflushed byte is counted.
--- (That nothing was read or sent yet is not said)
+-- these pipes are as those of an engine that was just started: no failure, end, silence or unflushed byte is counted
 pub record AreFresh (pipes : Devices) : Type 0 where
   pub reads : pipes.input.failure_count ≡ 0
   pub ends : pipes.input.end_count ≡ 0
@@ -128,7 +125,7 @@ abbrev pub BeginsAt : (ℕ → Option ℕ) → GameRecord → Type 0
 BeginsAt coming played = ((S : Colour) → AreFresh (played.before.engines S)) × (played.before.coming ≡ coming)
 
 -- these games came one after another, each with engines that were just started, and all with one clock, whose readings
--- go on from game to game; from the first game on its reading n would show the moment `coming n`
+-- go on from game to game; at first its reading n would show the moment `coming n`
 abbrev pub ComeInTurn : (ℕ → Option ℕ) → List GameRecord → Type 0
 ComeInTurn coming [] = ⊤
 ComeInTurn coming (played ∷ games) = BeginsAt coming played × ComeInTurn played.after.coming games
@@ -140,9 +137,9 @@ pub record Outputs : Type 0 where
   pub output : OutputState
   pub log : LogSeen
 
--- a match by this plan ended with `result`; its output and log went from `d` to `d'`; reading n of its clock would show
--- the moment `coming n`; and `passes` holds of its steps at the table. `games`, maybe none, were played and written;
--- `unwritten` was played after them but could not be written (`None`: there is no such game)
+-- a match by this plan ended with `result`, took its output and log from `d` to `d'`, and had a clock whose reading n
+-- would show the moment `coming n`; `passes` holds of its steps at the table. `games`, maybe none, were played and
+-- written; `unwritten` (`None`: no game) was played after them but could not be written
 abbrev pub PlaysBy : GamesPlan → Result (Unit {0}) GamesFault → (ℕ → Option ℕ) → (List GamesStep → Type 0) → Outputs
     → Outputs → Type 0
 PlaysBy plan result coming passes d d' = (games : List GameRecord) × (unwritten : Option GameRecord)

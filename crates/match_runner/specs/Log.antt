@@ -1,5 +1,5 @@
--- The log of a match: a line for each line that an engine sends or is sent, as in XBoard's debug file, and lines for
--- other events, such as the end of an engine's output.
+-- The log of a match: a line for each line that an engine sends or is sent, as in XBoard's debug file, and for other
+-- events, such as the end of an engine's output.
 use Rattle.std.specs.Prelude.{◌≡◌, ℕ, ◌==◌, nat_lt, if◌then◌else◌, List, [], ◌∷◌, ◌++◌, length, flat_map, map, codes, decimal, Bool, true, false, Some, None}
 use Rattle.std.specs.List.{onto_first}
 use Rattle.byte_devices.specs.Bytes.{byte, new_line, shown_byte}
@@ -43,7 +43,7 @@ note_text engine moment (Happened (FailsToRead c)) = log_line moment (byte "!") 
 note_text engine moment (Happened (FailsToWrite c)) = log_line moment (byte "!") (engine c) (codes "write failed")
 note_text engine moment (Gives c bytes) = flat_map (log_line moment (byte ">") (engine c)) (lines_in bytes)
 
--- what the clock showed last after this note, if it was `moment` before
+-- what the clock showed last when this note was made; `moment` is what it showed last before
 abbrev pub moment_after : ℕ → Note → ℕ
 moment_after moment (Happened (Line c text now)) = now
 moment_after moment (Happened (Opened c now)) = now
@@ -70,15 +70,14 @@ pub record LogSeen : Type 0 where
 abbrev pub log_seen : OutputState → Bool → LogSeen
 log_seen o broken = record { output = o; broken = broken }
 
--- `o` is what went to a log's output for `text`, by whether the log is broken then. If not, it is all of the text,
--- flushed, or nothing for an empty text; if so, a beginning of it, maybe nothing or all, and then a write or a flush
--- failed
+-- what went to a log's output for `text`, by whether the log is broken then: if not, all of the text, flushed, or
+-- nothing for an empty text; if so, a beginning of it, maybe nothing or all, before a write or a flush failed
 abbrev pub LogsText : Bool → List ℕ → ToOutput → Type 0
 LogsText false text o = o ≡ all_flushed (nat_lt 0 (length text)) text
 LogsText true text o = Begins (o.flushed ++ o.left) text × (o.failed ≡ true)
 
--- a log was given this text to write, and went from the state `l` to `l'`. If it is broken in `l`, or the text is
--- empty, nothing changes. Otherwise it wrote the text, or broke while it did so (`LogsText`)
+-- a log was given this text to write, and went from the state `l` to `l'`: it wrote the text, or broke while it did so
+-- (`LogsText`). If it is broken in `l`, or the text is empty, nothing changes
 abbrev pub Logged : LogSeen → LogSeen → List ℕ → Type 0
 Logged l l' text = (l.broken ≡ true → l' ≡ l) × (text ≡ [] → l' ≡ l)
     × (l.broken ≡ false → (o : ToOutput) × OutputTook l.output l'.output o × LogsText l'.broken text o)

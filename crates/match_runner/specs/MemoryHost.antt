@@ -1,9 +1,8 @@
 -- A host over memory: what its engines say, and what its clock shows, is given.
 --
--- `MayCome` says which steps may come at such a host: each engine says what the host has for this start of its command,
--- and the clock shows its moments. From these, the plan and the writes that fail follow the games of a match (law
--- `OnlyOneMatchOfARun` of chess_match_laws), if the plan sets no limit to waiting. Where it does, nothing here says
--- which looks for a line find none. Nor is it said when memory runs out.
+-- `MayCome` says which steps may come at it. From these, the plan and the writes that fail follow the games of a match
+-- (law `OnlyOneMatchOfARun` of chess_match_laws), if the plan sets no limit to waiting. Where it does, nothing here
+-- says which looks for a line find none. Nor is it said when memory runs out.
 use Rattle.std.specs.Prelude.{◌≡◌, ℕ, ◌-◌, ◌^◌, List, [], ◌∷◌, ◌++◌, Option, None, Some}
 use Rattle.std.specs.List.{count_by, find, flat_map, last_or, slice_get}
 use Rattle.std.specs.Option.{option_and_then, option_map, option_or}

@@ -292,7 +292,8 @@ impl<'t> Host for MemoryHost<'t> {
         }
     }
 
-    // Starts both engines if the host has an output for both starts, and notes the game. `limit` makes no difference.
+    // Starts both engines if the host has an output for both starts, and notes the game; otherwise, or if memory runs
+    // out, none. `limit` makes no difference.
     fn start<'a>(
         &mut self,
         white: &'a str,

@@ -11,8 +11,8 @@ abbrev pub KeepsFailureCounts : GameRecord → Type 0
 KeepsFailureCounts played = (S : Colour)
     → (played.after.engines S).output.failure_count ≡ (played.before.engines S).output.failure_count
 
--- in every match each game without a fault of an engine keeps these counts (`KeepsFailureCounts`). All games of a match
--- but the last are such games, whether it was played to its end or broke off (`WritesGames`)
+-- whenever games of a match are without a fault of an engine, as all but its last are (`WritesGames`), no write to an
+-- engine failed in them (`KeepsFailureCounts`)
 abbrev pub OnlyLastGamesHaveFailedWrites : Type 0
 OnlyLastGamesHaveFailedWrites = (plan : GamesPlan) (games : List GameRecord) → FaultlessGames plan games
     → AllByRecursion KeepsFailureCounts games

@@ -46,8 +46,8 @@ pub record WentWell (plan : GamesPlan) (host : MemoryHost) (steps : List HostSte
   pub scored : HasScore result
   pub nothing_failed : AllByRecursion FinishesWell steps
 
--- two matches by one plan without limits to waiting, which both went well at one host over memory (`WentWell`): the
--- same was written, the same was logged, each engine was sent the same, and the same fault is reported, or none of both
+-- two matches by one plan without limits to waiting, which both went well at one host over memory (`WentWell`), wrote
+-- the same, logged the same, sent each engine the same, and reported the same fault, or none
 abbrev pub OneMatchOfAHost : Type 0
 OneMatchOfAHost = (plan : GamesPlan) (host : MemoryHost) (steps steps' : List HostStep) (d d' e e' : Outputs)
     → plan.patience ≡ endless → (one : WentWell plan host steps d d') (other : WentWell plan host steps' e e')

@@ -35,7 +35,7 @@ pub record LevelsStayWithEngines (plan : GamesPlan) (number : ℕ) : Type 0 wher
   pub even : number % 2 ≡ 0
       → (player_of plan number White ≡ second_player plan) × (player_of plan number Black ≡ first_player plan)
 
--- `LevelsStayWithEngines` holds in each game of each match
+-- in each game of each match each engine has its own time control, whichever side it has
 abbrev pub EachKeepsItsLevel : Type 0
 EachKeepsItsLevel = (plan : GamesPlan) (number : ℕ) → LevelsStayWithEngines plan number
 
@@ -53,7 +53,7 @@ pub record EnginesAreNamed (plan : GamesPlan) (number : ℕ) (end : MatchEnd) : 
   pub named_black : end.black_name ≡ codes "Sjeng" → (tags_of plan number end).black ≡ codes "Sjeng"
 
 -- the tags of each game name its engines so (PGN standard of 1994, section 8.1.1); those of the twelfth game also have
--- this event, this site, the plan's date, this round, and the way in which it ended
+-- this event, site, date, round and end
 pub record GamesAreTagged : Type 0 where
   pub players : (plan : GamesPlan) (number : ℕ) (end : MatchEnd) → EnginesAreNamed plan number end
   pub event : (plan : GamesPlan) (end : MatchEnd) → (tags_of plan 12 end).event ≡ codes "CECP match"

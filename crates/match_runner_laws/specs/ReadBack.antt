@@ -93,8 +93,8 @@ LogsGiveTheGame = (r : Rules) (first : Colour) (reason reason' : Reason) (H K : 
     → log_from first 0 (notes_given reason H) ≡ log_from first 0 (notes_given reason' K)
     → AreAlike reason reason' H K final final'
 
--- the PGN of a game follows from its log: two games of this number of the plan that have the same log, which shows
--- their lines as they are, have the same PGN and the same outcome
+-- the PGN of a game follows from its log: two games of this number of the plan with the same log, which shows their
+-- lines as they are, have the same PGN and the same outcome
 abbrev pub LogsGiveThePgn : Type 0
 LogsGiveThePgn = (plan : GamesPlan) (number : ℕ) (one two : GameRecord) → IsOfPlan plan number one
     → IsOfPlan plan number two
@@ -113,8 +113,8 @@ AreOfLogs plan games = AllByRecursion
     (λ g. IsOfPlan plan g.0 g.1 × AllByRecursion IsShown (entries_from 0 g.1.notes))
     (enumerate_from 1 games)
 
--- what a match writes to its output follows from the games' logs and the plan: two lists of games by one plan that have
--- the same logs, which show their lines as they are, have the same PGN and the same score
+-- what a match writes to its output follows from the games' logs and the plan: two lists of games by one plan with the
+-- same logs, which show their lines as they are, have the same PGN and the same score
 abbrev pub LogsGiveTheOutput : Type 0
 LogsGiveTheOutput = (plan : GamesPlan) (games games' : List GameRecord) → AreOfLogs plan games
     → AreOfLogs plan games' → logs_of games ≡ logs_of games'
