@@ -70,7 +70,7 @@ IsParsed words result = (names : OptionNames) × IsParsedBy names words result
 abbrev pub IsCommand : Text → Type 0
 IsCommand name = (name ≡ codes "session") ⊎ (name ≡ codes "verify") ⊎ (name ≡ codes "stub") ⊎ (name ≡ codes "match")
 
--- a match has both `--white` and `--black`; `p` is the subcommand's name and its options as matched
+-- of `match` both `--white` and `--black` were given; `p` is the subcommand's name and its options as matched
 abbrev pub NamesBoth : Text × List Row → Type 0
 NamesBoth p = p.0 ≡ codes "match" → (is_some (first_of (codes "white") p.1) ≡ true)
     × (is_some (first_of (codes "black") p.1) ≡ true)
@@ -83,7 +83,7 @@ HasNumber name most rows = (t : Text) → first_of name rows ≡ Some t → is_u
 abbrev pub HasNumbers : List Row → Type 0
 HasNumbers rows = HasNumber (codes "games") 1000 rows × HasNumber (codes "reply-timeout") 999 rows
 
--- a subcommand was matched with all that it needs: of `match` both engines, and valid numbers where they are given. `p`
--- is its name and its options
+-- `p`, the name and the options of a subcommand as matched, has all that it needs: of `match` both engines, and valid
+-- numbers where they are given
 abbrev pub IsComplete : Text × List Row → Type 0
 IsComplete p = NamesBoth p × IsCommand p.0 × HasNumbers p.1

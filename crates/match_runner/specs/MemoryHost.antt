@@ -49,12 +49,12 @@ fresh_pipes text = record {
   output = record { known_bytes = Some []; failure_count = 0; unflushed = 0 };
 }
 
--- the commands of the engines that were started in this step
+-- the commands of the engines that this step started
 abbrev pub started_by : HostStep → List (List ℕ)
 started_by (Starts white black limit pipes) = white ∷ black ∷ []
 started_by _ = []
 
--- the commands of the engines that were started in these steps
+-- the commands of the engines that these steps started
 abbrev pub started_in : List HostStep → List (List ℕ)
 started_in steps = flat_map started_by steps
 

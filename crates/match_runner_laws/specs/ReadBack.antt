@@ -1,5 +1,5 @@
--- Laws of what the log of a match gives back: its moves, the reason for which it ended, and all that each engine sent
--- and was sent.
+-- Laws of what the log of a match gives back: its moves, the reason for its end, and all that each engine sent and was
+-- sent.
 use Rattle.std.specs.Prelude.{◌≡◌, ◌==◌, ◌&&◌, ℕ, if◌then◌else◌, List, [], ◌∷◌, ◌++◌, flat_map, codes, Some, None, map}
 use Rattle.std.specs.List.{AllByRecursion, enumerate_from}
 use Rattle.std.specs.Str.{bytes_eq}
