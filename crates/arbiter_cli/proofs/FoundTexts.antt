@@ -1,4 +1,4 @@
--- The text of an option, where `clap` found one.
+-- The text of an option's value as `clap` returns it, by a reference; `None` if it found none.
 use Rattle.std.proofs.Common.{Option, option_map, Bor}
 use Rattle.clap.specs.Words.{Text}
 

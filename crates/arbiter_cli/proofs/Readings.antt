@@ -159,7 +159,7 @@ planned_reading names texts none s is (Err e) p f =
 
 -- ---- the command that was entered
 
--- the subcommand's name and the rows of its options, behind references
+-- the subcommand's name and the rows of its options, to which these are references
 abbrev pub with_rows : Bor Text × Bor ArgMatches → Text × List Row
 with_rows p = (p.0.now, rows_of (found_of p.1.now))
 

@@ -24,13 +24,13 @@ use Rattle.cecp_engine.specs.declared.level_fault.LevelFault.{LevelFault}
 
 -- ---- what arguments say
 
--- the values of options by their names, without `--`; `None` if an option was not given. A flag that was given has the
--- value `true`; one that was not has `false` or `None`
+-- the values of options by their names, without `--`. A flag that was given has the value `true`; one that was not has
+-- `false` or `None`
 abbrev pub Values : Type 0
 Values = Text → Option Text
 
--- what arguments say: the subcommand's name, the values of its options, and as `replies` the positional arguments,
--- which only `stub` has
+-- what arguments say: the subcommand's name, the values of its options, and as `replies` the positional arguments of
+-- `stub`
 pub record Said : Type 0 where
   pub command : Text
   pub value : Values
@@ -44,33 +44,31 @@ has_value name text value = option_map_or (λ given. bytes_eq given text) (value
 abbrev pub is_set : Text → Values → Bool
 is_set name value = has_value name (codes "true") value
 
--- the number that a value denotes in decimal, perhaps with a `+` in front: the grammar takes no other as a number
+-- the number that a value denotes in decimal, perhaps with a `+` in front
 abbrev pub number_of : Text → ℕ
 number_of text = digits_value 10 (without_leading_plus text)
 
 -- ---- of `verify`
 
--- the names in the value of `--ignore`, such as `result,board`, between its commas (byte 44), empty ones too; none
--- without the option
+-- the names between the commas (byte 44) of the value of `--ignore`, such as `result,board`, empty ones too
 abbrev pub ignored_in : Values → List Text
 ignored_in value = option_map_or (slice_split (λ b. b == 44)) (value (codes "ignore")) []
 
--- whether each name in the value of `--ignore` is that of a kind that `verify` may ignore; true without the option
+-- whether `--ignore`, if it was given, names only kinds of fault that `verify` may ignore
 abbrev pub ignores_kinds : Values → Bool
 ignores_kinds value = let kinds = codes "variant" ∷ codes "result" ∷ codes "board" ∷ codes "after-end" ∷ [] in
     list_all (λ name. list_any (bytes_eq name) kinds) (ignored_in value)
 
--- whether `--ignore` was given and names this kind
+-- whether `--ignore` names this kind
 abbrev pub is_ignored : Text → Values → Bool
 is_ignored kind value = list_any (bytes_eq kind) (ignored_in value)
 
--- what the options of `verify` ask for, apart from `--keep-going`; `--strict` looks for faults of three kinds, unless
--- `--ignore` names the kind
+-- what the options of `verify` ask for, apart from `--keep-going`
 abbrev pub verify_options_of : Values → VerifyOptions
 verify_options_of value = let is_strict = is_set (codes "strict") value in record {
   quiet = is_set (codes "quiet") value;
   strict = record {
-    -- fivefold repetition and 75 moves end a game, unless `--ignore` names `after-end`, with or without `--strict`
+    -- fivefold repetition and 75 moves end a game (Laws of 2014), also without `--strict`
     draws_of_2014 = not (is_ignored (codes "after-end") value);
     variations = is_set (codes "variations") value;
     variant = is_strict && not (is_ignored (codes "variant") value);
@@ -84,16 +82,15 @@ verify_options_of value = let is_strict = is_set (codes "strict") value in recor
 
 -- ---- of `match`
 
--- the position in which each game of a match starts: the one that the value of `--fen` denotes in the variant that is
--- asked for, or the FEN's fault; without `--fen` the initial position of normal chess, in that variant. The variant is
--- Chess960 with `--variant fischerandom`, otherwise normal chess
+-- the position in which each game of a match starts: the one that `--fen` denotes, or without it the initial position
+-- of normal chess, both in the variant that `--variant` asks for (Chess960 with `fischerandom`, otherwise normal
+-- chess); or the FEN's fault
 abbrev pub start_asked : Values → Result Setup FenFault
 start_asked value = let v = if has_value (codes "variant") (codes "fischerandom") value then Fischerandom else Normal in
     option_map_or (fen_reading_as v) (value (codes "fen")) (Ok (initial_setup_of v))
 
--- the time controls of the engines of `--white` and `--black`: each its own (`--white-level`, `--black-level`), if it
--- was given, otherwise that of `--level`, which is `40 5 0` by default. The fault is that of the first of `--level`,
--- `--white-level` and `--black-level` that is invalid; `--level` is read even if each engine has its own
+-- the time controls of the engines of `--white` and `--black`: each its own, if it was given, otherwise the common one,
+-- by default 40 moves in 5 minutes; or the first fault. The common one is read even if each engine has its own
 abbrev pub levels_asked : Values → Result (LevelSeen × LevelSeen) LevelFault
 levels_asked value = do
   level ← level_reading (unwrap_or (value (codes "level")) (codes "40 5 0"))
@@ -105,8 +102,8 @@ levels_asked value = do
 abbrev pub is_date : Text → Bool
 is_date text = nat_le (length text) 60 && list_all (λ b. nat_le 32 b && nat_le b 126) text
 
--- the time controls of a match's engines (first that of `--white`), its games' start, and their date, `????.??.??`
--- without `--date`; or the first fault: of a level (`BadLevel`), the FEN (`BadFen`), or the date (`BadDate`)
+-- the time controls of a match's engines (first that of `--white`), its games' start, and their date; or the first
+-- fault of these
 abbrev pub levels_start_and_date : Values → Result ((LevelSeen × LevelSeen) × Setup × Text) WordsFault
 levels_start_and_date value = let date = unwrap_or (value (codes "date")) (codes "????.??.??") in do
   levels ← result_map_both (λ levels. levels) BadLevel (levels_asked value)
@@ -120,12 +117,12 @@ pub record IsMatchPlan (value : Values) (plan : GamesPlan) : Type 0 where
   pub black : value (codes "black") ≡ Some plan.black.now
   -- the time controls of both engines, the start of each game and the date
   pub read : levels_start_and_date value ≡ Ok ((plan.white_level, plan.black_level), plan.start, plan.date.now)
-  -- as many games as `--games` asks for; 1 without `--games`
+  -- as many games as `--games` asks for, or 1
   pub games : plan.games ≡ option_map_or number_of (value (codes "games")) 1
   pub games_range : (1 ≤ plan.games) × (plan.games ≤ 1000)
   pub log : plan.log ≡ is_set (codes "log") value
   pub flag : plan.patience.flag ≡ is_set (codes "flag") value
-  -- the limit for replies, in milliseconds, but `--reply-timeout` is in seconds; `None` without the option
+  -- the limit for replies, in milliseconds, but `--reply-timeout` is in seconds
   pub reply : plan.patience.reply ≡ option_map (λ text. number_of text * 1000) (value (codes "reply-timeout"))
   -- `claimed`, the other name that `--draws` takes, is its default
   pub draws : plan.draws ≡ (if has_value (codes "draws") (codes "automatic") value then Automatic else Claimed)
@@ -141,33 +138,33 @@ IsPlanOf said (Verify keep_going options) = (said.command ≡ codes "verify") ×
 IsPlanOf said (Stub arguments) = (said.command ≡ codes "stub") × (map (λ w. w.now) arguments.items ≡ said.replies)
 IsPlanOf said (Match plan) = (said.command ≡ codes "match") × IsMatchPlan said.value plan
 
--- the result of reading arguments is right. `kinds`: the kinds of fault, apart from out of memory, that `clap`, the
--- parser of arguments, may report for them (a request for help or for the version is one), empty if it accepts them;
--- `said`: what they say
+-- the result of reading arguments is right. `said` is what they say; `kinds` are the kinds of fault, apart from out of
+-- memory, that `clap`, the parser of arguments, may report for them (help and the version count as such), none if it
+-- accepts them
 abbrev pub IsReadAs : Kinds → Said → Result Plan WordsFault → Type 0
--- the plan that they ask for; `clap` accepts them
+-- the plan that they ask for
 IsReadAs kinds said (Ok plan) = (kinds ≡ []) × IsPlanOf said plan
 -- an error of `clap`, of one of these kinds
 IsReadAs kinds said (Err (Words e)) = IsAmong (kind_of e) kinds
 -- out of memory may be reported for any arguments
 IsReadAs kinds said (Err NoMemory) = ⊤
--- `clap` accepts them, but `--ignore` names something that is no kind
+-- `--ignore` names something that is no kind
 IsReadAs kinds said (Err BadKind) = (kinds ≡ []) × (said.command ≡ codes "verify") × (ignores_kinds said.value ≡ false)
--- `clap` accepts them, but a level, the FEN or the date of a match is invalid
+-- a level, the FEN or the date of a match is invalid
 IsReadAs kinds said (Err f) = (kinds ≡ []) × (said.command ≡ codes "match") × (levels_start_and_date said.value ≡ Err f)
 
 -- ---- by the grammar
 
--- what the arguments say if they have no fault, by the subcommand's name and its options as `clap` matches them (`p`):
--- `session` without options if there is no subcommand. The first value of an option counts. `clap` knows the positional
--- arguments, which only `stub` has, as `words`. `names`: those that `--variant` and `--draws` take
+-- what the arguments say if they have no fault; no subcommand says `session`. `p` is what `clap` matches: the
+-- subcommand's name and its options, of which the first value counts; `words` are the positional arguments. `names`:
+-- those that `--variant` and `--draws` take
 abbrev pub said_by : OptionNames → List Text → Said
 said_by names arguments = let p = unwrap_or (subcommand_of (arbiter_app names) arguments) (codes "session", []) in
     record { command = p.0; value = λ name. first_of name p.1; replies = unwrap_or (all_of (codes "words") p.1) [] }
 
--- the result of reading these arguments, which come without the program's name, is right by the grammar of the command
--- line. `names` are references to the names that `--variant` and `--draws` take, anywhere in memory. What the program
--- does with plain arguments is also said without the grammar (the law `plain_arguments_are_followed`)
+-- the result of reading these arguments, without the program's name, is right by the grammar of the command line;
+-- `names` may be anywhere in memory. For plain arguments it is also said without the grammar (law
+-- `plain_arguments_are_followed`)
 abbrev pub IsReading : List Text → Result Plan WordsFault → Type 0
 IsReading arguments result =
     (names : OptionNames) × IsReadAs (fault_of (arbiter_app names) arguments) (said_by names arguments) result

@@ -1,4 +1,4 @@
-//! Why there is no plan for the arguments.
+//! The faults of arguments.
 
 ghost use Rattle.std.specs.Prelude.{◌≡◌};
 ghost use Rattle.arbiter_cli.specs.declared.fault.WordsFault.TheVariants.{BadLevel, BadFen};
@@ -18,10 +18,10 @@ pub enum WordsFault {
     /// There was no memory to read them.
     #[error("no memory")]
     NoMemory,
-    /// The text of a match's level denotes no level.
+    /// A text of `--level`, `--white-level` or `--black-level` denotes no time control.
     #[error("bad level")]
     BadLevel(LevelFault),
-    /// The text of a match's start denotes no sound position.
+    /// The text of `--fen` denotes no sound position.
     #[error("illegal position ({})", .0.name())]
     BadFen(FenFault),
     /// The date of a match has more than 60 bytes, or one outside 32 to 126.
@@ -35,7 +35,7 @@ pub enum WordsFault {
 impl From<LevelFault> for WordsFault {
     ghost from_gives = { λ level fault. fault ≡ BadLevel level };
 
-    // The fault that `?` returns for a text that denotes no level: `BadLevel`.
+    // The fault that `?` returns for a text that denotes no time control: `BadLevel`.
     fn from(fault: LevelFault) -> WordsFault {
         WordsFault::BadLevel(fault)
     }

@@ -1,32 +1,32 @@
-//! The kinds that `--ignore` names.
+//! The kinds of fault that `--ignore` of `verify` names.
 
 ghost use Rattle.std.specs.Prelude.{◌≡◌, ◌==◌, option_map};
 ghost use Rattle.std.specs.List.{list_all, list_any, slice_split};
 ghost use Rattle.std.specs.Str.{bytes_eq};
 ghost use Rattle.arbiter_cli.specs.ties.Requests.{is_kind as kind_test, names_in};
 
-// Whether a kind with this name can be ignored.
+// Whether faults of a kind with this name can be ignored.
 fn is_kind(name: &str) -> bool
     ensures { result ≡ kind_test name.now }
 {
     name == "variant" || (name == "result" || (name == "board" || name == "after-end"))
 }
 
-// Whether a list, whose commas part its names, has only names of kinds that can be ignored.
+// Whether a list, with commas between its names, has only names of kinds that can be ignored.
 fn are_kinds(list: &str) -> bool
     ensures { result ≡ list_all kind_test (slice_split (λ b. b == 44) list.now) }
 {
     list.split(',').all(|name| is_kind(name))
 }
 
-// Whether a list, whose commas part its names, has this name.
+// Whether a list, with commas between its names, has this name.
 fn has_name(list: &str, name: &str) -> bool
     ensures { result ≡ list_any (bytes_eq name.now) (slice_split (λ b. b == 44) list.now) }
 {
     list.split(',').any(|part| name == part)
 }
 
-// Whether this kind is ignored, by the list that `--ignore` was given, if it was given.
+// Whether the list that `--ignore` was given has this kind; `list` is `None` without the option.
 pub(crate) fn is_ignored(list: Option<&str>, kind: &str) -> bool
     ensures { result ≡ list_any (bytes_eq kind.now) (names_in (option_map (λ t. t.now) list.entry)) }
 {
@@ -36,7 +36,8 @@ pub(crate) fn is_ignored(list: Option<&str>, kind: &str) -> bool
     }
 }
 
-// Whether all names in the list that `--ignore` was given, if it was given, are those of kinds that can be ignored.
+// Whether the list that `--ignore` was given has only names of kinds that can be ignored; `list` is `None` without the
+// option, and then true is returned.
 pub(crate) fn can_be_ignored(list: Option<&str>) -> bool
     ensures { result ≡ list_all kind_test (names_in (option_map (λ t. t.now) list.entry)) }
 {

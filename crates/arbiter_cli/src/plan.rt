@@ -1,4 +1,4 @@
-//! What arguments ask for.
+//! The plan that arguments ask for.
 
 ghost use Rattle.std.specs.Prelude.{◌≡◌, ◌&&◌, IfErr, IfOk, Ok, false, nat_le, option_map, true};
 ghost use Rattle.std.specs.List.{list_all};
@@ -50,7 +50,8 @@ fn is_date(text: &str) -> bool
     text.len() <= 60 && is_plain(text.as_bytes())
 }
 
-// The position in which games start: what the FEN denotes, or without one the initial position of the variant.
+// The position in which games start: the one that the FEN denotes in this variant, or without a FEN the variant's
+// initial position.
 fn start_of(variant: Variant, fen: Option<&str>) -> Result<Position, FenFault>
     ensures { result ≡ start_of variant (option_map (λ t. t.now) fen.entry) }
 {
@@ -61,7 +62,7 @@ fn start_of(variant: Variant, fen: Option<&str>) -> Result<Position, FenFault>
 }
 
 // How long a match waits for its engines: whether a flag falls as soon as the time is over, without waiting for a line,
-// and for how many seconds an engine's reply is waited for (`None`: without a limit), which are kept as milliseconds.
+// and for how many seconds an engine's reply is waited for (`None`: without a limit). The result has milliseconds.
 fn patience_of(flag: bool, seconds: Option<u16>) -> Patience
     ensures { result ≡ patience_by flag seconds }
 {
@@ -72,7 +73,7 @@ fn patience_of(flag: bool, seconds: Option<u16>) -> Patience
     Patience { flag, reply }
 }
 
-// The time control of an engine: its own, if it was given one, otherwise the common one.
+// The time control of an engine by the text of its own, if it was given one, otherwise the common one.
 fn own_level(text: Option<&str>, common: Level) -> Result<Level, LevelFault>
     ensures { result ≡ option_map_or level_reading (option_map (λ t. t.now) text.entry) (Ok common) }
 {

@@ -1,4 +1,4 @@
-//! What the arguments ask for, as written.
+//! The request of the arguments: the options as they are written.
 
 ghost use Rattle.std.specs.Prelude.{◌≡◌, ◌≤◌, ◌&&◌, ℕ, [], IfOk, IfSome, IsSome, true, codes, is_some, map, not, option_map, unwrap_or};
 ghost use Rattle.std.specs.List.{list_any};
@@ -15,8 +15,8 @@ use clap::ArgMatches;
 use pgn_verifier::{Strictness, VerifyOptions};
 use std::alloc::{AllocError, Global};
 
-/// The options of a match, not yet read as levels or positions. Each field has the value of the option of its name, and
-/// `reply` that of `--reply-timeout`, in seconds.
+/// The options of a match, not yet read as time controls or positions. Each field has the value of the option of its
+/// name, and `reply` that of `--reply-timeout`, in seconds.
 #[derive(Clone, Copy, Debug)]
 pub(crate) struct MatchRequest<'a> {
     pub white: &'a str,
@@ -34,8 +34,8 @@ pub(crate) struct MatchRequest<'a> {
     pub draws: Draws,
 }
 
-/// What the arguments ask for; texts are not yet read as levels or positions, and the kinds that `verify` ignores may
-/// be no kinds.
+/// What the arguments ask for; texts are not yet read as time controls or positions, and `ignored`, the list of
+/// `--ignore`, may name what is no kind.
 #[derive(Drop)]
 pub(crate) enum Request<'a> {
     Session,
@@ -90,7 +90,7 @@ fn is_looked_for(strict: bool, ignored: Option<&str>, kind: &str) -> bool
     strict && !is_ignored(ignored, kind)
 }
 
-// Which faults the flags of `verify` and the list `ignored` of `--ignore` ask for; `found` are the flags as matched.
+// Which faults the flags of `verify` and the list `ignored` of `--ignore` ask for; `found` are the options as matched.
 fn strictness(found: &ArgMatches<'_>, ignored: Option<&str>) -> Strictness
     requires { option_map (λ t. t.now) ignored ≡ first_of (codes "ignore") (rows_of (found_of found.now)) }
     ensures { result ≡ (verify_options_of (matched (rows_of (found_of found.now)))).strict }
@@ -105,8 +105,8 @@ fn strictness(found: &ArgMatches<'_>, ignored: Option<&str>) -> Strictness
     }
 }
 
-// What the flags of `verify` but `--keep-going`, and the list `ignored` of `--ignore`, ask for; `found` are the flags
-// as matched.
+// What the options of `verify` but `--keep-going` ask for; `ignored` is the list of `--ignore`, and `found` are the
+// options as matched.
 fn verify_options(found: &ArgMatches<'_>, ignored: Option<&str>) -> VerifyOptions
     requires { option_map (λ t. t.now) ignored ≡ first_of (codes "ignore") (rows_of (found_of found.now)) }
     ensures { result ≡ verify_options_of (matched (rows_of (found_of found.now))) }
@@ -120,7 +120,7 @@ fn verify_options(found: &ArgMatches<'_>, ignored: Option<&str>) -> VerifyOption
     }
 }
 
-// The arguments that follow `stub`, in their order; `found` are they as matched.
+// The arguments that follow `stub`, in their order; in `found`, as matched, they have the name `words`.
 fn stub_arguments<'a>(alloc: Global, found: &ArgMatches<'a>) -> Result<Vec<&'a str>, AllocError>
     ensures { IfOk result (λ v. map (λ w. w.now) v.items
         ≡ unwrap_or (all_of (codes "words") (rows_of (found_of found.now))) []) }

@@ -13,7 +13,7 @@ use Rattle.clap.specs.declared.builder.action.ArgAction.TheVariants.{Append, Set
 abbrev pub option_rule : Text → Rule
 option_rule name = record (new_rule name) { long = Some name; value_names = 1 }
 
--- the option `--NAME TEXT` with this name, which takes only a text that `parser` accepts, such as `Unsigned 1 1000`
+-- the option `--NAME TEXT` with this name, which takes only a text that `parser` accepts
 abbrev pub checked_rule : Text → ValueParser → Rule
 checked_rule name parser = record (option_rule name) { parser = Some parser }
 
@@ -21,16 +21,14 @@ checked_rule name parser = record (option_rule name) { parser = Some parser }
 abbrev pub flag_rule : Text → Rule
 flag_rule name = record (new_rule name) { long = Some name; action = Some SetTrue }
 
--- references to the lists of the names that `--variant` and `--draws` take, in their order; lists and names may be
--- anywhere in memory
+-- references to the lists of the names that `--variant` and `--draws` take; lists and names may be anywhere in memory
 pub record OptionNames : Type 0 where
   pub variants : Bor (List (Bor Text))
   pub draws : Bor (List (Bor Text))
   pub variants_are : map (λ n. n.now) variants.now ≡ codes "normal" ∷ codes "fischerandom" ∷ []
   pub draws_are : map (λ n. n.now) draws.now ≡ codes "claimed" ∷ codes "automatic" ∷ []
 
--- the subcommand `match` with its options, of which `--white` and `--black` are required. `Unsigned a b` takes the
--- numbers from a to b, both included
+-- the subcommand `match` with its options. `Unsigned a b` takes the numbers from a to b, both included
 abbrev pub match_app : OptionNames → App
 match_app names = fold with_rule (new_app (codes "match")) (
     record (option_rule (codes "white")) { required = true } ∷ record (option_rule (codes "black")) { required = true }
@@ -50,9 +48,8 @@ abbrev pub stub_app : App
 stub_app =
     with_rule (new_app (codes "stub")) (record (new_rule (codes "words")) { action = Some Append; value_names = 1 })
 
--- the whole grammar: `arbiter` with its subcommands, of which `session` has no options. It has `--version` but no
--- subcommand `help`, and its arguments don't begin with the program's name; `top` is `clap`'s name for what an app is
--- apart from its subcommands
+-- the whole grammar: `arbiter` with its subcommands and `--version`, but no subcommand `help`. Its arguments don't
+-- begin with the program's name. `top` is `clap`'s name for what an app is apart from its subcommands
 abbrev pub arbiter_app : OptionNames → App
 arbiter_app names = let a = new_app (codes "arbiter") in fold with_subcommand
     (record a { top = record a.top { has_version = true; no_binary_name = true; disable_help_subcommand = true } })
@@ -65,17 +62,15 @@ IsParsedBy names words (Ok m) = (fault_of (arbiter_app names) words ≡ [])
     × (subcommand_rows_of m ≡ subcommand_of (arbiter_app names) words)
 IsParsedBy names words (Err e) = HasKind (fault_of (arbiter_app names) words) e
 
--- the result of parsing the arguments `words` is right by the grammar, wherever in memory its names of variants and of
--- draws are
+-- the result of parsing these arguments is right by the grammar, wherever in memory its `names` are
 abbrev pub IsParsed : List Text → Result ArgMatches Error → Type 0
 IsParsed words result = (names : OptionNames) × IsParsedBy names words result
 
--- the text is the name of a subcommand: `session`, `verify`, `stub` or `match`
+-- the text is the name of a subcommand
 abbrev pub IsCommand : Text → Type 0
 IsCommand name = (name ≡ codes "session") ⊎ (name ≡ codes "verify") ⊎ (name ≡ codes "stub") ⊎ (name ≡ codes "match")
 
--- if the subcommand is `match`, both `--white` and `--black` were given; `p` is the subcommand's name and its options
--- as matched
+-- of `match` both `--white` and `--black` were given; `p` is the subcommand's name and its options as matched
 abbrev pub NamesBoth : Text × List Row → Type 0
 NamesBoth p = p.0 ≡ codes "match" → (is_some (first_of (codes "white") p.1) ≡ true)
     × (is_some (first_of (codes "black") p.1) ≡ true)
@@ -84,11 +79,11 @@ NamesBoth p = p.0 ≡ codes "match" → (is_some (first_of (codes "white") p.1) 
 abbrev pub HasNumber : Text → ℕ → List Row → Type 0
 HasNumber name most rows = (t : Text) → first_of name rows ≡ Some t → is_unsigned_in 1 most t ≡ true
 
--- the numbers of games and of seconds are in their ranges, if they were given; `rows` are the options as matched
+-- the numbers of games and of seconds, if they were given, are in their ranges; `rows` are the options as matched
 abbrev pub HasNumbers : List Row → Type 0
 HasNumbers rows = HasNumber (codes "games") 1000 rows × HasNumber (codes "reply-timeout") 999 rows
 
--- what was matched is a subcommand with all that it needs: of `match` both engines, and valid numbers where they are
--- given. `p` is the subcommand's name and its options as matched
+-- `p`, the name and the options of a subcommand as matched, has all that it needs: of `match` both engines, and valid
+-- numbers where they are given
 abbrev pub IsComplete : Text × List Row → Type 0
 IsComplete p = NamesBoth p × IsCommand p.0 × HasNumbers p.1

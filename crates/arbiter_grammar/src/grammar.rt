@@ -31,6 +31,7 @@ Examples:
 Exit status: 0 on success; 1 if an I/O error occurs, memory runs out, the input of verify is too long, an engine fails,
 or verify finds a fault; 2 if the arguments are invalid.";
 
+// The end of the help of `session`.
 const SESSION_EXAMPLES: &str = "\
 Commands, one per line:
   new                                start from the initial position of normal chess
@@ -50,6 +51,7 @@ A legal move gets no answer, unless it ends the game: then the result is printed
 Example:
   printf 'e2e4\\nshowfen\\n' | arbiter session";
 
+// The end of the help of `verify`.
 const VERIFY_EXAMPLES: &str = "\
 Prints one line per game: `game 1: 40 half-moves, 1-0`, or its first fault: `game 1: illegal move at byte 6`. Bytes are
 counted from 0. The exit status is 1 if a game has a fault.
@@ -84,6 +86,7 @@ Examples:
   arbiter verify --keep-going --quiet < games.pgn
   zcat games.pgn.gz | arbiter verify --keep-going --strict";
 
+// The end of the help of `stub`.
 const STUB_EXAMPLES: &str = "\
 On each turn the stub plays the next REPLY: a move; `resign`; or `end`, which closes its output in the middle of a
 line. After a move, `offer` offers a draw and `claim` claims one. When none is left, it resigns.
@@ -92,6 +95,7 @@ Examples:
   arbiter stub e2e4 g1f3 offer resign
   arbiter match --white \"arbiter stub f2f3 g2g4\" --black \"arbiter stub e7e5 d8h4\"";
 
+// The end of the help of `match`.
 const MATCH_EXAMPLES: &str = "\
 The first engine plays White in odd games and Black in even ones. Both must send `feature ping=1` and `done=1`. They
 must also send `setboard=1`, except in normal chess from its initial position: in Chess960 it is always needed. After

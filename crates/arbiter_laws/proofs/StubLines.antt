@@ -1,4 +1,4 @@
--- What stubs answer and play, by computation, and by the texts of their arguments.
+-- What stubs answer and play: each answer is computed from the definition of a stub, by the texts of its arguments.
 use Rattle.std.proofs.Common.{◌≡◌, ◌∙◌, ◌+◌, ℕ, Bor, true, List, [], ◌∷◌, ◌++◌, is_some, unwrap_or, if◌then◌else◌, refl, ap, bytes_eq, codes, cond, flat_map, take}
 use Rattle.std.specs.{Fmt.digits, List.prefix_len}
 use Rattle.chess_cecp.specs.Commands.{command_of, is_ignored, named_command}

@@ -17,7 +17,7 @@ command_name (Verify keep_going options) = codes "verify"
 command_name (Stub arguments) = codes "stub"
 command_name (Match plan) = codes "match"
 
--- each plan is asked for by the subcommand of its kind (`session`, `verify`, `stub` or `match`)
+-- each plan is asked for by the subcommand of its name
 abbrev pub PlansAreNamed : Type 0
 PlansAreNamed = (said : Said) (plan : Plan) → IsPlanOf said plan → said.command ≡ command_name plan
 
@@ -32,7 +32,6 @@ VerifyIsAsAsked = (said : Said) (keep_going : Bool) (options : VerifyOptions)
 
 -- `clap` accepts these arguments, and they ask for the subcommand `name` with no options given
 pub record AskFor (arguments : List Text) (name : Text) : Type 0 where
-  -- they have no fault
   pub taken : (names : OptionNames) → fault_of (arbiter_app names) arguments ≡ []
   pub named : (names : OptionNames) → (said_by names arguments).command ≡ name
   -- no option was given
@@ -41,11 +40,11 @@ pub record AskFor (arguments : List Text) (name : Text) : Type 0 where
   -- no kind of fault is to be ignored
   pub ignores : (names : OptionNames) → ignored_in (said_by names arguments).value ≡ []
 
--- `clap` refuses these arguments, and `kinds` are the kinds of fault that it may report for them
+-- `clap` refuses these arguments; `kinds` are the kinds of fault that it may report for them
 abbrev pub AreRefused : List Text → Kinds → Type 0
 AreRefused arguments kinds = (names : OptionNames) → fault_of (arbiter_app names) arguments ≡ kinds
 
--- what `verify` without flags asks for
+-- what `verify` without options asks for
 abbrev pub bare_options : VerifyOptions
 bare_options = record {
   quiet = false;
@@ -55,10 +54,10 @@ bare_options = record {
   explain = false;
 }
 
--- the plan of `verify` without flags
+-- the plan of `verify` without options
 abbrev pub bare_plan : Plan
 bare_plan = Verify false bare_options
 
--- the options of these arguments make the plan of `verify` without flags
+-- the options of these arguments make the plan of `verify` without options
 abbrev pub VerifyAsBare : List Text → Type 0
 VerifyAsBare arguments = (names : OptionNames) → verify_plan_of (said_by names arguments).value ≡ bare_plan

@@ -62,7 +62,7 @@ abbrev pub has_hyphen : Text → Bool
 has_hyphen [] = false
 has_hyphen (b ∷ bs) = b == 45
 
--- the text is a number from 1 to `most`, which may have a plus before it
+-- the text is a number from 1 to `most`, perhaps with a plus in front
 abbrev pub IsNumberTo : ℕ → Text → Type 0
 IsNumberTo most text = let digits = without_leading_plus text in
     IsNumeral 10 digits × (1 ≤ digits_value 10 digits) × (digits_value 10 digits ≤ most)
@@ -75,7 +75,7 @@ IsVariant text = (text ≡ codes "normal") ⊎ (text ≡ codes "fischerandom")
 abbrev pub IsDraws : Text → Type 0
 IsDraws text = (text ≡ codes "claimed") ⊎ (text ≡ codes "automatic")
 
--- `verify` has this option: one of its seven flags, or `--ignore`
+-- `verify` has this option
 abbrev pub IsOfVerify : Given → Type 0
 IsOfVerify (valued name value) = (has_hyphen value ≡ false) × (name ≡ codes "ignore")
 IsOfVerify (flag name) = (name ≡ codes "keep-going") ⊎ (name ≡ codes "quiet") ⊎ (name ≡ codes "strict")
@@ -96,8 +96,8 @@ IsOfMatch (flag name) = (name ≡ codes "log") ⊎ (name ≡ codes "flag")
 abbrev pub EachOnce : (Given → Type 0) → List Given → Type 0
 EachOnce IsOf options = AllByRecursion IsOf options × AllPairs (λ g h. name_of g ≢ name_of h) options
 
--- the command line is plain: its subcommand has these options, each given at most once; a match names both engines; and
--- nothing that a stub plays begins with a hyphen
+-- the command line is plain: each option is one of its subcommand's, and given at most once; a match names both
+-- engines; nothing that a stub plays begins with a hyphen
 abbrev pub IsPlain : CommandLine → Type 0
 IsPlain empty = ⊤
 IsPlain session = ⊤
@@ -106,8 +106,7 @@ IsPlain (stub replies) = AllByRecursion (λ reply. has_hyphen reply ≡ false) r
 IsPlain (match options) = EachOnce IsOfMatch options × IsSome (values_in options (codes "white"))
     × IsSome (values_in options (codes "black"))
 
--- whatever reading plain arguments returns is right by what they say, and `clap` has no fault to report (`[]`): the
--- grammar is met only as the premise that they were read
+-- whatever reading plain arguments returns is right by what they say; `clap` has no fault to report (`[]`)
 abbrev pub PlainArgumentsAreRead : Type 0
 PlainArgumentsAreRead = (line : CommandLine) (r : Result Plan WordsFault) → IsPlain line
     → IsReading (arguments_of line) r → IsReadAs [] (said_in line) r

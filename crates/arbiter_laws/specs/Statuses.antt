@@ -1,4 +1,4 @@
--- Exit statuses: of arguments for which there is no plan, of verifying, of sessions and of matches.
+-- The exit statuses of the program.
 use Rattle.std.specs.Prelude.{◌≡◌, ◌≢◌, ℕ, List, Ok, Err}
 use Rattle.clap.specs.Words.{kind_of}
 use Rattle.clap.specs.declared.error.Error.{Error}
@@ -16,15 +16,15 @@ use Rattle.match_runner.specs.declared.fault.GamesFault.{GamesFault}
 use Rattle.pgn_verifier.specs.declared.fault.VerifyFault.{VerifyFault}
 use Rattle.pgn_verifier.specs.declared.tally.Verified.TheVariants.{EachGame, FaultReported}
 
--- whenever this fault is why there is no plan, the program has this exit status
+-- whenever this fault is why there is no plan, the program's exit status is the expected one
 abbrev pub HasStatus : ℕ → WordsFault → Type 0
 HasStatus expected fault = (s s' : Surroundings) (steps : List HostStep) (status : ℕ)
     → Does (Err fault) s s' steps status → status ≡ expected
 
--- the exit statuses
+-- the exit status of each result and each fault
 pub record StatusesAreStated : Type 0 where
-  -- 2 for arguments that are refused: by `clap`, but for help and the version; for a level, a FEN, a date or a kind of
-  -- fault that is invalid; and for one that is no text
+  -- 2 for arguments that are refused: by `clap`, but for help and the version; for an invalid level, FEN, date or kind
+  -- of fault; and for one that is no text
   pub words : (e : Error) → kind_of e ≢ DisplayHelp → kind_of e ≢ DisplayVersion → HasStatus 2 (faults.Words e)
   pub level : (fault : LevelFault) → HasStatus 2 (faults.BadLevel fault)
   pub fen : (fault : FenFault) → HasStatus 2 (faults.BadFen fault)
@@ -33,14 +33,14 @@ pub record StatusesAreStated : Type 0 where
   pub no_text : fault_status InvalidArguments ≡ 2
   -- 1 if memory runs out
   pub memory : HasStatus 1 faults.NoMemory
-  -- of `verify`: 1 if a fault was reported, or if something failed, and 0 if all was verified and no fault was found
+  -- of `verify`: 1 if a fault was reported, or if something failed, otherwise 0
   pub faulty : verify_status (Ok FaultReported) ≡ 1
   pub faultless : verify_status (Ok EachGame) ≡ 0
   pub unverified : (fault : VerifyFault) → verify_status (Err fault) ≡ 1
-  -- of a session and of a stub: 1 if a read, a write or a flush failed, and otherwise 0
+  -- of a session and of a stub: 1 if a read, a write or a flush failed, otherwise 0
   pub served : (end : End) → status_of {A = End} {E = Fault} (Ok end) ≡ 0
   pub unserved : (fault : Fault) → status_of {A = End} {E = Fault} (Err fault) ≡ 1
-  -- of a match: 1 if it was not played to its end, and otherwise 0
+  -- of a match: 1 if it was not played to its end, otherwise 0
   pub played : (done : Unit {0}) → status_of {A = Unit {0}} {E = GamesFault} (Ok done) ≡ 0
   pub unplayed : (fault : GamesFault) → status_of {A = Unit {0}} {E = GamesFault} (Err fault) ≡ 1
   -- of faults before a plan is made

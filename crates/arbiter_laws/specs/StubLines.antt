@@ -1,4 +1,4 @@
--- Lines of an interface that a stub answers, as texts (CECP, version 2), and what it plays.
+-- Lines that a stub, an engine that plays given moves, answers (CECP, version 2).
 use Rattle.std.specs.Prelude.{◌≡◌, ℕ, true, false, List, [], ◌∷◌, codes}
 use Prim.Native.String.{String as Text}
 use Rattle.std.specs.Borrow.{Bor}
@@ -9,11 +9,11 @@ use Rattle.stub_engine.specs.Stub.{Arguments, StubState, playing, stub_response,
 abbrev pub stub_response_to : StubState → Text → Response StubState
 stub_response_to s line = stub_response s (record { text = codes line; too_long = false; ended = true })
 
--- in the state `s` a stub says this text after this line
+-- in the state `s` a stub answers this line with this text
 abbrev pub StubSays : StubState → Text → Text → Type 0
 StubSays s line answer = (stub_response_to s line).text ≡ codes answer
 
--- in the state `s` a stub says this text after this line, and goes on in the state `s'`
+-- in the state `s` a stub answers this line with this text, and goes on in the state `s'`
 pub record StubAnswers (s : StubState) (line answer : Text) (s' : StubState) : Type 0 where
   pub text : StubSays s line answer
   pub state : (stub_response_to s line).state ≡ s'
@@ -23,7 +23,7 @@ pub record StubAnswers (s : StubState) (line answer : Text) (s' : StubState) : T
 abbrev pub stub_features : Text
 stub_features = "feature ping=1 setboard=1 usermove=1 myname=\"stub\" done=1\n"
 
--- what a stub does with some lines: in the state `s`, with these arguments left, and with few
+-- how a stub answers some lines, in the state `s`, and with these or with few arguments left to play
 pub record StubLines (s : StubState) (arguments : Arguments) : Type 0 where
   -- its features are said to each version of the protocol
   pub features : StubAnswers s "protover 2" stub_features s
@@ -47,6 +47,6 @@ pub record StubLines (s : StubState) (arguments : Arguments) : Type 0 where
   pub offers : (a b : Bor (List ℕ)) → a.now ≡ codes "e2e4" → b.now ≡ codes "offer"
       → StubSays (waiting (a ∷ b ∷ [])) "go" "move e2e4\noffer draw\n"
 
--- stubs do this
+-- stubs answer so in every state, with any arguments
 abbrev pub StubLinesAreAnswered : Type 0
 StubLinesAreAnswered = (s : StubState) (arguments : Arguments) → StubLines s arguments

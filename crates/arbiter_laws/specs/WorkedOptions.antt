@@ -1,6 +1,4 @@
--- What options mean, worked out: the time controls of a match, the position in which its games start, how long its
--- engines are waited for, whether draws must be claimed, how many games are played, and what `verify` looks for and
--- writes.
+-- Worked examples of what the options of `match` and `verify` mean.
 use Rattle.std.specs.Prelude.{◌≡◌, true, false, List, [], ◌∷◌, codes, replicate, Some, None, Result, Ok, Err}
 use Rattle.std.specs.Result.{result_map_both}
 use Rattle.byte_devices.specs.Bytes.{byte, tab}
@@ -28,13 +26,15 @@ use Rattle.arbiter_laws.specs.PlainArguments.{Given, valued, flag, values_in}
 
 -- ---- time controls
 
--- 40 moves in 5 minutes; the game in 1 minute; and in 2 minutes
+-- 40 moves in 5 minutes
 abbrev pub forty_in_five : LevelSeen
 forty_in_five = record { moves = 40; base = 300000; increment = 0 }
 
+-- the game in 1 minute
 abbrev pub one_minute : LevelSeen
 one_minute = record { moves = 0; base = 60000; increment = 0 }
 
+-- the game in 2 minutes
 abbrev pub two_minutes : LevelSeen
 two_minutes = record { moves = 0; base = 120000; increment = 0 }
 
@@ -42,17 +42,19 @@ two_minutes = record { moves = 0; base = 120000; increment = 0 }
 abbrev pub AskForLevels : List Given → Result (LevelSeen × LevelSeen) LevelFault → Type 0
 AskForLevels options levels = levels_asked (values_in options) ≡ levels
 
--- the option of the common level, of White's own and of Black's own
+-- the option of the common level
 abbrev pub level_of_both : Text → Given
 level_of_both = valued (codes "level")
 
+-- the option of the first engine's own level
 abbrev pub level_of_white : Text → Given
 level_of_white = valued (codes "white-level")
 
+-- the option of the second engine's own level
 abbrev pub level_of_black : Text → Given
 level_of_black = valued (codes "black-level")
 
--- the time controls of both engines, by the common level, White's own and Black's own
+-- the time controls of both engines, by the common level and their own
 pub record LevelsAreRead : Type 0 where
   pub by_default : AskForLevels [] (Ok (forty_in_five, forty_in_five))
   pub common : AskForLevels (level_of_both (codes "0 1 0") ∷ []) (Ok (one_minute, one_minute))
@@ -88,7 +90,7 @@ pub record StartsAreAsked : Type 0 where
 abbrev pub dated : Text → Given
 dated = valued (codes "date")
 
--- the date that these options ask for; or, in place of a plan, the first fault of a level, the FEN or the date
+-- the date that these options ask for; or the first fault of a level, the FEN or the date
 abbrev pub date_asked : List Given → Result Text WordsFault
 date_asked options = result_map_both (λ r. r.2) (λ fault. fault) (levels_start_and_date (values_in options))
 
@@ -108,24 +110,27 @@ pub record DatesAreRead : Type 0 where
 
 -- ---- other options
 
--- the options `--flag`, `--reply-timeout 30`, and `--draws automatic`
+-- the option `--flag`
 abbrev pub flag_given : List Given
 flag_given = flag (codes "flag") ∷ []
 
+-- the option `--reply-timeout 30`
 abbrev pub thirty_seconds : List Given
 thirty_seconds = valued (codes "reply-timeout") (codes "30") ∷ []
 
+-- the option `--draws automatic`
 abbrev pub automatic_draws : List Given
 automatic_draws = valued (codes "draws") (codes "automatic") ∷ []
 
--- the options `--games 10` and `--log`
+-- the option `--games 10`
 abbrev pub ten_games : List Given
 ten_games = valued (codes "games") (codes "10") ∷ []
 
+-- the option `--log`
 abbrev pub log_given : List Given
 log_given = flag (codes "log") ∷ []
 
--- each plan of a match by two engines and these options is such
+-- `Is` holds of each plan of a match by two engines with these options
 abbrev pub PlansAre : List Given → (GamesPlan → Type 0) → Type 0
 PlansAre options Is = (white black : Text) (plan : GamesPlan)
     → IsMatchPlan (values_in (valued (codes "white") white ∷ valued (codes "black") black ∷ options)) plan → Is plan
@@ -134,7 +139,7 @@ PlansAre options Is = (white black : Text) (plan : GamesPlan)
 abbrev pub AskForPlan : List Given → Plan → Type 0
 AskForPlan options plan = verify_plan_of (values_in options) ≡ plan
 
--- these options of `verify` ask for this, and not for `--keep-going`
+-- these options of `verify`, without `--keep-going`, ask for this
 abbrev pub AskForOptions : List Given → VerifyOptions → Type 0
 AskForOptions given options = AskForPlan given (Verify false options)
 
@@ -148,7 +153,7 @@ lenient = bare_options.strict
 
 -- what options ask for
 pub record OptionsMean : Type 0 where
-  -- a time for replies is given in seconds and kept in milliseconds; without the option it has no end
+  -- the time for replies, given in seconds and kept in milliseconds; without the option it has no end
   pub reply : PlansAre thirty_seconds (λ plan. plan.patience.reply ≡ Some 30000)
   pub any_reply : PlansAre flag_given (λ plan. plan.patience.reply ≡ None)
   pub falls : PlansAre flag_given (λ plan. plan.patience.flag ≡ true)
@@ -167,15 +172,15 @@ pub record OptionsMean : Type 0 where
   pub spans : AskForOptions (flag (codes "spans") ∷ []) (record bare_options { spans = true })
   pub names : AskForOptions (flag (codes "names") ∷ []) (record bare_options { names = true })
   pub variations : LookFor (flag (codes "variations") ∷ []) (record lenient { variations = true })
-  -- `--strict` looks for three faults, but for those that `--ignore` names, which says nothing of them without it
+  -- `--strict` looks for three faults, but for those that `--ignore` names
   pub strict : LookFor (flag (codes "strict") ∷ []) (record lenient { variant = true; result = true; board = true })
   pub no_board : LookFor (flag (codes "strict") ∷ valued (codes "ignore") (codes "board") ∷ [])
       (record lenient { variant = true; result = true })
   pub only_board : LookFor (flag (codes "strict") ∷ valued (codes "ignore") (codes "variant,result") ∷ [])
       (record lenient { board = true })
   pub not_strict : AskForPlan (valued (codes "ignore") (codes "board") ∷ []) bare_plan
-  -- after fivefold repetition and 75 moves a game may go on, with `--strict` or without
+  -- after fivefold repetition and 75 moves a game may go on
   pub after_end : LookFor (valued (codes "ignore") (codes "after-end") ∷ []) (record lenient { draws_of_2014 = false })
-  -- the kinds that it may name, one or several, and another
+  -- the kinds that `--ignore` may name, and another
   pub kinds : ignores_kinds (values_in (valued (codes "ignore") (codes "variant,result,board,after-end") ∷ [])) ≡ true
   pub other_kind : ignores_kinds (values_in (valued (codes "ignore") (codes "result,moves") ∷ [])) ≡ false

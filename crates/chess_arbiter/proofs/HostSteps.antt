@@ -1,4 +1,4 @@
--- Where no step passed at the host, what it will give later is as before: the case of all commands but `match`.
+-- Where no step passes at the host, just the same steps may come there as before: the case of all commands but `match`.
 use Rattle.std.proofs.Common.{List, []}
 use Rattle.match_runner.specs.GamesTable.{HostStep, StepsPass}
 

@@ -34,14 +34,13 @@ use Rattle.chess_game.specs.declared.game.TheConstants.{MOST_MOVES}
 abbrev pub status_of : {A E : Type 0} → Result A E → ℕ
 status_of result = if is_ok result then 0 else 1
 
--- the exit status of a fault: 2 for invalid arguments, otherwise 1
+-- the exit status of a fault of the program
 abbrev pub fault_status : ProgramFault → ℕ
 fault_status InvalidArguments = 2
 fault_status _ = 1
 
--- the server `respond`, which began in the state `s`, answered the lines of the input on the output (`Served`), and the
--- devices went from the states `d` to `d'`. `result` is how the run ended, `s'` the server's state then. The exit
--- status is 1 if a read, a write or a flush failed, otherwise 0
+-- the server `respond` began in the state `s` and answered the lines of the input on the output (`Served`), which took
+-- the devices from `d` to `d'`. The exit status is 1 if a read, a write or a flush failed, otherwise 0
 abbrev pub Serves : {S : Type 0} → Server S → S → Devices → Devices → ℕ → Type 0
 Serves {S} respond s d d' status =
     (result : Result End Fault) × (s' : S) × Ran (Served respond s s' result) d d' × (status ≡ status_of result)
@@ -51,46 +50,43 @@ abbrev pub verify_status : Result Verified VerifyFault → ℕ
 verify_status (Ok EachGame) = 0
 verify_status _ = 1
 
--- some text, such as the help, was written to the output, which went from the state `w` to `w'` (which text, is not
--- said). With the exit status 0 all of it was written and flushed. With 1 the output is as before, as when memory ran
--- out, or a beginning of the text, maybe nothing or all, was written before a write or a flush failed
+-- some text (which is not said) was written to the output, which went from the state `w` to `w'`. With the exit status
+-- 0 all of it was written and flushed. With 1 a write or a flush failed after a beginning of it, maybe nothing or all;
+-- or the output is as before, as when memory ran out
 abbrev pub WritesHelp : OutputState → OutputState → ℕ → Type 0
 WritesHelp w w' status = ((status ≡ 0) × (text : List ℕ) × OutputTook w w' (all_of text))
     ⊎ ((status ≡ 1) × ((w' ≡ w) ⊎ ((text : List ℕ) × (o : ToOutput) × OutputTook w w' o × BreaksOffIn nothing text o)))
 
--- what is done with arguments for which there is no plan, by the fault that says why: the output goes from the state
--- `w` to `w'`, and `status` is the exit status. What is written to the error output is not said
+-- what is done with arguments for which there is no plan, by the fault that says why: the output goes from `w` to `w'`,
+-- and `status` is the exit status. What is written to the error output is not said
 abbrev pub ReportsArguments : WordsFault → OutputState → OutputState → ℕ → Type 0
--- an error of `clap`, the parser of arguments: a request for help or for the version, which counts as one; or any
--- other, with which nothing is written and the status is 2
+-- an error of `clap`, the parser of arguments: a request for help or for the version counts as one
 ReportsArguments (faults.Words e) w w' status =
     (((kind_of e ≡ DisplayHelp) ⊎ (kind_of e ≡ DisplayVersion)) × WritesHelp w w' status)
     ⊎ ((kind_of e ≢ DisplayHelp) × (kind_of e ≢ DisplayVersion) × (w' ≡ w) × (status ≡ 2))
--- memory ran out
 ReportsArguments faults.NoMemory w w' status = (w' ≡ w) × (status ≡ 1)
 -- an invalid level, FEN or date of a match, or an invalid kind to ignore
 ReportsArguments _ w w' status = (w' ≡ w) × (status ≡ 2)
 
--- this text was written to the output of a log, even if the log was broken, and the log went from the state `l` to
--- `l'`; it is broken in `l'` just if it is in `l`. `failed` is whether a write or a flush of the text failed
+-- this text was written to a log's output, even if the log was broken; the log went from the state `l` to `l'`, and is
+-- broken just if it was. `failed` is whether a write or a flush of the text failed
 abbrev pub Reports : List ℕ → LogSeen → LogSeen → Type 0
 Reports text l l' = (l'.broken ≡ l.broken)
     × ((failed : Bool) × Logged (record l { broken = false }) (record l' { broken = failed }) text)
 
 -- what contracts see of the program's input, output and error output
 pub record Surroundings : Type 0 where
-  -- its input and its output
+  -- input and output
   pub devices : Devices
-  -- its error output, seen as a log (an output, and whether it is broken), since a match writes its log there
+  -- its error output, as a log (an output, and whether it is broken), since a match writes its log there
   pub errors : LogSeen
 
 -- the program did what its plan says, or what the fault calls for if there is no plan (`Err`). `s` and `s'` are its
--- surroundings before and after, `steps` the steps that passed at its host, `status` its exit status. Only the host
--- starts engines and has a clock, and only a match has steps there. What happens to the error output is said only for a
--- match
+-- surroundings before and after, `steps` the steps at its host, which starts engines and has the clock, `status` its
+-- exit status. What happens to the error output is said only for a match
 abbrev pub Does : Result Plan WordsFault → Surroundings → Surroundings → List HostStep → ℕ → Type 0
--- a session ran on input and output, from the initial position of normal chess, with the tags of a game of which
--- nothing is known and at most 20,000 half-moves. Or nothing was read or written, as when memory ran out
+-- a session ran, from the initial position of normal chess, with the tags of a game of which nothing is known and at
+-- most 20,000 half-moves. Or nothing was read or written, as when memory ran out
 Does (Ok Session) s s' steps status = (steps ≡ []) × (Serves session_response (opened_session default_tags MOST_MOVES)
     s.devices s'.devices status ⊎ ((s'.devices ≡ s.devices) × (status ≡ 1)))
 -- the input's games were verified, with `--keep-going` piece by piece, otherwise as one text, up to its first fault
@@ -100,20 +96,18 @@ Does (Ok (Verify keep_going options)) s s' steps status = (steps ≡ [])
 -- a stub engine ran on input and output
 Does (Ok (Stub arguments)) s s' steps status =
     (steps ≡ []) × Serves stub_response (waiting arguments.items) s.devices s'.devices status
--- nothing of the input was read. The games of the match were played, written, and logged on the error output
--- (`PlaysGamesWith`), whose state was `logged` then; after that a fault, if any, was reported on it. The status is 1 if
--- `result` is a fault, otherwise 0
+-- the games of a match were played, written and logged (`PlaysGamesWith`); then a fault, if any, was reported on the
+-- error output, which was `logged` by then
 Does (Ok (Match plan)) s s' steps status = (s'.devices.input ≡ s.devices.input)
     × ((result : Result (Unit {0}) GamesFault) × (logged : LogSeen) × PlaysGamesWith plan result steps
     (record { output = s.devices.output; log = s.errors }) (record { output = s'.devices.output; log = logged })
     × (status ≡ status_of result) × Reports (report_of result) logged s'.errors)
--- no plan: nothing of the input is read
+-- there is no plan
 Does (Err fault) s s' steps status = (steps ≡ [])
     × (s'.devices.input ≡ s.devices.input) × ReportsArguments fault s.devices.output s'.devices.output status
 
--- the program ran with these arguments: there is a right reading of them (`IsReading`), a plan or a fault, by which it
--- did what `Does` says. `s` and `s'` are its surroundings before and after, `steps` the steps at its host, `status` its
--- exit status
+-- the program ran with these arguments: by a right reading of them (`IsReading`), a plan or a fault, it did what `Does`
+-- says
 abbrev pub RanProgram : List Text → Surroundings → Surroundings → List HostStep → ℕ → Type 0
 RanProgram arguments s s' steps status =
     (read : Result Plan WordsFault) × IsReading arguments read × Does read s s' steps status

@@ -1,4 +1,4 @@
-//! What the program writes on its error output.
+//! The faults of the program, and how they are written to its error output.
 
 ghost use Rattle.std.specs.Prelude.{◌≡◌};
 ghost use Rattle.chess_arbiter.specs.Program.{fault_status};
@@ -44,7 +44,7 @@ impl ProgramFault {
 impl From<Fault> for ProgramFault {
     ghost from_gives = { λ cause fault. fault ≡ fault_of cause };
 
-    // The fault of the same device.
+    // The fault of the program for a read or a write that failed while lines were answered.
     fn from(fault: Fault) -> ProgramFault {
         match fault {
             Fault::Read => ProgramFault::ReadFailed,

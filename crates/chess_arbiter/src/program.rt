@@ -29,7 +29,7 @@ use std::alloc::{AllocError, Global};
 use std::fmt::Display;
 use stub_engine::Stub;
 
-// A session at the initial position, of at most 20,000 half-moves, on boards that use these tables of attacks.
+// Opens a session at the initial position, of at most 20,000 half-moves, on boards that use these tables of attacks.
 fn open_session<'t>(
     alloc: Global,
     tables: &'t AttackTables,
@@ -52,7 +52,7 @@ fn status_of<E: Output>(outcome: Result<(), ProgramFault>, errors: &mut E) -> u8
     }
 }
 
-// Runs a session on the input and the output; a fault if input, output or memory failed.
+// Runs a session on the input and the output; returns a fault if input, output or memory failed.
 fn session<R: Input, W: Output>(
     alloc: Global,
     input: &mut R,
@@ -70,7 +70,8 @@ fn session<R: Input, W: Output>(
     Ok(())
 }
 
-// Runs a stub, an engine that plays these arguments, on the input and the output; a fault if input or output failed.
+// Runs a stub, an engine that plays these arguments, on the input and the output; returns a fault if input or output
+// failed.
 fn stub<R: Input, W: Output>(
     arguments: &[&str],
     input: &mut R,
@@ -136,7 +137,8 @@ fn verified<R: Input, W: Output, E: Output>(
     }
 }
 
-// Writes the text `help` to the output; a fault if the output or memory failed.
+// Writes the text `help`, which is the help or the version, to the output; returns a fault if the output or memory
+// failed.
 fn write_help<W: Output, D: Display>(
     alloc: Global,
     help: &D,
@@ -149,7 +151,8 @@ fn write_help<W: Output, D: Display>(
     Ok(())
 }
 
-// Writes the text `text` to the output, and returns the exit status: 0, or 1 if the output or memory failed.
+// Writes `text`, the help or the version, to the output, and returns the exit status: 0, or 1 if the output or memory
+// failed.
 fn help<W: Output, E: Output, D: Display>(
     alloc: Global,
     text: &D,
@@ -188,8 +191,8 @@ fn report_words<E: Output>(errors: &mut E, arguments: &[&str], error: &Error) {
     }
 }
 
-// Reports why the arguments ask for nothing, and returns the exit status: help and the version go to the output, all
-// else to the error output.
+// Reports why there is no plan for these arguments, and returns the exit status: help and the version go to the output,
+// all else to the error output.
 fn report_arguments<W: Output, E: Output>(
     alloc: Global,
     arguments: &[&str],

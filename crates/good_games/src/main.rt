@@ -10,7 +10,7 @@ use chess_pgn::read_pgn;
 use pgn_pieces::PgnPieces;
 use std::alloc::Global;
 
-// Whether each game of a text can be read and played; `game` is only room for the games.
+// Whether each game of a text can be read and played; `game` is the room in which they are played.
 fn are_good(text: &[u8], game: &mut Game<Bits<'_>>) -> bool {
     let mut at = 0;
     for _ in 0..=text.len() {
@@ -27,7 +27,7 @@ fn are_good(text: &[u8], game: &mut Game<Bits<'_>>) -> bool {
     false
 }
 
-// Copies the good pieces of the input to the output.
+// Copies the pieces of the input of which each game is good to the output.
 fn copy_good<R: Input, W: Output>(alloc: Global, input: &mut R, output: &mut W) -> Result<()> {
     let tables = AttackTables::open(alloc)?;
     let mut game = Game::open(alloc, Bits::new(&tables), MOST_MOVES)?;
@@ -46,6 +46,7 @@ fn copy_good<R: Input, W: Output>(alloc: Global, input: &mut R, output: &mut W) 
     Ok(())
 }
 
+// Copies the good pieces of standard input to standard output.
 fn main(rt: HostRuntime) -> Result<()> {
     let mut input = Counted::reading(rt.stdin());
     let mut output = Counted::writing(rt.stdout());

@@ -9,7 +9,7 @@ use chess_text::san;
 use std::alloc::Global;
 use std::io::{self, BufRead, BufReader, BufWriter, Write};
 
-// Writes how many legal moves there are at the board's position, and the SAN of each.
+// Writes a line with the number of legal moves at the board's position, and the SAN of each.
 fn write_moves<B: Board, W: Write>(board: &mut B, output: &mut W) -> io::Result<()> {
     let moves = board.legal_moves();
     write!(output, "{}", moves.len())?;
@@ -23,7 +23,7 @@ fn write_moves<B: Board, W: Write>(board: &mut B, output: &mut W) -> io::Result<
     writeln!(output)
 }
 
-// Answers each line of the input by one line of the output.
+// Writes a line for each line of the input: the legal moves of a FEN's position, or the line's number and its fault.
 fn answer<R: BufRead + Drop, W: Write>(alloc: Global, input: R, output: &mut W) -> io::Result<()> {
     let tables = AttackTables::open(alloc)?;
     let mut board = Bits::new(&tables);
@@ -39,6 +39,7 @@ fn answer<R: BufRead + Drop, W: Write>(alloc: Global, input: R, output: &mut W) 
     output.flush()
 }
 
+// Answers standard input on standard output.
 fn main(rt: HostRuntime) -> io::Result<()> {
     let input = BufReader::new(rt.alloc(), rt.reader())?;
     let mut output = BufWriter::new(rt.alloc(), io::writer(&rt))?;

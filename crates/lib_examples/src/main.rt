@@ -8,6 +8,7 @@ mod programs;
 
 use anyhow::Result;
 
+// Runs the examples of all three modules.
 fn main(rt: HostRuntime) -> Result<()> {
     bytes::run(&rt)?;
     chess::run(&rt)?;

@@ -17,7 +17,8 @@ use pgn_verifier::{LENIENT, Verified, VerifyOptions, verify};
 use std::alloc::Global;
 use stub_engine::Stub;
 
-// cecp_engine: reads a line of features item by item, and what time White's clock has at the beginning.
+// cecp_engine: reads a line of features item by item. Returns whether it has `ping=1`, and the milliseconds on White's
+// clock at the beginning.
 fn features_and_clock() -> Result<(bool, u64)> {
     let mut features = Features::new();
     if let EngineLine::Features(text) = read_engine_line(b"feature ping=1 done=1") {

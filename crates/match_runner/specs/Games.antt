@@ -38,18 +38,16 @@ use Rattle.chess_game.specs.declared.game.TheConstants.{MOST_MOVES}
 abbrev pub first_side : ℕ → Colour
 first_side number = if number % 2 == 1 then White else Black
 
--- the command of the engine that has the side `side` in the game of this number: `plan.white` if that is the engine of
--- `--white` (`first_side`), otherwise `plan.black`
+-- the command of the engine that has the side `side` in the game of this number
 abbrev pub engine_command : GamesPlan → ℕ → Colour → List ℕ
 engine_command plan number side = if same_colour side (first_side number) then plan.white.now else plan.black.now
 
--- the time control of the engine that has the side `side` in the game of this number: `plan.white_level` if that is the
--- engine of `--white` (`first_side`), otherwise `plan.black_level`
+-- the time control of the engine that has the side `side` in the game of this number
 abbrev pub engine_level : GamesPlan → ℕ → Colour → LevelSeen
 engine_level plan number side = if same_colour side (first_side number) then plan.white_level else plan.black_level
 
--- what the game of this number begins from: start, patience and draws are the plan's for all games; each side has the
--- time control of its engine in this game
+-- what the game of this number begins from: the plan's start, patience and draws, and each side with its engine's time
+-- control
 abbrev pub setup_of : GamesPlan → ℕ → Setup
 setup_of plan number = record {
   start = plan.start;
@@ -63,8 +61,8 @@ setup_of plan number = record {
 abbrev pub player_name : List ℕ → List ℕ → List ℕ
 player_name name command = cut_tag (if length name == 0 then command else name)
 
--- the PGN tags of the game of this number, which ended as `end` says; texts are cut to 60 bytes (`cut_tag`). `pgn` adds
--- the tags that depend on the start and the outcome, such as FEN and Result
+-- the PGN tags of the game of this number, which ended as `end` says; `cut_tag` cuts to 60 bytes. `pgn` adds the tags
+-- that depend on the start and the outcome, such as FEN and Result
 abbrev pub tags_of : GamesPlan → ℕ → MatchEnd → Tags
 tags_of plan number end = record default_tags {
   event = codes "CECP match";
@@ -96,7 +94,7 @@ report_of (Err fault) = codes "arbiter: " ++ fault_text fault ++ new_line ∷ []
 pub record GameRecord : Type 0 where
   -- before it was played: the engines' pipes, the clock's readings to come, and a game of which only the limit counts
   pub before : World
-  -- the same after it was played; now the game has this game's start, moves and result
+  -- the same after it was played, with this game's start, moves and result
   pub after : World
   -- how it ended
   pub end : MatchEnd
@@ -109,10 +107,9 @@ pub record GameRecord : Type 0 where
 abbrev pub none_killed : ByColour Bool
 none_killed = record { white = false; black = false }
 
--- `played` is the record of a game that was played as the plan says for the game of this number, with at most 20,000
--- half-moves (`MOST_MOVES`). If the plan has no limit for replies (`None`), no engine was killed. The record agrees
--- with some acts `H` and some reason for the end: its notes are those of `H`, and the acts led from `before` to `after`
--- and ended as `end` says (`PlayedBy`). `steps_by` says which engines played
+-- `played` was played as the plan says for the game of this number, with at most 20,000 half-moves; without a limit for
+-- replies no engine was killed. Some acts `H` of the arbiter, whose notes are the record's, led from `before` to
+-- `after` and ended as `end` says (`PlayedBy`). `steps_by` says which engines played
 abbrev pub IsOfPlan : GamesPlan → ℕ → GameRecord → Type 0
 IsOfPlan plan number played = (played.before.game.limit ≡ MOST_MOVES)
     × (plan.patience.reply ≡ None → played.killed ≡ none_killed)
@@ -123,26 +120,25 @@ IsOfPlan plan number played = (played.before.game.limit ≡ MOST_MOVES)
 abbrev pub game_text : GamesPlan → ℕ → GameRecord → List ℕ
 game_text plan number played = pgn [] (tags_of plan number played.end) played.after.game.state
 
--- the fault is that an engine could not be started whose command is `first` or `second`, or that memory ran out
+-- the fault is that an engine with the command `first` or `second` could not be started, or that memory ran out
 abbrev pub IsStartFault : List ℕ → List ℕ → GamesFault → Type 0
 IsStartFault first second (CanNotStart command) = (command.now ≡ first) ⊎ (command.now ≡ second)
 IsStartFault first second fault = fault ≡ NoMemory
 
--- from the log's state `l` to `l'` a game with these notes was logged, in which the engine of `--white` had the side
--- `first`; or, if no side is given (`None`), nothing was logged. A write of the log may fail (`Logged`)
+-- a game with these notes was logged, from the log's state `l` to `l'`; `first` is the side of the engine of `--white`.
+-- With `None` nothing was logged
 abbrev pub LogsGame : Option Colour → LogSeen → LogSeen → List Note → Type 0
 LogsGame None l l' notes = l' ≡ l
 LogsGame (Some first) l l' notes = Logged l l' (log_from first 0 notes)
 
 -- ---- the games
 
--- each of these games was played as the plan says for its number, from 1 on, and no engine had a fault in it
+-- each of these games, numbered from 1, was played as the plan says, and no engine had a fault in it
 abbrev pub FaultlessGames : GamesPlan → List GameRecord → Type 0
 FaultlessGames plan games =
     AllByRecursion (λ g. IsOfPlan plan g.0 g.1 × (g.1.end.fault ≡ None)) (enumerate_from 1 games)
 
--- what `f` gives for each of these games, one after another. The arguments of `f` are the game's number, from 1 on, and
--- its record
+-- what `f` gives for each of these games, one after another, by its number, from 1 on, and its record
 abbrev pub game_by_game : {A : Type 0} → (ℕ → GameRecord → List A) → List GameRecord → List A
 game_by_game f games = flat_map (λ g. f g.0 g.1) (enumerate_from 1 games)
 
@@ -156,20 +152,19 @@ abbrev pub killed_line : ℕ → Colour → List ℕ
 killed_line number side = codes "arbiter: game " ++ decimal number ++ codes ": " ++ colour_name side
     ++ codes " did not exit, and was killed" ++ new_line ∷ []
 
--- the lines on the engines that were killed (`killed`) after the game of this number, White's first
+-- the lines on the engines that were killed after the game of this number, White's first
 abbrev pub killed_lines : ℕ → ByColour Bool → List ℕ
 killed_lines number killed =
     list_if killed.white (killed_line number White) ++ list_if killed.black (killed_line number Black)
 
 -- what is logged of the game `played`, which has this number: the lines of its notes, if the plan asks for a log, and
--- in any case a line for each engine that was killed. The first note comes before any reading of the clock, so
--- `log_from` is given the moment 0
+-- in any case a line for each engine that was killed
 abbrev pub game_log : GamesPlan → ℕ → GameRecord → List ℕ
 game_log plan number played = list_if plan.log (log_from (first_side number) 0 played.notes)
     ++ killed_lines number played.killed
 
--- what is logged of these games (`game_log`), numbered from 1, was given to the log as one text, and the log went from
--- the state `l` to `l'`. A write may have failed; if the text is empty, nothing changed (`Logged`)
+-- these games, numbered from 1, were logged as one text (`game_log`), from the log's state `l` to `l'`; a write may
+-- have failed (`Logged`)
 abbrev pub LogsGames : GamesPlan → LogSeen → LogSeen → List GameRecord → Type 0
 LogsGames plan l l' games = Logged l l' (game_by_game (game_log plan) games)
 
@@ -178,8 +173,8 @@ LogsGames plan l l' games = Logged l l' (game_by_game (game_log plan) games)
 abbrev pub count_of : (ℕ → Outcome) → List GameRecord → ℕ
 count_of wanted games = count_by (λ g. same_outcome g.1.end.outcome (wanted g.0)) (enumerate_from 1 games)
 
--- the last line that a match of these games writes to the output, such as
--- `score first 1 second 0 drawn 2 unfinished 0`. The engine of `--white` is the first
+-- the last line of a match of these games, such as `score first 1 second 0 drawn 2 unfinished 0`. The engine of
+-- `--white` is the first
 abbrev pub score_line : List GameRecord → List ℕ
 score_line games = codes "score first " ++ decimal (count_of (λ number. win_of (first_side number)) games)
     ++ codes " second " ++ decimal (count_of (λ number. win_of (other (first_side number))) games)
@@ -189,52 +184,45 @@ score_line games = codes "score first " ++ decimal (count_of (λ number. win_of 
 -- `games` are all games of a match by this plan: as many as planned, or those up to and with the first in which an
 -- engine had a fault. The last argument is that fault (the game's number, the engine's side, the fault), or `None`
 abbrev pub AreAllGames : GamesPlan → List GameRecord → Option (ℕ × Colour × MatchFault) → Type 0
--- all planned games, without a fault
 AreAllGames plan games None = FaultlessGames plan games × (length games ≡ plan.games)
--- in the last game, which has this number, the engine of `side` had this fault; in those before it there was none
+-- in the last game the engine of `side` had this fault; in those before it there was none
 AreAllGames plan games (Some (number, side, fault)) =
     (before : List GameRecord) × (last : GameRecord) × (games ≡ before ++ last ∷ []) × FaultlessGames plan before
     × IsOfPlan plan number last × (last.end.fault ≡ Some (side, fault)) × (number ≡ length games) × (number ≤ plan.games)
 
 -- ---- what a match writes
 
--- what goes to an output if the PGN of these games is written and flushed without a failure; with no games there is no
--- flush
+-- the PGN of these games, written and flushed without a failure; without games there is no flush
 abbrev pub games_flushed : GamesPlan → List GameRecord → ToOutput
 games_flushed plan games = all_flushed (nat_lt 0 (length games)) (game_texts plan games)
 
--- `o` is what a match by this plan writes to the output, by its result. The PGN of `games` was written and flushed.
--- `unwritten` is the game after them, if it was played, but its PGN could not be written; otherwise `None`. All were
--- played as the plan says (`IsOfPlan`)
+-- `o` is what a match by this plan writes to the output, by its result. The PGN of `games` was written and flushed;
+-- `unwritten` (`None`: no game) was played after them, but could not be written
 abbrev pub WritesGames : GamesPlan → Result (Unit {0}) GamesFault → List GameRecord → Option GameRecord → ToOutput
     → Type 0
--- all planned games were played without a fault; their PGN and the score were written and flushed
+-- all planned games were played without a fault, and the score was written
 WritesGames plan (Ok _) games None o =
     AreAllGames plan games None × (o ≡ all_of (game_texts plan games ++ score_line games))
--- in the last game, which has this number, an engine had the fault that `text` names; the PGN of all games, also of
--- this one, and the score were written and flushed
+-- in the last game, which has this number, an engine had the fault that `text` names; the score was written
 WritesGames plan (Err (Game number text)) games None o = (side : Colour) × (fault : MatchFault)
     × AreAllGames plan games (Some (number, side, fault)) × (text.now ≡ comment_of (Faulted side fault))
     × (o ≡ all_of (game_texts plan games ++ score_line games))
--- a write or flush failed in the PGN of `unwritten`, which has the next number: a beginning of it, maybe nothing or
--- all, was written. In `games` there was no fault
+-- a write or flush failed in the PGN of `unwritten`: a beginning of it, maybe nothing or all, was written
 WritesGames plan (Err WriteFailed) games (Some unwritten) o =
     FaultlessGames plan games × (length games < plan.games) × IsOfPlan plan (length games + 1) unwritten
     × BreaksOffIn (games_flushed plan games) (game_text plan (length games + 1) unwritten) o
 -- a write or flush failed in the score, after all games, the last of which may have a fault
 WritesGames plan (Err WriteFailed) games None o = (fault : Option (ℕ × Colour × MatchFault))
     × AreAllGames plan games fault × BreaksOffIn (games_flushed plan games) (score_line games) o
--- `CanNotStart` or `NoMemory`: in `games` there was no fault; the engines of the next game could not be started, and no
--- score was written
+-- `CanNotStart` or `NoMemory`: the engines of the next game could not be started, and no score was written
 WritesGames plan (Err fault) games None o = FaultlessGames plan games × (length games < plan.games)
     × IsStartFault plan.white.now plan.black.now fault × (o ≡ games_flushed plan games)
--- no other result comes with a game that was played and could not be written
+-- no other result comes with an unwritten game
 WritesGames plan _ games (Some unwritten) o = ⊥
 
--- what playing a match does, by its result; the output goes from the state `w` to `w'`, the log from `l` to `l'`.
--- Either `games`, maybe none, were played and written, and maybe one more, `unwritten`, was played but could not be
--- written (`WritesGames`); all of them were logged (`LogsGames`). Or memory ran out before the first game, and nothing
--- was written or logged
+-- what playing a match does, by its result, to the output (from `w` to `w'`) and the log (from `l` to `l'`): `games`
+-- were written, and all games logged, also `unwritten`, which could not be written, if there is one. Or memory ran out
+-- first, and nothing was written or logged
 abbrev pub PlaysGames : GamesPlan → Result (Unit {0}) GamesFault → OutputState → OutputState → LogSeen → LogSeen
     → Type 0
 PlaysGames plan result w w' l l' =

@@ -1,5 +1,5 @@
--- What a log of a match holds: a line for each line that an engine sends or is sent, as in XBoard's debug file, and
--- lines for other events, such as the end of an engine's output.
+-- The log of a match: a line for each line that an engine sends or is sent, as in XBoard's debug file, and for other
+-- events, such as the end of an engine's output.
 use Rattle.std.specs.Prelude.{◌≡◌, ℕ, ◌==◌, nat_lt, if◌then◌else◌, List, [], ◌∷◌, ◌++◌, length, flat_map, map, codes, decimal, Bool, true, false, Some, None}
 use Rattle.std.specs.List.{onto_first}
 use Rattle.byte_devices.specs.Bytes.{byte, new_line, shown_byte}
@@ -13,14 +13,14 @@ use Rattle.match_runner.specs.declared.log.Log.{Log}
 
 -- ---- one line
 
--- how a log names the engine of the side `side`: `first : ` if `side` is `first_side`, the side of the engine of
--- `--white` in this game; otherwise `second: `
+-- how a log names the engine of the side `side`: `first : ` is the engine of `--white`, which has the side `first_side`
+-- in this game
 abbrev pub engine_name : Colour → Colour → List ℕ
 engine_name first_side side = if same_colour side first_side then codes "first : " else codes "second: "
 
 -- a line of a log, such as `312 <first : move e2e4`: the moment `now` in milliseconds; `mark`, which is `<` if the
--- engine sent the text, `>` if it was sent it (even if that failed), `!` if the text says what happened; the name of
--- the engine; and `text`, with `?` for each byte that is not printable ASCII
+-- engine sent the text, `>` if it was sent it (even if that failed), `!` if the text says what happened; the engine's
+-- name; and `text`, with `?` for each byte that is not printable ASCII
 abbrev pub log_line : ℕ → ℕ → List ℕ → List ℕ → List ℕ
 log_line now mark engine text = decimal now ++ (byte " " ∷ mark ∷ []) ++ engine ++ map shown_byte text ++ new_line ∷ []
 
@@ -31,9 +31,8 @@ abbrev pub lines_in : List ℕ → List (List ℕ)
 lines_in [] = []
 lines_in (b ∷ bs) = if b == new_line then [] ∷ lines_in bs else onto_first b (lines_in bs)
 
--- what the log has for a note: one line; for `Gives` one for each line in its bytes; for `Opened` none. `c` is a side,
--- and `engine c` the name of its engine. `moment` is what the clock showed at the last `Line`, `Silent` or `Opened`
--- before this note, or 0 before any. A `Line` with `None` was too long
+-- what the log has for a note: an event, or the bytes that an engine was given (`Gives`). `engine c` is the name of the
+-- engine of the side `c`; `moment` is what the clock showed last before this note, or 0
 abbrev pub note_text : (Colour → List ℕ) → ℕ → Note → List ℕ
 note_text engine moment (Happened (Line c (Some text) now)) = log_line now (byte "<") (engine c) text
 note_text engine moment (Happened (Line c None now)) = log_line now (byte "!") (engine c) (codes "line too long")
@@ -44,16 +43,15 @@ note_text engine moment (Happened (FailsToRead c)) = log_line moment (byte "!") 
 note_text engine moment (Happened (FailsToWrite c)) = log_line moment (byte "!") (engine c) (codes "write failed")
 note_text engine moment (Gives c bytes) = flat_map (log_line moment (byte ">") (engine c)) (lines_in bytes)
 
--- what the clock showed last, this note included: its own moment, if it is a `Line`, `Silent` or `Opened`; otherwise
--- `moment`, what the clock showed last before this note
+-- what the clock showed last when this note was made; `moment` is what it showed last before
 abbrev pub moment_after : ℕ → Note → ℕ
 moment_after moment (Happened (Line c text now)) = now
 moment_after moment (Happened (Opened c now)) = now
 moment_after moment (Happened (Silent c now)) = now
 moment_after moment _ = moment
 
--- the log's lines for these notes, in order, in a game in which the engine of `--white` has the side `first_side`.
--- `moment` is what the clock showed last before them, or 0 if it was not read yet, as before all notes of a game
+-- the log's lines for these notes, in a game in which the engine of `--white` has the side `first_side`. `moment` is
+-- what the clock showed last before them, or 0 if it was not read yet
 abbrev pub log_from : Colour → ℕ → List Note → List ℕ
 log_from first_side moment [] = []
 log_from first_side moment (n ∷ notes) =
@@ -68,25 +66,24 @@ pub record LogSeen : Type 0 where
   -- whether a write or a flush of the log failed; after that it writes nothing more
   pub broken : Bool
 
--- what contracts see of a log whose output is in the state `o`, and which is broken or not
+-- what contracts see of a log whose output is in the state `o`
 abbrev pub log_seen : OutputState → Bool → LogSeen
 log_seen o broken = record { output = o; broken = broken }
 
--- `o` is what went to a log's output for `text`, by whether the log is broken then. `false`: all of the text, flushed,
--- or nothing for an empty text. `true`: a beginning of it, maybe nothing or all, flushed or not; then a write or a
--- flush failed
+-- what went to a log's output for `text`, by whether the log is broken then: if not, all of the text, flushed, or
+-- nothing for an empty text; if so, a beginning of it, maybe nothing or all, before a write or a flush failed
 abbrev pub LogsText : Bool → List ℕ → ToOutput → Type 0
 LogsText false text o = o ≡ all_flushed (nat_lt 0 (length text)) text
 LogsText true text o = Begins (o.flushed ++ o.left) text × (o.failed ≡ true)
 
--- a log was given this text to write, and went from the state `l` to `l'`. If it is broken in `l`, or the text is
--- empty, nothing changes. Otherwise it wrote the text, or broke while it did so (`LogsText`)
+-- a log was given this text to write, and went from the state `l` to `l'`: it wrote the text, or broke while it did so
+-- (`LogsText`). If it is broken in `l`, or the text is empty, nothing changes
 abbrev pub Logged : LogSeen → LogSeen → List ℕ → Type 0
 Logged l l' text = (l.broken ≡ true → l' ≡ l) × (text ≡ [] → l' ≡ l)
     × (l.broken ≡ false → (o : ToOutput) × OutputTook l.output l'.output o × LogsText l'.broken text o)
 
--- a log was given this note, which took it from `l` to `l'`: the note's lines were given to it to write (`Logged`), its
--- `moment` is the one after the note, and its `first` stays. `seen` gives what contracts see of its output
+-- a log was given this note, and went from `l` to `l'`: it was given the note's lines to write (`Logged`), and its
+-- `moment` is the one after the note. `seen` gives what contracts see of its output
 abbrev pub LogsNote : {E : Type 0} → (E → OutputState) → Log E → Log E → Note → Type 0
 LogsNote seen l l' note =
     Logged (log_seen (seen l.output) l.broken) (log_seen (seen l'.output) l'.broken)

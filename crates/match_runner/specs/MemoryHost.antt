@@ -1,11 +1,8 @@
--- What is known of a host over memory: what its engines say, and what its clock shows.
+-- A host over memory: what its engines say, and what its clock shows, is given.
 --
--- `MayCome` says which steps may come at such a host. No steps (`[]`) may always come, so of a match `PlaysGamesWith`
--- says that just its steps might come at the host as it was before: each engine says what that host has for this start
--- of its command, and the clock shows its moments. From these, the plan, and the writes that fail follows each game
--- (law `OnlyOneMatchOfARun` of chess_match_laws), if nobody is waited for only so long; and from the games all that is
--- written, logged and sent. Where a plan sets limits to waiting, nothing here says which looks for a line find none,
--- nor how many do. Nor is it said when memory runs out.
+-- `MayCome` says which steps may come at it. From these, the plan and the writes that fail follow the games of a match
+-- (law `OnlyOneMatchOfARun` of chess_match_laws), if the plan sets no limit to waiting. Where it does, nothing here
+-- says which looks for a line find none. Nor is it said when memory runs out.
 use Rattle.std.specs.Prelude.{◌≡◌, ℕ, ◌-◌, ◌^◌, List, [], ◌∷◌, ◌++◌, Option, None, Some}
 use Rattle.std.specs.List.{count_by, find, flat_map, last_or, slice_get}
 use Rattle.std.specs.Option.{option_and_then, option_map, option_or}
@@ -20,25 +17,24 @@ use Rattle.match_runner.specs.declared.memory_host.MemoryHost.{MemoryHost}
 use Rattle.match_runner.specs.Games.{none_killed}
 use Rattle.match_runner.specs.GamesTable.{HostStep, OpensClock, Starts, StartFails, Finishes}
 
--- the moment that a clock shows at its reading n, from 0 on: it shows these moments one after another, and then the
--- last of them again and again; `shown`, if there are none
+-- the moment that a clock shows at its reading n, from 0 on: these moments one after another, and then the last of them
+-- again and again; `shown`, if there are none
 abbrev pub moment_at : ℕ → List ℕ → ℕ → Option ℕ
 moment_at shown moments n = option_or (slice_get moments n) (last_or (Some shown) moments)
 
--- what the first of these engines that has this command says in the game for which it is started, after it was started
--- so many times before; `None` if none has the command, or if nothing is given for this start
+-- what the first of these engines that has this command says, if it was started `times` times before; `None` if none
+-- has the command, or if nothing is given for this start
 abbrev pub text_of_start : List MemoryEngine → List ℕ → ℕ → Option (List ℕ)
 text_of_start engines command times =
     option_and_then (λ e. option_map (λ text. text.now) (slice_get e.outputs.now times))
     (find (λ e. bytes_eq e.command.now command) engines)
 
--- what the engine with this command says if it is started now (`text_of_start`), after those with the commands
--- `earlier`, one after another
+-- what the engine with this command says if it is started now, after those with the commands `earlier`
 abbrev pub next_text : List MemoryEngine → List (List ℕ) → List ℕ → Option (List ℕ)
 next_text engines earlier command = text_of_start engines command (count_by (λ c. bytes_eq c command) earlier)
 
--- the pipes of an engine that was just started and will say just this text. `input` is what the arbiter reads of it,
--- `output` what the arbiter sends to it: nothing was read or sent yet, and no call was made
+-- the pipes of an engine that was just started and will say just this text: `input` is what the arbiter reads of it,
+-- `output` what the arbiter sends to it
 abbrev pub fresh_pipes : List ℕ → Devices
 fresh_pipes text = record {
   input = record {
@@ -53,29 +49,28 @@ fresh_pipes text = record {
   output = record { known_bytes = Some []; failure_count = 0; unflushed = 0 };
 }
 
--- the commands of the engines that were started in this step: White's and Black's
+-- the commands of the engines that this step started
 abbrev pub started_by : HostStep → List (List ℕ)
 started_by (Starts white black limit pipes) = white ∷ black ∷ []
 started_by _ = []
 
--- the commands of the engines that were started in these steps, one after another
+-- the commands of the engines that these steps started
 abbrev pub started_in : List HostStep → List (List ℕ)
 started_in steps = flat_map started_by steps
 
--- why engines with these commands, White's and Black's, are not started, if these are the texts that they would say:
--- White's has no text; or White's has one and Black's has none; or both have one and memory ran out
+-- the fault of starting engines with these commands, by the texts that they would say (`None`: nothing is given):
+-- White's can't be started; or Black's can't; or both can, but memory ran out
 abbrev pub IsFaultOfStart : List ℕ → List ℕ → Option (List ℕ) → Option (List ℕ) → GamesFault → Type 0
 IsFaultOfStart white black None _ (CanNotStart command) = command.now ≡ white
 IsFaultOfStart white black (Some _) None (CanNotStart command) = command.now ≡ black
 IsFaultOfStart white black (Some _) (Some _) fault = fault ≡ NoMemory
 IsFaultOfStart white black _ _ _ = ⊥
 
--- this step may come next at a host with these engines and moments, when the engines with the commands `earlier` were
--- started before
+-- this step may come next at a host with these engines and moments, after the engines with the commands `earlier` were
+-- started
 abbrev pub IsNext : List MemoryEngine → List ℕ → List (List ℕ) → HostStep → Type 0
--- the clock will show these moments
 IsNext engines moments earlier (OpensClock coming) = coming ≡ moment_at 0 moments
--- each engine will say what is given for this start, and was sent nothing yet; White's is started first
+-- each engine will say what is given for this start; White's is started first
 IsNext engines moments earlier (Starts white black limit pipes) =
     (option_map fresh_pipes (next_text engines earlier white) ≡ Some (pipes White))
     × (option_map fresh_pipes (next_text engines (earlier ++ white ∷ []) black) ≡ Some (pipes Black))
@@ -85,7 +80,7 @@ IsNext engines moments earlier (StartFails white black limit fault) =
 -- no engine has to be killed
 IsNext engines moments earlier (Finishes pipes limit killed) = killed ≡ none_killed
 
--- the commands of the engines that were started for these games, one after another
+-- the commands of the engines that were started for these games
 abbrev pub started_for : List MemoryGame → List (List ℕ)
 started_for games = flat_map (λ g. g.commands.white.now ∷ g.commands.black.now ∷ []) games
 

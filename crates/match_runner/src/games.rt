@@ -75,7 +75,7 @@ fn level_of(plan: &GamesPlan<'_>, number: u32, side: Colour) -> Level
     }
 }
 
-// What the game of this number begins from.
+// What the game of this number begins from: the plan's start, patience and draws, and the time control of each side.
 fn setup_of(plan: &GamesPlan<'_>, number: u32) -> Setup
     ensures { result ≡ setup_of plan.now number }
 {
@@ -137,8 +137,8 @@ fn write_score<W: Output>(score: Score, output: &mut W) -> Result<(), WriteFault
 }
 
 // Plays the game of this number between the plan's two engines, logs it if the plan asks for that, and writes and
-// flushes its PGN. The engines are started for it, and waited for when its PGN was written; those that had to be killed
-// are noted.
+// flushes its PGN. The engines are started before it, and waited for when its PGN was written. For each that had to be
+// killed a line is logged.
 fn play_game<'a, T: GamesTable, W: Output, E: Output>(
     table: &mut T,
     plan: &GamesPlan<'a>,
@@ -188,8 +188,8 @@ fn game_count(plan: &GamesPlan<'_>) -> u32
     u32::from(plan.games)
 }
 
-// Plays the plan's games one after another, up to the first in which an engine has a fault, which is the last; writes
-// and logs each. Returns the score, and that fault.
+// Plays the plan's games one after another, up to and with the first in which an engine has a fault; writes and logs
+// each. Returns the score, and that fault.
 fn play_each<'a, T: GamesTable, W: Output, E: Output>(
     table: &mut T,
     plan: &GamesPlan<'a>,

@@ -19,8 +19,8 @@ pub struct Engines<P, R, W> {
     pub ends: ByColour<Ends<R, W>>,
 }
 
-/// What starts the engines of a match, waits for their ends, and has the clock. As `Input` and `Output` stand for
-/// streams, it stands for all else that a match gets from outside: for the processes of a system
+/// What starts the engines of a match, waits for their ends, and has the clock. What `Input` and `Output` are for
+/// streams, it is for all else that a match gets from outside: for the processes of a system
 /// ([`ProcessHost`](crate::ProcessHost)), or in tests for texts in memory ([`MemoryHost`](crate::MemoryHost)). Each
 /// call is one step, and contracts see in which order the steps come.
 pub trait Host {
@@ -37,10 +37,10 @@ pub trait Host {
     /// What writes an engine's input.
     type Writer: Output;
 
-    /// A clock.
+    /// The clock of a match.
     type Clock: Moments + Drop;
 
-    /// What contracts see of it: which steps may come from now on, in their order.
+    /// What contracts see of the host: which steps may come from now on, in their order.
     ghost to_come: { Self → List HostStep → Type 0 };
 
     /// Opens the clock of a match.

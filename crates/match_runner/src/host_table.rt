@@ -1,4 +1,4 @@
-//! The table of a host's engines.
+//! The table at which a host's engines play.
 
 ghost use Rattle.std.specs.Prelude.{[]};
 ghost use Rattle.byte_devices.specs.Devices.{Sends};
@@ -85,7 +85,7 @@ impl<'t, H: Host> GamesTable for HostTable<'t, '_, '_, '_, '_, H> {
 
     type Engines = Engines<H::Running, H::Reader, H::Writer>;
 
-    // The steps whose part at the host may come there, at the same host.
+    // At the table those steps may come whose part at the host may come there; the host stays the same.
     ghost to_come = { λ t. MarkedBy (H.to_come t.host.now) t.host.ghost_name };
 
     ghost game = { λ t. t.game.now };
@@ -94,7 +94,7 @@ impl<'t, H: Host> GamesTable for HostTable<'t, '_, '_, '_, '_, H> {
 
     ghost devices = { λ e. engines_of H.Reader.seen H.Writer.seen e.ends.white e.ends.black };
 
-    // The host starts both.
+    // Has the host start both engines.
     fn start<'a>(
         &mut self,
         white: &'a str,
@@ -104,7 +104,7 @@ impl<'t, H: Host> GamesTable for HostTable<'t, '_, '_, '_, '_, H> {
         self.host.start(white, black, limit)
     }
 
-    // Plays the game over the engines' ends.
+    // Plays the game over the engines' pipes.
     fn play<E: Output>(
         &mut self,
         engines: &mut Engines<H::Running, H::Reader, H::Writer>,
@@ -115,12 +115,12 @@ impl<'t, H: Host> GamesTable for HostTable<'t, '_, '_, '_, '_, H> {
         relay(&mut engines.ends, self.clock, setup, self.game, first, log)
     }
 
-    // Writes the game with the scratch board.
+    // Writes the game's PGN; its moves are made again on the scratch board.
     fn write_game<W: Output>(&mut self, tags: &Tags, output: &mut W) -> Result<(), WriteFault> {
         send_game(self.game, self.scratch, tags, output)
     }
 
-    // The host waits for both.
+    // Has the host close both engines' inputs and wait for their ends.
     fn finish(
         &mut self,
         engines: Engines<H::Running, H::Reader, H::Writer>,

@@ -45,7 +45,8 @@ fn send_unless_broken<E: Output>(output: &mut E, text: &[u8], broken: bool) -> b
 }
 
 impl Pending {
-    // No byte waits; `broken`: a write or flush of the log has failed.
+    // The bytes of a line that is to be logged, none at first; `broken` says whether a write or flush of the log failed
+    // before.
     fn new(broken: bool) -> Self
         ensures bytes { result.bytes.items ≡ [] }
         ensures broken { result.broken ≡ broken }
@@ -215,7 +216,7 @@ fn colour_name(side: Colour) -> &'static [u8]
     }
 }
 
-// The first line of a text that isn't empty, without its `\n`, and what follows it.
+// Splits a text that isn't empty into its first line, without its `\n`, and the text after that.
 fn split_line(text: &[u8]) -> (&[u8], &[u8])
     requires { 0 < length text.now }
     ensures lines { lines_in text.now ≡ result.0.now ∷ lines_in result.1.now }
@@ -269,7 +270,8 @@ impl<E: Output> Log<E> {
         output
     }
 
-    // Begins the log of a game in which the first engine, that of `--white`, has the side `first`.
+    // Begins the log of a game in which the first engine, that of `--white`, has the side `first`; nothing is written
+    // yet.
     fn begin(&mut self, first: Colour)
         ensures log { IsLog first (log_seen (E.seen self.old.output) self.old.broken)
             self.new.first (log_seen (E.seen self.new.output) self.new.broken) self.new.moment [] }
@@ -354,8 +356,8 @@ impl<E: Output> Log<E> {
 impl<E: Output> Witness for Log<E> {
     ghost noted = { λ l. noted_by E.seen l };
 
-    // Logs what the note says; an opening only gives its time to the lines that follow, since the lines that opened the
-    // turn were logged before.
+    // Logs what the note says. For the opening of a turn nothing is written; only its moment is kept, for the lines
+    // that follow.
     fn note(&mut self, note: Note<'_>)
         ensures logs { LogsNote E.seen self.old self.new (note_seen note.entry) }
     {

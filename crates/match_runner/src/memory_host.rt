@@ -24,8 +24,8 @@ pub struct MemoryEngine<'t> {
     /// What it sends in each of the games for which it is started, from the first on. For more games it can't be
     /// started.
     pub outputs: &'t [&'t [u8]],
-    /// Whether it falls silent after its output, so that no wait for it finds anything; otherwise its output ends then.
-    /// Only matches with `flag` or `reply` in their patience wait. To others it looks as if its output had ended.
+    /// Whether after its output every wait for it finds nothing; otherwise its output ends then. Only matches with
+    /// `flag` or `reply` in their patience wait. To others it looks as if its output had ended.
     pub falls_silent: bool,
 }
 
@@ -207,7 +207,8 @@ impl<'t> MemoryHost<'t> {
         })
     }
 
-    // Notes a game for which engines are started, with room for what they will be sent, and returns its index.
+    // Notes a game for which engines are started, with room for what they will be sent, and returns its index in
+    // `games`.
     fn note_start(&mut self, starts: &ByColour<Start<'t>>) -> Result<usize, AllocError>
         ensures engines { self.new.engines ≡ self.old.engines }
         ensures moments { self.new.moments ≡ self.old.moments }
@@ -231,7 +232,7 @@ impl<'t> MemoryHost<'t> {
         Ok(number)
     }
 
-    // Notes what the engines of this game were sent, if there is such a game.
+    // Notes what the engines of the game at the index `number` were sent, if there is such a game.
     fn note_sent(&mut self, number: usize, sent: ByColour<Vec<u8>>)
         ensures engines { self.new.engines ≡ self.old.engines }
         ensures moments { self.new.moments ≡ self.old.moments }
@@ -255,7 +256,7 @@ struct Start<'t> {
 }
 
 impl<'t> Start<'t> {
-    // The pipes of the engine.
+    // The pipes of the engine, from which its text can be read.
     fn ends(self, alloc: Global) -> Ends<SilentAfter<&'t [u8]>, Counted<Vec<u8>>>
         ensures { (record {
           input = ⟦<SilentAfter<&'t [u8]> as Input>⟧.seen result.reader;
@@ -283,7 +284,7 @@ impl<'t> Host for MemoryHost<'t> {
 
     ghost to_come = { MayCome };
 
-    // Shows the moments from the first on.
+    // A clock that shows the host's moments from the first on.
     fn open_clock(&mut self) -> MemoryClock<'t> {
         MemoryClock {
             rest: self.moments,
@@ -291,7 +292,8 @@ impl<'t> Host for MemoryHost<'t> {
         }
     }
 
-    // Finds what each engine says, and notes the game.
+    // Starts both engines if the host has an output for both starts, and notes the game; otherwise, or if memory runs
+    // out, none. `limit` makes no difference.
     fn start<'a>(
         &mut self,
         white: &'a str,

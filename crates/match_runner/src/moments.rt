@@ -1,4 +1,4 @@
-//! The moments that a clock shows.
+//! The clock of a match between processes.
 
 use chess_match::Moments;
 use std::rt::Clock;
@@ -21,7 +21,7 @@ impl<'a, R: Clock> SinceStart<'a, R> {
         }
     }
 
-    /// The same clock once more: it shows the milliseconds since the same beginning.
+    /// A copy of this clock: it shows the milliseconds since the same beginning.
     pub(crate) fn again(&self) -> Self {
         SinceStart {
             rt: self.rt,

@@ -1,4 +1,4 @@
-//! The pipes of an engine, which are waited for only so long.
+//! The pipes of an engine's process, with limits to waiting for them.
 
 ghost use Rattle.std.specs.Prelude.{◌≡◌, ◌≤◌, ◌-◌, ◌^◌, length, take};
 
@@ -11,12 +11,12 @@ use std::io::{Read, Write};
 use std::os::fd::AsRawFd;
 use std::rt::Clock;
 
-// How often a wait that a signal ends is begun at most.
+// How often a wait is begun at most, since a signal may end it.
 const MOST_RESTARTS: u32 = 16;
 
-// Waits until the descriptor is ready for what `events` asks (to be read, `POLLIN`, or written, `POLLOUT`), at most
-// `millis` milliseconds, and returns whether it is; after a signal the whole wait begins anew. One that the system
-// can't wait for counts as ready.
+// Waits, at most `millis` milliseconds, until `end` is ready for what `events` asks (to be read, `POLLIN`, or written,
+// `POLLOUT`), and returns whether it is. After a signal the whole wait begins anew. What the system can't wait for
+// counts as ready.
 fn is_ready<S: AsRawFd>(end: &S, events: i16, millis: u64) -> bool {
     let mut fds = [pollfd {
         fd: end.as_raw_fd(),
@@ -32,9 +32,9 @@ fn is_ready<S: AsRawFd>(end: &S, events: i16, millis: u64) -> bool {
     true
 }
 
-// How many pieces of an output are still given after the moment until which it is waited for: 64 reads of 1,024 bytes
-// (`Lines`) are the 65,536 bytes of a Linux pipe, so that what had come by then is given, but an output that never ends
-// a line doesn't go on for ever.
+// How many looks in a row may still find a piece of an output after the moment until which it is waited for. 64 reads
+// of 1,024 bytes (`Lines`) are the 65,536 bytes of a Linux pipe: so what had come by then is given, but an output that
+// never ends a line doesn't go on for ever.
 const MOST_LATE: u32 = 64;
 
 /// An engine's output, with the clock by which it is waited for.
@@ -72,8 +72,8 @@ impl<'t, T: Clock, S: Read> EngineOutput<'t, T, S> {
 }
 
 impl<T: Clock, S: Read + AsRawFd> EngineOutput<'_, T, S> {
-    // Whether a read would return at once. It asks the system, which waits for that until the clock shows `until`. If
-    // the clock shows more already, so that nothing is waited for, only `MOST_LATE` pieces in a row are found.
+    // Whether a read would return at once, at the latest when the clock shows `until`: the system is asked to wait so
+    // long. If the clock already shows more, nothing is waited for, and only `MOST_LATE` pieces in a row are found.
     fn comes_by(&mut self, until: u64) -> bool
         ensures pipe { self.new.pipe ≡ self.old.pipe }
     {
@@ -92,12 +92,13 @@ impl<T: Clock, S: Read + AsRawFd> EngineOutput<'_, T, S> {
 impl<T: Clock, S: Read + AsRawFd> Input for EngineOutput<'_, T, S> {
     ghost seen = { λ o. ⟦<Counted<S> as Input>⟧.seen o.pipe };
 
-    // One read of the pipe.
+    // Reads the pipe once.
     fn read(&mut self, buf: &mut [u8]) -> Result<usize, ReadFault> {
         self.pipe.read(buf)
     }
 
-    // Waits for the pipe until the clock shows `until`.
+    // Waits until the pipe can be read, at most until the clock shows `until`, and returns whether it can; if not, this
+    // is counted as a silence (but a pipe of which no more reads could be counted always counts as ready).
     fn wait(&mut self, until: u64) -> bool {
         if self.comes_by(until) {
             return true;
@@ -134,7 +135,7 @@ impl<S: Write> EngineInput<S> {
     }
 }
 
-// At most so many of these bytes, from the first on.
+// The first `most` of these bytes, or all if there are fewer.
 fn first_bytes(bytes: &[u8], most: usize) -> &[u8]
     ensures { result.now ≡ take most bytes.now }
 {
@@ -144,8 +145,8 @@ fn first_bytes(bytes: &[u8], most: usize) -> &[u8]
 impl<S: Write + AsRawFd> Output for EngineInput<S> {
     ghost seen = { λ i. ⟦<Counted<S> as Output>⟧.seen i.pipe };
 
-    // One write to the pipe. With a limit the pipe is waited for first, and gets at most so many bytes as it takes at
-    // once (`PIPE_LEN`); it fails if the pipe takes none within the limit.
+    // Writes to the pipe once. With a limit the pipe is waited for first, and gets at most so many bytes as it takes at
+    // once (`PIPE_LEN`); the write fails if the pipe takes none within the limit.
     fn write(&mut self, buf: &[u8]) -> Result<usize, WriteFault> {
         let Some(millis) = self.limit else {
             return self.pipe.write(buf);
@@ -156,7 +157,7 @@ impl<S: Write + AsRawFd> Output for EngineInput<S> {
         Err(self.pipe.fail_write())
     }
 
-    // One flush of the pipe.
+    // Flushes the pipe.
     fn flush(&mut self) -> Result<(), WriteFault> {
         self.pipe.flush()
     }

@@ -1,4 +1,4 @@
-//! How the games of a match are played.
+//! The plan of a match's games.
 
 use cecp_engine::Level;
 use chess_base::Position;
@@ -11,9 +11,9 @@ pub struct GamesPlan<'a> {
     pub white: &'a str,
     /// The command of the second engine.
     pub black: &'a str,
-    /// The level of time of the first engine, in all games.
+    /// The time control of the first engine, in all games.
     pub white_level: Level,
-    /// The level of time of the second engine.
+    /// The time control of the second engine.
     pub black_level: Level,
     /// How long the engines are waited for. Its limit for replies also holds for a write that can't go on, and for the
     /// end of an engine whose input is closed.
@@ -22,7 +22,7 @@ pub struct GamesPlan<'a> {
     pub draws: Draws,
     /// The position from which each game starts; its variant is the match's.
     pub start: Position,
-    /// How many games.
+    /// How many games are to be played.
     pub games: u16,
     /// The date in each game's tags.
     pub date: &'a str,

@@ -46,7 +46,7 @@ type BothEngines<'t, R, P> = Engines<
     EngineInput<<P as OpenProcess>::Stdin>,
 >;
 
-// Two running engines, White's and Black's, as both engines of a game.
+// Puts two running engines, White's and Black's, together as the engines of a game.
 fn both_of<'t, R, P: OpenProcess + Drop>(
     white: Engine<'t, R, P>,
     black: Engine<'t, R, P>,
@@ -106,7 +106,7 @@ fn start_fault<'a>(error: &io::Error, text: &'a str) -> GamesFault<'a>
     }
 }
 
-// The command of an engine to start: its text is split at spaces and tabs into the program and its arguments.
+// Splits the text of an engine's command at spaces and tabs into the program and its arguments.
 fn command_of<'a>(alloc: Global, text: &'a str) -> Result<Command, GamesFault<'a>>
     ensures { IfErr result (FailsToStart text.entry.now) }
 {
@@ -277,8 +277,8 @@ fn moment_after<R: Clock>(host: &ProcessHost<'_, R>, limit: Option<u64>) -> Opti
     }
 }
 
-/// Closes an engine's input, gives it half a second to end by itself, closes its output and waits for its end; if there
-/// is a limit, it is killed so many milliseconds after its input was closed, which is not reported.
+/// Closes an engine's input, gives it half a second to end by itself, closes its output and waits for its end. If there
+/// is a limit, the engine is killed so many milliseconds after its input was closed; that is not reported.
 fn finish<'t, R: Clock, P: OpenProcess + Drop>(
     host: &ProcessHost<'t, R>,
     engine: Engine<'t, R, P>,
@@ -378,7 +378,7 @@ where
     // Any steps may come: nothing is known of the processes.
     ghost to_come = { λ h. anything };
 
-    // Begins the clock anew: it is also the one by which engines are waited for.
+    // Opens the clock anew. The engines are waited for by it, too.
     fn open_clock(&mut self) -> SinceStart<'t, R> {
         self.clock = SinceStart::new(self.rt);
         self.clock.again()

@@ -1,4 +1,4 @@
-//! The table of a match's games.
+//! The trait of a table, at which the games of a match are played.
 
 ghost use Rattle.std.specs.Prelude.{◌≡◌, ◌∷◌, [], IfErr, IfOk, List, None};
 ghost use Rattle.std.specs.Result.{is_err};
@@ -29,14 +29,14 @@ pub trait GamesTable {
     /// Two running engines. Code that is generic in the table can't drop such a value: it must be given to `finish`.
     type Engines;
 
-    /// What contracts see of it: which steps may come from now on, in their order.
+    /// What contracts see of the table: which steps may come from now on, in their order.
     ghost to_come: { Self → List GamesStep → Type 0 };
 
     /// The game that is played, or was played last.
     ghost game: { Self → Seen };
 
-    /// For each n from 0 on, which moment the clock will show after n readings more, where that is known: at 0 the one
-    /// that it shows at the next reading.
+    /// For each n from 0 on, which moment the clock will show after n readings more, where that is known: n is 0 at the
+    /// next reading.
     ghost coming: { Self → ℕ → Option ℕ };
 
     /// The pipes of each of two engines.

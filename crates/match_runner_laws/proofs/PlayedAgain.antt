@@ -301,7 +301,7 @@ module _ (r : Rules) (S : Colour) (k : ℕ) (m : Match) (on : is_over m.phase �
       test_again (n == 1) _ _ _ _ (set_up r S k (awaited_since k m) on S) (ignored r S k m on)
   setup _ = ignored r S k m on
 
-  -- an engine that owes a reply was silent
+  -- a look for the line of an engine that owes a reply found none
   owes : (fault : MatchFault) → ((O : Colour) → is_write_fault_of (over_by.Faulted S fault) O ≡ false)
       → Again r (reply_row r S fault k m) (reply_row r S fault k (anew k m))
   owes fault plain =

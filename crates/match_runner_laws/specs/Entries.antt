@@ -25,12 +25,12 @@ pub record Entry : Type 0 where
   -- the line that was sent, without its `\n`; with the mark `!` what happened, such as `read failed`
   pub text : List ℕ
 
--- these lines as they are written, one after another. `first_side` is the side of the engine of `--white`
+-- these lines as they are written. `first_side` is the side of the engine of `--white`
 abbrev pub entries_text : Colour → List Entry → List ℕ
 entries_text first_side entries =
     flat_map (λ e. log_line e.moment e.mark (engine_name first_side e.side) e.text) entries
 
--- the log's lines for a note: those of `note_text`, where `moment` is the same
+-- the log's lines for a note, whose text is `note_text`; `moment` is what the clock showed last before the note
 abbrev pub note_entries : ℕ → Note → List Entry
 note_entries moment (Happened (Line c (Some text) now)) =
     record { moment = now; mark = byte "<"; side = c; text = text } ∷ []
@@ -48,8 +48,7 @@ note_entries moment (Happened (FailsToWrite c)) =
 note_entries moment (Gives c bytes) =
     map (λ text. record { moment = moment; mark = byte ">"; side = c; text = text }) (lines_in bytes)
 
--- the log's lines for these notes, one note after another. `moment` is the clock's reading at the last `Line`, `Silent`
--- or `Opened` before these notes, or 0 if there was none
+-- the log's lines for these notes; `moment` is what the clock showed last before them, or 0
 abbrev pub entries_from : ℕ → List Note → List Entry
 entries_from moment [] = []
 entries_from moment (n ∷ notes) = note_entries moment n ++ entries_from (moment_after moment n) notes
@@ -72,7 +71,7 @@ LogsHaveOneReading = (first : Colour) (xs ys : List Entry) → AllByRecursion Is
 
 -- ---- lines worked out
 
--- of this note the log has these lines, in a game in which the first engine has White; before it the clock showed 312
+-- of this note the log has these lines, if the first engine has White, and the clock showed 312 before
 abbrev pub IsLogged : Note → Text → Type 0
 IsLogged note text = note_text (engine_name White) 312 note ≡ codes text
 

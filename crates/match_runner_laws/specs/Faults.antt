@@ -5,15 +5,14 @@ use Rattle.chess_base.specs.declared.man.Colour.{Colour}
 use Rattle.match_runner.specs.declared.plan.GamesPlan.{GamesPlan}
 use Rattle.match_runner.specs.Games.{GameRecord, FaultlessGames}
 
--- after this game the count of failed writes and flushes of each engine's input (`output`, as the arbiter sees it) is
--- as before it; the end lines belong to the game
+-- in this game, its end lines included, no write or flush to an engine failed: the failure count of each engine's
+-- input, which is the arbiter's `output`, is as before
 abbrev pub KeepsFailureCounts : GameRecord → Type 0
 KeepsFailureCounts played = (S : Colour)
     → (played.after.engines S).output.failure_count ≡ (played.before.engines S).output.failure_count
 
--- in every match: each game without a fault of an engine leaves the counts of failed writes and flushes as they were
--- (`KeepsFailureCounts`). All games of a match but the last are such games, whether it was played to its end or broke
--- off (`WritesGames`)
+-- whenever games of a match are without a fault of an engine, as all but its last are (`WritesGames`), no write to an
+-- engine failed in them (`KeepsFailureCounts`)
 abbrev pub OnlyLastGamesHaveFailedWrites : Type 0
 OnlyLastGamesHaveFailedWrites = (plan : GamesPlan) (games : List GameRecord) → FaultlessGames plan games
     → AllByRecursion KeepsFailureCounts games

@@ -1,4 +1,4 @@
--- What a host over memory fixes.
+-- Which steps may pass at a host over memory.
 use Rattle.std.specs.Prelude.{List}
 use Rattle.match_runner.specs.GamesTable.{HostStep, StepsPass}
 use Rattle.match_runner.specs.MemoryHost.{MayCome}

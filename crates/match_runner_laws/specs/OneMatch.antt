@@ -1,5 +1,4 @@
--- A match at a host over memory is fixed by the host and the plan, if nothing fails and nobody is waited for only so
--- long.
+-- A match at a host over memory is fixed by the host and the plan, if nothing fails and waiting has no limit.
 use Rattle.std.specs.Prelude.{◌≡◌, ⊤, ℕ, List, [], ◌∷◌, Option, Result, Ok, Err}
 use Rattle.std.specs.List.{AllByRecursion, flat_map}
 use Rattle.byte_devices.specs.Transfers.{OutputTook, all_of}
@@ -15,13 +14,13 @@ use Rattle.match_runner.specs.declared.fault.GamesFault.TheVariants.{Game}
 use Rattle.match_runner.specs.declared.memory_host.MemoryHost.{MemoryHost}
 use Rattle.match_runner.specs.declared.plan.GamesPlan.{GamesPlan}
 
--- if engines are waited for in this step: no read, write or flush at their pipes had failed
+-- if engines are ended in this step, no read, write or flush at their pipes had failed
 abbrev pub FinishesWell : HostStep → Type 0
 FinishesWell (Finishes engines limit killed) =
     (S : Colour) → ((engines S).input.failure_count ≡ 0) × ((engines S).output.failure_count ≡ 0)
 FinishesWell _ = ⊤
 
--- what the engines that are waited for in this step were sent: White's, and Black's
+-- what the engines that are ended in this step were sent: White's, and Black's (`None`: not known)
 abbrev pub sent_by_then : HostStep → List (Option (List ℕ))
 sent_by_then (Finishes engines limit killed) =
     (engines White).output.known_bytes ∷ (engines Black).output.known_bytes ∷ []
@@ -31,7 +30,8 @@ sent_by_then _ = []
 abbrev pub sent_in : List HostStep → List (Option (List ℕ))
 sent_in steps = flat_map sent_by_then steps
 
--- by this result of a match its score was written: all games were played, or those up to one with a fault of an engine
+-- with this result of a match its score was written: all games were played, or those up to one with a fault of an
+-- engine
 abbrev pub HasScore : Result (Unit {0}) GamesFault → Type 0
 HasScore (Ok _) = ⊤
 HasScore (Err (Game number fault)) = ⊤
@@ -42,14 +42,12 @@ HasScore _ = ⊥
 pub record WentWell (plan : GamesPlan) (host : MemoryHost) (steps : List HostStep) (d d' : Outputs) : Type 0 where
   pub result : Result (Unit {0}) GamesFault
   pub played : PlaysGamesWith plan result steps d d'
-  -- these steps may come at the host
   pub at_host : MayCome host steps
   pub scored : HasScore result
   pub nothing_failed : AllByRecursion FinishesWell steps
 
--- two matches by one plan without limits to waiting, which were played to their score at one host over memory, and in
--- which nothing failed at the engines' pipes: the same was written, the same was logged, each engine was sent the same,
--- and the same fault is reported, or none of both
+-- two matches by one plan without limits to waiting, which both went well at one host over memory (`WentWell`), wrote
+-- the same, logged the same, sent each engine the same, and reported the same fault, or none
 abbrev pub OneMatchOfAHost : Type 0
 OneMatchOfAHost = (plan : GamesPlan) (host : MemoryHost) (steps steps' : List HostStep) (d d' e e' : Outputs)
     → plan.patience ≡ endless → (one : WentWell plan host steps d d') (other : WentWell plan host steps' e e')

@@ -16,14 +16,15 @@ use Rattle.pgn_writer.specs.Terminations.{termination_of, termination_text}
 abbrev pub Player : Type 0
 Player = List ℕ × LevelSeen
 
--- the engine of `--white`, and that of `--black`
+-- the engine of `--white`
 abbrev pub first_player : GamesPlan → Player
 first_player plan = (plan.white.now, plan.white_level)
 
+-- the engine of `--black`
 abbrev pub second_player : GamesPlan → Player
 second_player plan = (plan.black.now, plan.black_level)
 
--- the command that is started for this side in the game of this number, and the time control of this side in it
+-- the engine of this side in the game of this number
 abbrev pub player_of : GamesPlan → ℕ → Colour → Player
 player_of plan number side = (engine_command plan number side, of_colour (setup_of plan number).levels side)
 
@@ -34,7 +35,7 @@ pub record LevelsStayWithEngines (plan : GamesPlan) (number : ℕ) : Type 0 wher
   pub even : number % 2 ≡ 0
       → (player_of plan number White ≡ second_player plan) × (player_of plan number Black ≡ first_player plan)
 
--- so it is in the game of each number of each match
+-- in each game of each match each engine has its own time control, whichever side it has
 abbrev pub EachKeepsItsLevel : Type 0
 EachKeepsItsLevel = (plan : GamesPlan) (number : ℕ) → LevelsStayWithEngines plan number
 
@@ -51,8 +52,8 @@ pub record EnginesAreNamed (plan : GamesPlan) (number : ℕ) (end : MatchEnd) : 
   pub named_white : end.white_name ≡ codes "Sjeng" → (tags_of plan number end).white ≡ codes "Sjeng"
   pub named_black : end.black_name ≡ codes "Sjeng" → (tags_of plan number end).black ≡ codes "Sjeng"
 
--- the tags of each game of each match name its engines so (PGN standard of 1994, section 8.1.1); those of the twelfth
--- game also have this event, this site, the plan's date, this round, and the way in which it ended
+-- the tags of each game name its engines so (PGN standard of 1994, section 8.1.1); those of the twelfth game also have
+-- this event, site, date, round and end
 pub record GamesAreTagged : Type 0 where
   pub players : (plan : GamesPlan) (number : ℕ) (end : MatchEnd) → EnginesAreNamed plan number end
   pub event : (plan : GamesPlan) (end : MatchEnd) → (tags_of plan 12 end).event ≡ codes "CECP match"

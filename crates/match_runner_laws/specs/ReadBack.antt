@@ -1,5 +1,5 @@
--- Laws of what the log of a match gives back: its moves, the reason for which it ended, and all that each engine sent
--- and was sent.
+-- Laws of what the log of a match gives back: its moves, the reason for its end, and all that each engine sent and was
+-- sent.
 use Rattle.std.specs.Prelude.{◌≡◌, ◌==◌, ◌&&◌, ℕ, if◌then◌else◌, List, [], ◌∷◌, ◌++◌, flat_map, codes, Some, None, map}
 use Rattle.std.specs.List.{AllByRecursion, enumerate_from}
 use Rattle.std.specs.Str.{bytes_eq}
@@ -34,7 +34,7 @@ events_shown (e ∷ es) = e ∷ events_shown es
 abbrev pub text_of_result : Reason → List ℕ
 text_of_result reason = codes "result " ++ result_text (result_of reason)
 
--- the event of a line of a log with the mark `!`, by its text: of the engine of this side, at this moment
+-- the event that a line with the mark `!` shows, by its text, of the engine of this side at this moment
 abbrev pub other_event : Colour → ℕ → List ℕ → Event
 other_event side moment text =
     if bytes_eq text (codes "line too long") then Line side None moment
@@ -50,7 +50,7 @@ entry_event e =
     else if e.mark == byte "!" then other_event e.side e.moment e.text ∷ []
     else []
 
--- the bytes that the side `S` is sent by a line of a log; none by a line with another mark or of the other engine
+-- the bytes that, by a line of a log, the side `S` is sent; none by a line with another mark or of the other engine
 abbrev pub entry_given : Colour → Entry → List ℕ
 entry_given S e = list_if (e.mark == byte ">" && same_colour e.side S) (e.text ++ new_line ∷ [])
 
@@ -72,21 +72,19 @@ LogsShow = (r : Rules) (first : Colour) (reason : Reason) (H : List Act) (final 
     × ((S : Colour) → flat_map (entry_given S) lines ≡ bytes_of (lines_given S H))
     × (result_line lines ≡ text_of_result (reported_reason (verdict r.start final.played) reason))
 
--- two matches are alike, those of the acts `H` and `K`: they ended for the same reason, so with the same result; they
--- have the same moves; and so on. What a log leaves out may differ: the moments at which turns were opened (so the
--- milliseconds that moves used), and whether a write of the last lines failed
+-- the matches of the acts `H` and `K` are alike, but for what a log leaves out: the moments at which turns were opened
+-- (so the milliseconds that moves used), and whether a write of the last lines failed
 pub record AreAlike (reason reason' : Reason) (H K : List Act) (final final' : Match) : Type 0 where
   pub reasons : reason ≡ reason'
   pub moves : final.played ≡ final'.played
-  -- each engine's features
   pub items : (S : Colour) → (final.seat S).items ≡ (final'.seat S).items
   -- each engine was sent the same, so also the same clocks in `time` and `otim` lines
   pub sent : (S : Colour) → bytes_of (lines_given S H) ≡ bytes_of (lines_given S K)
-  -- each engine sent the same lines at the same moments, and was silent at the same moments
+  -- the same lines, silences and other events, at the same moments
   pub events : events_shown (events_in (notes_given reason H)) ≡ events_shown (events_in (notes_given reason' K))
 
--- the log gives the game back: two matches by the same rules that have the same log, which shows their lines as they
--- are, are alike
+-- the log gives the game back: two matches by the same rules that have the same log are alike, if it shows their lines
+-- as they are (`IsShown`)
 abbrev pub LogsGiveTheGame : Type 0
 LogsGiveTheGame = (r : Rules) (first : Colour) (reason reason' : Reason) (H K : List Act) (final final' : Match)
     → IsMatch r H final → IsMatch r K final' → final.phase ≡ Over reason → final'.phase ≡ Over reason'
@@ -95,8 +93,8 @@ LogsGiveTheGame = (r : Rules) (first : Colour) (reason reason' : Reason) (H K : 
     → log_from first 0 (notes_given reason H) ≡ log_from first 0 (notes_given reason' K)
     → AreAlike reason reason' H K final final'
 
--- the PGN of a game follows from its log: two games of this number of the plan that have the same log, which shows
--- their lines as they are, have the same PGN and the same outcome
+-- the PGN of a game follows from its log: two games of this number of the plan with the same log, which shows their
+-- lines as they are, have the same PGN and the same outcome
 abbrev pub LogsGiveThePgn : Type 0
 LogsGiveThePgn = (plan : GamesPlan) (number : ℕ) (one two : GameRecord) → IsOfPlan plan number one
     → IsOfPlan plan number two
@@ -105,7 +103,7 @@ LogsGiveThePgn = (plan : GamesPlan) (number : ℕ) (one two : GameRecord) → Is
     → log_from (first_side number) 0 one.notes ≡ log_from (first_side number) 0 two.notes
     → (game_text plan number one ≡ game_text plan number two) × (one.end.outcome ≡ two.end.outcome)
 
--- the log of each of these games by itself, where the log of a match has them one after another
+-- the log of each of these games by itself
 abbrev pub logs_of : List GameRecord → List (List ℕ)
 logs_of games = map (λ g. log_from (first_side g.0) 0 g.1.notes) (enumerate_from 1 games)
 
@@ -115,9 +113,8 @@ AreOfLogs plan games = AllByRecursion
     (λ g. IsOfPlan plan g.0 g.1 × AllByRecursion IsShown (entries_from 0 g.1.notes))
     (enumerate_from 1 games)
 
--- the PGN of games and their score, which a match writes to its output, follow from the games' logs and the plan: two
--- lists of games by one plan that have the same logs, which show their lines as they are, have the same PGN and the
--- same score
+-- what a match writes to its output follows from the games' logs and the plan: two lists of games by one plan with the
+-- same logs, which show their lines as they are, have the same PGN and the same score
 abbrev pub LogsGiveTheOutput : Type 0
 LogsGiveTheOutput = (plan : GamesPlan) (games games' : List GameRecord) → AreOfLogs plan games
     → AreOfLogs plan games' → logs_of games ≡ logs_of games'

@@ -10,8 +10,8 @@ pub fn only_last_games_have_failed_writes()
 {}
 
 /// States a law and does nothing: in odd games the engine of `--white` has White, in even games Black, and each engine
-/// has its own level in all games. So it is with its name in the tags: the one that it gave itself, or if it gave none,
-/// its command. The tags Event, Site and Round of the twelfth game are written out, its date is the plan's, and its
+/// has its own time control in all games. In the tags each has the name that it gave itself, or if it gave none, its
+/// command. The tags Event, Site and Round of the twelfth game are written out, its date is the plan's, and its
 /// Termination is as it ended: `time forfeit` if White has lost on time.
 ///
 /// It refuses a level or a name that stays with its colour, another event, another round, a match without its date, and

@@ -1,4 +1,4 @@
-//! Laws of hosts.
+//! Laws of matches at a host over memory.
 
 ghost use Rattle.match_runner_laws.specs.Hosts.{StepsMightCome};
 ghost use Rattle.match_runner_laws.specs.OneMatch.{OneMatchOfAHost};

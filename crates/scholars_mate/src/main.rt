@@ -29,6 +29,7 @@ fn play(rt: &HostRuntime) -> io::Result<()> {
     println!(rt; "{}", std::str::from_utf8(fen.as_slice()).unwrap_or("?"))
 }
 
+// Plays the game, and writes to standard output.
 fn main(rt: HostRuntime) -> io::Result<()> {
     play(&rt)
 }

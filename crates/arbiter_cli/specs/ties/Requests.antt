@@ -43,12 +43,12 @@ said_of p =
 abbrev pub asked : OptionNames → List Text → Text × List Row
 asked names words = unwrap_or (subcommand_of (arbiter_app names) words) (codes "session", [])
 
--- whether the text names a kind that `verify` may ignore
+-- whether `verify` may ignore a kind of fault with this name
 abbrev pub is_kind : Text → Bool
 is_kind name = bytes_eq name (codes "variant")
     || (bytes_eq name (codes "result") || (bytes_eq name (codes "board") || bytes_eq name (codes "after-end")))
 
--- the names in a list, which its commas part; none without a list
+-- the names between the commas (byte 44) of a list; none without a list
 abbrev pub names_in : Option Text → List Text
 names_in list = option_map_or (slice_split (λ b. b == 44)) list []
 
@@ -64,7 +64,7 @@ draws_in value = if has_value (codes "draws") (codes "automatic") value then Aut
 abbrev pub games_in : Values → ℕ
 games_in value = option_map_or number_of (value (codes "games")) 1
 
--- the patience with this flag and so many seconds for a reply
+-- the patience with this flag and so many seconds for a reply (`None`: no limit), kept as milliseconds
 abbrev pub patience_by : Bool → Option ℕ → Patience
 patience_by flag seconds = record { flag = flag; reply = option_map (λ n. n * 1000) seconds }
 
@@ -113,8 +113,8 @@ IsRequestOf said (request.Match m) = (said.command ≡ codes "match") × IsMatch
 abbrev pub levels_in : MatchRequest → Result (LevelSeen × LevelSeen) LevelFault
 levels_in m = levels_by m.level.now (option_map (λ t. t.now) m.white_level) (option_map (λ t. t.now) m.black_level)
 
--- the plan of a match is what the request `m` asks for: levels and FEN as what they denote, a date that can be a tag,
--- all else as it is
+-- the plan of a match is what the request `m` asks for: levels and FEN as what they denote, a valid date, all else as
+-- it is
 pub record IsJudged (m : MatchRequest) (plan : GamesPlan) : Type 0 where
   pub white : plan.white ≡ m.white
   pub black : plan.black ≡ m.black
@@ -155,8 +155,7 @@ IsPlanFault (request.Verify keep_going options ignored) f = (f ≡ BadKind)
     × (list_all is_kind (names_in (option_map (λ t. t.now) ignored)) ≡ false)
 IsPlanFault _ f = ⊥
 
--- the second fault is how this error of `clap` is reported: as out of memory if it is that, otherwise as the error
--- itself
+-- this error of `clap` is reported by this fault: as out of memory if it is that, otherwise as the error itself
 abbrev pub Refuses : Error → WordsFault → Type 0
 Refuses e (Words e') = (kind_of e ≢ OutOfMemory) × (e' ≡ e)
 Refuses e NoMemory = kind_of e ≡ OutOfMemory

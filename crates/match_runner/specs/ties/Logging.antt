@@ -1,4 +1,4 @@
--- What code adds to a log, and a log before as a text.
+-- What code adds to a log, and an earlier state of a log as a text.
 use Rattle.std.specs.Prelude.{◌≡◌, ℕ, ◌==◌, nat_lt, Bool, true, false, if◌then◌else◌, List, [], ◌∷◌, ◌++◌, length, codes, decimal, Option, Some, None}
 use Rattle.byte_devices.specs.Bytes.{byte}
 use Rattle.chess_base.specs.declared.man.Colour.{Colour}
@@ -19,7 +19,7 @@ engine_text is_first = if is_first then codes "first : " else codes "second: "
 abbrev pub line_head : ℕ → ℕ → Bool → List ℕ
 line_head moment mark is_first = decimal moment ++ (byte " " ∷ mark ∷ []) ++ engine_text is_first
 
--- what logging `text` did, as `Logged` has it, but that the bytes `pending` at its end still wait to be written. The
+-- what logging `text` did, as in `Logged`, except that the bytes `pending` at its end still wait to be written. The
 -- flags say whether the log was broken before and is now; `o` and `o'` are the output before and after
 abbrev pub LogsPending : Bool → Bool → OutputState → OutputState → List ℕ → List ℕ → Type 0
 LogsPending false false o o' pending text =
@@ -33,7 +33,7 @@ pub record Adds (o o' : OutputState) (p p' : Pending) (more : List ℕ) : Type 0
   pub after : (from : LogSeen) (text : List ℕ) → LogsPending from.broken p.broken from.output o p.bytes.items text
       → LogsPending from.broken p'.broken from.output o' p'.bytes.items (text ++ more)
 
--- the moment of the last event after these notes, if it was at `moment` before
+-- what the clock showed last after these notes, if it showed `moment` last before them
 abbrev pub moment_from : ℕ → List Note → ℕ
 moment_from moment [] = moment
 moment_from moment (n ∷ notes) = moment_from (moment_after moment n) notes
@@ -53,7 +53,7 @@ abbrev pub text_of_bytes : Option (List ℕ) → List ℕ
 text_of_bytes None = []
 text_of_bytes (Some bytes) = 0 ∷ bytes
 
--- the bytes, or `None`, of which `text_of_bytes` made this text
+-- the bytes, or `None`, from which `text_of_bytes` made this text
 abbrev pub bytes_of_text : List ℕ → Option (List ℕ)
 bytes_of_text [] = None
 bytes_of_text (_ ∷ bytes) = Some bytes

@@ -6,7 +6,7 @@ use Rattle.clap.specs.Words.{Text, found_of, matched_of, raw_values}
 use Rattle.clap.proofs.WalkLemmas.{raw_values-rows}
 use Rattle.arbiter_cli.proofs.request.stub_arguments.Goals as goal
 
--- the texts behind references
+-- the texts to which the references in a list refer; `None` without a list
 abbrev texts_of : Option (Bor (List (Bor Text))) → Option (List Text)
 texts_of = option_map (λ s. map (λ v. v.now) s.now)
 

@@ -1,5 +1,5 @@
--- What `clap` finds of an option is the first value in its row (first_value-rows), or nothing, and then both take the
--- default.
+-- What `clap` finds of an option is the first value in its row (first_value-rows). If it finds nothing, code and
+-- definition both take the default.
 use Rattle.std.proofs.Common.{rules, ◌≡◌, ◌∙◌, ap, Option, Some, None, unwrap_or, sym}
 use Rattle.clap.specs.Words.{Text, first_value, found_of}
 use Rattle.clap.proofs.WalkLemmas.{first_value-rows}

@@ -15,7 +15,7 @@ simple names = refl
 free : (names : OptionNames) → is_simple_and_free (arbiter_app names) ≡ true
 free names = refl
 
--- a text behind a reference, wherever it is
+-- a reference to a text, somewhere in memory
 abbrev lent : Text → Bor Text
 lent t = record { ref_ptr = (0, 0); now = t }
 

@@ -1,4 +1,4 @@
--- The comment is ASCII (FaultTexts.comment_is_text), so it is a text.
+-- The comment on a fault is ASCII (FaultTexts.comment_is_text), so it is a text in UTF-8.
 use Rattle.match_runner.proofs.FaultTexts.{comment_is_text}
 use Rattle.match_runner.proofs.games.fault_text.Goals as goal
 

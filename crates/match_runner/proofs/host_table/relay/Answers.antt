@@ -1,4 +1,4 @@
--- Where no log is asked for, nothing is logged; the match has its notes all the same.
+-- With a log the notes of the match are logged. Without one nothing is, but the match has notes all the same.
 use Rattle.std.proofs.Common.{◌≡◌, Option, None, Some, refl, rules, subst, sym}
 use Rattle.chess_base.specs.declared.man.Colour.{Colour}
 use Rattle.chess_match.specs.laws.Laws.{notes_given}

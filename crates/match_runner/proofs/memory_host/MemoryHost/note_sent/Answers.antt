@@ -1,4 +1,4 @@
--- The texts are noted at their game, and nothing else changes.
+-- The texts are noted at the game with this index, which starts no engine and leaves all other games as they are.
 use Rattle.std.proofs.Common.{ap, arith}
 use Rattle.match_runner.proofs.MemorySteps.{none_there, others_stay, sent_there, started_stay}
 use Rattle.match_runner.proofs.memory_host.MemoryHost.note_sent.Goals as goal

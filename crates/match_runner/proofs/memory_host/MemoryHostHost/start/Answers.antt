@@ -1,4 +1,5 @@
--- Both engines were started, with their texts, or none.
+-- Either both engines were started, each with its text (MemorySteps.both_start), or none, with the fault of this start
+-- (none_starts): so the step is one that might come next.
 use Rattle.std.proofs.{Common.refl, lemmas.Result.err_from_is_err_and}
 use Rattle.match_runner.proofs.MemorySteps.{both_start, none_starts}
 use Rattle.match_runner.proofs.memory_host.MemoryHostHost.start.Goals as goal

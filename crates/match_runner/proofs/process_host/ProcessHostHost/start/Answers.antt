@@ -1,4 +1,5 @@
--- The fault is one of the two engines (GamesWritten.start_faults).
+-- If a start fails, the fault names the command of one of the two engines, or says that memory ran out
+-- (GamesWritten.start_faults).
 use Rattle.match_runner.proofs.GamesWritten.{start_faults}
 use Rattle.match_runner.proofs.process_host.ProcessHostHost.start.Goals as goal
 
