@@ -24,7 +24,7 @@ use Rattle.chess_text.specs.declared.reading.Reading.{Reading}
 use Rattle.chess_text.specs.declared.reading.Reading.TheVariants as reads
 use Rattle.chess_text.specs.Parts.{unmarked, kind_text, file_text, rank_text, ◌·◌}
 
--- ---- what a text can say of a move
+-- ---- described moves
 
 -- what a text can say of move m of position p, legal or not: its piece's kind (`man`), both squares, its promotion,
 -- whether it captures, and to which side it castles; `None` if no piece is on its start square
@@ -39,7 +39,7 @@ described p m =
       castles = castling p m;
     }) (man_at p.men m.from)
 
--- ---- the texts of a move
+-- ---- texts
 
 -- what may be written of the start square `from` after a piece's letter: nothing, the file, the rank, or both, as in
 -- Nf3, Ngf3, N1f3 and Ng1f3
@@ -50,8 +50,8 @@ start_texts from = [] ∷ file_text (file from) ∷ rank_text (rank from) ∷ sq
 abbrev pub capture_texts : Bool → List (List ℕ)
 capture_texts captures = [] ∷ list_if captures (codes "x" ∷ [])
 
--- the texts of a promotion to k: each of `signs` with k's letter, capital or small, as =Q and =q for the sign `=`;
--- without a promotion (`None`) only the empty text
+-- the texts of a promotion to k: each of `signs` with k's letter, capital or small (=Q, =q for the sign `=`); without a
+-- promotion (`None`) only the empty text
 abbrev pub promotion_texts : List (List ℕ) → Option Kind → List (List ℕ)
 promotion_texts signs None = [] ∷ []
 promotion_texts signs (Some k) = signs · (kind_text k ∷ small_letter_text k ∷ [])
@@ -67,8 +67,8 @@ texts_by_letter d = if same_kind d.man Pawn || is_some d.castles then []
     else (kind_text d.man ∷ []) · start_texts d.from · capture_texts d.captures · (square_text d.to ∷ [])
 
 -- what may be written before the end square of a pawn's move d: its start file or start square, for a capture also with
--- `x`; and nothing, if it stays on its file. So e2e4 may be e4, ee4 or e2e4, and the capture e4d5 ed5, exd5, e4d5 or
--- e4xd5
+-- `x`; and nothing, if it stays on its file. So e2e4 may be e4, ee4 or e2e4, and the capture e4d5 may be ed5, exd5,
+-- e4d5 or e4xd5
 abbrev pub pawn_starts : Described → List (List ℕ)
 pawn_starts d = list_if (file d.from == file d.to) ([] ∷ [])
     ++ (file_text (file d.from) ∷ square_text d.from ∷ []) · capture_texts d.captures
@@ -107,19 +107,18 @@ denotes p text m = option_map_or (denotes_described text) (described p m) false
 
 -- ---- reading
 
--- the reading of a text that denotes just these legal moves: the move if there is one, `Ambiguous` if there are
--- several, `NoSuch` if none
+-- the reading by the legal moves that a text denotes: a single move as that, several as `Ambiguous`, none as `NoSuch`
 abbrev pub one_of : List Move → Reading
 one_of [] = reads.NoSuch
 one_of (m ∷ []) = reads.Move m
 one_of (m ∷ n ∷ ms) = reads.Ambiguous
 
--- what the text is read as in position p: `NotAMove` if it has no move's shape, otherwise by the legal moves that it
--- denotes (`one_of`)
+-- what the text is read as in position p: `NotAMove` if it has no move's shape; otherwise the legal move that it
+-- denotes, `Ambiguous` if it denotes several, `NoSuch` if none
 unfoldable pub reading : Setup → List ℕ → Reading
 reading p text = if shape text then one_of (filter (λ m. denotes p text m) (moves p)) else reads.NotAMove
 
--- the text that was read with this result has a move's shape
+-- a text that is read so has a move's shape
 abbrev pub has_shape : Reading → Bool
 has_shape reads.NotAMove = false
 has_shape _ = true

@@ -57,16 +57,16 @@ abbrev pub ShownMoveIsReadBack : Type 0
 ShownMoveIsReadBack = (p : Setup) → (m : Move) → IsSound p → IsTrue (is_legal p m)
     → reading p (shown_move p m) ≡ reads.Move m
 
--- parts q that `parts_at` finds in a text can be a text's parts, and the text is that of q
+-- if `parts_at` finds parts in a text, they can be a text's parts (`AreParts`), and it is their text (`parts_text`)
 abbrev pub PartsAreTheTexts : Type 0
 PartsAreTheTexts = (text : List ℕ) → (q : Parts) → parts_at text ≡ Some q → AreParts q × (text ≡ parts_text q)
 
--- in the text of parts q, which can be a text's parts, `parts_at` finds q
+-- in the text of parts that can be a text's (`AreParts`), `parts_at` finds these parts
 abbrev pub PartsAreRead : Type 0
 PartsAreRead = (q : Parts) → AreParts q → parts_at (parts_text q) ≡ Some q
 
--- a text denotes a described move by comparison with lists of all its texts (`denotes_described`) exactly if it names
--- its castling or is the text of parts that fit it (`IsDenoted`)
+-- a text denotes a described move by `denotes_described`, which compares it with lists of all texts of that move,
+-- exactly if it does by `IsDenoted`, which needs no lists
 abbrev pub DenotedByText : Type 0
 DenotedByText = (text : List ℕ) → (d : Described) → IsTrue (denotes_described text d) ↔ IsDenoted text d
 
@@ -77,7 +77,7 @@ IsShaped text =
     ((w : CastlingSide) × IsTrue (is_castling_text text w))
     ⊎ ((q : Parts) × AreParts q × (unmarked text ≡ parts_text q) × IsTrue (is_form q))
 
--- a text has the shape of a move by trying all descriptions of moves (`shape`) exactly if it has by its parts
--- (`IsShaped`)
+-- a text has a move's shape by `shape`, which tries all descriptions of moves, exactly if it has by `IsShaped`, which
+-- tries none
 abbrev pub ShapedByText : Type 0
 ShapedByText = (text : List ℕ) → IsTrue (shape text) ↔ IsShaped text

@@ -20,8 +20,8 @@ pub record AreFullLines (lines : List (List (List ℕ))) : Type 0 where
   pub full : (before after : List (List (List ℕ))) (line rest : List (List ℕ)) (token : List ℕ)
       → lines ≡ before ++ line ∷ (token ∷ rest) ∷ after → 79 < length (line_text (line ++ token ∷ []))
 
--- the text is that of the game `s` with these tags: the tags' lines, an empty line, full lines of the game's tokens, an
--- empty line; each line with `prefix` before it and `\n` after it
+-- the text is that of the game `s` with these tags: the tags' lines, an empty line, the game's tokens in lines as full
+-- as they can be, an empty line; each line with `prefix` before it and `\n` after it
 pub record IsPgn (prefix : List ℕ) (t : Tags) (s : State) (text : List ℕ) : Type 0 where
   -- the moves' lines, each as its tokens
   pub lines : List (List (List ℕ))

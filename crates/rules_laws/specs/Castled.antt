@@ -17,7 +17,7 @@ use Rattle.chess_base.specs.Moves.{is_legal, after}
 use Rattle.chess_base.specs.Sound.{IsSound, has_one_king}
 use Rattle.rules_laws.specs.Names.{square}
 
--- colour's castling on one side: where king and rook start in normal chess, and where they end in both variants
+-- a colour's castling on one side: where king and rook start in normal chess, and where they end in both variants
 abbrev pub castling_of : Colour → CastlingSide → Castle
 castling_of White KingSide =
     record { king_from = square "e1"; king_to = square "g1"; rook_from = square "h1"; rook_to = square "f1" }
@@ -39,7 +39,7 @@ pub record HasCastled (p : Setup) (m : Move) (k : Castle) : Type 0 where
       → man_at (after p m).men s ≡ man_at p.men s
 
 -- normal chess: a king that legally goes from e1 to g1 in a sound position castles with the rook from h1; likewise
--- e1c1, e8g8 and e8c8 with theirs
+-- e1c1, e8g8 and e8c8 with the rooks from a1, h8 and a8
 abbrev pub NormalCastlingEnds : Type 0
 NormalCastlingEnds = (p : Setup) (m : Move) (w : CastlingSide) → IsSound p → p.variant ≡ Normal
     → IsTrue (is_legal p m) → IsTrue (is_man p.side King (man_at p.men m.from))
@@ -93,7 +93,7 @@ NormalCastlingIsLegal = (p : Setup) (w : CastlingSide) → IsSound p → p.varia
 
 -- ---- rights of Chess960
 
--- square s is on colour c's first rank: from a1 to h1, or from a8 to h8
+-- square s is on colour c's first rank, a1 to h1 or a8 to h8
 abbrev pub IsOnFirstRank : Colour → ℕ → Type 0
 IsOnFirstRank White s = (square "a1" ≤ s) × (s ≤ square "h1")
 IsOnFirstRank Black s = (square "a8" ≤ s) × (s ≤ square "h8")

@@ -23,7 +23,7 @@ pub record GoesTwoSquaresOver (c : Colour) (m : Move) (s : ℕ) : Type 0 where
   pub crosses : rank s ≡ by_colour 2 5 c
   pub ends : (file m.to ≡ file s) × (rank m.to ≡ by_colour 3 4 c)
 
--- move `before` of position p was a pawn's double advance over the end square of the next move, m, and m captures that
+-- move `before` of position p was a pawn's double advance over the end square of the next move, m, which captures that
 -- pawn: its square is empty afterwards
 pub record FollowsDoubleAdvance (p : Setup) (before m : Move) : Type 0 where
   pub pawn : IsTrue (is_man p.side Pawn (man_at p.men before.from))

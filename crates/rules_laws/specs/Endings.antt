@@ -59,7 +59,7 @@ pub record IsThere (n : ℕ) (start : Setup) (ms : List Move) : Type 0 where
   pub same : AllByRecursion
       (λ k. (k ≤ length ms) × IsTrue (is_same_position (position_at start ms k) (position_after start ms))) times
 
--- ---- moves without capture or pawn move
+-- ---- quiet moves
 
 -- move m of position p is no pawn move and no capture
 pub record IsQuiet (p : Setup) (m : Move) : Type 0 where
@@ -74,8 +74,8 @@ pub record IsQuietFor (n : ℕ) (start : Setup) (ms : List Move) : Type 0 where
   -- the move at the index k, if it is among the last n
   pub quiet : (k : ℕ) (m : Move) → slice_get ms k ≡ Some m → length ms ≤ k + n → IsQuiet (position_at start ms k) m
 
--- each game's halfmove clock is at least n exactly if `IsQuietFor n` holds; n is at most 999,999 (`COUNTER_LIMIT`),
--- where the clock stops
+-- each game's halfmove clock is at least n exactly if the last n half-moves are quiet; n is at most 999,999
+-- (`COUNTER_LIMIT`), where the clock stops
 abbrev pub ClocksCountQuietMoves : Type 0
 ClocksCountQuietMoves = (n : ℕ) (start : Setup) (ms : List Move) → n ≤ COUNTER_LIMIT
     → ((n ≤ (position_after start ms).halfmove) ↔ IsQuietFor n start ms)

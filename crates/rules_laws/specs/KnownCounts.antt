@@ -34,7 +34,7 @@ with_promotions = "n1n5/PPPk4/8/8/8/8/4Kppp/5N1N b - - 0 1"
 abbrev pub rooks_beside : Text
 rooks_beside = "2rkr3/8/8/8/8/8/8/2RKR3 w ECec - 0 1"
 
--- Chess960: White may castle. The king goes from b1 to c1, neither attacked, and the rook from a1 to d1, which is
+-- Chess960: White may castle. The king goes from b1 to c1, neither attacked, and the rook from a1 to the attacked d1
 abbrev pub may_castle : Text
 may_castle = "3rk3/8/8/8/8/8/8/RK6 w Q - 0 1"
 

@@ -1,5 +1,4 @@
--- Examples that chess players and programmers know: which FEN a line leads to, which positions are the same, and which
--- FENs are refused.
+-- Known lines and their FENs, positions that are the same, and FENs that are refused.
 use Rattle.std.specs.Prelude.{◌≡◌, ◌<◌, ℕ, Bool, true, false, IsTrue, List, [], ◌∷◌, ◌++◌, codes, Option, Some, is_some, option_map, option_and_then, Err}
 use Prim.Native.String.{String as Text}
 use Rattle.std.specs.Result.{result_ok}
@@ -123,7 +122,7 @@ IsWrittenAs text written = option_map fen (result_ok (fen_reading_as Fischerando
 abbrev pub HasWrongRights : Text → Type 0
 HasWrongRights text = fen_reading_as Fischerandom (codes text) ≡ Err Castling
 
--- FENs that are refused, each for the first of its faults, and neighbours that are accepted
+-- FENs that are refused, each for the first of its faults, and similar ones that are accepted
 pub record FensAreRefused : Type 0 where
   pub no_king : IsRefused "8/8/8/8/8/8/8/4K3 w - - 0 1" Kings
   pub no_white_king : IsRefused "4k3/8/8/8/8/8/8/8 w - - 0 1" Kings
@@ -177,7 +176,7 @@ pub record FensAreRefused : Type 0 where
   -- the first of several faults is reported: fields from the left, then the position's: kings, pawns, pieces, castling,
   -- en passant, check
   pub counters_before_kings : IsRefused "8/8/8/8/8/8/8/8 w - - x 1" Counters
-  -- a target not on rank 3 or 6 is its field's fault
+  -- a target that is not on rank 3 or 6 is a fault of its field
   pub rank_4_before_kings : IsRefused "8/8/8/8/8/8/8/8 w - e4 0 1" EnPassant
   pub rank_5_before_kings : IsRefused "8/8/8/8/8/8/8/8 w - e5 0 1" EnPassant
   pub file_i_before_kings : IsRefused "8/8/8/8/8/8/8/8 w - i6 0 1" EnPassant
@@ -205,6 +204,6 @@ pub record FensAreRefused : Type 0 where
   pub two_on_one_side : HasWrongRights "4k3/8/8/8/8/8/8/4K1RR w HG - 0 1"
   pub no_black_rook : HasWrongRights "4k3/8/8/8/8/8/8/4K3 w k - 0 1"
   pub kings_file : HasWrongRights "4k3/8/8/8/8/8/8/4K2R w E - 0 1"
-  -- a letter of no file is its field's fault, so it comes before kings; other wrong rights come after them
+  -- a letter that names no file is a fault of its field, so it comes before kings; other wrong rights come after
   pub letter_before_kings : HasWrongRights "8/8/8/8/8/8/8/8 w I - 0 1"
   pub kings_before_rights : fen_reading_as Fischerandom (codes "8/8/8/8/8/8/8/8 w HK - 0 1") ≡ Err Kings

@@ -1,4 +1,4 @@
--- Moves and games that chess players know, as SAN and PGN write them (PGN standard of 1994).
+-- Known moves and games as SAN and PGN write them (PGN standard of 1994).
 use Rattle.std.specs.Prelude.{◌≡◌, ℕ, Bool, true, false, not, ◌&&◌, List, [], ◌∷◌, codes, option_map, replicate, take, drop, Option, None, Some}
 use Prim.Native.String.{String as Text}
 use Rattle.std.specs.List.{list_all, list_any}
@@ -57,12 +57,11 @@ pub record MovesAreWritten : Type 0 where
   pub castling_check : IsWritten "5k2/8/8/8/8/8/8/4K2R w K - 0 1" (move_by "e1" "g1") "O-O+"
   pub mate : IsWritten "6k1/5ppp/8/8/8/8/8/R3K3 w - - 0 1" (move_by "a1" "a8") "Ra8#"
   pub stalemate : IsWritten "7k/8/6K1/8/8/8/8/5Q2 w - - 0 1" (move_by "f1" "f7") "Qf7"
-  -- captures by a knight, en passant, and with a promotion
   pub knight_captures : IsWritten "4k3/8/8/4p3/8/5N2/8/4K3 w - - 0 1" (move_by "f3" "e5") "Nxe5"
   pub en_passant : IsWritten "4k3/8/8/3pP3/8/8/8/4K3 w - d6 0 1" (move_by "e5" "d6") "exd6"
   pub to_knight : IsWritten "1r2k3/P7/8/8/8/8/8/4K3 w - - 0 1" (becomes_knight "a7" "b8") "axb8=N"
 
--- the text by its squares of a move in the position of a FEN of variant v
+-- a move's text by its squares in the position of a FEN of variant v
 abbrev pub shown_in : Variant → Text → Move → Option (List ℕ)
 shown_in v text m = option_map (λ p. shown_move p m) (result_ok (fen_reading_as v (codes text)))
 
@@ -85,7 +84,7 @@ AreTextsAs v text m texts others = option_map
     (λ p. list_all (λ w. denotes p w m) texts && not (list_any (λ w. denotes p w m) others))
     (result_ok (fen_reading_as v (codes text))) ≡ Some true
 
--- `AreTextsAs` in normal chess
+-- in the position of a FEN of normal chess the move is denoted by each of the first texts and by none of the others
 abbrev pub AreItsTexts : Text → Move → List (List ℕ) → List (List ℕ) → Type 0
 AreItsTexts = AreTextsAs Normal
 
@@ -155,7 +154,6 @@ pub record MovesAreNumbered : Type 0 where
   -- a game that Black begins: that move has a number too
   pub black_first : tokens_from "4k3/4P3/8/8/8/8/8/4K3 b - - 0 12" (move_by "e8" "e7" ∷ [])
       ≡ Some (codes "12..." ∷ codes "Kxe7" ∷ codes "1/2-1/2" ∷ [])
-  -- without a move there is no number
   pub no_move : tokens_from "4k3/4P3/8/8/8/8/8/4K3 b - - 0 12" [] ≡ Some (codes "*" ∷ [])
 
 -- the tags of a game between A and B

@@ -30,7 +30,7 @@ mirrored_man x = record { colour = other x.colour; kind = x.kind }
 unfoldable pub mirrored_men : Men → Men
 mirrored_men men = map (λ s. option_map mirrored_man (man_at men (mirrored s))) squares
 
--- each right is the other colour's, with the rook on the mirrored square
+-- rights in the mirror: each is the other colour's, with the rook on the mirrored square
 abbrev pub mirrored_rights : Rights → Rights
 mirrored_rights r = rights_by (λ c w. option_map mirrored (right_of r (other c) w))
 
@@ -70,8 +70,8 @@ abbrev pub MirrorIsAsLegal : Type 0
 MirrorIsAsLegal = (p : Setup) (m : Move) → IsSound p → m.from < 64 → m.to < 64
     → is_legal (mirrored_setup p) (mirrored_move m) ≡ is_legal p m
 
--- a legal move of a sound position leads, in the mirror, to the mirrored position, but for the fullmove number, which
--- only Black's moves raise
+-- the mirror of a legal move of a sound position leads to the mirror of the position after it, but for the fullmove
+-- number, which only Black's moves raise
 abbrev pub MirrorMovesAlike : Type 0
 MirrorMovesAlike = (p : Setup) (m : Move) → IsSound p → IsTrue (is_legal p m)
     → record (after (mirrored_setup p) (mirrored_move m)) { fullmove = 1 }

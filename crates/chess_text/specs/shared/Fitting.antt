@@ -90,7 +90,7 @@ is_by_file q d =
     is_none q.letter && names q.file (file d.from) && admits q.rank (rank d.from) && same_kind Pawn d.man
     && (not q.takes || d.captures) && (q.end.to == d.to) && promotes_so q.end.promotion d.promotion
 
--- the parts q denote move d in one of the four ways above
+-- the parts q denote move d: by its squares, by its letter, or as a pawn's, straight or by its file
 unfoldable pub parts_fit : Parts → Described → Bool
 parts_fit q d = is_by_squares q d || is_by_letter q d || is_straight q d || is_by_file q d
 

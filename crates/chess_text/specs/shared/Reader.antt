@@ -30,8 +30,8 @@ abbrev pub or_else : {A : Type 0} → Option A → Option A → Option A
 or_else (Some x) o = Some x
 or_else None o = o
 
--- the promotion to the piece with the letter c, capital or small; `equals`: `=` was before it; none if a pawn can't
--- become such a piece
+-- the promotion to the piece with the letter c, capital or small; none if a pawn can't become it. `equals`: `=` was
+-- before the letter
 abbrev pub promotion_by : Bool → ℕ → Option Promotion
 promotion_by equals c =
     or_else (option_map (λ k. record { kind = k; equals = equals; small = false }) (kind_from promoted c))
@@ -51,7 +51,7 @@ promotion_at (c ∷ []) = option_map Some (promotion_by false c)
 promotion_at (c ∷ d ∷ []) = if c == byte "=" then option_map Some (promotion_by true d) else None
 promotion_at (c ∷ d ∷ e ∷ cs) = None
 
--- the end square and promotion of which a text just consists, as e4 or e8=Q; otherwise none
+-- the end square and the promotion that make up a text, as e4 or e8=Q; otherwise none
 abbrev pub end_at : List ℕ → Option End
 end_at [] = None
 end_at (f ∷ []) = None
@@ -78,8 +78,8 @@ rank_at (c ∷ rest) =
 abbrev pub with_parts : Option Kind → Option ℕ → Option ℕ × Bool × End → Parts
 with_parts letter file x = record { letter = letter; file = file; rank = x.0; takes = x.1; end = x.2 }
 
--- the parts of the text after the piece's letter, which is given. Its first file letter belongs to the end square if
--- the text can be read so (e4), otherwise it is the start file (exd5)
+-- the parts of the text after the piece's letter, which is given. A file letter at its front is the end square's if the
+-- text can be read so (e4), otherwise the start's (exd5)
 abbrev pub file_at : Option Kind → List ℕ → Option Parts
 file_at letter [] = None
 file_at letter (c ∷ rest) =

@@ -18,8 +18,8 @@ lines_begun (t ∷ ts) = lines_from t ts
 
 -- ---- by the bytes of the line that is begun, `column`; with 0 none is begun
 
--- the token fits on the line that is begun, which has `column` bytes so far: with a space and the token it has at most
--- 79
+-- the token fits on the line that is begun, with `column` bytes so far: a space and the token make it at most 79. False
+-- for column 0
 abbrev pub fits_line : ℕ → List ℕ → Bool
 fits_line column token = not (column == 0) && nat_le (column + 1 + length token) 79
 
