@@ -1,4 +1,4 @@
--- All moves that a form denotes end on one square, so that none needs be looked at that ends elsewhere.
+-- All moves that a form denotes end on one square (`end_square`), so no move that ends elsewhere need be tried.
 use mathlib.Core.Bool.{and_comm}
 use Rattle.std.proofs.Common.{◌≡◌, ◌≢◌, ℕ, ◌≤◌, Bool, true, false, ◌&&◌, Option, Some, None, map, refl, sym, ap, ◌∙◌, arith, filter, flat_map}
 use Rattle.std.proofs.{lemmas.Bool.and_parts, lemmas.Bool.false_from_ne_true, lemmas.List.Elements.filter_agree, Math.Path.fun_ext}
@@ -19,8 +19,8 @@ same_side-true QueenSide QueenSide h = refl
 same_side-true KingSide QueenSide h = cc
 same_side-true QueenSide KingSide h = cc
 
--- a move that the form denotes ends on the form's end square, by the man on its start square (o): parts name their end
--- square, and castling to a side ends on one
+-- a move that the form denotes ends on the form's end square, by the piece on its start square (o): parts name their
+-- end square, and castling to a side ends on one
 form_ends : (form : Form) (p : Setup) (m : Move) (o : Option Man) → passes (form_fits form) (described_by p m o) ≡ true
     → m.to ≡ end_square form p
 form_ends form p m None h = cc

@@ -15,7 +15,7 @@ use Rattle.chess_text.proofs.Origins.{named_is}
 
 -- ---- the piece
 
--- a man x that passes the test for kind k is of this kind
+-- a piece x that passes the test for kind k is of this kind
 kind_there : (c : Colour) (k : Kind) (o : Option Man) (x : Man) → o ≡ Some x → is_man c k o ≡ true → k ≡ x.kind
 unfolding is_man
 kind_there c k None x at e = absurd cc

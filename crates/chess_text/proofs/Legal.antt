@@ -1,5 +1,5 @@
--- What each legal move has: its two squares, its piece of the side on move, the pattern of that piece; only a pawn
--- promotes, and castling is the king's.
+-- What each legal move has: its two squares, its piece of the side on move, and that it goes as this piece moves; only
+-- a pawn promotes, and castling is the king's.
 use Rattle.std.proofs.Common.{◌≡◌, ℕ, ◌<◌, Bool, true, false, ◌&&◌, ◌||◌, not, cond, Option, Some, None, is_none, refl, sym, ap, ◌∙◌, ◌==◌, nat_lt, IfSome, option_map}
 use Rattle.std.proofs.lemmas.Bool.{and_parts, ltb-true, eqb-true}
 use Rattle.chess_base.specs.{declared.man.CastlingSide.CastlingSide, declared.man.Colour.Colour, declared.man.Kind.Kind, declared.man.Variant.Variant, declared.man.Variant.TheVariants.Normal, declared.man.Variant.TheVariants.Fischerandom, declared.man.Man.Man, declared.man.Move.Move, declared.setup.Setup.Setup, Attacks.attacks, Attacks.is_in_check, shared.Splits.castles_or_moves, shared.Splits.names_castling, declared.castling.Castle.Castle, Squares.rank}
@@ -128,7 +128,7 @@ kind_promotes p m Rook e = none_promotes m.promotion e
 kind_promotes p m Bishop e = none_promotes m.promotion e
 kind_promotes p m Knight e = none_promotes m.promotion e
 
--- the facts of `IsMove`, from the man on the start square (o) and the test of its pattern
+-- the facts of `IsMove`, from what is on the start square (o) and the test of how it moves
 move_by : (p : Setup) (m : Move) (o : Option Man) → man_at p.men m.from ≡ o → m.from < 64 → m.to < 64
     → moves_as p m o ≡ true → IsMove p m
 move_by p m None at f t e = absurd cc

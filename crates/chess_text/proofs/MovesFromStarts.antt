@@ -1,5 +1,5 @@
--- Where the parts denote moves of one kind of piece alone, none of which promotes, these are the moves from the squares
--- where a piece of that kind has the legal move to the end square.
+-- Where parts denote moves of one kind of piece alone, without a promotion, these are the moves that the parts fit from
+-- the squares where a piece of that kind has a legal move to the end square (by_starts).
 use Rattle.std.proofs.Common.{◌≡◌, ℕ, zero, suc, ◌+◌, ◌<◌, inl, inr, Bool, true, false, ◌&&◌, cond, Option, Some, None, List, [], ◌∷◌, refl, sym, ap, subst, ◌∙◌, arith, is_some}
 use Rattle.std.specs.List.{filter, flat_map, range_with_len}
 use Rattle.std.proofs.lemmas.Bool.Decides.{nat_tests}

@@ -144,7 +144,7 @@ by_pawn p q w at square origins = λ m denoted legal.
     (pawn_named q (described_as p m h.man) h.from_in at square (fits_told p q m h denoted)))
     (denoted_ends (Piece q) p m denoted)
 
--- a move that castles to side v is the king's, by the man on its start square (o)
+-- a move that castles to side v is the king's, by what is on its start square (o)
 king_by : (v : CastlingSide) (p : Setup) (m : Move) (o : Option Man)
     → passes (form_fits (Castling v)) (described_by p m o) ≡ true → is_man p.side King (man_at p.men m.from) ≡ true
 king_by v p m None h = cc

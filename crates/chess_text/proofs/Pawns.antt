@@ -73,13 +73,14 @@ pub advances_on_file : (p : Setup) (m : Move) → 8 ≤ m.from → Advance p m �
 advances_on_file p m h (Single to) = one_on_file p.side m.from m.to h to
 advances_on_file p m h (Double to home free) = two_on_file p.side m.from m.to home to
 
--- a square with a man is not an empty one
+-- a square with a piece is not an empty one
 stands_not : (p : Setup) (a b : ℕ) (x : Man) → man_at p.men a ≡ Some x → man_at p.men b ≡ None → b ≡ a → ⊥
 stands_not p a b x at none same =
     let e = ap (man_at p.men) same in
     cc
 
--- two pawns that advance to one square start on one: after one and two steps the first would stand in the second's way
+-- two pawns that advance to one square start on one: if one went one step and the other two, the first would be in the
+-- second's way
 pub same_advance : (p : Setup) (m n : Move) → man_at p.men m.from ≡ Some (pawn_of p.side)
     → man_at p.men n.from ≡ Some (pawn_of p.side) → 8 ≤ m.from → 8 ≤ n.from → n.to ≡ m.to
     → Advance p m → Advance p n → n.from ≡ m.from
@@ -137,7 +138,7 @@ advances_straight p m at e on =
       | inr takes ↦ let aside = (attack_of p m at (captures_attack p m takes)).0 in absurd (omega arith)
     ]
 
--- no man is of a colour where there is none
+-- where there is no piece, none is of this colour
 is_of-none : (c : Colour) (o : Option Man) → is_of c o ≡ true → is_none o ≡ true → ⊥
 unfolding is_of
 is_of-none c None e n = cc

@@ -1,4 +1,4 @@
--- The SAN of a legal move is ASCII, and so it is text.
+-- The SAN of a legal move is ASCII, since each of its bytes is, and so it is text.
 use Rattle.std.proofs.Common.{◌≡◌, ℕ, zero, suc, ◌<◌, true, List, [], ◌∷◌, arith, IsTrue, IsAscii}
 use Rattle.std.specs.List.{list_all}
 use Rattle.std.proofs.{lemmas.Bool.and_parts, lemmas.Bool.Decides.nat_tests}

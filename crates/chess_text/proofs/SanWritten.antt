@@ -1,4 +1,4 @@
--- What the writer of SAN puts together is the text of the definition.
+-- What the writer of SAN puts together is the SAN of the definition.
 use Rattle.std.proofs.Common.{◌≡◌, ℕ, List, ◌++◌, Some, None, refl, ap, ◌∙◌, IsTrue}
 use Rattle.chess_base.specs.{declared.man.Kind.Kind, declared.man.Move.Move, declared.setup.Setup.Setup, Moves.is_legal, Moves.after, shared.Parts.optional, MoveList.moves}
 use Rattle.chess_base.specs.declared.man.Kind.TheVariants.{King, Queen, Rook, Bishop, Knight, Pawn}

@@ -1,4 +1,4 @@
--- The result of reading a text tells whether the text has a move's shape: it has none exactly if the result is
+-- The result of reading a text shows whether the text has a move's shape: it has none exactly if the result is
 -- `NotAMove`.
 use Rattle.std.proofs.Common.{◌≡◌, ℕ, Bool, true, false, List, [], ◌∷◌, refl, if◌then◌else◌, filter}
 use Rattle.chess_base.specs.{declared.man.Move.Move, declared.setup.Setup.Setup, MoveList.moves}

@@ -1,6 +1,6 @@
--- The texts of moves: which moves a text denotes (PGN standard of 1994, section 8.2.3). This project's additions to the
--- standard: a move by its two squares (g1f3, e1g1), castling with the digit 0, a promotion in a small letter or without
--- `=`, a capture without `x`, more of the start square than is needed, and any run of the marks + # ! ? or none.
+-- Which moves a text denotes (PGN standard of 1994, section 8.2.3). This project's additions to the standard: a move by
+-- its two squares (g1f3, e1g1), castling with the digit 0, a promotion in a small letter or without `=`, a capture
+-- without `x`, more of the start square than is needed, and any run of the marks + # ! ?.
 use Rattle.std.specs.Prelude.{ℕ, ◌==◌, Bool, true, false, ◌||◌, if◌then◌else◌, List, [], ◌∷◌, ◌++◌, map, flat_map, Option, Some, None, is_some, IsTrue, codes}
 use Rattle.std.specs.List.{list_any, filter}
 use Rattle.std.specs.Option.{option_map, option_map_or}
@@ -24,11 +24,10 @@ use Rattle.chess_text.specs.declared.reading.Reading.{Reading}
 use Rattle.chess_text.specs.declared.reading.Reading.TheVariants as reads
 use Rattle.chess_text.specs.Parts.{unmarked, kind_text, file_text, rank_text, ◌·◌}
 
--- ---- what a text can say of a move
+-- ---- described moves
 
--- what a text can say of move m of position p, legal or not: its piece's kind (`man`), both squares, its promotion
--- (`None`: none), whether it captures, and to which side it castles (`None`: to none). The result is `None` if no piece
--- is on its start square
+-- what a text can say of move m of position p, legal or not: its piece's kind (`man`), both squares, its promotion,
+-- whether it captures, and to which side it castles; `None` if no piece is on its start square
 unfoldable pub described : Setup → Move → Option Described
 described p m =
     option_map (λ x. record {
@@ -40,25 +39,25 @@ described p m =
       castles = castling p m;
     }) (man_at p.men m.from)
 
--- ---- the texts of a move
+-- ---- texts
 
 -- what may be written of the start square `from` after a piece's letter: nothing, the file, the rank, or both, as in
 -- Nf3, Ngf3, N1f3 and Ng1f3
 abbrev pub start_texts : ℕ → List (List ℕ)
 start_texts from = [] ∷ file_text (file from) ∷ rank_text (rank from) ∷ square_text from ∷ []
 
--- what may be written just before the end square: nothing, and if the move captures also `x`
+-- what may be written just before the end square: nothing, and for a capture also `x`
 abbrev pub capture_texts : Bool → List (List ℕ)
 capture_texts captures = [] ∷ list_if captures (codes "x" ∷ [])
 
--- the texts of a promotion to k: each of `signs` (the empty text, or that and `=`) with k's letter, capital or small:
--- Q, q, =Q and =q. Without a promotion (`None`) only the empty text
+-- the texts of a promotion to k: each of `signs` with k's letter, capital or small (=Q, =q for the sign `=`); without a
+-- promotion (`None`) only the empty text
 abbrev pub promotion_texts : List (List ℕ) → Option Kind → List (List ℕ)
 promotion_texts signs None = [] ∷ []
 promotion_texts signs (Some k) = signs · (kind_text k ∷ small_letter_text k ∷ [])
 
--- the texts of the described move d by its two squares: g1f3; with a promotion e7e8q and e7e8Q (e7e8=Q is one of
--- `texts_of_pawn`); castling too, as e1g1, or in Chess960, where the end square is the rook's, e1h1
+-- the texts of the described move d by its two squares: g1f3, e7e8q, e7e8Q, castling as e1g1, or in Chess960, where the
+-- end square is the rook's, e1h1
 abbrev pub texts_by_squares : Described → List (List ℕ)
 texts_by_squares d = (square_text d.from ∷ []) · (square_text d.to ∷ []) · promotion_texts ([] ∷ []) d.promotion
 
@@ -67,66 +66,64 @@ abbrev pub texts_by_letter : Described → List (List ℕ)
 texts_by_letter d = if same_kind d.man Pawn || is_some d.castles then []
     else (kind_text d.man ∷ []) · start_texts d.from · capture_texts d.captures · (square_text d.to ∷ [])
 
--- what may be written before the end square of a described pawn's move d: its start file or start square, for a capture
--- also with `x`; and nothing, if it stays on its file. So e2e4 may be written e4, ee4 or e2e4, and the capture e4d5 may
--- be written ed5, exd5, e4d5 or e4xd5
+-- what may be written before the end square of a pawn's move d: its start file or start square, for a capture also with
+-- `x`; and nothing, if it stays on its file. So e2e4 may be e4, ee4 or e2e4, and the capture e4d5 may be ed5, exd5,
+-- e4d5 or e4xd5
 abbrev pub pawn_starts : Described → List (List ℕ)
 pawn_starts d = list_if (file d.from == file d.to) ([] ∷ [])
     ++ (file_text (file d.from) ∷ square_text d.from ∷ []) · capture_texts d.captures
 
--- the texts of the described move d as a pawn's, such as e4 and exd5, with a promotion also e8Q, e8=q and e7e8=Q; none
--- if another piece makes it
+-- the texts of the described move d as a pawn's, such as e4 and exd5, with a promotion e8Q, e8=q and e7e8=Q; none if
+-- another piece makes it
 abbrev pub texts_of_pawn : Described → List (List ℕ)
 texts_of_pawn d = list_if (same_kind Pawn d.man)
     (pawn_starts d · (square_text d.to ∷ []) · promotion_texts ([] ∷ codes "=" ∷ []) d.promotion)
 
--- the texts that denote castling to this side: with the letter O (O-O, O-O-O) or with the digit 0 (0-0, 0-0-0)
+-- the texts of castling to this side, with the letter O (O-O, O-O-O) or the digit 0 (0-0, 0-0-0)
 abbrev pub castling_texts : CastlingSide → List (List ℕ)
 castling_texts = by_side (codes "O-O" ∷ codes "0-0" ∷ []) (codes "O-O-O" ∷ codes "0-0-0" ∷ [])
 
--- whether the text, without the marks (+ # ! ?) at its end, denotes the described move d: as castling, by its two
--- squares, by its piece's letter, or as a pawn's
+-- the text, without its marks (+ # ! ?), denotes the described move d: as castling, by its two squares, by its piece's
+-- letter, or as a pawn's
 unfoldable pub denotes_described : List ℕ → Described → Bool
 denotes_described text d = list_any (bytes_eq (unmarked text))
     (option_map_or castling_texts d.castles [] ++ (texts_by_squares d ++ (texts_by_letter d ++ texts_of_pawn d)))
 
--- each kind of piece with each start square, end square, promotion or none, capture or not, and castling to a side or
--- none, even if there is no such move
+-- all descriptions of moves, possible or not: each kind of piece, start square, end square, promotion or none, capture
+-- or not, and castling to a side or none
 unfoldable pub all_described : List Described
 all_described = flat_map (λ man. flat_map (λ m. flat_map (λ takes. map (λ castles.
     record { man = man; from = m.from; to = m.to; promotion = m.promotion; captures = takes; castles = castles })
     (None ∷ Some KingSide ∷ Some QueenSide ∷ [])) (false ∷ true ∷ [])) all_moves) kinds
 
--- whether the text has a move's shape, as Nf3 has and Nf9 has not: it denotes one of `all_described`, even one that is
--- legal in no position
+-- the text has a move's shape, as Nf3 has and Nf9 has not: it denotes one of `all_described`
 unfoldable pub shape : List ℕ → Bool
 shape text = list_any (λ d. denotes_described text d) all_described
 
--- whether the text denotes move m, legal or not, in position p: Nf3, Ng1f3, g1f3 and Nf3+ all denote g1f3 in the
--- initial position. False if no piece is on m's start square
+-- the text denotes move m, legal or not, in position p: Nf3, Ng1f3, g1f3 and Nf3+ all denote g1f3 in the initial
+-- position
 unfoldable pub denotes : Setup → List ℕ → Move → Bool
 denotes p text m = option_map_or (denotes_described text) (described p m) false
 
 -- ---- reading
 
--- what a text is read as that denotes just the legal moves of this list: `NoSuch` if there are none, the move if there
--- is just one, `Ambiguous` if there are several
+-- the reading by the legal moves that a text denotes: a single move as that, several as `Ambiguous`, none as `NoSuch`
 abbrev pub one_of : List Move → Reading
 one_of [] = reads.NoSuch
 one_of (m ∷ []) = reads.Move m
 one_of (m ∷ n ∷ ms) = reads.Ambiguous
 
--- what the text is read as in position p: `NotAMove` if it doesn't have a move's shape; otherwise the legal move that
--- it denotes if there is just one, `Ambiguous` if it denotes several, `NoSuch` if it denotes none
+-- what the text is read as in position p: `NotAMove` if it has no move's shape; otherwise the legal move that it
+-- denotes, `Ambiguous` if it denotes several, `NoSuch` if none
 unfoldable pub reading : Setup → List ℕ → Reading
 reading p text = if shape text then one_of (filter (λ m. denotes p text m) (moves p)) else reads.NotAMove
 
--- the text that was read with this result has a move's shape: the result is not `NotAMove`
+-- a text that is read so has a move's shape
 abbrev pub has_shape : Reading → Bool
 has_shape reads.NotAMove = false
 has_shape _ = true
 
--- if a text was read as a move, this move is legal in position p
+-- if the reading is a move, it is legal in position p
 abbrev pub IsLegalReading : Setup → Reading → Type 0
 IsLegalReading p (reads.Move m) = IsTrue (is_legal p m)
 IsLegalReading p reads.Ambiguous = Unit {0}

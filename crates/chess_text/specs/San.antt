@@ -1,4 +1,4 @@
--- The text that is written for a move (PGN standard of 1994, section 8.2.3).
+-- A move's text as it is written (PGN standard of 1994, section 8.2.3).
 use Rattle.std.specs.Prelude.{ℕ, Bool, true, false, not, ◌&&◌, ◌==◌, if◌then◌else◌, List, [], ◌∷◌, ◌++◌, length, map, codes}
 use Rattle.std.specs.List.{list_any, filter}
 use Rattle.std.specs.Option.{option_map_or}
@@ -22,20 +22,19 @@ use Rattle.chess_base.specs.Options.{list_if}
 use Rattle.chess_text.specs.Parts.{kind_text, file_text, rank_text}
 use Rattle.chess_text.specs.Moves.{described}
 
--- castling to this side as SAN writes it, with the letter O: O-O or O-O-O
+-- castling to this side as SAN writes it: O-O or O-O-O
 abbrev pub castling_text : CastlingSide → List ℕ
 castling_text = by_side (codes "O-O") (codes "O-O-O")
 
--- the start squares of the rivals of the described move d in position p, from which SAN must distinguish it (8.2.3.4):
--- the moves of `ms` (for SAN all legal ones) to d's end square, of a piece of d's kind, from another square. For a
--- knight's b1d2 it is f3, if a knight there can go to d2 too (so Nbd2)
+-- the start squares of the rivals of the described move d (8.2.3.4): the moves of `ms` (for SAN all legal ones of
+-- position p) to d's end square, of a piece of d's kind, from another square. For a knight's b1d2 it is f3, if a knight
+-- there can go to d2 too
 unfoldable pub rival_starts : Setup → List Move → Described → List ℕ
 rival_starts p ms d = map (λ m. m.from) (filter (λ m. (m.to == d.to) && not (m.from == d.from)
     && option_map_or (λ e. same_kind e.man d.man) (described p m) false) ms)
 
--- what SAN writes of the start square `from` to distinguish it from the start squares of rivals (8.2.3.4): nothing if
--- there are no rivals; the file if no rival starts on this file; otherwise the rank if no rival starts on this rank;
--- otherwise both: Nd2, Nbd2, N1d2, Nb1d2
+-- what SAN writes of the start square `from` beside rivals' start squares (8.2.3.4): nothing if there are none; the
+-- file if no rival is on it; otherwise the rank if no rival is on it; otherwise both: Nd2, Nbd2, N1d2, Nb1d2
 abbrev pub start_text : ℕ → List ℕ → List ℕ
 start_text from [] = []
 start_text from (rival ∷ rivals) =
@@ -43,9 +42,9 @@ start_text from (rival ∷ rivals) =
     else if not (list_any (λ s. rank s == rank from) (rival ∷ rivals)) then rank_text (rank from)
     else square_text from
 
--- the SAN, without `+` or `#`, of a described move d that is not castling: for a pawn its file if it captures, for
--- another piece its letter and what distinguishes it from rivals, which start on the squares `rivals`; then `x` for a
--- capture, the end square, and for a promotion `=` and a letter: exd5, Nbd2, e8=Q
+-- the SAN, without `+` or `#`, of the described move d, not castling: for a pawn's capture its file, for another piece
+-- its letter and what distinguishes it from the start squares `rivals`; then `x` for a capture, the end square, and for
+-- a promotion `=` and a letter: exd5, Nbd2, e8=Q
 abbrev pub piece_text : List ℕ → Described → List ℕ
 piece_text rivals d =
     (if same_kind d.man Pawn then list_if d.captures (file_text (file d.from))
@@ -53,24 +52,22 @@ piece_text rivals d =
     ++ (list_if d.captures (codes "x")
     ++ (square_text d.to ++ option_map_or (λ k. byte "=" ∷ kind_text k) d.promotion []))
 
--- the mark of a move that leads to position p: `#` if the side on move in p is mated (Laws, 5.1.1), `+` if it is only
--- in check (3.9.1), otherwise nothing
+-- the mark of a move that leads to position p: `#` for mate (Laws, 5.1.1), `+` for check (3.9.1), otherwise nothing
 unfoldable pub check_mark : Setup → List ℕ
 check_mark p = list_if (is_in_check p.men p.side) (if length (moves p) == 0 then codes "#" else codes "+")
 
--- the SAN of legal move m in position p, with `+` or `#` at its end if it gives check or mate: Nf3, exd5, Qh4#. (Empty
--- for a move from an empty square)
+-- the SAN of legal move m in position p, with `+` or `#` at its end for check or mate: Nf3, exd5, Qh4#
 unfoldable pub san : Setup → Move → List ℕ
 san p m = option_map_or (λ d. option_map_or castling_text d.castles (piece_text (rival_starts p (moves p) d) d)
     ++ check_mark (after p m)) (described p m) []
 
--- whether a variant is Chess960
+-- the variant is Chess960
 abbrev pub is_fischerandom : Variant → Bool
 is_fischerandom Normal = false
 is_fischerandom Fischerandom = true
 
--- the text of move m of position p by its two squares: e2e4, e7e8q, in normal chess also e1g1. But castling in Chess960
--- is O-O or O-O-O
+-- the text of move m of position p by its two squares, as e2e4, e7e8q or in normal chess e1g1; but O-O or O-O-O for
+-- castling in Chess960
 unfoldable pub shown_move : Setup → Move → List ℕ
 shown_move p m =
     if is_fischerandom p.variant then option_map_or castling_text (castling p m) (coordinate m) else coordinate m

@@ -21,7 +21,7 @@ pub struct Described {
     pub castles: Option<CastlingSide>,
 }
 
-// Whether the move captures an enemy piece, en passant too. chess_base's `captured_square`, private there, also says
+// Whether the move captures an enemy piece, en passant too. `captured_square` of chess_base, private there, also says
 // where that piece is, and is only for sound positions.
 #[tactic(auto, using(chess_base::proofs::shared::Captures::captures_is))]
 pub(crate) fn captures(setup: &Setup, m: &Move) -> bool
@@ -47,7 +47,7 @@ pub(crate) fn describe(setup: &Setup, m: &Move) -> Option<Described>
     })
 }
 
-// Whether what a text says of a file or rank (`named`; `None` if it names none) allows `number`: it names just that
+// Whether a text that may name a file or rank (`named`; `None` if it names none) allows `number`: it names just that
 // one, or none.
 pub(crate) fn admits(named: Option<u8>, number: u8) -> bool
     ensures { result ≡ admits named number }
@@ -99,7 +99,8 @@ fn has_equals(named: Option<Promotion>) -> bool
     }
 }
 
-// Whether the parts denote the move by its squares, as `e2e4` or `e7e8q`: any piece's move, castling too.
+// Whether the parts denote the move by its two squares and its promotion, as `e2e4` or `e7e8q`: any piece's move,
+// castling too.
 #[tactic(auto, unfolding(crate::specs::shared::Fitting::is_by_squares))]
 fn is_by_squares(parts: &Parts, d: &Described) -> bool
     ensures { result ≡ is_by_squares parts.now d.now }
@@ -128,7 +129,8 @@ fn is_by_letter(parts: &Parts, d: &Described) -> bool
         && parts.end.promotion.is_none()
 }
 
-// Whether the parts denote the move by its end square alone, as `e4` or `e8=Q`: a pawn's move straight ahead.
+// Whether the parts denote the move by its end square and promotion alone, as `e4` or `e8=Q`: a pawn's move straight
+// ahead.
 #[tactic(auto, unfolding(crate::specs::shared::Fitting::is_straight))]
 fn is_straight(parts: &Parts, d: &Described) -> bool
     ensures { result ≡ is_straight parts.now d.now }
@@ -143,8 +145,8 @@ fn is_straight(parts: &Parts, d: &Described) -> bool
         && promotes_so(parts.end.promotion, d.promotion)
 }
 
-// Whether the parts denote the move, a pawn's, by its start file and its end square, as `exd5` or `exd8=Q`. A start
-// rank that they name is the pawn's, with `x` it is a capture, and the promotions agree.
+// Whether the parts denote the move, a pawn's, by its start file, end square and promotion, as `exd5` or `exd8=Q`. A
+// rank that they name is the start square's; with `x` it is a capture.
 #[tactic(auto, unfolding(crate::specs::shared::Fitting::is_by_file))]
 fn is_by_file(parts: &Parts, d: &Described) -> bool
     ensures { result ≡ is_by_file parts.now d.now }

@@ -1,5 +1,5 @@
-//! Reading the text of a move. What a usual text needs is inlined into `read_move`: as calls it cost `verify` a seventh
-//! more instructions for reading and making a move. What other texts need is not.
+//! Reading the text of a move. What a usual text (`e4`, `Nf3`, `exd5`) needs is inlined into `read_move`: as calls it
+//! cost `verify` a seventh more instructions for reading and making a move. What other texts need is not.
 
 ghost use Rattle.std.specs.Prelude.{◌≡◌, Some, IfSome};
 ghost use Rattle.std.specs.List.{filter, flat_map};
@@ -43,9 +43,9 @@ pub fn has_move_shape(text: &[u8]) -> bool
 }
 
 // The end square of the move by which `side` castles to this side: in normal chess the king's end square, in Chess960
-// the square of the rook of the right (`right`; if there is none, no such move is legal). chess_base exports no
-// function for it: its `names_castling` is a test of a whole move. chess_bits has one for a right that is there
-// (`named_square`), but neither of the two crates uses the other.
+// the square of the rook of the right (`right`; if there is none, no such move is legal). No crate below exports a
+// function for this: `names_castling` of chess_base tests a whole move, and `named_square` of chess_bits, which this
+// crate doesn't use, takes a right that is there.
 fn castling_end(
     variant: Variant,
     side: Colour,
@@ -194,7 +194,7 @@ fn one_kind(parts: &Parts) -> Option<Kind>
 
 // Whether the parts, which have the letter of this kind, denote `m`, a legal move of such a piece to their end square:
 // it starts on the file and rank that they name, is a capture if they have `x`, and is not castling. `is_by_letter`
-// tests a move that was described in full; here the kind and the end square are known to agree.
+// tests the same of any described move; here kind and end square are known to agree.
 #[inline(always)]
 fn is_denoted_by_letter(parts: &Parts, setup: &Setup, kind: Kind, m: &Move) -> bool
     ensures { result ≡ is_denoted_by_letter parts.now setup.now kind m.now }
@@ -207,7 +207,7 @@ fn is_denoted_by_letter(parts: &Parts, setup: &Setup, kind: Kind, m: &Move) -> b
 
 // Whether the parts, which have no letter, denote `m`, a pawn's legal move to their end square without a promotion:
 // straight ahead if they name no file (`e4`), otherwise from that file, and a capture if they have `x` (`exd5`).
-// `is_straight` and `is_by_file` test a move that was described in full.
+// `is_straight` and `is_by_file` test the same of any described move.
 #[inline(always)]
 fn is_denoted_by_pawn(parts: &Parts, setup: &Setup, m: &Move) -> bool
     ensures { result ≡ is_denoted_by_pawn parts.now setup.now m.now }
@@ -268,8 +268,9 @@ fn with_starts(setup: &Setup, parts: Parts, kind: Kind, starts: SquareSet) -> Re
     found
 }
 
-// What a text of these parts, in which only pieces of this kind can be meant, is read as. `starts` has the squares from
-// which such pieces may legally move to the parts' end square.
+// What a text of these parts, in which only pieces of this kind can be meant, is read as: one legal move, several
+// (`Ambiguous`) or none (`NoSuch`). `starts` has the squares from which such pieces may legally move to the parts' end
+// square.
 #[inline(always)]
 fn denoted_among(setup: &Setup, parts: &Parts, kind: Kind, starts: SquareSet) -> Reading
     ensures { result ≡ one_of (flat_map (denoted_start parts.now setup.now kind) (members starts)) }
@@ -290,8 +291,7 @@ fn denoted_among(setup: &Setup, parts: &Parts, kind: Kind, starts: SquareSet) ->
 // What a text of these parts, in which only pieces of this kind can be meant, and no promotion, is read as in the
 // board's position: one legal move, several (`Ambiguous`) or none (`NoSuch`). `denoted_from_origins` would read the
 // same, but describes each move in full, and asks of each apart whether it is legal: `legal_starts` answers that at
-// once. That, verdicts on demand, legality by kinds of pieces and classes of bytes together took `verify` from 477 to
-// 317 million instructions on 1.6 MB of games.
+// once. Together with three other changes this took `verify` from 477 to 317 million instructions on 1.6 MB of games.
 #[inline(always)]
 fn denoted_by_kind<B: Board>(board: &B, parts: &Parts, kind: Kind) -> Reading
     requires { one_kind parts.now ≡ Some kind }
@@ -353,7 +353,7 @@ fn denoted_usual<B: Board>(board: &B, parts: &Parts) -> Reading
 
 // What coordinates, such as `e2e4` or `e7e8q`, are read as, with one mark after them or none: they denote only the move
 // between their squares. `None` for any other text, and for a promotion that is not legal. In a session nearly each
-// text is one: when it was described like any other, in loops over squares and promotions, the workload matches took
+// text is one. If it was described like any other, in loops over squares and promotions, the workload `matches` took
 // 1.05 times as long.
 fn read_coordinates<B: Board>(board: &B, text: &[u8]) -> Option<Reading>
     ensures { IfSome result (λ r. reading (B.position board.now) text.now ≡ r) }

@@ -64,7 +64,7 @@ fn read_four(first: u8, second: u8, to_file: u8, to_rank: u8) -> Option<Parts>
     Some(parts_to(Some(kind), Some(second - b'a'), false, to_file, to_rank))
 }
 
-// The parts of a text of a usual shape, without marks; `None` for any other.
+// The parts of a text of a usual shape, without marks: `e4`, `Nf3`, `exd5`, `Nxd5` or `Nbd2`; `None` for any other.
 #[inline(always)]
 pub(crate) fn usual_parts(text: &[u8]) -> Option<Parts>
     ensures { result ≡ usual_at text.now }

@@ -53,8 +53,9 @@ fn distinction(file: bool, rank: bool) -> Disambiguation
     Disambiguation { file, rank }
 }
 
-// What SAN writes of the start square `from` beside rivals (pieces of the kind that could go to the same square) on
-// `others`: nothing if there are none; its file if none is on it; otherwise its rank if none is on it; otherwise both.
+// What SAN writes of the start square `from` beside the start squares of rivals (`others`: pieces of the same kind that
+// could go to the same square): nothing if there are none; its file if none is on it; otherwise its rank if none is on
+// it; otherwise both.
 #[tactic(auto, using(crate::proofs::Rivals::alone, crate::proofs::Rivals::beside_others))]
 fn disambiguate(from: Square, others: SquareSet) -> Disambiguation
     ensures { result ≡ disambiguate from (members others) }
@@ -113,7 +114,7 @@ pub(crate) fn castling_name(castling_side: CastlingSide) -> &'static [u8]
     }
 }
 
-// A pawn's move in SAN, without the mark for check or mate, as `exd5` or `e8=Q`.
+// The SAN of a pawn's move, without the mark for check or mate, as `exd5` or `e8=Q`.
 fn pawn_text(d: &Described) -> SanText
     ensures text { result.items ≡ parts_text (pawn_parts d.now) }
     ensures len { array_vec_len result ≤ 6 }
@@ -179,8 +180,8 @@ pub fn unmarked_san<B: Board>(board: &B, m: &Move) -> SanText
     described_text(board, &d)
 }
 
-/// Appends the mark for the board's position, which is the one after the move: `#` for mate, `+` for check, otherwise
-/// nothing.
+/// Appends to a move's text the mark for the board's position, which is the one after the move: `#` for mate, `+` for
+/// check, otherwise nothing.
 #[tactic(auto, unfolding(crate::specs::San::check_mark))]
 pub fn add_check_mark<B: Board>(board: &B, text: &mut SanText)
     requires room { array_vec_len text.old < 7 }

@@ -19,7 +19,7 @@ moves_kept p e = ap (λ (test : Move → Bool). filter test all_moves) (fun_ext 
 
 -- ---- read
 
--- what a text can say of a move, from the man on its start square and the side to which it castles
+-- what a text can say of a move, from the piece on its start square and the side to which it castles (o)
 abbrev with_castles : Setup → Move → Option Man → Option CastlingSide → Option Described
 with_castles p m man o =
     option_map (λ (x : Man). record {

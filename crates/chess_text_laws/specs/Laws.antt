@@ -57,31 +57,27 @@ abbrev pub ShownMoveIsReadBack : Type 0
 ShownMoveIsReadBack = (p : Setup) → (m : Move) → IsSound p → IsTrue (is_legal p m)
     → reading p (shown_move p m) ≡ reads.Move m
 
--- if `parts_at`, by which code reads, finds the parts q in a text, then q can be the parts of a text, and it is the
--- text of q
+-- if `parts_at` finds parts in a text, they can be a text's parts (`AreParts`), and it is their text (`parts_text`)
 abbrev pub PartsAreTheTexts : Type 0
 PartsAreTheTexts = (text : List ℕ) → (q : Parts) → parts_at text ≡ Some q → AreParts q × (text ≡ parts_text q)
 
--- in the text of parts q, which can be the parts of a text, `parts_at`, by which code reads, finds q
+-- in the text of parts that can be a text's (`AreParts`), `parts_at` finds these parts
 abbrev pub PartsAreRead : Type 0
 PartsAreRead = (q : Parts) → AreParts q → parts_at (parts_text q) ≡ Some q
 
--- a text denotes a described move by `denotes_described`, which compares it with lists of all texts of that move, if
--- and only if it does by `IsDenoted`, which needs no lists: it names the castling, or is the text of parts that fit the
--- move
+-- a text denotes a described move by `denotes_described`, which compares it with lists of all texts of that move,
+-- exactly if it does by `IsDenoted`, which needs no lists
 abbrev pub DenotedByText : Type 0
 DenotedByText = (text : List ℕ) → (d : Described) → IsTrue (denotes_described text d) ↔ IsDenoted text d
 
 -- the text has the shape of a move: but for the marks (+ # ! ?) at its end it is O-O, 0-0, O-O-O or 0-0-0, or the text
--- of parts, [letter][file][rank][x]square[[=]promotion], in a form of a move's text (`is_form`): with a letter there is
--- no promotion; without one there is a file, or nothing comes before the square. Said without trying all descriptions
--- of moves
+-- of parts, [letter][file][rank][x]square[[=]promotion], in a form of a move's text (`is_form`)
 abbrev pub IsShaped : List ℕ → Type 0
 IsShaped text =
     ((w : CastlingSide) × IsTrue (is_castling_text text w))
     ⊎ ((q : Parts) × AreParts q × (unmarked text ≡ parts_text q) × IsTrue (is_form q))
 
--- a text has the shape of a move by `shape`, which tries all descriptions of moves, if and only if it has by
--- `IsShaped`, which tries none: it denotes castling, or is the text of parts in one of the forms of a move's text
+-- a text has a move's shape by `shape`, which tries all descriptions of moves, exactly if it has by `IsShaped`, which
+-- tries none
 abbrev pub ShapedByText : Type 0
 ShapedByText = (text : List ℕ) → IsTrue (shape text) ↔ IsShaped text

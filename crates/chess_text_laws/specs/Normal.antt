@@ -1,6 +1,5 @@
--- The texts of moves as they are defined for normal chess alone: each of these is the definition of the same name
--- without `normal_`, over the rules of normal chess alone (Normal of chess_base_laws). Nothing here takes a variant.
--- What a text is, and which described moves it denotes, is shared.
+-- The texts of moves by the rules of normal chess alone (Normal of chess_base_laws): each definition is that of the
+-- same name without `normal_`.
 use Rattle.std.specs.Prelude.{◌≡◌, ℕ, ◌==◌, Bool, false, not, ◌&&◌, List, [], ◌++◌, length, map, filter, codes, Option, is_some, if◌then◌else◌}
 use Rattle.std.specs.Option.{option_map, option_map_or}
 use Rattle.chess_base.specs.declared.man.Move.{Move}
@@ -24,8 +23,8 @@ normal_moves p = filter (λ m. normal_is_legal p m) all_moves
 
 -- ---- read
 
--- move m of position p, as far as a text can describe it: its piece, squares and promotion, whether it captures, and
--- the side to which it castles (the king's move of two squares); none if no piece is on its start square
+-- what a text can say of move m of position p: its piece, squares and promotion, whether it captures, and to which side
+-- it castles; none if no piece is on its start square
 unfoldable pub normal_described : Setup → Move → Option Described
 normal_described p m =
     option_map (λ x. record {
@@ -37,35 +36,35 @@ normal_described p m =
       castles = normal_castling p m;
     }) (man_at p.men m.from)
 
--- the text denotes move m in position p, a position of normal chess: Nf3, Ng1f3 and g1f3 all denote the knight's move
+-- the text denotes move m in position p: Nf3, Ng1f3 and g1f3 all denote the knight's move
 unfoldable pub normal_denotes : Setup → List ℕ → Move → Bool
 normal_denotes p text m = option_map_or (denotes_described text) (normal_described p m) false
 
--- what a text is read as in position p: `NotAMove` if it hasn't the shape of a move; otherwise the legal move that it
--- denotes, `Ambiguous` if it denotes several, `NoSuch` if it denotes none
+-- what a text is read as in position p: `NotAMove` if it has no move's shape, otherwise by the legal moves that it
+-- denotes (`one_of`)
 unfoldable pub normal_reading : Setup → List ℕ → Reading
 normal_reading p text = if shape text then one_of (filter (λ m. normal_denotes p text m) (normal_moves p)) else NotAMove
 
 -- ---- written
 
--- the start squares of the moves from which SAN must distinguish the described move d: legal moves to d's end square
--- with a piece of d's kind from another square
+-- the start squares of the moves from which SAN must distinguish the described move d: legal moves to its end square,
+-- of a piece of its kind, from another square
 unfoldable pub normal_rival_starts : Setup → Described → List ℕ
 normal_rival_starts p d = map (λ m. m.from) (filter (λ m. (m.to == d.to) && not (m.from == d.from)
     && option_map_or (λ e. same_kind e.man d.man) (normal_described p m) false) (normal_moves p))
 
--- the mark for the position p that a move leads to: `#` for mate, `+` for check, otherwise nothing
+-- the mark of a move that leads to position p: `#` for mate, `+` for check, otherwise nothing
 unfoldable pub normal_check_mark : Setup → List ℕ
 normal_check_mark p =
     list_if (is_in_check p.men p.side) (if length (normal_moves p) == 0 then codes "#" else codes "+")
 
--- the SAN of legal move m in position p of normal chess, with `+` or `#` at its end if it gives check or mate
+-- the SAN of legal move m in position p, with `+` or `#` at its end for check or mate
 unfoldable pub normal_san : Setup → Move → List ℕ
 normal_san p m =
     option_map_or (λ d. option_map_or castling_text d.castles (piece_text (normal_rival_starts p d) d)
     ++ normal_check_mark (normal_after p m)) (normal_described p m) []
 
--- on position p of normal chess, the definitions for both variants agree with those of this file, and lists of moves
+-- in position p of normal chess the definitions for both variants agree with those of this file, and lists of moves
 -- show each move by its squares
 pub record NormalIsKept (p : Setup) : Type 0 where
   pub moves : moves p ≡ normal_moves p

@@ -31,8 +31,8 @@ pub fn move_text_denotes_its_move()
 {}
 
 /// A law: the contract says it, and the function does nothing. The definitions compare a text with lists of all texts
-/// of a move; the law says the same by parts. Splitting a text gives certain parts exactly if these can be the parts of
-/// a text, and writing them out, as `[letter][file][rank][x]square[[=]promotion]`, gives the text. A text denotes a
+/// of a move; the law says the same by parts, `[letter][file][rank][x]square[[=]promotion]`. Splitting a text gives
+/// certain parts exactly if these can be the parts of a text, and writing them out gives the text. A text denotes a
 /// move exactly if it names the move's castling or is, but for marks at its end, written out from parts that fit the
 /// move. It has the shape of a move exactly if it names castling or is, but for such marks, written out from parts in
 /// one of the forms of a move's text.
@@ -43,8 +43,8 @@ pub fn texts_have_parts()
     ensures shaped { ShapedByText }
 {}
 
-/// A law: the contract says it, and the function does nothing. On positions of normal chess the legal moves,
-/// `read_move` and `san` agree with definitions for normal chess alone, and `move_text` is `coordinate`.
+/// A law: the contract says it, and the function does nothing. In positions of normal chess the legal moves, what a
+/// text is read as, and SAN agree with definitions for normal chess alone, and `move_text` is `coordinate`.
 pub fn normal_is_kept()
     ensures { (p : Setup) → p.variant ≡ Normal → NormalIsKept p }
 {}

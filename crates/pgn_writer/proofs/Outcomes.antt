@@ -1,5 +1,5 @@
--- For `outcome_of`, which calls `try_from` of Outcome: the outcome that this parses of a word is the one whose text the
--- word is, and other words have none.
+-- For `outcome_of`, which calls `try_from` of Outcome: this returns the outcome that is written as the word, and none
+-- for other words.
 use Rattle.std.proofs.Common.{◌≡◌, ℕ, Bool, true, false, List, refl, sym, subst, bytes_eq, Some, Result, Ok, Err}
 use Rattle.std.proofs.lemmas.Slice.Eq.{bytes_eq-Decides}
 use Rattle.std.specs.Result.{result_ok}

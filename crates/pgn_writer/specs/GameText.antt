@@ -16,9 +16,9 @@ use Rattle.pgn_writer.specs.Written.{tag_line, ended, lines_of}
 
 -- ---- tags
 
--- the lines of the tags of the game `s`; `t` says what the game itself doesn't, such as the players. First the seven
--- that each game has (section 8.1.1); then, sorted by name: FEN and SetUp (section 9.7), but not for normal chess from
--- the initial position; Termination; and Variant, but only for Chess960
+-- the lines of the tags of the game `s`; `t` has what the game itself doesn't, such as the players. First the seven
+-- that each game has (section 8.1.1); then, sorted by name, FEN and SetUp (section 9.7), but not for normal chess from
+-- the initial position; Termination; and for Chess960 Variant
 abbrev pub tag_lines : Tags → State → List (List ℕ)
 tag_lines t s = tag_line (codes "Event") t.event ∷ tag_line (codes "Site") t.site ∷ tag_line (codes "Date") t.date
     ∷ tag_line (codes "Round") t.round ∷ tag_line (codes "White") t.white ∷ tag_line (codes "Black") t.black
@@ -30,15 +30,15 @@ tag_lines t s = tag_line (codes "Event") t.event ∷ tag_line (codes "Site") t.s
 
 -- ---- the tokens of the moves
 
--- the tokens of moves made one after another from the position `p` on (section 8.2): the SAN of each move, and before
--- each move of White its number, such as `12.`
+-- the tokens of moves made from the position `p` on (section 8.2): the SAN of each, and before each move of White its
+-- number, such as `12.`
 abbrev pub move_tokens : Setup → List Move → List (List ℕ)
 move_tokens p [] = []
 move_tokens p (m ∷ ms) =
     list_if (same_colour p.side White) ((decimal p.fullmove ++ codes ".") ∷ []) ++ san p m ∷ move_tokens (after p m) ms
 
--- the tokens of a game: its moves with their numbers, and the outcome last. If Black makes the game's first move, that
--- move has a number too, such as `12...`
+-- the tokens of a game: its moves with their numbers, and the outcome. If Black moves first, that move has a number
+-- too, such as `12...`
 abbrev pub game_tokens : State → List (List ℕ)
 game_tokens s = list_if (same_colour s.start.side Black && not (length s.moves == 0))
     ((decimal s.start.fullmove ++ codes "...") ∷ [])
@@ -46,8 +46,7 @@ game_tokens s = list_if (same_colour s.start.side Black && not (length s.moves =
 
 -- ---- the whole text
 
--- the text of the game `s` as it is written: its tags (see `tag_lines` for `t`), an empty line, the moves and the
--- outcome, an empty line; each line, even an empty one, after `prefix` (`# ` in a session, nothing in a match). By the
--- law `games_are_laid_out` no other text is the game's
+-- the text of the game `s` as it is written: its tags (`tag_lines`), an empty line, the moves and the outcome, an empty
+-- line; each line, even an empty one, after `prefix` (`# ` in a session, nothing in a match)
 unfoldable pub pgn : List ℕ → Tags → State → List ℕ
 pgn prefix t s = ended prefix (tag_lines t s ++ [] ∷ lines_of (game_tokens s) ++ [] ∷ [])

@@ -1,5 +1,4 @@
--- A game's text as it is written (PGN standard of 1994, sections 3.2, 4.3 and 8): the tags' lines, an empty line, the
--- moves in lines of at most 79 characters, each as full as it can be, and an empty line.
+-- A game's text by what it looks like (PGN standard of 1994, sections 3.2, 4.3 and 8).
 use Rattle.std.specs.Prelude.{◌≡◌, ℕ, ◌<◌, ◌≤◌, List, [], ◌∷◌, ◌++◌, length, map}
 use Rattle.std.specs.List.{flat_map, join_with_byte, AllByRecursion}
 use Rattle.byte_devices.specs.Bytes.{space}
@@ -15,15 +14,14 @@ line_text tokens = join_with_byte space tokens
 -- these lines of tokens are as full as they can be: no line is empty or has more than 79 characters, and none could
 -- also have taken the first token of the next
 pub record AreFullLines (lines : List (List (List ℕ))) : Type 0 where
-  -- each line has a token
   pub some : AllByRecursion (λ line. 0 < length line) lines
   pub short : AllByRecursion (λ line. length (line_text line) ≤ 79) lines
-  -- `token` is the first of the line after `line`, into which it would not have fitted
+  -- `token` begins the line after `line`, and would not have fitted into it
   pub full : (before after : List (List (List ℕ))) (line rest : List (List ℕ)) (token : List ℕ)
       → lines ≡ before ++ line ∷ (token ∷ rest) ∷ after → 79 < length (line_text (line ++ token ∷ []))
 
--- the text is that of the game `s` with these tags: the tags' lines, an empty line, the moves' lines, which hold the
--- game's tokens, and an empty line; each line with `prefix` before it and `\n` after it
+-- the text is that of the game `s` with these tags: the tags' lines, an empty line, the game's tokens in lines as full
+-- as they can be, an empty line; each line with `prefix` before it and `\n` after it
 pub record IsPgn (prefix : List ℕ) (t : Tags) (s : State) (text : List ℕ) : Type 0 where
   -- the moves' lines, each as its tokens
   pub lines : List (List (List ℕ))

@@ -1,10 +1,11 @@
 //! Writes a game's text (PGN standard of 1994, sections 3.2, 8 and 9.7). All parts are written to one `LineWriter`, the
 //! parameter `lines`, which collects them in a buffer.
 //!
-//! In contracts the clause `added` (`Adds`) ends in the text that a function adds. What waited in the buffer and then
-//! this text is what the writer took and what waits now. `ended prefix lines` is the text of these lines, each with the
-//! prefix before it and `\n` after it. `prefix`, `writer` and `kept` say what stays as it was; `column` says how long
-//! the line is that is begun, `position` which position the board has, and `playable` that the game's moves are legal.
+//! In contracts the clause `added` (`Adds`) ends in the text that a function adds: what waited in the buffer, and then
+//! this text, is what the writer took, and then what waits now. `ended prefix lines` is the text of these lines, each
+//! with the prefix before it and `\n` after it. `prefix`, `writer` and `kept` say what stays as it was; `column` says
+//! how long the line is that is begun, `position` which position the board has, and `playable` that the game's moves
+//! are legal.
 
 ghost use Rattle.std.specs.Prelude.{◌≡◌, ℕ, ◌≤◌, ◌<◌, List, [], ◌∷◌, ◌++◌, true, length, decimal, OnOk, OnErr, IsTrue};
 ghost use Rattle.arrayvec.specs.ArrayVec.{array_vec_len};

@@ -38,7 +38,7 @@ too_far White QueenSide a b e f h = omega (arith, e, f, h)
 too_far Black KingSide a b e f h = omega (arith, e, f, h)
 too_far Black QueenSide a b e f h = omega (arith, e, f, h)
 
--- the king's end tells the side
+-- the king's end decides the side
 pub one_side : (c : Colour) (w v : CastlingSide)
     → home_square c (castled_king_file w) ≡ home_square c (castled_king_file v) → v ≡ w
 one_side c KingSide KingSide e = refl

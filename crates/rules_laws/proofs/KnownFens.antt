@@ -1,4 +1,4 @@
--- FENs that are refused or taken, by computation: with the listed definitions unfolded, both sides of each statement
+-- FENs that are refused or accepted, by computation: with the listed definitions unfolded, both sides of each statement
 -- compute to the same value.
 use Rattle.std.proofs.Common.{refl}
 use Rattle.std.specs.Fmt.{digits}

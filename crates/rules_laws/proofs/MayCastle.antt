@@ -345,7 +345,7 @@ is_pattern p w h =
     (as_castling p (castling_move p.side w) (castling_of p.side w) (man_at p.men (castling_of p.side w).king_from) h.king
     (castle_is p w h) (castles_here p w h))
 
--- ---- the king's old square uncovers no attack: the rook now stands between
+-- ---- the king's old square uncovers no attack: the rook is now between
 
 -- a line from square a to the king's end `to` that crosses the king's old square `king` also crosses the rook's end
 -- `rook`

@@ -1,4 +1,4 @@
--- A move is pseudo-legal in a sound position exactly if its mirror is in the mirrored position: test by test, for
+-- A move is pseudo-legal in a sound position exactly if its mirror is in the mirrored position: shown test by test, for
 -- pawns, other pieces and castling. Where a test asks for the square ahead (forward), the pawn must not be on its last
 -- rank, since that square would be off the board.
 use Rattle.std.proofs.Common.{◌≡◌, ◌≢◌, ℕ, ◌<◌, Bool, true, false, cond, Some, None, Option, refl, sym, ap, ap₂, ◌∙◌, arith, ◌==◌, subst, ◌||◌, ◌&&◌, not, is_none, option_and_then, option_map}
@@ -327,7 +327,7 @@ castles_or_moves-mirrored p m sound h l =
     ap (castles_or_moves (mirrored_setup p) (mirrored_move m)) (castle-mirrored p m sound h l)
     ∙ by_castle p m (castle_of p m) (λ k e. castle_in p m k sound h e) h l
 
--- for a piece of the side on move: b tells whether it is a pawn, so by which of the two tests it moves
+-- for a piece of the side on move: b says whether it is a pawn, so by which of the two tests it moves
 kind_by : (p : Setup) (m : Move) (c : Colour) (b : Bool) (k : Kind) → same_kind Pawn k ≡ b → IsSound p → m.from < 64
     → m.to < 64 → same_colour p.side c ≡ true → man_at p.men m.from ≡ Some (record { colour = c; kind = k })
     → cond b (pawn_moves (mirrored_setup p) (mirrored_move m))

@@ -28,9 +28,8 @@ castling_of Black KingSide =
 castling_of Black QueenSide =
     record { king_from = square "e8"; king_to = square "c8"; rook_from = square "a8"; rook_to = square "d8" }
 
--- after move m of position p the king and the rook of the side that made it have castled as k says: they are on
--- `king_to` and `rook_to`; the squares where they started are empty, unless one of them ends there; all else is as it
--- was
+-- after move m of position p its side has castled as k says: king and rook are on `king_to` and `rook_to`, the squares
+-- where they started are empty, unless one of them ends there, and all else is as it was
 pub record HasCastled (p : Setup) (m : Move) (k : Castle) : Type 0 where
   pub king : IsTrue (is_man p.side King (man_at (after p m).men k.king_to))
   pub rook : IsTrue (is_man p.side Rook (man_at (after p m).men k.rook_to))
@@ -39,43 +38,43 @@ pub record HasCastled (p : Setup) (m : Move) (k : Castle) : Type 0 where
   pub others : (s : ℕ) → s < 64 → s ≢ k.king_from → s ≢ k.rook_from → s ≢ k.king_to → s ≢ k.rook_to
       → man_at (after p m).men s ≡ man_at p.men s
 
--- normal chess: a king that goes from e1 to g1, by a legal move of a sound position, castles with the rook from h1 to
--- f1; and likewise e1c1 with a1 to d1, e8g8 with h8 to f8, e8c8 with a8 to d8
+-- normal chess: a king that legally goes from e1 to g1 in a sound position castles with the rook from h1; likewise
+-- e1c1, e8g8 and e8c8 with the rooks from a1, h8 and a8
 abbrev pub NormalCastlingEnds : Type 0
 NormalCastlingEnds = (p : Setup) (m : Move) (w : CastlingSide) → IsSound p → p.variant ≡ Normal
     → IsTrue (is_legal p m) → IsTrue (is_man p.side King (man_at p.men m.from))
     → m.from ≡ (castling_of p.side w).king_from → m.to ≡ (castling_of p.side w).king_to
     → HasCastled p m (castling_of p.side w)
 
--- square b is towards the h-file from a (king side), or towards the a-file (queen side), on one rank
+-- square b, on the rank of a, is towards the h-file from a (king side), or towards the a-file (queen side)
 abbrev pub is_towards : CastlingSide → ℕ → ℕ → Bool
 is_towards KingSide a b = nat_lt a b
 is_towards QueenSide a b = nat_lt b a
 
--- Chess960: a king that goes to the square of a rook of its own, by a legal move of a sound position, castles with it:
--- they end as in normal chess, on the king side if the rook was towards the h-file, otherwise on the queen side
+-- Chess960: a king that legally goes to the square of its own rook, in a sound position, castles with it: they end as
+-- in normal chess, on the king side if the rook was towards the h-file, otherwise on the queen side
 abbrev pub FischerandomCastlingEnds : Type 0
 FischerandomCastlingEnds = (p : Setup) (m : Move) (w : CastlingSide) → IsSound p → p.variant ≡ Fischerandom
     → IsTrue (is_legal p m) → IsTrue (is_man p.side King (man_at p.men m.from))
     → IsTrue (is_man p.side Rook (man_at p.men m.to)) → IsTrue (is_towards w m.from m.to)
     → HasCastled p m (record (castling_of p.side w) { king_from = m.from; rook_from = m.to })
 
--- for castling in normal chess: the squares that must be empty (3.8.2.2.2)
+-- the squares that must be empty for castling in normal chess (3.8.2.2.2)
 abbrev pub empty_squares : Colour → CastlingSide → List ℕ
 empty_squares White KingSide = square "f1" ∷ square "g1" ∷ []
 empty_squares White QueenSide = square "b1" ∷ square "c1" ∷ square "d1" ∷ []
 empty_squares Black KingSide = square "f8" ∷ square "g8" ∷ []
 empty_squares Black QueenSide = square "b8" ∷ square "c8" ∷ square "d8" ∷ []
 
--- for castling in normal chess: the squares that must not be attacked (3.8.2.2.1)
+-- the squares that must not be attacked for castling in normal chess (3.8.2.2.1)
 abbrev pub safe_squares : Colour → CastlingSide → List ℕ
 safe_squares White KingSide = square "e1" ∷ square "f1" ∷ square "g1" ∷ []
 safe_squares White QueenSide = square "c1" ∷ square "d1" ∷ square "e1" ∷ []
 safe_squares Black KingSide = square "e8" ∷ square "f8" ∷ square "g8" ∷ []
 safe_squares Black QueenSide = square "c8" ∷ square "d8" ∷ square "e8" ∷ []
 
--- the side on move may castle on side w in normal chess: it has the right, the squares that must be empty are
--- (`empty_squares`), and those that must not be attacked are not (`safe_squares`)
+-- the side on move may castle on side w in normal chess: it has the right, `empty_squares` are empty, and the opponent
+-- attacks none of `safe_squares`
 pub record MayCastle (p : Setup) (w : CastlingSide) : Type 0 where
   pub right : right_of p.rights p.side w ≢ None
   pub empty : AllByRecursion (λ s. man_at p.men s ≡ None) (empty_squares p.side w)
@@ -85,8 +84,8 @@ pub record MayCastle (p : Setup) (w : CastlingSide) : Type 0 where
 abbrev pub castling_move : Colour → CastlingSide → Move
 castling_move c w = record { from = (castling_of c w).king_from; to = (castling_of c w).king_to; promotion = None }
 
--- normal chess: in a sound position with its king on e1 (or e8), the side on move can castle on side w exactly if it
--- may, by the names of the squares (`MayCastle`)
+-- normal chess: in a sound position with its king on e1 (or e8), the side on move can castle on side w exactly if
+-- `MayCastle` holds
 abbrev pub NormalCastlingIsLegal : Type 0
 NormalCastlingIsLegal = (p : Setup) (w : CastlingSide) → IsSound p → p.variant ≡ Normal
     → IsTrue (is_man p.side King (man_at p.men (castling_of p.side w).king_from))
@@ -94,13 +93,13 @@ NormalCastlingIsLegal = (p : Setup) (w : CastlingSide) → IsSound p → p.varia
 
 -- ---- rights of Chess960
 
--- square s is on colour c's first rank: from a1 to h1, or from a8 to h8
+-- square s is on colour c's first rank, a1 to h1 or a8 to h8
 abbrev pub IsOnFirstRank : Colour → ℕ → Type 0
 IsOnFirstRank White s = (square "a1" ≤ s) × (s ≤ square "h1")
 IsOnFirstRank Black s = (square "a8" ≤ s) × (s ≤ square "h8")
 
--- colour c's king and a rook of c are on these squares of c's first rank: the rook towards the h-file from the king for
--- the king side, towards the a-file for the queen side
+-- colour c's king and a rook of c are on these squares of c's first rank, the rook towards the h-file from the king
+-- (king side) or towards the a-file (queen side)
 pub record AreAtHome (p : Setup) (c : Colour) (w : CastlingSide) (king rook : ℕ) : Type 0 where
   pub is_king : IsTrue (is_man c King (man_at p.men king))
   pub is_rook : IsTrue (is_man c Rook (man_at p.men rook))
@@ -108,8 +107,8 @@ pub record AreAtHome (p : Setup) (c : Colour) (w : CastlingSide) (king rook : �
   pub rook_rank : IsOnFirstRank c rook
   pub side : IsTrue (is_towards w king rook)
 
--- Chess960: a right to castle, with the rook on the square `rook`, is one of a sound position exactly if c's king and
--- this rook are on c's first rank (`AreAtHome`); where c has one king
+-- Chess960, where colour c has one king: c's right to castle with the rook on the square `rook` is sound exactly if
+-- `AreAtHome` holds for king and rook
 abbrev pub FischerandomRightsAreAtHome : Type 0
 FischerandomRightsAreAtHome = (p : Setup) (c : Colour) (w : CastlingSide) (rook : ℕ) → p.variant ≡ Fischerandom
     → length p.men ≡ 64 → IsTrue (has_one_king p.men c) → right_of p.rights c w ≡ Some rook

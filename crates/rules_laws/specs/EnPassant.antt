@@ -23,15 +23,15 @@ pub record GoesTwoSquaresOver (c : Colour) (m : Move) (s : ℕ) : Type 0 where
   pub crosses : rank s ≡ by_colour 2 5 c
   pub ends : (file m.to ≡ file s) × (rank m.to ≡ by_colour 3 4 c)
 
--- move `before` of position p was the double advance of a pawn over the end square of the next move, m, and that pawn
--- is what m captures: its square is empty afterwards
+-- move `before` of position p was a pawn's double advance over the end square of the next move, m, which captures that
+-- pawn: its square is empty afterwards
 pub record FollowsDoubleAdvance (p : Setup) (before m : Move) : Type 0 where
   pub pawn : IsTrue (is_man p.side Pawn (man_at p.men before.from))
   pub over : GoesTwoSquaresOver p.side before m.to
   pub captured : man_at (after (after p before) m).men before.to ≡ None
 
--- of two legal moves in turn, from a sound position, the second captures en passant only if the first is the double
--- advance of the pawn that it captures
+-- of two legal moves from a sound position the second captures en passant only if the first is the double advance of
+-- the pawn that it captures
 abbrev pub EnPassantFollowsDoubleAdvance : Type 0
 EnPassantFollowsDoubleAdvance = (p : Setup) (before m : Move) → IsSound p → IsTrue (is_legal p before)
     → IsTrue (is_legal (after p before) m) → CapturesEnPassant (after p before) m → FollowsDoubleAdvance p before m

@@ -21,17 +21,17 @@ use Rattle.chess_game.specs.Same.{is_same_position}
 abbrev pub HasNoMove : Setup → Type 0
 HasNoMove p = (m : Move) → is_legal p m ≡ false
 
--- the side on move is mated: it is in check, and no move is legal (5.1.1)
+-- mate: the side on move is in check, and no move is legal (5.1.1)
 pub record IsMate (p : Setup) : Type 0 where
   pub check : is_in_check p.men p.side ≡ true
   pub moves : HasNoMove p
 
--- the side on move is stalemated: it is not in check, and no move is legal (5.2.1)
+-- stalemate: the side on move is not in check, and no move is legal (5.2.1)
 pub record IsStalemate (p : Setup) : Type 0 where
   pub check : is_in_check p.men p.side ≡ false
   pub moves : HasNoMove p
 
--- the verdict on the game from `start` by the moves ms is a mate, or stalemate, exactly if its present position is one
+-- the verdict on the game from `start` by the moves ms is mate, or stalemate, exactly if its present position is one
 pub record EndsByNoMove (start : Setup) (ms : List Move) : Type 0 where
   pub white_mates : (verdict start ms ≡ Some WhiteMates)
       ↔ (((position_after start ms).side ≡ Black) × IsMate (position_after start ms))
@@ -39,7 +39,7 @@ pub record EndsByNoMove (start : Setup) (ms : List Move) : Type 0 where
       ↔ (((position_after start ms).side ≡ White) × IsMate (position_after start ms))
   pub stalemate : (verdict start ms ≡ Some Stalemate) ↔ IsStalemate (position_after start ms)
 
--- `EndsByNoMove` holds of each game, of any moves from any start
+-- `EndsByNoMove` holds for any moves from any start
 abbrev pub NoMoveEnds : Type 0
 NoMoveEnds = (start : Setup) (ms : List Move) → EndsByNoMove start ms
 
@@ -49,39 +49,39 @@ NoMoveEnds = (start : Setup) (ms : List Move) → EndsByNoMove start ms
 abbrev pub position_at : Setup → List Move → ℕ → Setup
 position_at start ms k = position_after start (take k ms)
 
--- the present position of a game is there for at least the n-th time: there are at least n numbers of moves, each above
--- the one before it, after which the position was this one
+-- the game's present position is there for at least the n-th time: after at least n different numbers of its moves the
+-- position was the same (9.2.3)
 pub record IsThere (n : ℕ) (start : Setup) (ms : List Move) : Type 0 where
-  -- the numbers of moves after which it was there
+  -- these numbers of moves
   pub times : List ℕ
   pub many : n ≤ length times
   pub rising : AllPairs (λ j k. j < k) times
   pub same : AllByRecursion
       (λ k. (k ≤ length ms) × IsTrue (is_same_position (position_at start ms k) (position_after start ms))) times
 
--- ---- moves without capture or pawn move
+-- ---- quiet moves
 
--- move m of position p is no pawn move, and no piece of the other side is on its end square
+-- move m of position p is no pawn move and no capture
 pub record IsQuiet (p : Setup) (m : Move) : Type 0 where
   pub pawn : is_man p.side Pawn (man_at p.men m.from) ≡ false
   pub capture : is_of (other p.side) (man_at p.men m.to) ≡ false
 
--- for n half-moves nobody has captured or moved a pawn: the last n moves of the game are quiet; or, if it has fewer,
--- all are, and the start's halfmove clock makes up the rest
+-- the last n half-moves are quiet: the game's last n moves are; or, if it has fewer, all are, and the start's halfmove
+-- clock makes up the rest
 pub record IsQuietFor (n : ℕ) (start : Setup) (ms : List Move) : Type 0 where
-  -- with those that the start counts there are that many
+  -- with those that the start counts there are n
   pub many : n ≤ start.halfmove + length ms
   -- the move at the index k, if it is among the last n
   pub quiet : (k : ℕ) (m : Move) → slice_get ms k ≡ Some m → length ms ≤ k + n → IsQuiet (position_at start ms k) m
 
--- in each game: nobody has captured or moved a pawn for n half-moves exactly if the halfmove clock is at least n. The
--- clock stops at 999,999 (`COUNTER_LIMIT`)
+-- each game's halfmove clock is at least n exactly if the last n half-moves are quiet; n is at most 999,999
+-- (`COUNTER_LIMIT`), where the clock stops
 abbrev pub ClocksCountQuietMoves : Type 0
 ClocksCountQuietMoves = (n : ℕ) (start : Setup) (ms : List Move) → n ≤ COUNTER_LIMIT
     → ((n ≤ (position_after start ms).halfmove) ↔ IsQuietFor n start ms)
 
--- what the counters are after move m of position p: the halfmove clock one more after a quiet move, the fullmove number
--- one more after a move of Black; but each stays at 999,999
+-- the counters after move m of position p: a quiet move raises the halfmove clock by one, a move of Black the fullmove
+-- number; but each stays at 999,999
 pub record CountsOn (p : Setup) (m : Move) : Type 0 where
   pub quiet : IsQuiet p m → p.halfmove < 999999 → (after p m).halfmove ≡ p.halfmove + 1
   pub full_clock : IsQuiet p m → p.halfmove ≡ 999999 → (after p m).halfmove ≡ 999999
@@ -93,25 +93,21 @@ pub record CountsOn (p : Setup) (m : Move) : Type 0 where
 abbrev pub CountersStop : Type 0
 CountersStop = (p : Setup) (m : Move) → CountsOn p m
 
--- ---- what follows from both
+-- ---- draws by counting
 
--- a game is over once its present position is there for the fifth time, or 150 half-moves had no capture and no pawn
--- move, and has no such verdict before; if both hold at once, the verdict is not the latter. A draw can be claimed at
--- the third time, or after 100 half-moves
+-- a game is over once its present position is there for the fifth time or the last 150 half-moves are quiet, and has no
+-- such verdict before; if both hold, the verdict is not the latter. A draw can be claimed at the third time or after
+-- 100 quiet half-moves
 pub record EndsByCounting (start : Setup) (ms : List Move) : Type 0 where
-  -- fivefold repetition
   pub fivefold : verdict start ms ≡ Some FivefoldRepetition → IsThere 5 start ms
   pub at_fifth : IsThere 5 start ms → verdict start ms ≢ None
-  -- 75 moves of each side
   pub seventy_five_moves : verdict start ms ≡ Some SeventyFiveMoves → IsQuietFor 150 start ms
   pub after_150 : IsQuietFor 150 start ms → verdict start ms ≢ None
-  -- if both hold at once
   pub fivefold_first : IsThere 5 start ms → verdict start ms ≢ Some SeventyFiveMoves
-  -- claims
   pub threefold : IsTrue (claims start ms).threefold ↔ IsThere 3 start ms
   pub fifty_moves : IsTrue (claims start ms).fifty_moves ↔ IsQuietFor 100 start ms
 
--- `EndsByCounting` holds of each game, of any moves from any start
+-- `EndsByCounting` holds for any moves from any start
 abbrev pub CountingEnds : Type 0
 CountingEnds = (start : Setup) (ms : List Move) → EndsByCounting start ms
 

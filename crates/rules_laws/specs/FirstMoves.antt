@@ -14,6 +14,6 @@ first_moves =
     codes "e2e3" ∷ codes "e2e4" ∷ codes "f2f3" ∷ codes "f2f4" ∷
     codes "g2g3" ∷ codes "g2g4" ∷ codes "h2h3" ∷ codes "h2h4" ∷ []
 
--- `first_moves` are the legal moves of the initial position, in their order, by the rules of either variant
+-- the legal moves of the initial position, in either variant, are `first_moves`, in this order
 abbrev pub FirstMovesAreThese : Type 0
 FirstMovesAreThese = (v : Variant) → map coordinate (moves (initial_setup_of v)) ≡ first_moves

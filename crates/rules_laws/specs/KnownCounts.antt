@@ -1,4 +1,4 @@
--- How many moves known positions have, in which of Chess960 the king may castle, and how small endings are judged.
+-- How many moves known positions have, in which of Chess960 castling is legal, and how small endings are judged.
 use Rattle.std.specs.Prelude.{◌≡◌, ℕ, Bool, true, false, [], codes, length, option_map, Option, Some, None}
 use Prim.Native.String.{String as Text}
 use Rattle.std.specs.Result.{result_ok}
@@ -14,11 +14,11 @@ use Rattle.rules_laws.specs.KnownGames.{move_by}
 
 -- ---- counts
 
--- how many moves are legal in the position that a FEN denotes; `None` if it is refused
+-- how many moves are legal in the position of a FEN; `None` if it is refused
 abbrev pub move_count : Variant → Text → Option ℕ
 move_count v text = option_map (λ p. length (moves p)) (result_ok (fen_reading_as v (codes text)))
 
--- the position that a FEN of variant v denotes has n legal moves
+-- the position of a FEN has n legal moves
 abbrev pub HasMoves : Variant → Text → ℕ → Type 0
 HasMoves v text n = move_count v text ≡ Some n
 
@@ -26,21 +26,19 @@ HasMoves v text n = move_count v text ≡ Some n
 abbrev pub third_position : Text
 third_position = "8/2p5/3p4/KP5r/1R3p1k/8/4P1P1/8 w - - 0 1"
 
--- a position with promotions on both sides, usual for perft
+-- a usual perft position with promotions on both sides
 abbrev pub with_promotions : Text
 with_promotions = "n1n5/PPPk4/8/8/8/8/4Kppp/5N1N b - - 0 1"
 
--- a position of Chess960 with all rights, in which no castling is legal: enemy rooks attack the squares beside each
--- king
+-- Chess960 with all rights, where no castling is legal: enemy rooks attack the squares beside each king
 abbrev pub rooks_beside : Text
 rooks_beside = "2rkr3/8/8/8/8/8/8/2RKR3 w ECec - 0 1"
 
--- a position of Chess960 in which White may castle: the king on b1 goes to c1, past no attacked square, and the rook
--- from a1 to d1, which the enemy rook attacks
+-- Chess960: White may castle. The king goes from b1 to c1, neither attacked, and the rook from a1 to the attacked d1
 abbrev pub may_castle : Text
 may_castle = "3rk3/8/8/8/8/8/8/RK6 w Q - 0 1"
 
--- a position of Chess960 in which White may castle: the king on f1 goes to g1, where its rook is, and the rook to f1
+-- Chess960: White may castle. The king goes from f1 to g1, and the rook from g1 to f1
 abbrev pub castles_onto_rook : Text
 castles_onto_rook = "4k3/8/8/8/8/8/8/5KR1 w K - 0 1"
 
@@ -48,7 +46,7 @@ castles_onto_rook = "4k3/8/8/8/8/8/8/5KR1 w K - 0 1"
 abbrev pub pawn_blocked : Text
 pawn_blocked = "4k3/8/8/8/8/4n3/4P3/4K3 w - - 0 1"
 
--- how many legal moves these six positions have: of the first two these are the published counts (perft, depth 1)
+-- how many legal moves these positions have; the first two counts are published (perft, depth 1)
 pub record MovesAreAsMany : Type 0 where
   pub third : HasMoves Normal third_position 14
   pub promotions : HasMoves Normal with_promotions 24
@@ -61,8 +59,7 @@ pub record MovesAreAsMany : Type 0 where
 
 -- ---- castling in Chess960 (Guidelines II)
 
--- whether the king on one named square may castle with the rook on another, in the position that a FEN of Chess960
--- denotes; `None` if the FEN is refused
+-- whether the king on one named square may castle with the rook on another, in the position of a FEN of Chess960
 abbrev pub castling_in : Text → Text → Text → Option Bool
 castling_in text king rook =
     option_map (λ p. is_legal p (move_by king rook)) (result_ok (fen_reading_as Fischerandom (codes text)))
@@ -90,8 +87,7 @@ pub record CastlingIsKnown : Type 0 where
 
 -- ---- ends
 
--- the board's verdict on the position that a FEN of normal chess denotes, `Some None` if it has none; `None` if the FEN
--- is refused
+-- the verdict on the position of a FEN of normal chess, `Some None` if it has none
 abbrev pub judged_fen : Text → Option (Option Verdict)
 judged_fen text = option_map (λ p. verdict p []) (result_ok (fen_reading_as Normal (codes text)))
 
@@ -110,8 +106,7 @@ pub record EndingsAreJudged : Type 0 where
   pub bishops : IsJudged "4kb2/8/8/8/8/8/8/2B1K3 w - - 0 1" InsufficientMaterial
   pub three_bishops : IsJudged "4kb2/8/8/8/8/8/8/B1B1K3 w - - 0 1" InsufficientMaterial
   pub on_white_squares : IsJudged "4k1b1/8/8/8/8/8/8/4KB2 w - - 0 1" InsufficientMaterial
-  -- after 150 half-moves the game is drawn by the 75-move rule, after 149 it isn't; but insufficient material comes
-  -- first
+  -- the 75-move rule, which insufficient material precedes
   pub after_150 : IsJudged "4k3/8/8/8/8/8/8/R3K3 w - - 150 1" SeventyFiveMoves
   pub after_149 : judged_fen "4k3/8/8/8/8/8/8/R3K3 w - - 149 1" ≡ Some None
   pub kings_after_150 : IsJudged "4k3/8/8/8/8/8/8/4K3 w - - 150 1" InsufficientMaterial

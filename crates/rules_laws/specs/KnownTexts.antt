@@ -1,4 +1,4 @@
--- Moves and games that chess players know, as SAN and PGN write them (PGN standard of 1994).
+-- Known moves and games as SAN and PGN write them (PGN standard of 1994).
 use Rattle.std.specs.Prelude.{◌≡◌, ℕ, Bool, true, false, not, ◌&&◌, List, [], ◌∷◌, codes, option_map, replicate, take, drop, Option, None, Some}
 use Prim.Native.String.{String as Text}
 use Rattle.std.specs.List.{list_all, list_any}
@@ -32,7 +32,7 @@ use Rattle.rules_laws.specs.Names.{square}
 
 -- ---- SAN
 
--- the SAN of a move in the position that a FEN of normal chess denotes; `None` if the FEN is refused
+-- the SAN of a move in the position of a FEN of normal chess; `None` if the FEN is refused
 abbrev pub san_in : Text → Move → Option (List ℕ)
 san_in text m = option_map (λ p. san p m) (result_ok (fen_reading_as Normal (codes text)))
 
@@ -40,36 +40,32 @@ san_in text m = option_map (λ p. san p m) (result_ok (fen_reading_as Normal (co
 abbrev pub IsWritten : Text → Move → Text → Type 0
 IsWritten text m written = san_in text m ≡ Some (codes written)
 
--- the move between two named squares, with the promotion to a knight
+-- the move between two named squares with promotion to a knight
 abbrev pub becomes_knight : Text → Text → Move
 becomes_knight from to = record { from = square from; to = square to; promotion = Some Knight }
 
 -- moves and their SAN (section 8.2.3)
 pub record MovesAreWritten : Type 0 where
-  -- two knights on different files, two rooks on one file, and a queen that shares her file with one and her rank with
-  -- another
+  -- two knights on different files, two rooks on one file, and a queen with one on her file and one on her rank
   pub file : IsWritten "4k3/8/8/8/8/5N2/8/1N2K3 w - - 0 1" (move_by "b1" "d2") "Nbd2"
   pub rank : IsWritten "4k3/8/8/R7/8/8/8/R3K3 w - - 0 1" (move_by "a1" "a3") "R1a3"
   pub both : IsWritten "1k6/8/8/8/4Q2Q/8/K7/7Q w - - 0 1" (move_by "h4" "e1") "Qh4e1"
-  -- the other knight is pinned
   pub pinned : IsWritten "4r2k/8/8/8/8/8/4N3/1N2K3 w - - 0 1" (move_by "b1" "c3") "Nc3"
   pub capture : IsWritten "4k3/8/8/3p4/4P3/8/8/4K3 w - - 0 1" (move_by "e4" "d5") "exd5"
   pub promotion : IsWritten "4k3/P7/8/8/8/8/8/4K3 w - - 0 1" (promotes "a7" "a8") "a8=Q+"
   pub castling : IsWritten "4k3/8/8/8/8/8/8/R3K3 w Q - 0 1" (move_by "e1" "c1") "O-O-O"
   pub castling_check : IsWritten "5k2/8/8/8/8/8/8/4K2R w K - 0 1" (move_by "e1" "g1") "O-O+"
   pub mate : IsWritten "6k1/5ppp/8/8/8/8/8/R3K3 w - - 0 1" (move_by "a1" "a8") "Ra8#"
-  -- no legal move is left, but there is no check
   pub stalemate : IsWritten "7k/8/6K1/8/8/8/8/5Q2 w - - 0 1" (move_by "f1" "f7") "Qf7"
-  -- a capture of another piece than a pawn, one en passant, and one with a promotion to a knight
   pub knight_captures : IsWritten "4k3/8/8/4p3/8/5N2/8/4K3 w - - 0 1" (move_by "f3" "e5") "Nxe5"
   pub en_passant : IsWritten "4k3/8/8/3pP3/8/8/8/4K3 w - d6 0 1" (move_by "e5" "d6") "exd6"
   pub to_knight : IsWritten "1r2k3/P7/8/8/8/8/8/4K3 w - - 0 1" (becomes_knight "a7" "b8") "axb8=N"
 
--- the text of a move by its squares, in the position that a FEN of variant v denotes; `None` if the FEN is refused
+-- a move's text by its squares in the position of a FEN of variant v
 abbrev pub shown_in : Variant → Text → Move → Option (List ℕ)
 shown_in v text m = option_map (λ p. shown_move p m) (result_ok (fen_reading_as v (codes text)))
 
--- in the position of a FEN of variant v the move is shown by its squares as `shown`
+-- in the position of a FEN the move is shown by its squares as `shown`
 abbrev pub IsShown : Variant → Text → Move → Text → Type 0
 IsShown v text m shown = shown_in v text m ≡ Some (codes shown)
 
@@ -77,27 +73,27 @@ IsShown v text m shown = shown_in v text m ≡ Some (codes shown)
 pub record MovesAreShown : Type 0 where
   pub castling : IsShown Normal "5k2/8/8/8/8/8/8/4K2R w K - 0 1" (move_by "e1" "g1") "e1g1"
   pub promotion : IsShown Normal "4k3/P7/8/8/8/8/8/4K3 w - - 0 1" (promotes "a7" "a8") "a7a8q"
-  -- in Chess960 castling has a text of its own, and no other move of the king has
+  -- in Chess960 only castling has a text of its own
   pub king_side : IsShown Fischerandom "5k2/8/8/8/8/8/8/4K2R w K - 0 1" (move_by "e1" "h1") "O-O"
   pub queen_side : IsShown Fischerandom "3rk3/8/8/8/8/8/8/RK6 w Q - 0 1" (move_by "b1" "a1") "O-O-O"
   pub king : IsShown Fischerandom "5k2/8/8/8/8/8/8/4K2R w K - 0 1" (move_by "e1" "f1") "e1f1"
 
--- in the position of a FEN of variant v each of the first texts denotes the move, and none of the others
+-- in the position of a FEN of variant v the move is denoted by each of `texts` and by none of `others`
 abbrev pub AreTextsAs : Variant → Text → Move → List (List ℕ) → List (List ℕ) → Type 0
 AreTextsAs v text m texts others = option_map
     (λ p. list_all (λ w. denotes p w m) texts && not (list_any (λ w. denotes p w m) others))
     (result_ok (fen_reading_as v (codes text))) ≡ Some true
 
--- the same in normal chess
+-- in the position of a FEN of normal chess the move is denoted by each of the first texts and by none of the others
 abbrev pub AreItsTexts : Text → Move → List (List ℕ) → List (List ℕ) → Type 0
 AreItsTexts = AreTextsAs Normal
 
--- texts that denote a move, beside its SAN, and others that don't
+-- texts that denote a move, its SAN among them, and others that don't
 pub record TextsDenoteMoves : Type 0 where
   pub capture : AreItsTexts "4k3/8/8/3p4/4P3/8/8/4K3 w - - 0 1" (move_by "e4" "d5")
       (codes "exd5" ∷ codes "ed5" ∷ codes "e4d5" ∷ codes "e4xd5" ∷ codes "exd5!?" ∷ codes "exd5+" ∷ [])
       (codes "d5" ∷ codes "dxe4" ∷ codes "exd6" ∷ codes "Exd5" ∷ codes "exd5=Q" ∷ [])
-  -- which of two knights goes may be left out, or said by more than is needed
+  -- which of two knights goes may be left out or said in full
   pub knight : AreItsTexts "4k3/8/8/8/8/5N2/8/1N2K3 w - - 0 1" (move_by "b1" "d2")
       (codes "Nbd2" ∷ codes "N1d2" ∷ codes "Nb1d2" ∷ codes "Nd2" ∷ codes "b1d2" ∷ [])
       (codes "Nfd2" ∷ codes "N3d2" ∷ codes "Nbxd2" ∷ codes "nbd2" ∷ codes "d2" ∷ [])
@@ -130,7 +126,7 @@ IsWorded v text = result_text (verdict_result v) ≡ codes text
 abbrev pub claimed : (threefold fifty_moves : Bool) → Option DrawClaim
 claimed threefold fifty_moves = draw_claim (record { threefold = threefold; fifty_moves = fifty_moves })
 
--- how verdicts are written, and which draw is declared: threefold repetition first
+-- how verdicts are written, and which draw is declared if both can be claimed: threefold repetition
 pub record ResultsAreWorded : Type 0 where
   pub white_mates : IsWorded WhiteMates "1-0 {White mates}"
   pub black_mates : IsWorded BlackMates "0-1 {Black mates}"
@@ -145,21 +141,19 @@ pub record ResultsAreWorded : Type 0 where
 
 -- ---- PGN
 
--- the PGN tokens (move numbers, moves, result) of the game from the position of a FEN by these moves; `None` if the FEN
--- is refused
+-- the PGN tokens (move numbers, moves, result) of the game by these moves from the position of a FEN
 abbrev pub tokens_from : Text → List Move → Option (List (List ℕ))
 tokens_from text ms = option_map (λ p. game_tokens (record { start = p; moves = ms; declared = None }))
     (result_ok (fen_reading_as Normal (codes text)))
 
--- moves are numbered so in PGN (section 8.2.2)
+-- how moves are numbered in PGN (section 8.2.2)
 pub record MovesAreNumbered : Type 0 where
-  -- the fool's mate: numbers before White's moves alone
+  -- the fool's mate: only White's moves have numbers
   pub white_first : move_tokens initial_setup fools_mate
       ≡ codes "1." ∷ codes "f3" ∷ codes "e5" ∷ codes "2." ∷ codes "g4" ∷ codes "Qh4#" ∷ []
-  -- a game that Black begins with move 12: that move has a number too
+  -- a game that Black begins: that move has a number too
   pub black_first : tokens_from "4k3/4P3/8/8/8/8/8/4K3 b - - 0 12" (move_by "e8" "e7" ∷ [])
       ≡ Some (codes "12..." ∷ codes "Kxe7" ∷ codes "1/2-1/2" ∷ [])
-  -- before its first move it has no number
   pub no_move : tokens_from "4k3/4P3/8/8/8/8/8/4K3 b - - 0 12" [] ≡ Some (codes "*" ∷ [])
 
 -- the tags of a game between A and B
@@ -178,7 +172,7 @@ known_tags = record {
 abbrev pub last_tags : State → List (List ℕ)
 last_tags s = drop 6 (tag_lines known_tags s)
 
--- the tag Termination of a game that ended in this way, with this outcome, has this text
+-- a game with this end and this outcome has this text as its tag Termination
 abbrev pub IsTermination : HowEnded → Outcome → Text → Type 0
 IsTermination ended outcome text = termination_text (termination_of ended outcome) ≡ codes text
 
@@ -188,7 +182,7 @@ pub record TagsAreInOrder : Type 0 where
   pub first : (s : State) → take 6 (tag_lines known_tags s)
       ≡ codes "[Event \"Casual game\"]" ∷ codes "[Site \"?\"]" ∷ codes "[Date \"2024.12.31\"]"
       ∷ codes "[Round \"-\"]" ∷ codes "[White \"A\"]" ∷ codes "[Black \"B\"]" ∷ []
-  -- the others of a mate from another position, and of a game of Chess960 that is on (sections 9.7 and 9.8.1)
+  -- the others of a mate from another position, and of an unfinished game of Chess960 (sections 9.7 and 9.8.1)
   pub mate : option_map (λ p. last_tags (from_start p))
       (result_ok (fen_reading_as Normal (codes "7k/6Q1/6K1/8/8/8/8/8 b - - 0 1")))
       ≡ Some (codes "[Result \"1-0\"]" ∷ codes "[FEN \"7k/6Q1/6K1/8/8/8/8/8 b - - 0 1\"]"
@@ -199,13 +193,12 @@ pub record TagsAreInOrder : Type 0 where
   -- in normal chess from the initial position there is no FEN
   pub normal : last_tags (from_start initial_setup)
       ≡ codes "[Result \"*\"]" ∷ codes "[Termination \"unterminated\"]" ∷ []
-  -- how games ended that are over (section 9.8.1)
+  -- ends of games (section 9.8.1)
   pub won : IsTermination how.Normal WhiteWins "normal"
   pub lost_on_time : IsTermination how.TimeForfeit BlackWins "time forfeit"
   pub drawn_on_time : IsTermination how.TimeForfeit Draw "time forfeit"
   pub against_the_rules : IsTermination how.RulesInfraction WhiteWins "rules infraction"
-  -- and one without a result
   pub unfinished : IsTermination how.TimeForfeit Unfinished "unterminated"
-  -- a tag's text is cut to 60 bytes, and has `?` for each that is not printable ASCII (32 to 126)
+  -- a tag's text is cut to 60 bytes, with `?` for each that is not printable ASCII (32 to 126)
   pub sixty : cut_tag (replicate 61 (byte "a")) ≡ replicate 60 (byte "a")
   pub printable : cut_tag (31 ∷ 32 ∷ 126 ∷ 127 ∷ []) ≡ codes "? ~?"

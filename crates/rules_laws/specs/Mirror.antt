@@ -1,5 +1,4 @@
--- Positions in the mirror: colours exchanged, ranks counted from the other side. The rules are the same for both
--- colours, but for who moves first.
+-- Positions in the mirror: colours exchanged, ranks counted from the other side. The rules there are the same.
 use Rattle.std.specs.Prelude.{◌≡◌, ◌↔◌, ℕ, ◌+◌, ◌-◌, ◌*◌, ◌<◌, IsTrue, List, map}
 use Rattle.std.specs.Option.{option_map}
 use Rattle.chess_base.specs.declared.man.Colour.{Colour}
@@ -27,15 +26,15 @@ mirrored s = 8 * (7 - rank s) + file s
 abbrev pub mirrored_man : Man → Man
 mirrored_man x = record { colour = other x.colour; kind = x.kind }
 
--- on each square the piece of the mirrored square, in the other colour
+-- a board in the mirror: on each square the piece of the mirrored square, in the other colour
 unfoldable pub mirrored_men : Men → Men
 mirrored_men men = map (λ s. option_map mirrored_man (man_at men (mirrored s))) squares
 
--- each right is the other colour's, with the rook on the mirrored square
+-- rights in the mirror: each is the other colour's, with the rook on the mirrored square
 abbrev pub mirrored_rights : Rights → Rights
 mirrored_rights r = rights_by (λ c w. option_map mirrored (right_of r (other c) w))
 
--- the whole position in the mirror; its counters and its variant stay
+-- the position in the mirror; its counters and its variant stay
 abbrev pub mirrored_setup : Setup → Setup
 mirrored_setup p = record {
   variant = p.variant;
@@ -51,7 +50,7 @@ mirrored_setup p = record {
 abbrev pub mirrored_move : Move → Move
 mirrored_move m = record { from = mirrored m.from; to = mirrored m.to; promotion = m.promotion }
 
--- in the mirror the pieces `men` attack the same, and the same king is in check, with squares mirrored and colours
+-- in the mirror the pieces `men` attack the same squares and give the same checks, with squares mirrored and colours
 -- exchanged
 pub record AttacksAreMirrored (men : Men) : Type 0 where
   pub clear : (a b : ℕ) → a < 64 → b < 64
@@ -71,14 +70,14 @@ abbrev pub MirrorIsAsLegal : Type 0
 MirrorIsAsLegal = (p : Setup) (m : Move) → IsSound p → m.from < 64 → m.to < 64
     → is_legal (mirrored_setup p) (mirrored_move m) ≡ is_legal p m
 
--- the position after a legal move of a sound position, in the mirror, is the one after the mirrored move, but for the
--- fullmove number, which only Black's moves raise
+-- the mirror of a legal move of a sound position leads to the mirror of the position after it, but for the fullmove
+-- number, which only Black's moves raise
 abbrev pub MirrorMovesAlike : Type 0
 MirrorMovesAlike = (p : Setup) (m : Move) → IsSound p → IsTrue (is_legal p m)
     → record (after (mirrored_setup p) (mirrored_move m)) { fullmove = 1 }
     ≡ record (mirrored_setup (after p m)) { fullmove = 1 }
 
--- position p and its mirror are ended alike: by mate, by stalemate, and by insufficient material
+-- mate, stalemate and insufficient material hold in position p exactly if they do in its mirror
 pub record EndsAreMirrored (p : Setup) : Type 0 where
   pub mate : IsMate (mirrored_setup p) ↔ IsMate p
   pub stalemate : IsStalemate (mirrored_setup p) ↔ IsStalemate p
@@ -97,7 +96,7 @@ mirrored_verdict InsufficientMaterial = InsufficientMaterial
 mirrored_verdict FivefoldRepetition = FivefoldRepetition
 mirrored_verdict SeventyFiveMoves = SeventyFiveMoves
 
--- the game from `start` by the moves ms, and the same game in the mirror, have mirrored verdicts and the same claims
+-- the game from `start` by the moves ms and its mirror have mirrored verdicts and the same claims
 pub record GamesAreMirrored (start : Setup) (ms : List Move) : Type 0 where
   pub verdict : verdict (mirrored_setup start) (map mirrored_move ms) ≡ option_map mirrored_verdict (verdict start ms)
   pub claims : claims (mirrored_setup start) (map mirrored_move ms) ≡ claims start ms

@@ -4,7 +4,7 @@ use Rattle.std.specs.Prelude.{ℕ, List, [], ◌∷◌, codes, slice_index_or}
 use Rattle.std.specs.List.{position_or_len}
 use Rattle.std.specs.Str.{bytes_eq}
 
--- the names of the 64 squares in the order of their numbers: a1 is square 0, h8 is square 63
+-- the names of all squares in the order of their numbers: a1 is square 0, h8 is square 63
 abbrev pub square_names : List (List ℕ)
 square_names =
     codes "a1" ∷ codes "b1" ∷ codes "c1" ∷ codes "d1" ∷ codes "e1" ∷ codes "f1" ∷ codes "g1" ∷ codes "h1" ∷

@@ -17,11 +17,11 @@ all_squares = range_with_len 0 64
 abbrev pub pawn_squares : List ℕ
 pawn_squares = range_with_len 8 48
 
--- a line of a table: the name of square a, a colon, and the names of the squares b for which `reaches a b` is true
+-- a line of a table: the name of square a, a colon, and the names of all squares b with `reaches a b`
 abbrev pub table_line : (ℕ → ℕ → Bool) → ℕ → List ℕ
 table_line reaches a = name_of a ++ codes ":" ++ flat_map (λ b. codes " " ++ name_of b) (filter (reaches a) all_squares)
 
--- whatever the other pieces are, a knight and a king of either colour, and a pawn of each, could capture on just the
+-- whatever the other pieces are, knights and kings of either colour, and pawns of each, could capture on just the
 -- squares of their tables
 pub record ReachIsByTables (men : Men) : Type 0 where
   pub knight : (c : Colour) → map (table_line (could_capture men c Knight)) all_squares ≡ knight_table

@@ -21,7 +21,7 @@ board =
     codes "...B...." ∷
     codes "R..q..k." ∷ []
 
--- marked by x: what a rook on d4 of `board` attacks
+-- what a rook on d4 of `board` attacks, marked by x
 abbrev pub by_rook : List (List ℕ)
 by_rook =
     codes "........" ∷
@@ -33,7 +33,7 @@ by_rook =
     codes "...x...." ∷
     codes "........" ∷ []
 
--- marked by x: what a bishop on d4 of `board` attacks
+-- what a bishop on d4 of `board` attacks, marked by x
 abbrev pub by_bishop : List (List ℕ)
 by_bishop =
     codes "........" ∷
@@ -45,7 +45,7 @@ by_bishop =
     codes ".x...x.." ∷
     codes "x.....x." ∷ []
 
--- marked by x: what a queen on d4 of `board` attacks
+-- what a queen on d4 of `board` attacks, marked by x
 abbrev pub by_queen : List (List ℕ)
 by_queen =
     codes "........" ∷
@@ -61,7 +61,7 @@ by_queen =
 abbrev pub men_of : List (List ℕ) → Men
 men_of rows = flat_map (map man_with_letter) (reverse rows)
 
--- the squares of a diagram, from a1 to h8: whether each is marked
+-- whether each square of a diagram is marked, from a1 to h8
 abbrev pub marks_of : List (List ℕ) → List Bool
 marks_of rows = flat_map (map (λ c. c == byte "x")) (reverse rows)
 

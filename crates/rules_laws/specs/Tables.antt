@@ -1,7 +1,7 @@
--- What a knight, a king and a pawn attack from each square, as plain lists of names: no arithmetic of files and ranks.
+-- What a knight, a king and a pawn attack from each square, as plain lists of names.
 use Rattle.std.specs.Prelude.{ℕ, List, [], ◌∷◌, codes}
 
--- a knight's reach: each square, and those that a knight on it attacks (3.6)
+-- each square, and those that a knight on it attacks (3.6)
 abbrev pub knight_table : List (List ℕ)
 knight_table =
     codes "a1: c2 b3" ∷ codes "b1: d2 a3 c3" ∷
@@ -37,7 +37,7 @@ knight_table =
     codes "e8: d6 f6 c7 g7" ∷ codes "f8: e6 g6 d7 h7" ∷
     codes "g8: f6 h6 e7" ∷ codes "h8: g6 f7" ∷ []
 
--- a king's reach: each square, and those that a king on it attacks (3.8.1)
+-- each square, and those that a king on it attacks (3.8.1)
 abbrev pub king_table : List (List ℕ)
 king_table =
     codes "a1: b1 a2 b2" ∷ codes "b1: a1 c1 a2 b2 c2" ∷
@@ -73,7 +73,7 @@ king_table =
     codes "e8: d7 e7 f7 d8 f8" ∷ codes "f8: e7 f7 g7 e8 g8" ∷
     codes "g8: f7 g7 h7 f8 h8" ∷ codes "h8: g7 h7 g8" ∷ []
 
--- a white pawn's reach, from the second rank to the seventh: the squares that it attacks (3.7.3)
+-- each square from a2 to h7, and those that a white pawn on it attacks (3.7.3)
 abbrev pub white_pawn_table : List (List ℕ)
 white_pawn_table =
     codes "a2: b3" ∷ codes "b2: a3 c3" ∷
@@ -101,7 +101,7 @@ white_pawn_table =
     codes "e7: d8 f8" ∷ codes "f7: e8 g8" ∷
     codes "g7: f8 h8" ∷ codes "h7: g8" ∷ []
 
--- a black pawn's reach, from the second rank to the seventh: the squares that it attacks (3.7.3)
+-- each square from a2 to h7, and those that a black pawn on it attacks (3.7.3)
 abbrev pub black_pawn_table : List (List ℕ)
 black_pawn_table =
     codes "a2: b1" ∷ codes "b2: a1 c1" ∷

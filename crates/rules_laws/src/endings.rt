@@ -7,19 +7,20 @@ ghost use Rattle.rules_laws.specs.Endings.{ClocksCountQuietMoves, CountersStop, 
 /// check and no move is legal, and by stalemate exactly if it is not in check and no move is legal (FIDE Laws of Chess
 /// 2023, articles 5.1.1 and 5.2.1).
 ///
-/// It refuses a win by stalemate, a win of the side that is mated, and an end where some move is legal.
+/// It refuses definitions with one of these mistakes: a win by stalemate, a win of the side that is mated, and an end
+/// where some move is legal.
 pub fn a_game_ends_where_no_move_is_legal()
     ensures { NoMoveEnds }
 {}
 
 /// A law: the contract says it, and the function does nothing. A game ends at the latest when its present position is
-/// there for the fifth time, and when the last 150 half-moves were neither captures nor pawn moves; a draw can be
+/// there for the fifth time, or when the last 150 half-moves were neither captures nor pawn moves; a draw can be
 /// claimed at the third time, and after 100 such half-moves (FIDE Laws of Chess 2023, articles 9.2, 9.3 and 9.6). If
-/// both ends come at once, the verdict is not the second. This is said by the positions of the game and their moves,
-/// without a count or a clock; only half-moves before the start are those of its halfmove clock.
+/// both ends come at once, the verdict is not the 75-move rule. All this is said by the game's positions and moves,
+/// without a count or a clock; only half-moves before the start are taken from its halfmove clock.
 ///
-/// It refuses the fourth time or the sixth, 149 half-moves or 151, a clock that some capture or pawn move leaves on,
-/// and the 75-move rule before fivefold repetition.
+/// It refuses definitions with one of these mistakes: the fourth time or the sixth, 149 half-moves or 151, a clock that
+/// goes on after some capture or pawn move, and the 75-move rule before fivefold repetition.
 pub fn repetitions_and_quiet_moves_end_a_game()
     ensures { CountingEnds }
 {}
@@ -27,7 +28,8 @@ pub fn repetitions_and_quiet_moves_end_a_game()
 /// A law: the contract says it, and the function does nothing. From a sound position of insufficient material no legal
 /// moves lead to mate (FIDE Laws of Chess 2023, article 5.2.2).
 ///
-/// It refuses to call two knights insufficient, bishops on squares of both colours, or a pawn.
+/// It refuses definitions with one of these mistakes: two knights, bishops on squares of both colours, or a pawn as
+/// insufficient material.
 pub fn insufficient_material_never_mates()
     ensures { InsufficientNeverMates }
 {}
@@ -37,8 +39,8 @@ pub fn insufficient_material_never_mates()
 /// has fewer half-moves, those before its start are counted by the start's clock. The fullmove number counts Black's
 /// moves. Both counters stay at 999,999.
 ///
-/// It refuses a clock that some capture or pawn move leaves on, or that counts full moves, and counters with another
-/// limit or without one.
+/// It refuses definitions with one of these mistakes: a clock that goes on after some capture or pawn move, or that
+/// counts full moves, and counters with another limit or without one.
 pub fn halfmove_clocks_count_quiet_moves()
     ensures quiet { ClocksCountQuietMoves }
     ensures limits { CountersStop }

@@ -5,18 +5,19 @@
 ghost use Rattle.rules_laws.specs.KnownCounts.{CastlingIsKnown, EndingsAreJudged, MovesAreAsMany};
 ghost use Rattle.rules_laws.specs.KnownPositions.{FensAreRefused, LinesLeadToFens, PositionsAreTheSame, TheSameHaveTheSamePieces};
 
-/// A law: the contract says it, and the function does nothing. Known lines are legal, and lead to positions with these
-/// FENs (PGN standard of 1994, section 16.1.4, has three of them).
+/// A law: the contract says it, and the function does nothing. Known lines are legal, and lead to positions with the
+/// FENs that are named (three are examples of the PGN standard of 1994, section 16.1.4).
 ///
-/// It refuses a right to castle that is lost without a reason, a target that is missing, a move number that rises after
-/// White's move, and castling or a promotion that leaves other pieces.
+/// It refuses definitions with one of these mistakes: a right to castle that is lost without a reason, an en passant
+/// target that is missing, a move number that rises after White's move, and castling or a promotion that leaves other
+/// pieces.
 pub fn known_lines_lead_to_these_fens()
     ensures { LinesLeadToFens }
 {}
 
-/// A law: the contract says it, and the function does nothing. FENs are refused, each for the one fault that it has,
-/// and neighbours of theirs are taken: for each condition of a sound position, and for each field. Fields are apart by
-/// spaces, not by a tab. Where the counters are left out they are 0 and 1.
+/// A law: the contract says it, and the function does nothing. Known FENs are refused, each for the first of its
+/// faults, and similar ones are accepted: for each condition of a sound position, and for each field. Fields are
+/// separated by spaces, not by a tab. Where the counters are left out they are 0 and 1.
 pub fn known_fens_are_refused()
     ensures { FensAreRefused }
 {}
@@ -29,13 +30,13 @@ pub fn known_positions_are_the_same()
     ensures pieces { TheSameHaveTheSamePieces }
 {}
 
-/// A law: the contract says it, and the function does nothing. Known positions, some of Chess960 among them, have so
-/// many legal moves; of the first two these are published counts (chessprogramming.org, Perft Results). In others of
-/// Chess960 the king may castle, or may not (`castling`).
+/// A law: the contract says it, and the function does nothing. Six known positions, three of them of Chess960, have as
+/// many legal moves as is said; for the first two these are published counts (chessprogramming.org, Perft Results).
+/// `castling` says in which other positions of Chess960 the king may castle.
 ///
-/// It refuses a pawn that captures straight ahead, goes past a piece or promotes to a queen alone, a king of Chess960
-/// that can't castle because its own rook is in its way or because it doesn't move, and one that castles though its
-/// rook uncovers an attack.
+/// It refuses definitions with one of these mistakes: a pawn that captures straight ahead, goes past a piece or
+/// promotes to a queen alone, a king of Chess960 that can't castle because its own rook is in its way or because it
+/// doesn't move, and one that castles though its rook uncovers an attack.
 pub fn known_positions_have_so_many_moves()
     ensures count { MovesAreAsMany }
     ensures castling { CastlingIsKnown }
@@ -44,8 +45,8 @@ pub fn known_positions_have_so_many_moves()
 /// A law: the contract says it, and the function does nothing. Small positions are mate, stalemate, or drawn for
 /// insufficient material or by the 75-move rule.
 ///
-/// It refuses a king and a bishop against a king, or bishops on squares of one colour, that play on, and the 75-move
-/// rule before insufficient material.
+/// It refuses definitions with one of these mistakes: a king and a bishop against a king, or bishops on squares of one
+/// colour, that play on, and the 75-move rule before insufficient material.
 pub fn known_endings_are_judged()
     ensures { EndingsAreJudged }
 {}

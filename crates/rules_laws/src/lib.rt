@@ -1,7 +1,6 @@
-//! Second accounts of the rules of chess, as laws: each is the contract of a function that does nothing. They say in
-//! other words, by names of squares, by tables and by whole lines, what the definitions of chess_base and chess_game
-//! say; some are of the texts of moves and games. They are in a crate of their own so that no other crate waits for
-//! their proofs.
+//! Second accounts of the rules of chess, as laws: each is the contract of a function that does nothing. By names of
+//! squares, by tables and by whole lines they say again what the definitions of chess_base and chess_game say; some are
+//! about the texts of moves and games. They are in a crate of their own so that no other crate waits for their proofs.
 #![tactic(auto)]
 
 mod endings;

@@ -7,7 +7,8 @@ ghost use Rattle.rules_laws.specs.Mirror.{MirrorAttacksAlike, MirrorEndsAlike, M
 /// A law: the contract says it, and the function does nothing. Pieces in the mirror attack the mirrored squares, and
 /// give check as they do: the rules are the same for both colours (FIDE Laws of Chess 2023, articles 3.1 to 3.9).
 ///
-/// It refuses a slip in one colour, such as black pawns that attack up the board.
+/// It refuses definitions with one of these mistakes: a slip in one colour, such as black pawns that attack up the
+/// board.
 pub fn attacks_are_mirrored()
     ensures { MirrorAttacksAlike }
 {}
@@ -16,7 +17,8 @@ pub fn attacks_are_mirrored()
 /// mirrored move is legal in the mirrored position, and then both lead to mirrored positions. Only the fullmove number
 /// differs: it rises after Black's moves.
 ///
-/// It refuses a slip in one colour, such as castling squares, a promotion rank or a double advance of one side alone.
+/// It refuses definitions with one of these mistakes: a slip in one colour, such as castling squares, a promotion rank
+/// or a double advance of one side alone.
 pub fn moves_are_mirrored()
     ensures legal { MirrorIsAsLegal }
     ensures after { MirrorMovesAlike }

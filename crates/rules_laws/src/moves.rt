@@ -11,7 +11,8 @@ ghost use Rattle.rules_laws.specs.Sliders.{DiagramsHold};
 /// A law: the contract says it, and the function does nothing. From each square a knight, a king and a pawn attack the
 /// squares that plain tables list by name (FIDE Laws of Chess 2023, articles 3.6, 3.7.3 and 3.8.1).
 ///
-/// It refuses any other reach, such as two squares each way for a knight, or straight ahead for a pawn.
+/// It refuses definitions with one of these mistakes: any other reach, such as two squares each way for a knight, or
+/// straight ahead for a pawn.
 pub fn pieces_reach_by_tables()
     ensures { TablesHold }
 {}
@@ -19,7 +20,8 @@ pub fn pieces_reach_by_tables()
 /// A law: the contract says it, and the function does nothing. On a board with pieces in their way, rook, bishop and
 /// queen attack the squares that diagrams mark (FIDE Laws of Chess 2023, articles 3.2 to 3.5).
 ///
-/// It refuses a piece that jumps, that goes past the first piece in its way, or that stops before it.
+/// It refuses definitions with one of these mistakes: a piece that jumps, that goes past the first piece in its way, or
+/// that stops before it.
 pub fn lines_end_at_the_first_piece()
     ensures { DiagramsHold }
 {}
@@ -28,7 +30,8 @@ pub fn lines_end_at_the_first_piece()
 /// its first rank and the rook to the f-file or the d-file, in normal chess and in Chess960 (FIDE Laws of Chess 2023,
 /// article 3.8.2 and Guidelines II). The squares are named, as `e1` and `g1`.
 ///
-/// It refuses a rook that stays, or that ends on the c-file, and a king that ends on the b-file.
+/// It refuses definitions with one of these mistakes: a rook that stays, or that ends on the c-file, and a king that
+/// ends on the b-file.
 pub fn castling_ends_on_named_squares()
     ensures normal { NormalCastlingEnds }
     ensures fischerandom { FischerandomCastlingEnds }
@@ -39,8 +42,8 @@ pub fn castling_ends_on_named_squares()
 /// king starts, goes or ends is attacked (FIDE Laws of Chess 2023, article 3.8.2). The squares are named. In Chess960 a
 /// right needs the king and the rook on their first rank, from a1 to h1 or from a8 to h8 (Guidelines II).
 ///
-/// It refuses castling out of check or through it, a rule that b1 must not be attacked, or that c1 may be, and a right
-/// of Chess960 with the king or the rook on another rank.
+/// It refuses definitions with one of these mistakes: castling out of check or through it, a rule that b1 must not be
+/// attacked, or that c1 may be, and a right of Chess960 with the king or the rook on another rank.
 pub fn castling_needs_named_squares()
     ensures normal { NormalCastlingIsLegal }
     ensures fischerandom { FischerandomRightsAreAtHome }
@@ -49,7 +52,8 @@ pub fn castling_needs_named_squares()
 /// A law: the contract says it, and the function does nothing. A pawn is captured en passant only by the move right
 /// after its double advance (FIDE Laws of Chess 2023, article 3.7.3.1).
 ///
-/// It refuses a target that stays for a second move, one after a single advance, and the capture of another pawn.
+/// It refuses definitions with one of these mistakes: an en passant target that stays for a second move, a target after
+/// a single advance, and the capture of another pawn.
 pub fn en_passant_follows_a_double_advance()
     ensures { EnPassantFollowsDoubleAdvance }
 {}
@@ -57,7 +61,8 @@ pub fn en_passant_follows_a_double_advance()
 /// A law: the contract says it, and the function does nothing. The initial position has 20 legal moves, which are named
 /// (FIDE Laws of Chess 2023, articles 2.3 and 3).
 ///
-/// It refuses a bishop, rook or queen that jumps, and a pawn that goes three squares, or only one.
+/// It refuses definitions with one of these mistakes: a bishop, rook or queen that jumps, and a pawn that goes three
+/// squares, or only one.
 pub fn first_moves_are_these()
     ensures { FirstMovesAreThese }
 {}
@@ -65,7 +70,8 @@ pub fn first_moves_are_these()
 /// A law: the contract says it, and the function does nothing. The scholar's mate and the fool's mate are legal games,
 /// which White and Black win by mate (FIDE Laws of Chess 2023, articles 3 and 5.1.1).
 ///
-/// It refuses a mate that is won by the other side, and one that the king or another piece could still escape.
+/// It refuses definitions with one of these mistakes: a mate that is won by the other side, and one that the king or
+/// another piece could still escape.
 pub fn known_games_end()
     ensures { KnownGamesEnd }
 {}

@@ -7,8 +7,8 @@ ghost use Rattle.rules_laws.specs.KnownTexts.{MovesAreNumbered, MovesAreShown, M
 /// marks check and mate (PGN standard of 1994, section 8.2.3). By its squares a move is written as `e1g1` or `a7a8q`,
 /// but castling in Chess960 is `O-O` or `O-O-O`.
 ///
-/// It refuses a mark that is missing or another one, a rank where the file is enough, a rival that is pinned, and
-/// castling of Chess960 that is written as a move to the rook.
+/// It refuses definitions with one of these mistakes: a mark that is missing or another one, a rank where the file is
+/// enough, a rival that is pinned, and castling of Chess960 that is written as a move to the rook.
 pub fn known_moves_are_written()
     ensures san { MovesAreWritten }
     ensures squares { MovesAreShown }
@@ -17,14 +17,15 @@ pub fn known_moves_are_written()
 /// A law: the contract says it, and the function does nothing. Beside its SAN a move may be written in other ways, as
 /// `ed5`, `e4xd5` or `exd5!?` for `exd5`, and `0-0-0` for castling; some texts that look alike don't denote it.
 ///
-/// It refuses a capture that needs its `x`, a promotion that needs its `=`, and a text with a mark such as `!` that is
-/// not read.
+/// It refuses definitions with one of these mistakes: a capture that needs its `x`, a promotion that needs its `=`, and
+/// a text with a mark such as `!` that is not read.
 pub fn known_texts_denote_moves()
     ensures { TextsDenoteMoves }
 {}
 
-/// A law: the contract says it, and the function does nothing. Each verdict of the board is written so, such as
-/// `1-0 {White mates}`. Where a draw may be claimed by threefold repetition and by 50 moves, the former is declared.
+/// A law: the contract says it, and the function does nothing. Each verdict of the board is written as it should be,
+/// such as `1-0 {White mates}`. Where a draw may be claimed both by threefold repetition and by 50 moves, the former is
+/// declared.
 pub fn results_are_worded()
     ensures { ResultsAreWorded }
 {}
@@ -35,10 +36,11 @@ pub fn moves_are_numbered()
     ensures { MovesAreNumbered }
 {}
 
-/// A law: the contract says it, and the function does nothing. The first six tags of a game are these, in this order;
-/// and so are the others of three games: one from the initial position, one from another, and one of Chess960 (PGN
-/// standard of 1994, sections 8.1.1, 9.7 and 9.8.1). The tag Termination of a game that was lost on time or against the
-/// rules says so. A tag's text is cut to 60 bytes of printable ASCII.
+/// A law: the contract says it, and the function does nothing. The first six tags of each game are Event, Site, Date,
+/// Round, White and Black, in this order. The tags after these are named for three games: one from the initial
+/// position, one from another, and one of Chess960 (PGN standard of 1994, sections 8.1.1, 9.7 and 9.8.1). The tag
+/// Termination of a game that was lost on time or against the rules says so. A tag's text is cut to 60 bytes of
+/// printable ASCII.
 pub fn tags_are_in_order()
     ensures { TagsAreInOrder }
 {}

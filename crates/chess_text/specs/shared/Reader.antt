@@ -1,5 +1,5 @@
--- The parts of a text as code reads them, from the front: each shows by its first byte, but for a file, which is one of
--- the start only where a square follows.
+-- The parts of a text as they are read from the front. Each shows by its first byte; but a file is the start's only if
+-- a square follows.
 use Rattle.std.specs.Prelude.{ℕ, ◌+◌, ◌-◌, ◌*◌, ◌==◌, Bool, true, false, ◌&&◌, ◌||◌, if◌then◌else◌, List, [], ◌∷◌, find, Option, Some, None}
 use Rattle.std.specs.Option.{option_map}
 use Rattle.chess_base.specs.declared.man.Kind.{Kind}
@@ -21,7 +21,7 @@ lettered_kinds = King ∷ Queen ∷ Rook ∷ Bishop ∷ Knight ∷ []
 abbrev pub promoted : List Kind
 promoted = Queen ∷ Rook ∷ Bishop ∷ Knight ∷ []
 
--- the one of `kinds` whose capital letter is the byte c, if there is one
+-- the one of `kinds` with the capital letter c, if there is one
 abbrev pub kind_from : List Kind → ℕ → Option Kind
 kind_from kinds c = find (λ k. white_letter k == c) kinds
 
@@ -30,8 +30,8 @@ abbrev pub or_else : {A : Type 0} → Option A → Option A → Option A
 or_else (Some x) o = Some x
 or_else None o = o
 
--- the promotion to the piece with the letter c, capital or small; `equals` says whether `=` was before it; none if a
--- pawn can't become such a piece
+-- the promotion to the piece with the letter c, capital or small; none if a pawn can't become it. `equals`: `=` was
+-- before the letter
 abbrev pub promotion_by : Bool → ℕ → Option Promotion
 promotion_by equals c =
     or_else (option_map (λ k. record { kind = k; equals = equals; small = false }) (kind_from promoted c))
@@ -44,14 +44,14 @@ promotion_to equals m =
     else Some (record { kind = m.kind; equals = equals; small = same_colour m.colour Black })
 
 -- the promotion that the text after the end square denotes (Q, q, =Q or =q): `Some None` if that text is empty, `None`
--- if it is neither empty nor just a promotion
+-- if it is anything else
 abbrev pub promotion_at : List ℕ → Option (Option Promotion)
 promotion_at [] = Some None
 promotion_at (c ∷ []) = option_map Some (promotion_by false c)
 promotion_at (c ∷ d ∷ []) = if c == byte "=" then option_map Some (promotion_by true d) else None
 promotion_at (c ∷ d ∷ e ∷ cs) = None
 
--- the end square and promotion that a text denotes, if it has just these, as e4 or e8=Q; otherwise none
+-- the end square and the promotion that make up a text, as e4 or e8=Q; otherwise none
 abbrev pub end_at : List ℕ → Option End
 end_at [] = None
 end_at (f ∷ []) = None
@@ -60,41 +60,38 @@ end_at (f ∷ r ∷ rest) =
     then option_map (λ p. record { to = 8 * (r - byte "1") + (f - byte "a"); promotion = p }) (promotion_at rest)
     else None
 
--- whether a text of the form [x]end, as xd5 or e8=Q, begins with `x`, and its end square and promotion; none for any
--- other text
+-- of a text of the form [x]end, as xd5 or e8=Q, whether it begins with `x`, and its end; otherwise none
 abbrev pub takes_at : List ℕ → Option (Bool × End)
 takes_at [] = None
 takes_at (c ∷ rest) = if c == byte "x" then option_map (λ e. (true, e)) (end_at rest) else option_map (λ e. (false, e))
     (end_at (c ∷ rest))
 
--- the parts of a text of the form [rank][x]end, as 1xf3 or f3: the start rank if it is named, whether `x` is there, and
--- the end square with its promotion; none for any other text
+-- of a text of the form [rank][x]end, as 1xf3 or f3, the start rank if it is named, whether `x` is there, and the end;
+-- otherwise none
 abbrev pub rank_at : List ℕ → Option (Option ℕ × Bool × End)
 rank_at [] = None
 rank_at (c ∷ rest) =
     if is_rank_digit c then option_map (λ (x : Bool × End). (Some (c - byte "1"), x.0, x.1)) (takes_at rest)
     else option_map (λ (x : Bool × End). (None, x.0, x.1)) (takes_at (c ∷ rest))
 
--- a move's parts: this letter and this start file, and from x the start rank, whether there is an `x`, and the end
--- square with its promotion
+-- a move's parts, put together: letter, start file, and from x the start rank, whether there is `x`, and the end
 abbrev pub with_parts : Option Kind → Option ℕ → Option ℕ × Bool × End → Parts
 with_parts letter file x = record { letter = letter; file = file; rank = x.0; takes = x.1; end = x.2 }
 
--- the parts of the text after the piece's letter, which is given. Its first file letter belongs to the end square if
--- the text can be read so (e4), otherwise it is the start file (exd5)
+-- the parts of the text after the piece's letter, which is given. A file letter at its front is the end square's if the
+-- text can be read so (e4), otherwise the start's (exd5)
 abbrev pub file_at : Option Kind → List ℕ → Option Parts
 file_at letter [] = None
 file_at letter (c ∷ rest) =
     or_else (option_map (with_parts letter None) (rank_at (c ∷ rest)))
     (if is_file_letter c then option_map (with_parts letter (Some (c - byte "a"))) (rank_at rest) else None)
 
--- the parts of the text `c ∷ rest`. The first argument is the kind that the letter c names: then c is the piece's
--- letter; if it is none, c belongs to the squares
+-- the parts of the text `c ∷ rest`: c is a piece's letter if a kind is given, otherwise it belongs to the squares
 abbrev pub at_letter : Option Kind → ℕ → List ℕ → Option Parts
 at_letter None c rest = file_at None (c ∷ rest)
 at_letter (Some k) c rest = file_at (Some k) rest
 
--- the parts (letter, start file, start rank, `x`, end square, promotion) of a move's text without marks; none if it
+-- the parts of a move's text without marks (letter, start file, start rank, `x`, end square, promotion); none if it
 -- isn't made of such parts
 abbrev pub parts_at : List ℕ → Option Parts
 parts_at [] = None

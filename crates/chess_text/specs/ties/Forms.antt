@@ -1,5 +1,5 @@
--- What a text is read as, before any position is looked at: castling, or parts of a form. Then, in a position, the one
--- square on which each move ends that it denotes.
+-- What a text is read as before any position is looked at: castling, or its parts. Then, in a position, the one square
+-- on which each move ends that it denotes.
 use Rattle.std.specs.Prelude.{Bool, is_some, is_none, not, ◌||◌, ◌==◌, ◌≡◌, ◌&&◌, ◌+◌, ◌*◌, nat_lt, if◌then◌else◌, List, [], ◌∷◌, ℕ, map, Option, Some, None, IsTrue}
 use Rattle.std.specs.List.{list_any, filter}
 use Rattle.std.specs.Str.{bytes_eq}
@@ -29,7 +29,7 @@ use Rattle.chess_text.specs.declared.reading.Reading.TheVariants as reads
 use Rattle.chess_text.specs.Moves.{castling_texts, described}
 use Rattle.chess_text.specs.shared.Fitting.{passes, admits, parts_fit, is_form, names}
 
--- the side to which a text, already without marks, denotes castling: O-O, 0-0, O-O-O or 0-0-0; none for any other text
+-- the side to which a text without marks denotes castling: O-O, 0-0, O-O-O or 0-0-0; none for any other text
 abbrev pub castling_named : List ℕ → Option CastlingSide
 castling_named text =
     if list_any (bytes_eq text) (castling_texts KingSide) then Some KingSide
@@ -140,13 +140,13 @@ is_denoted_by_pawn q p m =
     if is_none q.file then is_none q.rank && not q.takes && (file m.from == file m.to)
     else names q.file (file m.from) && admits q.rank (rank m.from) && (not q.takes || captures p m)
 
--- the parts q, in which only pieces of kind k can be meant, denote m, a legal move of a piece of kind k to their end
--- square, without a promotion
+-- the parts q, in which only pieces of kind k can be meant, denote m, a legal move of such a piece to their end square,
+-- without a promotion
 abbrev pub is_denoted_of : Parts → Setup → Kind → Move → Bool
 is_denoted_of q p k m = if is_some q.letter then is_denoted_by_letter q p k m else is_denoted_by_pawn q p m
 
 -- the move from square a to the end square of the parts q, as a list of one, if q denotes it; otherwise the empty list.
--- It is known that this move is legal, no promotion, and of a piece of kind k
+-- The move is known to be legal, no promotion, and of a piece of kind k
 abbrev pub denoted_start : Parts → Setup → Kind → ℕ → List Move
 denoted_start q p k a = if is_denoted_of q p k (move_of a q.end.to None) then move_of a q.end.to None ∷ [] else []
 

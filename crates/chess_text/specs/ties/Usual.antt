@@ -1,4 +1,4 @@
--- The parts of texts of the usual shapes, as code reads them at once.
+-- The parts of texts of the usual shapes (e4, Nf3, exd5, Nxd5, Nbd2), as code reads them at once.
 use Rattle.std.specs.Prelude.{ℕ, ◌+◌, ◌-◌, ◌*◌, ◌==◌, Bool, true, false, ◌&&◌, if◌then◌else◌, List, [], ◌∷◌, Option, Some, None}
 use Rattle.std.specs.Option.{option_map}
 use Rattle.chess_base.specs.Letters.{is_file_letter, is_rank_digit}
@@ -22,7 +22,8 @@ parts_to letter file takes f r = record {
   end = record { to = 8 * (r - byte "1") + (f - byte "a"); promotion = None };
 }
 
--- the same for a piece with the letter c; none if c is no piece's letter
+-- the parts of a text with the piece's letter c, this start file and `x`, and the end square that f and r name; none if
+-- c is no piece's letter
 abbrev pub lettered_to : ℕ → Option ℕ → Bool → ℕ → ℕ → Option Parts
 lettered_to c file takes f r = option_map (λ k. parts_to (Some k) file takes f r) (kind_from lettered_kinds c)
 

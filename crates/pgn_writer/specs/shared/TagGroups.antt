@@ -1,4 +1,4 @@
--- The lines of a written game's tags in the groups in which the program writes them.
+-- The lines of a game's tags, in the groups in which they are written.
 use Rattle.std.specs.Prelude.{ℕ, not, ◌||◌, List, [], ◌∷◌, ◌++◌, codes}
 use Rattle.chess_base.specs.declared.man.Variant.{Variant}
 use Rattle.chess_base.specs.declared.setup.Setup.{Setup}
@@ -23,11 +23,11 @@ roster_lines t o =
 abbrev pub fen_lines : Setup → List (List ℕ)
 fen_lines start = tag_line (codes "FEN") (fen start) ∷ tag_line (codes "SetUp") (codes "1") ∷ []
 
--- the lines of the tags that give a game's start in variant `v`: none for normal chess from the initial position
+-- the lines of the tags FEN and SetUp in variant `v`: none for normal chess from the initial position
 abbrev pub start_lines_in : Variant → Setup → List (List ℕ)
 start_lines_in v start = list_if (is_fischerandom v || not (is_initial start)) (fen_lines start)
 
--- the line of the tag Termination, and in Chess960 that of Variant
+-- the line of the tag Termination, and for Chess960 that of Variant
 abbrev pub last_lines : Variant → Termination → List (List ℕ)
 last_lines v termination =
     tag_line (codes "Termination") (termination_text termination)

@@ -7,7 +7,7 @@ pub record KeepsWriter {W : Type 0} (old new : LineWriter W) : Type 0 where
   pub prefix : new.prefix.now ≡ old.prefix.now
   pub writer : new.writer.ghost_name ≡ old.writer.ghost_name
 
--- the same, and the line that is begun has as many bytes as before
+-- lines still go to the same writer, with the same prefix, and the line that is begun has as many bytes as before
 pub record KeepsLine {W : Type 0} (old new : LineWriter W) : Type 0 where
   pub prefix : new.prefix.now ≡ old.prefix.now
   pub writer : new.writer.ghost_name ≡ old.writer.ghost_name

@@ -1,5 +1,6 @@
--- The text given the legal moves is the definition's without its mark (SanWritten.san_marked). A legal move is one of a
--- piece (always_described), and only a pawn promotes, so no other piece's text has a promotion (legal_promotes).
+-- The text that is made by the other legal moves is the SAN of the definition without its mark (SanWritten.san_marked).
+-- A legal move is one of a piece (always_described), and only a pawn promotes, so no other piece's text has a promotion
+-- (legal_promotes).
 use Rattle.std.proofs.Common.{ap, ◌∙◌}
 use Rattle.chess_text.specs.Moves.{described}
 use Rattle.chess_text.proofs.SanWritten.{always_described, legal_promotes, san_marked}

@@ -1,6 +1,5 @@
 -- The tags after the roster are those of the start (`FEN` and `SetUp`) and then the last ones. If the first can't be
--- put, a beginning of all was (GameTexts.start_broke); otherwise what becomes of the last becomes of all
--- (GameTexts.further_put).
+-- put, a beginning of all was (GameTexts.start_broke); otherwise putting the last puts all (GameTexts.further_put).
 use Rattle.pgn_writer.proofs.{Added.adds_exit, GameTexts.start_broke, GameTexts.further_put}
 use Rattle.pgn_writer.proofs.write.put_further.Goals as goal
 

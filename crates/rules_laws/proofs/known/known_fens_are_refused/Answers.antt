@@ -1,4 +1,4 @@
--- Which FENs are refused or taken, by computation (KnownFens).
+-- Which FENs are refused or accepted, by computation (KnownFens).
 use Rattle.rules_laws.proofs.KnownFens.{fens_are_refused}
 use Rattle.rules_laws.proofs.known.known_fens_are_refused.Goals as goal
 
