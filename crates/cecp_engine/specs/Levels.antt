@@ -19,7 +19,7 @@ pub record LevelSeen : Type 0 where
 
 -- ---- denotation
 
--- the thousandths that 1 to 3 decimals denote: `5`, as in `0.5`, is 500, `25` is 250; `None` for any other text
+-- the thousandths that 1 to 3 decimals denote: `5` is 500, `25` is 250; `None` for any other text
 unfoldable pub thousandths_of : List ℕ → Option ℕ
 thousandths_of decimals = option_map (λ n. n * 10 ^ (3 - length decimals)) (short_number 3 decimals)
 
@@ -48,9 +48,8 @@ level_with (Some moves) (Some base) None = Err Increment
 level_with (Some moves) (Some base) (Some increment) =
     Ok (record { moves = moves; base = base; increment = increment })
 
--- the time control that a text of three words denotes, such as `40 5 0` or `0 0:10 0.1`: moves per session (1 to 3
--- digits), base time, and increment in seconds (1 to 3 digits, perhaps with decimals). For any other text its first
--- fault: that it has not three words, or the first word that denotes nothing
+-- the time control that a text of three words denotes, such as `40 5 0` or `0 0:10 0.1`: moves per session, base time,
+-- and increment in seconds; otherwise the first fault: not three words, or the first word that denotes nothing
 unfoldable pub level_reading : List ℕ → Result LevelSeen LevelFault
 level_reading text = let first = without_front_blanks text in let second = argument_of first in
     let third = argument_of second in

@@ -9,9 +9,8 @@ use Rattle.chess_cecp.specs.declared.command.Command.{Command}
 use Rattle.chess_cecp.specs.declared.command.Command.TheVariants.{New, SetBoard, UserMove, BareMove, Undo, Remove, Declare, Claim, Ping, Protover, Variant, Go, ShowFen, ShowMoves, ShowState, ShowPgn, Quit, Silent, BadNumber, Unknown}
 use Rattle.text_lines.specs.Words.{word_of, argument_of, command_number}
 
--- the commands that an arbiter accepts without an effect or an answer, as they concern only an engine that plays: the
--- handshake and how it plays (`xboard` to `?`, which is "move now"), its opponent (`computer` to `draw`), clocks and
--- limits of search (`level` to `otim`)
+-- the commands that an arbiter accepts without an effect or an answer, as they concern only an engine that plays: how
+-- it plays (`xboard` to `?`), its opponent (`computer` to `draw`), clocks and limits of search (`level` to `otim`)
 abbrev pub ignored_commands : List (List ℕ)
 ignored_commands =
     codes "xboard" ∷ codes "accepted" ∷ codes "rejected" ∷ codes "force" ∷ codes "random" ∷ codes "hard" ∷ codes "easy"

@@ -21,7 +21,7 @@ result_comment text = if length text == 0 then Some []
     else None
 
 -- the result that `argument`, what follows `result` in a line, declares: an outcome (`1-0`, `0-1`, `1/2-1/2` or `*`),
--- and after it nothing or a comment in braces, cut to 60 bytes, with `?` for each brace in it and each byte that is not
+-- and after it nothing or a comment in braces, cut to 60 bytes, with `?` for each brace in it and each byte that is no
 -- printable ASCII (`cut_comment`); `None` for any other text
 unfoldable pub read_result : List ℕ → Option Declared
 read_result argument = do
@@ -29,13 +29,13 @@ read_result argument = do
   comment ← result_comment (argument_of argument)
   Some (record { outcome = outcome; comment = cut_comment comment })
 
--- which draws can be claimed, as `showstate` writes it: `threefold+50`, `threefold`, `50` or `none`
+-- which draws can be claimed, as `showstate` writes it
 abbrev pub claims_text : Claims → List ℕ
 claims_text c = if c.threefold then (if c.fifty_moves then codes "threefold+50" else codes "threefold")
     else (if c.fifty_moves then codes "50" else codes "none")
 
--- what `showstate` writes after `# state ply`, such as `0 rep 1 clock 0 claims none verdict none declared none`: how
--- many half-moves there are, how often the current position has occurred, the halfmove clock, and so on
+-- what `showstate` writes after `# state ply`, as in `0 rep 1 clock 0 claims none verdict none declared none`:
+-- half-moves, occurrences of the current position, halfmove clock, and so on
 unfoldable pub state_text : State → List ℕ
 state_text s = decimal (length s.moves)
     ++ (codes " rep " ++ (decimal (repetition_count s.start s.moves)

@@ -10,8 +10,8 @@ use Rattle.chess_cecp.specs.declared.run.Fault.{Fault}
 use Rattle.chess_cecp.specs.declared.run.Fault.TheVariants.{Read, Write}
 use Rattle.chess_cecp.specs.declared.session.TheConstants.{COMMAND_LEN}
 
--- the lines in what was read (`i`). Bytes after the last `
--- ` are a line only if the input's end was reported. A line of more than `COMMAND_LEN` (1,024) bytes is too long
+-- the lines in what was read (`i`). Bytes after the last `\n` are a line only if the input's end was reported. A line
+-- of more than `COMMAND_LEN` (1,024) bytes is too long
 abbrev pub lines_read : FromInput → List LineSeen
 lines_read i = stream_lines COMMAND_LEN i.ended i.text
 
@@ -27,9 +27,9 @@ abbrev pub AnswersAll : {S : Type 0} → Server S → S → S → Bool → FromI
 AnswersAll respond s s' ends i o = let due = responses respond s (lines_read i) in
     (o ≡ all_flushed (nat_lt 0 (length (lines_read i))) due.text) × (s' ≡ due.state) × (due.ends ≡ ends)
 
--- the server `respond` answered the lines `before`, with none of which it ends, and their answers were flushed (without
--- such lines no flush succeeded). Then a write or a flush failed in the answer to `line`, of which nothing, a beginning
--- or all was written, and not flushed. `o` is what was written; `s` is the state at first, and `s'` that after `line`
+-- the server `respond` answered the lines `before`, with none of which it ends, and flushed their answers (without such
+-- lines no flush succeeded). In the answer to `line` a write or a flush failed: nothing, a beginning or all of it was
+-- written, and not flushed. `o` is what was written; `s` is the state at first, `s'` that after `line`
 abbrev pub BreaksOffAt : {S : Type 0} → Server S → S → S → List LineSeen → LineSeen → ToOutput → Type 0
 BreaksOffAt respond s s' before line o = let due = responses respond s before in let last = respond due.state line in
     (due.ends ≡ false) × BreaksOffIn (all_flushed (nat_lt 0 (length before)) due.text) last.text o × (s' ≡ last.state)
@@ -40,11 +40,11 @@ abbrev pub Served : {S : Type 0} → Server S → S → S → Result End Fault �
 -- no read failed, and the server answered all lines up to one with which it ends, which the last read completed
 Served respond s s' (Ok Quit) i o = (i.failed ≡ false) × AnswersAll respond s s' true i o
     × ((responses respond s (lines_before_last_read i)).ends ≡ false)
--- the input's end was reported, and no read failed; the server answered all lines, and ends with none of them
+-- the input was read to its end, and no read failed; the server answered all lines, and ends with none
 Served respond s s' (Ok InputEnded) i o = IsWhole i × AnswersAll respond s s' false i o
--- a read failed, and the input's end was not reported; the server answered all complete lines and ends with none
+-- a read failed before the input's end; the server answered all complete lines, and ends with none
 Served respond s s' (Err Read) i o = (i.ended ≡ false) × (i.failed ≡ true) × AnswersAll respond s s' false i o
--- no read failed, but a write or a flush did, in the answer to `line`, which the last read completed, after `n` others
+-- a write or a flush failed in the answer to `line`, which the last read completed, after `n` others; no read failed
 Served respond s s' (Err Write) i o =
     (i.failed ≡ false) × ((n : ℕ) × (line : LineSeen) × (slice_get (lines_read i) n ≡ Some line)
     × (length (lines_before_last_read i) ≤ n) × BreaksOffAt respond s s' (take n (lines_read i)) line o)

@@ -41,8 +41,8 @@ answers s front text = says s (front ++ (text ++ new_line ∷ []))
 abbrev pub becomes_judged : State → Response State
 becomes_judged s = says s (option_map_or (λ v. result_text (verdict_result v) ++ new_line ∷ []) (verdict_now s) [])
 
--- what `showmoves` writes after `# moves`: the number of these moves of the position `p`, and the moves, as in `20 b1a3
--- b1c3 ..`
+-- what `showmoves` writes after `# moves`: the number of these moves of the position `p`, and the moves, as in
+-- `20 b1a3 b1c3 ..`
 unfoldable pub moves_text : Setup → List Move → List ℕ
 moves_text p ms = decimal (length ms) ++ flat_map (λ m. space ∷ shown_move p m) ms
 
@@ -57,22 +57,22 @@ unfoldable pub features_line : List ℕ
 features_line =
     codes "feature ping=1 setboard=1 playother=0 san=0 usermove=1 time=1 draw=1 sigint=0 sigterm=0 reuse=1 analyze=0 colors=0 debug=1 myname=\"CECP arbiter\" variants=\"normal,fischerandom\" done=1\n"
 
--- the answer to a move's text in the game `s`, by what it denotes in the current position: the one legal move is
--- played, any other text is refused
+-- the answer to a move's text, by what it denotes in the current position: one legal move is played, any other text is
+-- refused
 abbrev pub reading_row : State → List ℕ → Reading → Response State
 reading_row s text (reads.Move m) = becomes_judged (played s m)
 reading_row s text reads.Ambiguous = answers s (codes "Error (ambiguous move): ") text
 reading_row s text _ = answers s (codes "Illegal move: ") text
 
--- the answer to a move's text in the game `s`, such as `e4`: refused if the game is over or has `limit` half-moves;
--- otherwise by what the text denotes
+-- the answer to a move's text, such as `e4`: refused if the game is over or has `limit` half-moves; otherwise by what
+-- it denotes
 abbrev pub move_row : ℕ → State → List ℕ → Response State
 move_row limit s text = if is_over s then answers s (codes "Illegal move (game over): ") text
     else if nat_le limit (length s.moves) then answers s (codes "Error (game too long): ") text
     else reading_row s text (reading (current s) text)
 
--- the answer to `undo` (`n` is 1) or `remove` (`n` is 2), by its `name`, in the game `s`: the last `n` half-moves are
--- taken back and a declared result is cleared; refused if there are fewer
+-- the answer to `undo` (`n` is 1) or `remove` (`n` is 2), by its `name`: the last `n` half-moves are taken back, and a
+-- declared result is cleared; refused if there are fewer
 abbrev pub take_back_row : ℕ → List ℕ → State → Response State
 take_back_row n name s = if nat_le n (length s.moves) then becomes (taken_back s n)
     else answers s (codes "Error (command not legal now): ") name
@@ -89,16 +89,16 @@ result_row s text (Some d) =
 abbrev pub declares : State → Declared → Response State
 declares s d = says (record s { declared = Some d }) (result_text d ++ new_line ∷ [])
 
--- the answer to `claim` in the game `s`: a draw that can be claimed (Laws, articles 9.2.2 and 9.3.2) is declared if the
--- game is not over; otherwise the claim is refused
+-- the answer to `claim`: a draw that can be claimed (Laws, articles 9.2.2 and 9.3.2) is declared; refused if there is
+-- none or the game is over
 abbrev pub claim_row : State → Response State
 claim_row s = if is_over s then answers s (codes "Error (command not legal now): ") (codes "claim")
     else option_map_or (λ claim. declares s (record { outcome = Draw; comment = claim_comment claim }))
     (draw_claim (claims s.start s.moves)) (answers s (codes "Error (no claim): ") (codes "claim"))
 
--- the answer to `variant` in the game `s`, by its argument (`text` is the whole line): `fischerandom` starts a game of
--- Chess960 at the initial position of normal chess; `normal` starts one of normal chess if `s` is of Chess960, and
--- otherwise changes nothing; any other argument is refused
+-- the answer to `variant`, by its argument (`text` is the whole line): `fischerandom` starts a game of Chess960 at the
+-- initial position of normal chess; `normal` starts one of normal chess if `s` is of Chess960, and otherwise changes
+-- nothing
 abbrev pub variant_row : State → List ℕ → List ℕ → Response State
 variant_row s text argument =
     if bytes_eq argument (codes "fischerandom") then becomes (from_start (initial_setup_of Fischerandom))
@@ -118,7 +118,7 @@ row tags limit s text argument Remove = take_back_row 2 (codes "remove") s
 row tags limit s text argument Declare = result_row s text (read_result argument)
 row tags limit s text argument Claim = claim_row s
 row tags limit s text argument (Ping n) = answers s (codes "pong ") (decimal n)
--- below version 2 the protocol has no features, so `protover 1` has no answer
+-- `protover 1` has no answer: version 1 has no features
 row tags limit s text argument (Protover n) = if nat_lt n 2 then becomes s else says s features_line
 row tags limit s text argument Variant = variant_row s text argument
 row tags limit s text argument Go = answers s (codes "Error (the arbiter plays no side): ") (codes "go")

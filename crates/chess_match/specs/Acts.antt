@@ -23,8 +23,7 @@ pub data Act : Type 0 where
   -- a write or a flush failed while this block was sent; nothing, a beginning or all of it may have been written
   SendFails : (block : Block) → Act
   -- an event was read: a line or a silence, and right after it the clock; the clock alone (`Opened`); the end of an
-  -- engine's output (bytes after its last `
-  -- ` are no line); or a failure to read
+  -- engine's output (bytes after its last `\n` are no line); or a failure to read
   Happens : (event : Event) → Act
 
 -- ---- what is due

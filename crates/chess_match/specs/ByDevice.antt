@@ -33,8 +33,7 @@ abbrev pub is_silence_of : Colour → Act → Bool
 is_silence_of S (Happens (Silent side moment)) = same_colour side S
 is_silence_of S _ = false
 
--- whether by this act a look for a line of the side `S` found none yet, as a list of one: false if it found a line, the
--- end of the output or a failure. Empty if this act is no such look
+-- whether by this act a look for a line of the side `S` found none yet, as a list of one; empty if it is no such look
 abbrev pub look : Colour → Act → List Bool
 look S (Happens (Silent side moment)) = list_if (same_colour side S) (true ∷ [])
 look S (Happens (Line side text moment)) = list_if (same_colour side S) (false ∷ [])

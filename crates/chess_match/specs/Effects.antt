@@ -106,8 +106,8 @@ is_owed_move _ S = false
 abbrev pub handshake_lines : List SentLine
 handshake_lines = Says (codes "xboard") ∷ Says (codes "protover 2") ∷ []
 
--- the line that sends the side `S` the last move, by its engine's features `usermove` and `san`: `e2e4`, `usermove
--- e2e4`, `e4` or `usermove e4`
+-- the line that sends the side `S` the last move, by its engine's features `usermove` and `san`: `e2e4`,
+-- `usermove e2e4`, `e4` or `usermove e4`
 abbrev pub move_line : Rules → Match → Colour → SentLine
 move_line r m S = MoveSent (takes (codes "usermove") (m.seat S).items)
     (text_of_last (takes (codes "san") (m.seat S).items) r.start m.played)
@@ -134,9 +134,9 @@ sends_to side lines m = record { after = m; to = λ S. list_if (same_colour side
 abbrev pub with_seat : Colour → (Seat → Seat) → Match → Match
 with_seat S change m = record m { seat = λ side. if same_colour side S then change (m.seat side) else m.seat side }
 
--- the match `m` ends for this reason. Each side is sent the last move, if it is owed; the result, such as `result 1-0
--- {Black resigns}`, by the board's verdict, if there is one; and `quit`. A side to which a failed write ended the match
--- is sent nothing
+-- the match `m` ends for this reason. Each side is sent the last move, if it is owed; the result, such as
+-- `result 1-0 {Black resigns}`, by the board's verdict, if there is one; and `quit`. A side to which a failed write
+-- ended the match is sent nothing
 abbrev pub ends : Rules → Reason → Match → Effect
 ends r reason m = record {
   after = record m { phase = Over reason };

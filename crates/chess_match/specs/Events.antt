@@ -12,9 +12,7 @@ pub data Event : Type 0 where
   Opened : (side : Colour) → (moment : ℕ) → Event
   -- a look for a line of that side's engine found none, or one that is only begun
   Silent : (side : Colour) → (moment : ℕ) → Event
-  -- that side's engine ended its output
   OutputEnds : (side : Colour) → Event
-  -- reading from that side's engine failed
   FailsToRead : (side : Colour) → Event
   -- a write or a flush to that side's engine failed
   FailsToWrite : (side : Colour) → Event

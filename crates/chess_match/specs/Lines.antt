@@ -35,8 +35,7 @@ bytes_of (l ∷ ls) = text_of l ++ new_line ∷ bytes_of ls
 abbrev pub ping : ℕ → SentLine
 ping n = Says (codes "ping " ++ decimal n)
 
--- the lines that set the engine of the side `S` up for a game by the rules `r`, up to `ping 1`; `setboard FEN` is left
--- out for the initial position of normal chess, which `new` sets up
+-- the lines that set the engine of the side `S` up for a game by the rules `r`, up to `ping 1`
 unfoldable pub setup_lines : Rules → Colour → List SentLine
 setup_lines r S =
     Says (codes "new") ∷ (list_if (is_fischerandom r.start.variant) (Says (codes "variant fischerandom") ∷ [])

@@ -51,7 +51,6 @@ abbrev pub WasSent : List SentLine → List (List SentLine) → ToOutput → Typ
 WasSent sent [] o = o ≡ all_flushed (nat_lt 0 (length sent)) (bytes_of sent)
 -- a block failed, after these lines
 WasSent sent (block ∷ []) o = BreaksOffIn (all_flushed (nat_lt 0 (length sent)) (bytes_of sent)) (bytes_of block) o
--- no more than one block fails
 WasSent sent _ o = ⊥
 
 -- the acts `H` are a match by the rules `r`, which is `final` at its end, and from the world `w` to `w'` each device

@@ -38,8 +38,8 @@ fault_comment NoHandshake = codes " sent no done=1 (a UCI engine needs polyglot)
 fault_comment NoAnswer = codes " did not answer"
 
 -- how a match that ended for this reason is reported: its outcome; its comment, without braces; and how it ended, for
--- the tag Termination. `c` is the side that loses, but in `Faulted` the one whose engine or device failed. If the
--- outcome is `*`, the tag is `unterminated`, whatever the third part is (`termination_of` of pgn_writer)
+-- the tag Termination, which is `unterminated` for the outcome `*`, whatever the third part is. `c` is the side that
+-- loses, but in `Faulted` the one whose engine or device failed
 abbrev pub reported : Reason → Outcome × List ℕ × HowEnded
 reported (Decided v) = ((verdict_result v).outcome, (verdict_result v).comment, Normal)
 reported (Claimed claim) = (Draw, claim_comment claim, Normal)

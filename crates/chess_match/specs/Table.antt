@@ -54,7 +54,7 @@ watched r reason m (SendFails block ∷ H) =
     Notes (Gives block.to (bytes_of block.lines)) ∷ Does (SendFails block)
     ∷ (list_if (is_write_fault_of reason block.to) (Notes (Happened (FailsToWrite block.to)) ∷ [])
     ++ watched r reason (if is_over m.phase then m else (effect r m (FailsToWrite block.to)).after) H)
--- an event is noted once it is read; a line is waited for as long as `waits_until` says
+-- an event is noted once it is read
 watched r reason m (Happens event ∷ H) =
     reads (waits_until r m.phase m) event ++ (Notes (Happened event) ∷ watched r reason (effect r m event).after H)
 
@@ -66,9 +66,7 @@ sending failed block = if failed then SendFails block else Sends block
 
 -- the step of reading from the engine of the side `S`, by the result of the read
 abbrev pub reading_of : {E : Type 0} → Colour → Result (Option LineSeen) E → Step
--- a line, if `
--- ` ended it; bytes after the last `
--- ` count as the end of the output
+-- a line, if `\n` ended it; bytes after the last `\n` count as the end of the output
 reading_of S (Ok (Some line)) = if line.ended then ReadsLine S (text_read line) else Does (Happens (OutputEnds S))
 reading_of S (Ok None) = Does (Happens (OutputEnds S))
 reading_of S (Err e) = Does (Happens (FailsToRead S))
@@ -90,10 +88,9 @@ pub record Beginning : Type 0 where
   pub engines : Colour → Devices
   -- the moment that each reading of the clock since was to give, from reading 0 on; `None` if it is not known
   pub coming : ℕ → Option ℕ
-  -- a text that the witness once held, and the notes that it may have been given from then until this beginning;
-  -- `None`: nothing is said of the witness
+  -- a text that the witness once held, and the notes that it may have been given since; `None`: nothing is said of it
   pub noted : Option (List ℕ × List Note)
-  -- numbers that tell references apart in contracts: of the table's references to its devices and its witness
+  -- numbers that tell references apart in contracts: those to the table's devices and its witness
   pub names : List ℕ
 
 -- what contracts see of a table: the claim, for a beginning and steps, that it may have been this at first, and that

@@ -30,7 +30,7 @@ playing arguments = record { arguments = arguments; plays = true }
 
 -- ---- a turn
 
--- the line that the stub sends after a move for the argument `offer` or `claim` (of a draw); `None` for any other
+-- the line for the argument `offer` or `claim` (of a draw), sent after a move; `None` for any other
 abbrev pub remark : List ℕ → Option (List ℕ)
 remark argument = if bytes_eq argument (codes "offer") then Some (codes "offer draw\n")
     else if bytes_eq argument (codes "claim") then Some (codes "1/2-1/2 {Draw by repetition}\n")
@@ -44,7 +44,7 @@ is_remark argument = is_some (remark argument.now)
 unfoldable pub remarks : Arguments → List ℕ
 remarks arguments = flat_map (λ argument. unwrap_or (remark argument.now) []) (take_while is_remark arguments)
 
--- these arguments without the `offer`s and `claim`s that they begin with
+-- these arguments after the `offer`s and `claim`s at their beginning
 unfoldable pub after_remarks : Arguments → Arguments
 after_remarks arguments = drop (prefix_len is_remark arguments) arguments
 
@@ -56,8 +56,8 @@ played_text argument = (if bytes_eq argument (codes "resign") then [] else codes
 abbrev pub turn : Arguments → Response StubState
 -- without arguments it resigns
 turn [] = says (playing []) (codes "resign\n")
--- `end` makes it end in the middle of a line. Any other first argument is played, even an `offer` or `claim` (as `move
--- offer`), with the remarks right after it
+-- `end` ends it in the middle of a line. Any other first argument is played, even `offer` (as `move offer`), with the
+-- remarks right after it
 turn (argument ∷ arguments) =
     if bytes_eq argument.now (codes "end") then record (says (playing arguments) (codes "mov")) { ends = true }
     else says (playing (after_remarks arguments)) (played_text argument.now ++ remarks arguments)
@@ -68,12 +68,12 @@ turn (argument ∷ arguments) =
 unfoldable pub stub_row : StubState → List ℕ → Command → Response StubState
 stub_row s text (Protover n) = says s (codes "feature ping=1 setboard=1 usermove=1 myname=\"stub\" done=1\n")
 stub_row s text (Ping n) = says s (codes "pong " ++ (decimal n ++ new_line ∷ []))
--- after `new` it plays no side until `go`; arguments that it used are not used again
+-- after `new` it plays no side until `go`, and goes on with the arguments left
 stub_row s text New = becomes (waiting s.arguments)
 stub_row s text Go = turn s.arguments
 stub_row s text Quit = record (becomes s) { ends = true }
 -- any other line, by its first word: at `usermove`, whatever follows, it takes its turn if it plays a side; after
--- `force` it plays none until `go`; all else is ignored, even a move without `usermove`
+-- `force` it plays none until `go`; all else is ignored, even a bare move
 stub_row s text _ =
     if bytes_eq (word_of text) (codes "usermove") && s.plays then turn s.arguments
     else becomes (if bytes_eq (word_of text) (codes "force") then waiting s.arguments else s)
