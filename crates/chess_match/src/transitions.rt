@@ -72,7 +72,7 @@ impl MatchState {
         ENTRY
     }
 
-    // Marks the last move, if there is one, as sent: nobody is still to be sent it.
+    // Notes that the last move, if there is one, was sent: nobody is still to be sent it.
     fn note_sent(&mut self)
         ensures { self.new ≡ (record self.old { last = all_sent self.old.last }) }
     {
