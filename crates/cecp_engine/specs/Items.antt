@@ -21,8 +21,8 @@ pub record Item : Type 0 where
   pub name : List ℕ
   pub value : Value
 
--- of a text that begins after a value's first quote: the value, up to the next quote, maybe empty, and the text after
--- that quote; `None` if no quote follows
+-- of a text after a value's opening quote: the value, up to the next quote, maybe empty, and the text after that;
+-- `None` if no quote follows
 abbrev pub quoted_value : List ℕ → Option (Value × List ℕ)
 quoted_value text = let inside = take_while (λ b. not (b == byte "\"")) text in
     if nat_lt (length inside) (length text)
@@ -61,8 +61,8 @@ first_items zero text = []
 first_items (suc n) text =
     option_map_or (λ p. if ends_handshake p.0 then p.0 ∷ [] else p.0 ∷ first_items n p.1) (item_of text) []
 
--- the items of a `feature` line, from its text after the word `feature`, without a malformed one and all after it, and
--- without all after `done=1`. There are no more items than bytes, so none is cut off
+-- the items of a `feature` line, from its text after `feature`, up to and with `done=1`, or up to a malformed one.
+-- There are no more items than bytes, so none is cut off
 unfoldable pub items_of : List ℕ → List Item
 items_of text = first_items (length text) text
 
@@ -73,8 +73,7 @@ abbrev pub last_said : {A : Type 0} → (Value → A) → A → List ℕ → Lis
 last_said f default name items = fold (λ before i. if bytes_eq i.name name then f i.value else before) default items
 
 -- whether an engine that sent these items has the feature `name` on: the last item of that name has the value 1,
--- without quotes. With no such item only `time` and `draw` are on: CECP's defaults of the features that a match asks
--- for
+-- without quotes. With no such item only `time` and `draw` are on, as CECP says of what a match asks for
 unfoldable pub takes : List ℕ → List Item → Bool
 takes name items = last_said is_one (bytes_eq name (codes "time") || bytes_eq name (codes "draw")) name items
 

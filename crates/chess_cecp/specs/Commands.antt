@@ -1,5 +1,5 @@
--- What a line commands, by its first word (Chess Engine Communication Protocol, version 2; `claim`, `showfen`,
--- `showmoves`, `showpgn` and `showstate` are this project's own).
+-- What a line commands, by its first word (CECP, version 2; `claim`, `showfen`, `showmoves`, `showpgn` and `showstate`
+-- are this project's own).
 use Rattle.std.specs.Prelude.{ℕ, ◌==◌, ◌||◌, if◌then◌else◌, Bool, List, [], ◌∷◌, length, codes, Option, Some, unwrap_or}
 use Rattle.std.specs.List.{find, list_any}
 use Rattle.std.specs.Option.{option_map, option_map_or}

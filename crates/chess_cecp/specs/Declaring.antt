@@ -12,8 +12,8 @@ use Rattle.pgn_writer.specs.Outcomes.{outcome_of}
 use Rattle.text_lines.specs.Words.{word_of, argument_of}
 use Rattle.chess_base.specs.Options.{◌>>=◌}
 
--- the comment in `text`, which follows the outcome in a line such as `result 1-0 {White resigns}`: all between a `{` at
--- its start and a `}` at its end, other braces too; empty if `text` is empty; `None` for any other text
+-- the comment in `text`, which follows the outcome, as in `result 1-0 {White resigns}`: all between a `{` at its start
+-- and a `}` at its end, other braces too; empty if `text` is empty; `None` for any other text
 unfoldable pub result_comment : List ℕ → Option (List ℕ)
 result_comment text = if length text == 0 then Some []
     else if nat_le 2 (length text) && (slice_index_or text 0 0 == byte "{")

@@ -107,7 +107,7 @@ variant_row s text argument =
     else answers s (codes "Error (unsupported variant): ") text
 
 -- the table of commands: what a session does in the game `s` with a line of this command. `text` is the whole line,
--- `argument` what follows its first word; `limit` and `tags` are the session's
+-- `argument` what follows its first word
 abbrev pub row : Tags → ℕ → State → List ℕ → List ℕ → Command → Response State
 row tags limit s text argument New = becomes (from_start initial_setup)
 row tags limit s text argument SetBoard = setboard_row s (fen_reading_as s.start.variant argument)
@@ -132,7 +132,7 @@ row tags limit s text argument BadNumber = answers s (codes "Error (bad number):
 row tags limit s text argument Unknown = answers s (codes "Error (unknown command): ") text
 
 -- how the session `seen` responds to a line: one that is too long is refused with its first bytes, any other goes by
--- the table of commands (`row`)
+-- the table of commands
 unfoldable pub session_response : SessionSeen → LineSeen → Response SessionSeen
 session_response seen line =
     let r = if line.too_long then answers seen.state (codes "Error (line too long): ") line.text

@@ -16,7 +16,7 @@ pub record Block : Type 0 where
   pub to : Colour
   pub lines : List SentLine
 
--- one act of the arbiter: it sends a block, or reads an event
+-- one act of the arbiter: it sends a block, or fails to, or reads an event
 pub data Act : Type 0 where
   -- a block was written and flushed
   Sends : (block : Block) → Act

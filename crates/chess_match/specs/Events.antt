@@ -8,7 +8,7 @@ use Rattle.cecp_engine.specs.Items.{Item}
 pub data Event : Type 0 where
   -- a line of that side's engine was read: this text, or `None` if the line was too long
   Line : (side : Colour) → (text : Option (List ℕ)) → (moment : ℕ) → Event
-  -- all lines that open that side's turn were sent; the time of the turn runs from `moment` on
+  -- the lines that open that side's turn were all sent; its time runs from `moment` on
   Opened : (side : Colour) → (moment : ℕ) → Event
   -- a look for a line of that side's engine found none, or one that is only begun
   Silent : (side : Colour) → (moment : ℕ) → Event

@@ -3,11 +3,10 @@ use Rattle.std.specs.Prelude.{ℕ, List, ◌++◌}
 use Rattle.chess_base.specs.declared.man.Colour.{Colour}
 use Rattle.chess_match.specs.Events.{Event}
 
--- one note that a witness of a match, such as the log, is given
+-- a note that a witness of a match, such as the log, is given
 pub data Note : Type 0 where
-  -- this event happened
   Happened : (event : Event) → Note
-  -- the arbiter sends that side's engine these bytes: those of a whole block (`Block`), even if sending it then fails
+  -- that side's engine is sent these bytes: those of a whole block, even if sending it then fails
   Gives : (side : Colour) → (text : List ℕ) → Note
 
 -- what contracts see of a witness: the claim, for a text and notes, that it may have held this text at first and been

@@ -42,7 +42,7 @@ pub record SaidBy (S : Colour) (H : List Act) (i : FromInput) : Type 0 where
   pub silences : i.silences ≡ count_by (is_silence_of S) H
   -- after an end or a failure, all lines of these bytes were read
   pub all : (i.ended || i.failed) ≡ true → engine_lines i.text ≡ flat_map (line_read S) H
-  -- if the last look for a line of `S` found none, too
+  -- so too if the last look for a line of `S` found none
   pub all_if_silent : last_or None (flat_map (look S) H) ≡ Some true → engine_lines i.text ≡ flat_map (line_read S) H
 
 -- `o` is what went to an engine's input, if it was sent the lines `sent`, and then the blocks of the second list failed
@@ -63,7 +63,7 @@ pub record Passed (r : Rules) (H : List Act) (final : Match) (w w' : World) : Ty
   -- the clock was read as often as the acts say, and showed their moments
   pub moments : ClockReadings w.coming w'.coming (flat_map moment_shown H)
 
--- `end` is the report of a match of the acts `H` by the rules `r`, which ended for this reason and is then `final`
+-- `end` is the report of a match of the acts `H` by the rules `r` that ended for this reason in the state `final`
 pub record ReportedAs (r : Rules) (H : List Act) (final : Match) (reason : Reason) (end : MatchEnd) : Type 0 where
   pub ended : final.phase ≡ Over reason
   -- outcome, comment and kind of end are those of the board's verdict after the moves played, otherwise of the reason
@@ -75,8 +75,8 @@ pub record ReportedAs (r : Rules) (H : List Act) (final : Match) (reason : Reaso
   pub fault : end.fault ≡ reported_fault reason (λ S. nat_lt 0 (length (flat_map (broken_block S) H)))
 
 -- a match of the acts `H`, which ended for this reason, was played as `setup` says, from the world `w` to `w'`, and
--- reported as `end`. The game has then the match's start and moves, and the reason's result is declared in it, unless
--- the board has a verdict; of the game before only the limit of half-moves stays, by which the match was played
+-- reported as `end`. The game then has the match's start and moves, and the reason's result is declared in it, unless
+-- the board has a verdict; its limit of half-moves, by which the match was played, stays
 abbrev pub PlayedBy : List Act → Reason → Setup → MatchEnd → World → World → Type 0
 PlayedBy H reason setup end w w' =
     let r = rules_of setup.start (of_colour setup.levels) setup.patience setup.draws w.game.limit in
@@ -92,8 +92,7 @@ PlayedBy H reason setup end w w' =
 abbrev pub Played : Setup → MatchEnd → World → World → Type 0
 Played setup end w w' = (H : List Act) × (reason : Reason) × PlayedBy H reason setup end w w'
 
--- the same as `Played`, and the claim `noted` holds of the notes that a witness, such as the log, is given of these
--- acts (`notes_of`)
+-- as `Played`, and the claim `noted` holds of the notes that a witness, such as the log, is given of these acts
 abbrev pub PlayedNoting : (List Note → Type 0) → Setup → MatchEnd → World → World → Type 0
 PlayedNoting noted setup end w w' =
     (H : List Act) × (reason : Reason) × noted (flat_map (notes_of reason) H) × PlayedBy H reason setup end w w'

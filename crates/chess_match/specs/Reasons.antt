@@ -24,7 +24,7 @@ colour_name c = by_colour (codes "White") (codes "Black") c
 abbrev pub win_of : Colour → Outcome
 win_of c = by_colour WhiteWins BlackWins c
 
--- what the comment says of an engine with this fault after the name of its side, as in `White has no ping`
+-- what the comment says of this fault after the side's name, as in `White has no ping`
 abbrev pub fault_comment : MatchFault → List ℕ
 fault_comment Ended = codes " ended its output"
 fault_comment Read = codes " can not be read"
@@ -54,19 +54,19 @@ reported ForfeitsToBareKing = (Draw, codes "Time forfeit against a bare king", T
 reported GameTooLong = (Unfinished, codes "Game too long", Normal)
 reported (Faulted c f) = (Unfinished, colour_name c ++ fault_comment f, Normal)
 
--- the outcome of a match that ended for this reason
+-- the outcome of a match, by its reason
 abbrev pub outcome_by_reason : Reason → Outcome
 outcome_by_reason reason = (reported reason).0
 
--- the comment on a match that ended for this reason, such as `Black resigns`
+-- the comment on the end of a match, such as `Black resigns`
 abbrev pub comment_of : Reason → List ℕ
 comment_of reason = (reported reason).1
 
--- the result of a match that ended for this reason, with its comment
+-- the result of a match, with this comment
 abbrev pub result_of : Reason → Declared
 result_of reason = record { outcome = (reported reason).0; comment = comment_of reason }
 
--- how a match that ended for this reason came to its end, for the tag Termination (PGN standard, section 9.8.1)
+-- how a match came to its end, for the tag Termination (PGN standard, section 9.8.1)
 abbrev pub ended_by : Reason → HowEnded
 ended_by reason = (reported reason).2
 

@@ -1,4 +1,4 @@
--- What is fixed when a match begins, and what it asks of the moves played so far.
+-- What is fixed when a match begins, and what is asked of its start, moves and pieces.
 use Rattle.std.specs.Prelude.{ℕ, ◌-◌, Bool, ◌||◌, ◌&&◌, not, if◌then◌else◌, List, [], length, take, Option, None, Some}
 use Rattle.std.specs.List.{last_or, list_all}
 use Rattle.std.specs.Option.{option_map_or}
@@ -24,7 +24,7 @@ pub record Rules : Type 0 where
   pub patience : Patience
   -- whether draws by threefold repetition and by 50 moves must be claimed
   pub draws : Draws
-  -- how many half-moves can be played at most
+  -- the most half-moves that can be played
   pub limit : ℕ
 
 -- the rules of a match from this start, with these time controls, patience, draws and limit of half-moves

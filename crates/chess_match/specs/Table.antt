@@ -1,6 +1,5 @@
 -- What passes at the table of a match, step by step. A table has both engines, the clock and a witness, such as the
--- log, which is given notes; each call of it is one step, but a look for a line is two: how long it waits, and what it
--- finds.
+-- log; each call of it is one step, but a look for a line is two: how long it waits, and what it finds.
 use Rattle.std.specs.Prelude.{ℕ, Bool, true, false, if◌then◌else◌, List, [], ◌∷◌, ◌++◌, Option, None, Some, Result, Ok, Err}
 use Rattle.byte_devices.specs.Transfers.{Devices}
 use Rattle.chess_base.specs.declared.man.Colour.{Colour}
@@ -27,7 +26,7 @@ pub data Step : Type 0 where
   ReadsLine : (side : Colour) → (text : Option (List ℕ)) → Step
   -- a look found that that side's engine has sent no line yet
   FindsNoLine : (side : Colour) → Step
-  -- the clock was read, for a line, a silence or an opening of that side, and showed `moment`, in milliseconds
+  -- the clock was read for that side, and showed `moment`, in milliseconds
   ReadsClock : (side : Colour) → (moment : ℕ) → Step
   -- the witness was given a note
   Notes : (note : Note) → Step
@@ -64,15 +63,14 @@ watched r reason m (Happens event ∷ H) =
 abbrev pub sending : Bool → Block → Act
 sending failed block = if failed then SendFails block else Sends block
 
--- the step of reading from the engine of the side `S`, by the result of the read
+-- the step of reading from the engine of the side `S`, by the result of the call
 abbrev pub reading_of : {E : Type 0} → Colour → Result (Option LineSeen) E → Step
 -- a line, if `\n` ended it; bytes after the last `\n` count as the end of the output
 reading_of S (Ok (Some line)) = if line.ended then ReadsLine S (text_read line) else Does (Happens (OutputEnds S))
 reading_of S (Ok None) = Does (Happens (OutputEnds S))
 reading_of S (Err e) = Does (Happens (FailsToRead S))
 
--- the step of a look at the engine of the side `S` that waited only so long, by the result of the call: `None` if no
--- line had come, otherwise whether there was one (`line`)
+-- the same for a look that waited only so long: `None` if no line had come, otherwise whether there was one (`line`)
 abbrev pub reading_until : {E : Type 0} → Colour → Result (Option Bool) E → LineSeen → Step
 reading_until S (Ok None) line = FindsNoLine S
 reading_until S (Ok (Some true)) line =
@@ -93,8 +91,8 @@ pub record Beginning : Type 0 where
   -- numbers that tell references apart in contracts: those to the table's devices and its witness
   pub names : List ℕ
 
--- what contracts see of a table: the claim, for a beginning and steps, that it may have been this at first, and that
--- just these steps passed since. Each kind of table has its own
+-- what contracts see of a table: the claim, for a beginning and steps, that it may have been this at first, and just
+-- these steps passed since. Each kind of table has its own
 abbrev pub Passing : Type 1
 Passing = Beginning → List Step → Type 0
 

@@ -48,7 +48,7 @@ remarks arguments = flat_map (λ argument. unwrap_or (remark argument.now) []) (
 unfoldable pub after_remarks : Arguments → Arguments
 after_remarks arguments = drop (prefix_len is_remark arguments) arguments
 
--- the line that the stub sends for an argument that is played: `resign` as it is, any other as in `move e2e4`
+-- the line that the stub sends for an argument that is played: `resign`, or as in `move e2e4`
 abbrev pub played_text : List ℕ → List ℕ
 played_text argument = (if bytes_eq argument (codes "resign") then [] else codes "move ") ++ (argument ++ new_line ∷ [])
 
