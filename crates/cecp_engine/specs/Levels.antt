@@ -73,14 +73,14 @@ level_fault_name Increment = codes "increment"
 abbrev pub two_digits : ℕ → List ℕ
 two_digits n = (byte "0" + n / 10) ∷ (byte "0" + n % 10) ∷ []
 
--- milliseconds below 1,000 as decimals after whole seconds: nothing for 0, `.5` for 500, `.08` for 80, `.125` for 125
+-- milliseconds below 1,000 as decimals after whole seconds: nothing for 0, `.5` for 500, `.08` for 80
 unfoldable pub decimals_text : ℕ → List ℕ
 decimals_text n = if n == 0 then []
     else if n % 100 == 0 then byte "." ∷ (byte "0" + n / 100) ∷ []
     else if n % 10 == 0 then byte "." ∷ two_digits (n / 10)
     else byte "." ∷ (byte "0" + n / 100) ∷ two_digits (n % 100)
 
--- a base time in milliseconds, as it is written: `5` for 300,000, `0:30` for 30,000, `0:08.5` for 8,500
+-- a base time in milliseconds, as it is written: `5` for 300,000, `0:08.5` for 8,500
 unfoldable pub base_text : ℕ → List ℕ
 base_text base = decimal (base / 60000) ++ (if base % 60000 == 0 then [] else byte ":" ∷
     (two_digits (base % 60000 / 1000) ++ decimals_text (base % 1000)))

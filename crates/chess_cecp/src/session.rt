@@ -119,8 +119,8 @@ impl<B: Board> Session<B> {
         read_move(self.game.board(), text)
     }
 
-    // Why no move can be played in the game now, if none can: it is over or has no room. `read` is what a text was read
-    // as: if that is a legal move, none has to be looked for to know whether the game is over.
+    // Why no move can be played in the game now: it is over, or has as many half-moves as its limit; `None` if one can.
+    // `read`, the reading of some text, only saves work: if it is a legal move, none has to be looked for.
     fn refusal(&self, read: &Reading) -> Option<PlayRefusal>
         requires { IsLegalReading (current self.now.state) read.now }
         ensures value { result ≡ refusal_now (game_held self.now) }

@@ -92,7 +92,8 @@ PlayedBy H reason setup end w w' =
 abbrev pub Played : Setup → MatchEnd → World → World → Type 0
 Played setup end w w' = (H : List Act) × (reason : Reason) × PlayedBy H reason setup end w w'
 
--- as `Played`, and the claim `noted` holds of the notes that a witness, such as the log, is given of these acts
+-- a match was played as `setup` says, from the world `w` to `w'`, and reported as `end`, and the claim `noted` holds of
+-- the notes that a witness, such as the log, is given of its acts
 abbrev pub PlayedNoting : (List Note → Type 0) → Setup → MatchEnd → World → World → Type 0
 PlayedNoting noted setup end w w' =
     (H : List Act) × (reason : Reason) × noted (flat_map (notes_of reason) H) × PlayedBy H reason setup end w w'

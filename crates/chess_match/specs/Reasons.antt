@@ -54,7 +54,7 @@ reported ForfeitsToBareKing = (Draw, codes "Time forfeit against a bare king", T
 reported GameTooLong = (Unfinished, codes "Game too long", Normal)
 reported (Faulted c f) = (Unfinished, colour_name c ++ fault_comment f, Normal)
 
--- the outcome of a match, by its reason
+-- the outcome of a match that ended for this reason
 abbrev pub outcome_by_reason : Reason → Outcome
 outcome_by_reason reason = (reported reason).0
 
@@ -62,11 +62,11 @@ outcome_by_reason reason = (reported reason).0
 abbrev pub comment_of : Reason → List ℕ
 comment_of reason = (reported reason).1
 
--- the result of a match, with this comment
+-- the result of a match that ended for this reason: its outcome and comment
 abbrev pub result_of : Reason → Declared
 result_of reason = record { outcome = (reported reason).0; comment = comment_of reason }
 
--- how a match came to its end, for the tag Termination (PGN standard, section 9.8.1)
+-- how a match that ended for this reason came to its end, for the tag Termination (PGN standard, section 9.8.1)
 abbrev pub ended_by : Reason → HowEnded
 ended_by reason = (reported reason).2
 

@@ -48,7 +48,7 @@ watched r reason m [] = []
 -- the bytes of a block are noted before it is sent
 watched r reason m (Sends block ∷ H) =
     Notes (Gives block.to (bytes_of block.lines)) ∷ Does (Sends block) ∷ watched r reason m H
--- so are those of a block that could not be sent; then the failure is noted, if the match ended by it
+-- then the failure is noted, if the match ended by it
 watched r reason m (SendFails block ∷ H) =
     Notes (Gives block.to (bytes_of block.lines)) ∷ Does (SendFails block)
     ∷ (list_if (is_write_fault_of reason block.to) (Notes (Happened (FailsToWrite block.to)) ∷ [])
@@ -70,7 +70,8 @@ reading_of S (Ok (Some line)) = if line.ended then ReadsLine S (text_read line) 
 reading_of S (Ok None) = Does (Happens (OutputEnds S))
 reading_of S (Err e) = Does (Happens (FailsToRead S))
 
--- the same for a look that waited only so long: `None` if no line had come, otherwise whether there was one (`line`)
+-- the step of reading from the engine of the side `S` for only so long, by the result of the call: `None` if no line
+-- had come, otherwise whether there was one (`line`)
 abbrev pub reading_until : {E : Type 0} → Colour → Result (Option Bool) E → LineSeen → Step
 reading_until S (Ok None) line = FindsNoLine S
 reading_until S (Ok (Some true)) line =

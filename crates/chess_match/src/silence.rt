@@ -1,4 +1,4 @@
-//! Lines that don't come in time.
+//! What a match does when a line doesn't come in time, and how long it waits for one.
 
 ghost use Rattle.std.specs.Prelude.{◌≡◌, ◌+◌, ◌-◌, ◌^◌, List, Some, false, true, min, nat_lt};
 ghost use Rattle.std.specs.Option.{option_map_or};

@@ -22,7 +22,7 @@ abbrev pub since_counted : LineKind → ℕ → Option ℕ → Option ℕ
 since_counted (Features text) moment since = Some moment
 since_counted _ moment since = since
 
--- the match `m` once a line of this kind came at this moment in a handshake, as far as it moves `since`
+-- the match `m`, with `since` as it is after a line of this kind, which came at this moment in a handshake
 abbrev pub counted : LineKind → ℕ → Match → Match
 counted kind moment m = record m { since = since_counted kind moment m.since }
 
