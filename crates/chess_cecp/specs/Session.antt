@@ -71,8 +71,8 @@ move_row limit s text = if is_over s then answers s (codes "Illegal move (game o
     else if nat_le limit (length s.moves) then answers s (codes "Error (game too long): ") text
     else reading_row s text (reading (current s) text)
 
--- the answer to `undo` (`n` is 1) or `remove` (`n` is 2), by its `name`: the last `n` half-moves are taken back, and a
--- declared result is cleared; refused if there are fewer
+-- the answer to the command `name`, `undo` (`n` is 1) or `remove` (`n` is 2): the last `n` half-moves are taken back,
+-- and a declared result is cleared; refused if there are fewer
 abbrev pub take_back_row : ℕ → List ℕ → State → Response State
 take_back_row n name s = if nat_le n (length s.moves) then becomes (taken_back s n)
     else answers s (codes "Error (command not legal now): ") name

@@ -1,5 +1,4 @@
--- What the arbiter does at its devices, act by act; and which lists of acts are a match. `H` is a list of acts, in
--- their order.
+-- What the arbiter does at its devices, act by act, and which lists of acts (`H`, in their order) are a match.
 use Rattle.std.specs.Prelude.{◌≡◌, ◌&&◌, ℕ, ◌+◌, ◌-◌, ◌^◌, Bool, true, false, if◌then◌else◌, min, is_some, option_map, List, [], ◌∷◌, ◌++◌, Option, None, Some}
 use Rattle.std.specs.Option.{option_map_or}
 use Rattle.chess_base.specs.declared.man.Colour.{Colour}

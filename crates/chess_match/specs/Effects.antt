@@ -161,8 +161,9 @@ unless_over r m otherwise = option_map_or (λ reason. ends r reason m) (over_by_
 
 -- ---- a line in a turn
 
--- `offer draw` of the side `S`: if the other side's offer is open, the draw is agreed; if that of `S` is, the line is
--- ignored; otherwise it is open from now on, and the other side is sent `draw`, unless its engine has this feature off
+-- `offer draw` of the side `S`: if an offer of the other side is open, the draw is agreed; if one of `S` is, the line
+-- is ignored; otherwise the offer is open from now on, and the other side is sent `draw`, unless its engine has this
+-- feature off
 abbrev pub offer_row : Rules → Colour → Match → Effect
 offer_row r S m = if (m.seat (other S)).offers then ends r Agreed m
     else if (m.seat S).offers then ignores r S m

@@ -1,5 +1,4 @@
--- What a match that was played did: at its devices, in its game, and in its report. `H` is the list of its acts, in
--- order.
+-- What a match that was played did: at its devices, in its game, and in its report. `H` are its acts, in order.
 use Rattle.std.specs.Prelude.{◌≡◌, ◌||◌, ℕ, true, nat_lt, List, [], ◌∷◌, ◌++◌, length, codes, Option, None, Some}
 use Rattle.std.specs.List.{count_by, flat_map, last_or, list_any}
 use Rattle.chess_base.specs.declared.man.Colour.{Colour}

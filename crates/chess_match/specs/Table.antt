@@ -87,13 +87,14 @@ pub record Beginning : Type 0 where
   pub engines : Colour → Devices
   -- the moment that each reading of the clock since was to give, from reading 0 on; `None` if it is not known
   pub coming : ℕ → Option ℕ
-  -- a text that the witness once held, and the notes that it may have been given since; `None`: nothing is said of it
+  -- a text that the witness once held, and the notes that it may have been given from then to this beginning; `None`:
+  -- nothing is said of it
   pub noted : Option (List ℕ × List Note)
-  -- numbers that tell references apart in contracts: those to the table's devices and its witness
+  -- numbers by which contracts tell apart the table's references to its devices and its witness
   pub names : List ℕ
 
--- what contracts see of a table: the claim, for a beginning and steps, that it may have been this at first, and just
--- these steps passed since. Each kind of table has its own
+-- what contracts see of a table: the claim, for a beginning and steps, that it may have been this at first, and that
+-- just these steps passed since. Each kind of table has its own
 abbrev pub Passing : Type 1
 Passing = Beginning → List Step → Type 0
 
