@@ -1,26 +1,25 @@
--- The clocks of a game: each side's time control, the number of its moves, and the sum of the times that they used.
+-- The clocks of a game.
 use Rattle.std.specs.Prelude.{ℕ, ◌+◌, ◌-◌}
 use Rattle.chess_base.specs.declared.man.Colour.{Colour}
 use Rattle.chess_base.specs.declared.man.Colour.TheVariants.{White, Black}
 use Rattle.cecp_engine.specs.Levels.{LevelSeen, allotted}
 
--- a side's clock: its time control, how many moves the side made, and the time that they took
+-- a side's clock: its time control, how many moves the side made, and the milliseconds that they took
 pub record SideSeen : Type 0 where
   pub level : LevelSeen
   pub moves : ℕ
-  -- in milliseconds
   pub used : ℕ
 
--- what contracts see of a game's clocks: each side's
+-- the clocks of a game
 pub record ClocksSeen : Type 0 where
   pub white : SideSeen
   pub black : SideSeen
 
--- a side's clock with this time control before the side's first move
+-- the clock of a side with this time control, before the side's first move
 abbrev pub new_side : LevelSeen → SideSeen
 new_side level = record { level = level; moves = 0; used = 0 }
 
--- the clocks of a game before the first move, in which each side has the time control that `level` gives it
+-- the clocks before the first move; `level` gives each side's time control
 abbrev pub new_clocks : (Colour → LevelSeen) → ClocksSeen
 new_clocks level = record { white = new_side (level White); black = new_side (level Black) }
 
@@ -29,7 +28,7 @@ abbrev pub side_clock : ClocksSeen → Colour → SideSeen
 side_clock clocks White = clocks.white
 side_clock clocks Black = clocks.black
 
--- the milliseconds that the side `c` has left by its own time control; at least 0
+-- the milliseconds that the side `c` has left; at least 0
 abbrev pub remaining : ClocksSeen → Colour → ℕ
 remaining clocks c =
     allotted (side_clock clocks c).level (side_clock clocks c).moves - (side_clock clocks c).used

@@ -10,35 +10,34 @@ use Rattle.text_lines.specs.Lines.{without_front_blanks}
 
 -- ---- one item, `NAME=VALUE`
 
--- VALUE in an item `NAME=VALUE` of a `feature` line: a text between two double quotes, or digits without quotes
+-- VALUE in an item `NAME=VALUE`: a text between double quotes, or digits without quotes
 pub record Value : Type 0 where
-  -- whether it is in quotes
   pub quoted : Bool
   -- the text without the quotes
   pub text : List ℕ
 
--- an item of a `feature` line, `NAME=VALUE`: a feature's name, and its value
+-- an item of a `feature` line, `NAME=VALUE`
 pub record Item : Type 0 where
   pub name : List ℕ
   pub value : Value
 
--- of a text that begins after a value's first quote: the value, up to the next quote, maybe empty, and the text after
--- that quote; of `a b" done=1` they are `a b` and ` done=1`. `None` if no quote follows
+-- of a text after a value's opening quote: the value, up to the next quote, maybe empty, and the text after that;
+-- `None` if no quote follows
 abbrev pub quoted_value : List ℕ → Option (Value × List ℕ)
 quoted_value text = let inside = take_while (λ b. not (b == byte "\"")) text in
     if nat_lt (length inside) (length text)
     then Some (record { quoted = true; text = inside }, drop (length inside + 1) text) else None
 
--- the value that a text begins with, and the text after it: a text in double quotes, or a run of digits; `None` if
--- there is neither
+-- the value that a text begins with, a text in double quotes or digits, and the text after it; `None` if there is
+-- neither
 abbrev pub value_of : List ℕ → Option (Value × List ℕ)
 value_of [] = None
 value_of (c ∷ cs) = let digits = take_while is_digit (c ∷ cs) in if c == byte "\"" then quoted_value cs
     else if is_digit c then Some (record { quoted = false; text = digits }, drop (length digits) (c ∷ cs)) else None
 
--- the item that a text begins with, such as `ping=1` or `myname="Sjeng"`, and the text after the item and any spaces
--- and tabs. An item is a name of letters, digits and `_`, at least one, then `=` and a value, after which comes a
--- space, a tab or the end. `None` if the text begins with no item
+-- the item that a text begins with, such as `ping=1` or `myname="Sjeng"`, and the text after it and any spaces and
+-- tabs. An item is a name of at least one letter, digit or `_`, then `=` and a value, and after it a space, a tab or
+-- the end. `None` if the text begins with no item
 unfoldable pub item_of : List ℕ → Option (Item × List ℕ)
 item_of text = let name = take_while is_name_byte text in let rest = drop (length name) text in
     if length name == 0 || not (bytes_eq (take 1 rest) (codes "=")) then None else do
@@ -62,20 +61,19 @@ first_items zero text = []
 first_items (suc n) text =
     option_map_or (λ p. if ends_handshake p.0 then p.0 ∷ [] else p.0 ∷ first_items n p.1) (item_of text) []
 
--- the items of a `feature` line, from the text after the word `feature` (`argument_of`). A malformed item and all after
--- it are left out, and so are all after `done=1`. There are no more items than bytes, so none is cut off
+-- the items of a `feature` line, from its text after `feature`, up to and with `done=1`, or up to a malformed one.
+-- There are no more items than bytes, so none is cut off
 unfoldable pub items_of : List ℕ → List Item
 items_of text = first_items (length text) text
 
 -- ---- what an engine says by its items
 
--- what `f` gives for the value of the last of these items that has this name; `default` if no item has it
+-- `f` of the value of the last of these items that has this name; `default` if none has it
 abbrev pub last_said : {A : Type 0} → (Value → A) → A → List ℕ → List Item → A
 last_said f default name items = fold (λ before i. if bytes_eq i.name name then f i.value else before) default items
 
 -- whether an engine that sent these items has the feature `name` on: the last item of that name has the value 1,
--- without quotes. With no such item, `time` and `draw` are on, all others off; of the features that a match asks for by
--- this test these are CECP's defaults
+-- without quotes. With no such item only `time` and `draw` are on, as CECP says of what a match asks for
 unfoldable pub takes : List ℕ → List Item → Bool
 takes name items = last_said is_one (bytes_eq name (codes "time") || bytes_eq name (codes "draw")) name items
 
@@ -84,14 +82,14 @@ unfoldable pub has_word : List ℕ → List ℕ → Bool
 has_word word text = list_any (λ piece. bytes_eq piece word) (slice_split (λ c. is_blank c || (c == byte ",")) text)
 
 -- whether an engine that sent these items plays Chess960: its last item `variants` has the word `fischerandom`, or it
--- sent no such item (CECP then assumes that it plays all variants)
+-- sent none (CECP then assumes all variants)
 unfoldable pub plays_fischerandom : List Item → Bool
 plays_fischerandom items = last_said (λ v. has_word (codes "fischerandom") v.text) true (codes "variants") items
 
 -- ---- the answer to an item
 
--- whether the arbiter answers a feature of this name by `accepted` (otherwise by `rejected`). The first list has the
--- features that it uses, the second those that it accepts but doesn't use
+-- whether the arbiter answers a feature of this name by `accepted` (otherwise by `rejected`). It uses those of the
+-- first list, and only accepts those of the second
 unfoldable pub is_known : List ℕ → Bool
 is_known name = has_word name (codes "ping setboard san usermove time draw myname variants done")
     || has_word name (codes "playother sigint sigterm reuse analyze colors debug")

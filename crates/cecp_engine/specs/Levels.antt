@@ -1,4 +1,4 @@
--- Levels of time, their denotation, and the time that a level gives (CECP, version 2: command `level`). Decimals are an
+-- Time controls: how they are written, and the time that they give (CECP, version 2: command `level`). Decimals are an
 -- addition to CECP, whose seconds are whole. `x ← o` in a `do` is `let x = o?` in Rust.
 use Rattle.std.specs.Prelude.{ℕ, ◌+◌, ◌-◌, ◌*◌, ◌/◌, ◌%◌, ◌^◌, ◌==◌, ◌||◌, nat_lt, if◌then◌else◌, List, [], ◌∷◌, ◌++◌, length, take, drop, codes, decimal, Option, None, Some, Result, Ok, Err, option_map}
 use Rattle.std.specs.List.{position_or_len}
@@ -11,7 +11,7 @@ use Rattle.cecp_engine.specs.declared.level_fault.LevelFault.{LevelFault}
 use Rattle.cecp_engine.specs.declared.level_fault.LevelFault.TheVariants.{Words, Moves, Base, Increment}
 
 -- a time control: `moves` per session (0: one session for the whole game), the `base` time of each session and the
--- `increment` per move, both in milliseconds. The base of `level 40 5 0`, 5 minutes, is 300,000 here
+-- `increment` per move, in milliseconds. The base of `level 40 5 0`, 5 minutes, is 300,000
 pub record LevelSeen : Type 0 where
   pub moves : ℕ
   pub base : ℕ
@@ -19,8 +19,7 @@ pub record LevelSeen : Type 0 where
 
 -- ---- denotation
 
--- the thousandths that decimals, 1 to 3 digits, denote: `5`, as in `0.5`, is 500, `25` is 250, `125` is 125; `None` for
--- any other text
+-- the thousandths that 1 to 3 decimals denote: `5` is 500, `25` is 250; `None` for any other text
 unfoldable pub thousandths_of : List ℕ → Option ℕ
 thousandths_of decimals = option_map (λ n. n * 10 ^ (3 - length decimals)) (short_number 3 decimals)
 
@@ -33,7 +32,7 @@ milliseconds_of most text = let point = position_or_len (λ c. c == byte ".") te
   Some (1000 * seconds + thousandths)
 
 -- the base time that a text denotes, in milliseconds: minutes of 1 to 3 digits (`5` is 300,000), perhaps with a colon
--- and seconds below 60 of 1 or 2 digits, perhaps with decimals (`1:5` is 65,000, `0:08.5` is 8,500); `None` for any
+-- and seconds below 60 of 1 or 2 digits (`1:5` is 65,000), perhaps with decimals (`0:08.5` is 8,500); `None` for any
 -- other text
 unfoldable pub base_of : List ℕ → Option ℕ
 base_of text = let colon = position_or_len (λ c. c == byte ":") text in do
@@ -41,8 +40,7 @@ base_of text = let colon = position_or_len (λ c. c == byte ":") text in do
   milliseconds ← if colon == length text then Some 0 else milliseconds_of 2 (drop (colon + 1) text)
   if nat_lt milliseconds 60000 then Some (60000 * minutes + milliseconds) else None
 
--- the time control with these moves, base and increment. Each is `None` if its text denotes none; then the fault names
--- the first such one
+-- the time control with these parts, each of which is `None` if its text denotes none; then the first such fault
 abbrev pub level_with : Option ℕ → Option ℕ → Option ℕ → Result LevelSeen LevelFault
 level_with None base increment = Err Moves
 level_with (Some moves) None increment = Err Base
@@ -50,9 +48,8 @@ level_with (Some moves) (Some base) None = Err Increment
 level_with (Some moves) (Some base) (Some increment) =
     Ok (record { moves = moves; base = base; increment = increment })
 
--- the time control that a text of three words denotes, such as `40 5 0` or `0 0:10 0.1`: moves per session (1 to 3
--- digits), base time, and increment in seconds (1 to 3 digits, perhaps with decimals). For any other text its first
--- fault: that it has not three words, or the first word that denotes nothing
+-- the time control that a text of three words denotes, such as `40 5 0` or `0 0:10 0.1`: moves per session, base time,
+-- and increment in seconds; otherwise the first fault: not three words, or the first word that denotes nothing
 unfoldable pub level_reading : List ℕ → Result LevelSeen LevelFault
 level_reading text = let first = without_front_blanks text in let second = argument_of first in
     let third = argument_of second in
@@ -63,7 +60,7 @@ level_reading text = let first = without_front_blanks text in let second = argum
 abbrev pub level_of : List ℕ → Option LevelSeen
 level_of text = result_ok (level_reading text)
 
--- the name of a level's fault, by which it is reported
+-- the name by which a level's fault is reported
 abbrev pub level_fault_name : LevelFault → List ℕ
 level_fault_name Words = codes "words"
 level_fault_name Moves = codes "moves"
@@ -76,20 +73,19 @@ level_fault_name Increment = codes "increment"
 abbrev pub two_digits : ℕ → List ℕ
 two_digits n = (byte "0" + n / 10) ∷ (byte "0" + n % 10) ∷ []
 
--- a part of a second, given in milliseconds (below 1,000), as it is written after whole seconds: nothing for 0, `.5`
--- for 500, `.08` for 80, `.125` for 125
+-- milliseconds below 1,000 as decimals after whole seconds: nothing for 0, `.5` for 500, `.08` for 80
 unfoldable pub decimals_text : ℕ → List ℕ
 decimals_text n = if n == 0 then []
     else if n % 100 == 0 then byte "." ∷ (byte "0" + n / 100) ∷ []
     else if n % 10 == 0 then byte "." ∷ two_digits (n / 10)
     else byte "." ∷ (byte "0" + n / 100) ∷ two_digits (n % 100)
 
--- a base time, given in milliseconds, as it is written: `5` for 300,000, `0:30` for 30,000, `0:08.5` for 8,500
+-- a base time in milliseconds, as it is written: `5` for 300,000, `0:08.5` for 8,500
 unfoldable pub base_text : ℕ → List ℕ
 base_text base = decimal (base / 60000) ++ (if base % 60000 == 0 then [] else byte ":" ∷
     (two_digits (base % 60000 / 1000) ++ decimals_text (base % 1000)))
 
--- an increment, given in milliseconds, as it is written in seconds: `2` for 2,000, `0.1` for 100
+-- an increment in milliseconds, as it is written in seconds: `2` for 2,000, `0.1` for 100
 unfoldable pub increment_text : ℕ → List ℕ
 increment_text increment = decimal (increment / 1000) ++ decimals_text (increment % 1000)
 
@@ -100,8 +96,7 @@ level_text level =
 
 -- ---- time
 
--- the milliseconds that a side was given in all, after `k` moves of its own: the base time for each session begun, and
--- the increment for each move. By `level 40 5 0` it is 300,000 after 39 moves and 600,000 after 40; with 0 moves per
--- session there is only one session
+-- the milliseconds that a side was given in all, after `k` of its moves: the base time for each session begun, and the
+-- increment for each move. By `level 40 5 0` it is 300,000 after 39 moves and 600,000 after 40
 unfoldable pub allotted : LevelSeen → ℕ → ℕ
 allotted level k = level.base * (if level.moves == 0 then 1 else 1 + k / level.moves) + level.increment * k

@@ -1,4 +1,4 @@
--- What engine lines, items and features are read as.
+-- What contracts see of the code's engine lines, items and features.
 use Rattle.std.specs.Prelude.{ℕ, true, false, List, codes, Option, None, Some}
 use Rattle.std.specs.Borrow.{Bor}
 use Rattle.cecp_engine.specs.EngineLines as kinds
@@ -12,7 +12,7 @@ use Rattle.cecp_engine.specs.declared.features.Features.{Features as Taken}
 use Rattle.cecp_engine.specs.declared.engine_line.EngineLine.{EngineLine}
 use Rattle.cecp_engine.specs.declared.engine_line.EngineLine.TheVariants.{Features, Move, Resign, Offer, Draw, Win, Rejection, Pong, Other}
 
--- the kind of line, as the definitions have it, that the code's `EngineLine` stands for
+-- the kind of line that the code's `EngineLine` stands for
 abbrev pub seen : EngineLine → LineKind
 seen (Features text) = kinds.Features text.now
 seen (Move text) = kinds.Moves text.now
@@ -24,23 +24,21 @@ seen Rejection = kinds.Rejects
 seen (Pong n) = kinds.Answers n
 seen Other = kinds.SaysElse
 
--- the value in an item (`NAME=VALUE` of a `feature` line), as the definitions have it, for the code's value: of the
--- same form (digits, or text between double quotes), with the same bytes
+-- the value of an item (`NAME=VALUE`) that the code's value stands for: of the same form, with the same bytes
 abbrev pub value_seen : Value → items.Value
 value_seen (Digits text) = record { quoted = false; text = text.now }
 value_seen (Quoted text) = record { quoted = true; text = text.now }
 
--- the item, as the definitions have it, that the code's item stands for
+-- the item that the code's item stands for
 abbrev pub item_seen : Item → items.Item
 item_seen i = record { name = i.name.now; value = value_seen i.value }
 
--- the item and the text after it, as the definitions have them, that the code's function `next_item` returned; `None`
--- if it returned none
+-- the item, and the text after it, that the code's function `next_item` returned; `None` if it returned none
 abbrev pub item_read : Option (Item × Bor (List ℕ)) → Option (items.Item × List ℕ)
 item_read None = None
 item_read (Some p) = Some (item_seen p.0, p.1.now)
 
--- which features an engine has on, by all items of its `feature` lines so far
+-- which features an engine has on, by all its items so far
 unfoldable pub features_of : List items.Item → Taken
 features_of said = record {
   ping = takes (codes "ping") said;

@@ -1,4 +1,4 @@
-//! What an engine takes.
+//! The features that an engine has on.
 
 ghost use Rattle.std.specs.Prelude.{◌≡◌, ◌++◌, ◌∷◌, [], List};
 ghost use Rattle.cecp_engine.specs.Items as feature_items;
@@ -6,8 +6,8 @@ ghost use Rattle.cecp_engine.specs.Seen.{features_of, item_seen};
 
 use crate::item::Item;
 
-/// What an engine takes, by the items that it said. What it didn't say is false, but `time` and `draw` are true;
-/// `fischerandom` is true unless its `variants` leave it out.
+/// Which features an engine has on, by the items that it sent. One that it sent no item for is off, but `time` and
+/// `draw` are on; `fischerandom` is on unless its `variants` leave it out.
 #[derive(Clone, Copy, Debug, PartialEq, Eq, Hash)]
 pub struct Features {
     pub ping: bool,

@@ -11,10 +11,10 @@ ghost use Rattle.std.specs.List.{list_all, prefix_len, take_while};
 use byte_devices::{is_blank, is_digit, is_name_byte, len_before, split_while};
 use text_lines::trim_start;
 
-/// The value of an item.
+/// The value of an item `NAME=VALUE`.
 #[derive(Clone, Copy, Debug, PartialEq, Eq, Hash)]
 pub enum Value<'a> {
-    /// Digits, as many as there are.
+    /// Digits, without quotes.
     Digits(&'a [u8]),
     /// The text between double quotes.
     Quoted(&'a [u8]),
@@ -27,7 +27,7 @@ pub struct Item<'a> {
     pub value: Value<'a>,
 }
 
-// Splits a text after the name of an item at its front; the name is empty if there is none.
+// Splits a text into the name at its front (letters, digits and `_`; maybe empty) and the rest.
 fn split_name(text: &[u8]) -> (&[u8], &[u8])
     ensures name { result.0.now ≡ take_while is_name_byte text.now }
     ensures rest { result.1.now ≡ drop (prefix_len is_name_byte text.now) text.now }
@@ -35,7 +35,7 @@ fn split_name(text: &[u8]) -> (&[u8], &[u8])
     split_while(text, |byte| is_name_byte(byte))
 }
 
-// Splits a text after the digits at its front.
+// Splits a text into the digits at its front, maybe none, and the rest.
 fn split_digits(text: &[u8]) -> (&[u8], &[u8])
     ensures digits { result.0.now ≡ take_while is_digit text.now }
     ensures rest { result.1.now ≡ drop (prefix_len is_digit text.now) text.now }
@@ -131,8 +131,8 @@ impl<'a> Value<'a> {
 }
 
 impl Item<'_> {
-    /// Whether the engine has the feature `name` on after this item; `before` says whether it had it on so far: the
-    /// item decides if it has that name, otherwise that stays.
+    /// Whether the engine has the feature `name` on after this item: the item decides if it has that name; otherwise it
+    /// stays as `before`.
     pub(crate) fn says_or(&self, name: &[u8], before: bool) -> bool
         ensures { result ≡ said_again name.now (item_seen self.now) before }
     {
@@ -143,8 +143,8 @@ impl Item<'_> {
         }
     }
 
-    /// Whether the engine plays Chess960 after this item; `before` says whether it did so far: the item decides if it
-    /// is `variants`, otherwise that stays.
+    /// Whether the engine plays Chess960 after this item: the item decides if it is `variants`; otherwise that stays as
+    /// `before`.
     pub(crate) fn names_fischerandom_or(&self, before: bool) -> bool
         ensures { result ≡ fischerandom_again (item_seen self.now) before }
     {

@@ -1,4 +1,4 @@
-//! Levels of time.
+//! Time controls.
 
 ghost use Rattle.std.specs.Prelude.{◌≡◌, ◌≤◌, ◌/◌, ◌^◌, IfSome};
 ghost use Rattle.cecp_engine.specs.Levels.{level_of, level_reading, base_of, milliseconds_of, thousandths_of, allotted};
@@ -9,8 +9,8 @@ use byte_devices::len_before;
 use std::marker::Model;
 use text_lines::{argument, first_word, short_number, trim_start};
 
-/// A time control (CECP, version 2, command `level`): moves per session, 0 for one session without end, and a base and
-/// an increment in seconds, both with up to three decimals. The fields `base` and `increment` hold milliseconds.
+/// A time control (CECP, version 2, command `level`): moves per session (0: one session for the whole game), the base
+/// time of each session and the increment per move. The fields `base` and `increment` hold milliseconds.
 ///
 /// ```
 /// let level: Level = "0 0:30 0.5".parse()?;
@@ -130,7 +130,7 @@ impl Level {
         read_level(text).ok()
     }
 
-    /// How many moves a session has; 0 for one session without end.
+    /// How many moves a session has; 0: one session for the whole game.
     pub fn moves(self) -> u32
         ensures value { result ≡ self.moves }
         ensures few { result ≤ 999 }

@@ -1,4 +1,4 @@
-//! Why a text denotes no level of time.
+//! Why a text denotes no time control.
 
 ghost use Rattle.std.specs.Prelude.{◌≡◌};
 ghost use Rattle.cecp_engine.specs.Levels.{level_fault_name};

@@ -1,4 +1,4 @@
-//! Levels of time as text, parsed and written.
+//! Time controls as text, read and written.
 
 ghost use Rattle.std.specs.Prelude.{◌≡◌, ◌+◌, ◌≤◌, ◌++◌, Some};
 ghost use Rattle.std.specs.Str.{IsAscii};

@@ -1,8 +1,8 @@
 //! What an engine says by the Chess Engine Communication Protocol, version 2, and the time that it is given: the kinds
-//! of its lines, the items of a `feature` line with what it takes by them, levels of time, and the clocks of a game. It
-//! knows nothing of a match.
+//! of its lines, the items of a `feature` line and the features that they turn on, time controls, and the clocks of a
+//! game. It knows nothing of a match.
 //!
-//! What an engine takes by a `feature` line, and the milliseconds that a side has at its start:
+//! The features that an engine has on after a `feature` line, and the milliseconds that a side has at its start:
 //!
 //! ```
 //! let mut features = Features::new();

@@ -1,5 +1,4 @@
--- Results as they are declared and reported, and what `showstate` shows of a game. `x ← o` in a `do` is `let x = o?` in
--- Rust.
+-- Results that are declared, and what `showstate` shows of a game. `x ← o` in a `do` is `let x = o?` in Rust.
 use Rattle.std.specs.Prelude.{ℕ, ◌-◌, ◌==◌, ◌&&◌, nat_le, if◌then◌else◌, List, [], ◌++◌, length, take, drop, slice_index_or, codes, decimal, Option, None, Some}
 use Rattle.std.specs.Option.{option_map_or}
 use Rattle.byte_devices.specs.Bytes.{byte}
@@ -13,30 +12,30 @@ use Rattle.pgn_writer.specs.Outcomes.{outcome_of}
 use Rattle.text_lines.specs.Words.{word_of, argument_of}
 use Rattle.chess_base.specs.Options.{◌>>=◌}
 
--- the comment in `text`, which is what follows the outcome in a line such as `result 1-0 {White resigns}`: all between
--- a `{` at its start and a `}` at its end, other braces too; empty if `text` is empty; `None` for any other text
+-- the comment in `text`, which follows the outcome, as in `result 1-0 {White resigns}`: all between a `{` at its start
+-- and a `}` at its end, other braces too; empty if `text` is empty; `None` for any other text
 unfoldable pub result_comment : List ℕ → Option (List ℕ)
 result_comment text = if length text == 0 then Some []
     else if nat_le 2 (length text) && (slice_index_or text 0 0 == byte "{")
     && (slice_index_or text (length text - 1) 0 == byte "}") then Some (take (length text - 2) (drop 1 text))
     else None
 
--- the result that `argument`, what follows the word `result` in a line, declares: an outcome (`1-0`, `0-1`, `1/2-1/2`
--- or `*`), and after it nothing or a comment in braces, cut to 60 bytes, with `?` for each brace in it and each byte
--- that is not printable ASCII (`cut_comment`); `None` for any other text
+-- the result that `argument`, what follows `result` in a line, declares: an outcome (`1-0`, `0-1`, `1/2-1/2` or `*`),
+-- and after it nothing or a comment in braces, cut to 60 bytes, with `?` for each brace in it and each byte that is no
+-- printable ASCII (`cut_comment`); `None` for any other text
 unfoldable pub read_result : List ℕ → Option Declared
 read_result argument = do
   outcome ← outcome_of (word_of argument)
   comment ← result_comment (argument_of argument)
   Some (record { outcome = outcome; comment = cut_comment comment })
 
--- which draws can be claimed, as `showstate` writes it: `threefold+50`, `threefold`, `50` or `none`
+-- which draws can be claimed, as `showstate` writes it
 abbrev pub claims_text : Claims → List ℕ
 claims_text c = if c.threefold then (if c.fifty_moves then codes "threefold+50" else codes "threefold")
     else (if c.fifty_moves then codes "50" else codes "none")
 
--- what `showstate` writes after `# state ply `, such as `0 rep 1 clock 0 claims none verdict none declared none`: first
--- how many half-moves there are; `rep` is how often the current position has occurred, `clock` the halfmove clock
+-- what `showstate` writes after `# state ply`, as in `0 rep 1 clock 0 claims none verdict none declared none`:
+-- half-moves, occurrences of the current position, halfmove clock, and so on
 unfoldable pub state_text : State → List ℕ
 state_text s = decimal (length s.moves)
     ++ (codes " rep " ++ (decimal (repetition_count s.start s.moves)

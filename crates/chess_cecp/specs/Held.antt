@@ -1,22 +1,21 @@
--- What a session holds: the tags that its games are written with, how many half-moves it may have, and its game. Tags
--- and limit are fixed when it opens.
+-- What a session holds. Tags and limit are fixed when it opens.
 use Rattle.std.specs.Prelude.{ℕ}
 use Rattle.chess_base.specs.Initial.{initial_setup}
 use Rattle.chess_game.specs.Game as game
 use Rattle.chess_game.specs.Game.{State, from_start}
 use Rattle.pgn_writer.specs.declared.tags.Tags.{Tags}
 
--- a session as contracts see it: the tags that `showpgn` is given, the most half-moves that its game may have, and the
--- state of its game
+-- a session as contracts see it: the tags for `showpgn`, the most half-moves that its game may have, and its game's
+-- state
 pub record SessionSeen : Type 0 where
   pub tags : Tags
   pub limit : ℕ
   pub state : State
 
--- what contracts see of the game of a session: its limit of half-moves and its state
+-- the game of a session: its limit of half-moves and its state
 abbrev pub game_held : SessionSeen → game.Seen
 game_held s = record { limit = s.limit; state = s.state }
 
--- a session when it opens, at the initial position of normal chess; `limit` is the most half-moves of its game
+-- a session when it opens, at the initial position of normal chess
 abbrev pub opened_session : Tags → ℕ → SessionSeen
 opened_session tags limit = record { tags = tags; limit = limit; state = from_start initial_setup }

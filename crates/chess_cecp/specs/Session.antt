@@ -1,5 +1,4 @@
--- What a session answers: the table of commands, a row for each kind of command. From one line to the next only the
--- game changes.
+-- What a session answers: the table of commands. From one line to the next only the game changes.
 use Rattle.std.specs.Prelude.{◌⊎◌, ℕ, nat_le, nat_lt, if◌then◌else◌, true, List, [], ◌∷◌, ◌++◌, length, codes, decimal, Option, None, Some, Result, Ok, Err}
 use Rattle.byte_devices.specs.Bytes.{new_line, space}
 use Rattle.std.specs.Str.{bytes_eq}
@@ -34,25 +33,23 @@ use Rattle.chess_game.specs.declared.results.Outcome.TheVariants.{Draw}
 use Rattle.chess_cecp.specs.declared.command.Command.{Command}
 use Rattle.chess_cecp.specs.declared.command.Command.TheVariants.{New, SetBoard, UserMove, BareMove, Undo, Remove, Declare, Claim, Ping, Protover, Variant, Go, ShowFen, ShowMoves, ShowState, ShowPgn, Quit, Silent, BadNumber, Unknown}
 
--- the answer is the line made of `front` and `text`, such as `Illegal move: e5`, and the game `s` does not change
+-- the answer is the line of `front` and `text`, such as `Illegal move: e5`, and the game `s` does not change
 abbrev pub answers : State → List ℕ → List ℕ → Response State
 answers s front text = says s (front ++ (text ++ new_line ∷ []))
 
--- the game becomes `s`, and the answer is the line of the board's verdict on it, if there is one, such as
--- `1-0 {White mates}`
+-- the game becomes `s`, and the answer is the line of the board's verdict, if there is one, such as `1-0 {White mates}`
 abbrev pub becomes_judged : State → Response State
 becomes_judged s = says s (option_map_or (λ v. result_text (verdict_result v) ++ new_line ∷ []) (verdict_now s) [])
 
--- what `showmoves` writes after `# moves `: how many moves there are, and these moves of the position `p`, as in
+-- what `showmoves` writes after `# moves`: the number of these moves of the position `p`, and the moves, as in
 -- `20 b1a3 b1c3 ..`
 unfoldable pub moves_text : Setup → List Move → List ℕ
 moves_text p ms = decimal (length ms) ++ flat_map (λ m. space ∷ shown_move p m) ms
 
 -- the answer to `setboard` in the game `s`, by how its FEN was read
 abbrev pub setboard_row : State → Result Setup FenFault → Response State
--- the game starts anew from the position `start`
 setboard_row s (Ok start) = becomes_judged (from_start start)
--- the FEN is refused with the name of its fault, as `tellusererror Illegal position (kings)`
+-- the FEN is refused with the name of its fault, as in `tellusererror Illegal position (kings)`
 setboard_row s (Err fault) = answers s (codes "tellusererror Illegal position (") (fen_fault_name fault ++ codes ")")
 
 -- the line that answers `protover 2` and each later version
@@ -60,22 +57,22 @@ unfoldable pub features_line : List ℕ
 features_line =
     codes "feature ping=1 setboard=1 playother=0 san=0 usermove=1 time=1 draw=1 sigint=0 sigterm=0 reuse=1 analyze=0 colors=0 debug=1 myname=\"CECP arbiter\" variants=\"normal,fischerandom\" done=1\n"
 
--- the answer to a move's text in the game `s`, by what the text denotes in the current position: the one legal move is
--- played, and any other text is refused
+-- the answer to a move's text, by what it denotes in the current position: one legal move is played, any other text is
+-- refused
 abbrev pub reading_row : State → List ℕ → Reading → Response State
 reading_row s text (reads.Move m) = becomes_judged (played s m)
 reading_row s text reads.Ambiguous = answers s (codes "Error (ambiguous move): ") text
 reading_row s text _ = answers s (codes "Illegal move: ") text
 
--- the answer to a move's text in the game `s`, such as `e4` in `usermove e4`: refused if the game is over or has
--- `limit` half-moves; otherwise by what the text denotes
+-- the answer to a move's text, such as `e4`: refused if the game is over or has `limit` half-moves; otherwise by what
+-- it denotes
 abbrev pub move_row : ℕ → State → List ℕ → Response State
 move_row limit s text = if is_over s then answers s (codes "Illegal move (game over): ") text
     else if nat_le limit (length s.moves) then answers s (codes "Error (game too long): ") text
     else reading_row s text (reading (current s) text)
 
--- the answer to the command `name` in the game `s`, which is `undo` (`n` is 1) or `remove` (`n` is 2): the last `n`
--- half-moves are taken back and a declared result is cleared; refused if there are fewer half-moves
+-- the answer to the command `name`, `undo` (`n` is 1) or `remove` (`n` is 2): the last `n` half-moves are taken back,
+-- and a declared result is cleared; refused if there are fewer
 abbrev pub take_back_row : ℕ → List ℕ → State → Response State
 take_back_row n name s = if nat_le n (length s.moves) then becomes (taken_back s n)
     else answers s (codes "Error (command not legal now): ") name
@@ -92,16 +89,16 @@ result_row s text (Some d) =
 abbrev pub declares : State → Declared → Response State
 declares s d = says (record s { declared = Some d }) (result_text d ++ new_line ∷ [])
 
--- the answer to `claim` in the game `s`: if the game is not over and a draw can be claimed (Laws, articles 9.2.2 and
--- 9.3.2), it is declared; otherwise the claim is refused
+-- the answer to `claim`: a draw that can be claimed (Laws, articles 9.2.2 and 9.3.2) is declared; refused if there is
+-- none or the game is over
 abbrev pub claim_row : State → Response State
 claim_row s = if is_over s then answers s (codes "Error (command not legal now): ") (codes "claim")
     else option_map_or (λ claim. declares s (record { outcome = Draw; comment = claim_comment claim }))
     (draw_claim (claims s.start s.moves)) (answers s (codes "Error (no claim): ") (codes "claim"))
 
--- the answer to `variant` in the game `s`, by its argument (`text` is the whole line): `fischerandom` starts a new game
--- of Chess960 at the initial position of normal chess; `normal` starts one of normal chess if `s` is of Chess960, and
--- otherwise changes nothing; any other argument is refused
+-- the answer to `variant`, by its argument (`text` is the whole line): `fischerandom` starts a game of Chess960 at the
+-- initial position of normal chess; `normal` starts one of normal chess if `s` is of Chess960, and otherwise changes
+-- nothing
 abbrev pub variant_row : State → List ℕ → List ℕ → Response State
 variant_row s text argument =
     if bytes_eq argument (codes "fischerandom") then becomes (from_start (initial_setup_of Fischerandom))
@@ -109,8 +106,8 @@ variant_row s text argument =
     then becomes (if is_fischerandom s.start.variant then from_start initial_setup else s)
     else answers s (codes "Error (unsupported variant): ") text
 
--- the table of commands: what a session does in the game `s` with a line that has this command. `text` is the whole
--- line, `argument` what follows its first word; `limit` and `tags` are the session's
+-- the table of commands: what a session does in the game `s` with a line of this command. `text` is the whole line,
+-- `argument` what follows its first word
 abbrev pub row : Tags → ℕ → State → List ℕ → List ℕ → Command → Response State
 row tags limit s text argument New = becomes (from_start initial_setup)
 row tags limit s text argument SetBoard = setboard_row s (fen_reading_as s.start.variant argument)
@@ -121,7 +118,7 @@ row tags limit s text argument Remove = take_back_row 2 (codes "remove") s
 row tags limit s text argument Declare = result_row s text (read_result argument)
 row tags limit s text argument Claim = claim_row s
 row tags limit s text argument (Ping n) = answers s (codes "pong ") (decimal n)
--- below version 2 the protocol has no features, so `protover 1` has no answer
+-- `protover 1` has no answer: version 1 has no features
 row tags limit s text argument (Protover n) = if nat_lt n 2 then becomes s else says s features_line
 row tags limit s text argument Variant = variant_row s text argument
 row tags limit s text argument Go = answers s (codes "Error (the arbiter plays no side): ") (codes "go")
@@ -134,15 +131,15 @@ row tags limit s text argument Silent = becomes s
 row tags limit s text argument BadNumber = answers s (codes "Error (bad number): ") text
 row tags limit s text argument Unknown = answers s (codes "Error (unknown command): ") text
 
--- how the session `seen` responds to a line: it refuses one that is too long, and shows its first bytes; for any other
--- the table of commands (`row`) says what it does
+-- how the session `seen` responds to a line: one that is too long is refused with its first bytes, any other goes by
+-- the table of commands
 unfoldable pub session_response : SessionSeen → LineSeen → Response SessionSeen
 session_response seen line =
     let r = if line.too_long then answers seen.state (codes "Error (line too long): ") line.text
     else row seen.tags seen.limit seen.state line.text (argument_of line.text) (command_of line.text) in
     record { text = r.text; state = record seen { state = r.state }; ends = r.ends }
 
--- the text begins as the answer of a refusal does: with `Error`, `Illegal move` or `tellusererror`
+-- the text begins as a refusal does: with `Error`, `Illegal move` or `tellusererror`
 abbrev pub IsRefusal : List ℕ → Type 0
 IsRefusal text = Begins (codes "Error") text
     ⊎ (Begins (codes "Illegal move") text ⊎ Begins (codes "tellusererror") text)

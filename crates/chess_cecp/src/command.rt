@@ -1,4 +1,4 @@
-//! What a line commands.
+//! The commands of a line, by its first word.
 
 ghost use Rattle.std.specs.Prelude.{◌≡◌, ◌+◌, ◌<◌, ◌≤◌, ◌++◌, length};
 ghost use Rattle.byte_devices.specs.Bytes.{is_blank};
@@ -76,7 +76,7 @@ fn protover(argument: &[u8]) -> Command
     }
 }
 
-// Whether a word is an ignored command of the protocol, or of how an engine is to play (`?`: it is to move at once).
+// Whether a word is an ignored command of the handshake, or of how an engine is to play (`?`: it is to move at once).
 #[tactic(auto, unfolding(crate::specs::ties::Ignored::is_engine_command))]
 fn is_engine_command(word: &[u8]) -> bool
     ensures { result ≡ is_engine_command word.now }

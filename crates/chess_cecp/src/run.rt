@@ -48,12 +48,12 @@ impl From<WriteFault> for Fault {
     }
 }
 
-/// Answers lines one after another: a session, or the stub of stub_engine.
+/// What answers lines one after another, such as a session.
 pub trait LineServer {
     ghost use Rattle.text_lines.specs.Lines.{LineSeen};
     ghost use Rattle.chess_cecp.specs.Serving.{Response};
 
-    /// How it responds to a line.
+    /// How it responds to a line: the text that it writes, its state then, and whether it ends.
     ghost respond: { Self → LineSeen → Response Self };
 
     /// Answers a line: the server's state changes, the answer is written, and the writer is flushed. Returns whether

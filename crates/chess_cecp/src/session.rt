@@ -40,7 +40,7 @@ use text_lines::{Line, split_word};
 /// The most bytes of a line that a session reads; a longer one is refused.
 pub const COMMAND_LEN: usize = 1024;
 
-/// Whether a session continues after a line.
+/// Whether a session continues after a line, or ends.
 #[derive(Clone, Copy, Debug, PartialEq, Eq)]
 pub enum Go {
     On,
@@ -57,8 +57,8 @@ enum Reply {
     Pgn,
 }
 
-/// A session over one game. In contracts it is the game's start, the current moves and what was declared, the number
-/// of half-moves that it may have, and the tags with which games are written.
+/// A session over one game. In contracts it is the state of this game (its start, its current moves and what was
+/// declared), the number of half-moves that it may have, and the tags with which games are written.
 #[derive(Drop)]
 pub struct Session<B: Board> {
     game: Game<B>,
@@ -119,8 +119,8 @@ impl<B: Board> Session<B> {
         read_move(self.game.board(), text)
     }
 
-    // Why no move can be played in the game now, if none can: it is over or has no room. `read` is what a text was read
-    // as: if that is a legal move, none has to be looked for to know whether the game is over.
+    // Why no move can be played in the game now: it is over, or has as many half-moves as its limit; `None` if one can.
+    // `read`, the reading of some text, only saves work: if it is a legal move, none has to be looked for.
     fn refusal(&self, read: &Reading) -> Option<PlayRefusal>
         requires { IsLegalReading (current self.now.state) read.now }
         ensures value { result ≡ refusal_now (game_held self.now) }
@@ -457,7 +457,7 @@ impl<B: Board> Session<B> {
 }
 
 // How a command is answered: `showmoves` by the legal moves, `showpgn` by the game's PGN, all others by the text put
-// together; and whether the session goes on, which it does but after `quit`.
+// together; and whether the session goes on, which it does unless the command is `quit`.
 fn reply_of(command: Command) -> Reply
     ensures { result ≡ reply_of command }
 {

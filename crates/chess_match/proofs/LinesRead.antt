@@ -1,4 +1,5 @@
--- A call for the next line of one engine does to its output what the act of the read says, and nothing to the other's.
+-- A call for the next line of one engine does to its output what the act of the read says (`OutputAt`), and nothing to
+-- the other's: by cases of the call's result.
 use Rattle.std.proofs.Common.{◌≡◌, Bool, true, false, inl, inr, refl, sym, subst, Option, Some, None, Result, Ok, Err, if◌then◌else◌, MatchBool}
 use Rattle.chess_base.specs.{declared.man.Colour.Colour, Men.other, Men.same_colour}
 use Rattle.byte_devices.specs.Devices.{InputState}

@@ -1,5 +1,5 @@
 -- The last arm (`_`) of each `match` on an engine's line: what the definitions do with a line that none of the arms
--- before it takes.
+-- before it takes. By cases of the line, of which those arms exclude all others.
 use Rattle.std.proofs.Common.{◌≡◌, ℕ, List, [], Option, arith, Bor}
 use Rattle.chess_base.specs.declared.man.Colour.{Colour}
 use Rattle.cecp_engine.specs.{Seen.seen, declared.engine_line.EngineLine.EngineLine}

@@ -1,4 +1,5 @@
--- Steps that pass at a table and steps after them pass together; a text is noted and then sent, unless it is empty.
+-- Steps that pass at a table, and then others, pass as one list (`passed_more`). So lines are sent by noting their
+-- bytes and then writing them (`given_lines`), and no lines by nothing (`given_nothing`).
 use Rattle.std.proofs.Common.{◌≡◌, ◌≢◌, ℕ, Bool, List, [], ◌∷◌, ◌++◌, sym, ◌∙◌, append_assoc, append-nil, subst}
 use Rattle.byte_devices.specs.Bytes.{new_line}
 use Rattle.chess_base.specs.declared.man.Colour.{Colour}

@@ -1,4 +1,5 @@
--- A text was sent whole if the result is `Ok`; if it is `Err`, a write or the flush failed.
+-- A call that writes and flushes a text did so if its result is `Ok`; if it is `Err`, a beginning of the text was
+-- written. By cases of the result, from `Sends` to `SendsIf`.
 use Rattle.std.proofs.Common.{ℕ, List, Result, Ok, Err, is_err}
 use Rattle.byte_devices.specs.Devices.{OutputState, Sends}
 use Rattle.byte_devices.proofs.shared.Transfers.{took_all}

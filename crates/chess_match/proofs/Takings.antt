@@ -1,5 +1,5 @@
--- Looking for the next line of an engine gives one of five events: a line, a last line at the end, the end, a silence,
--- or a failed read.
+-- A look for the next line of an engine gives one of five events, by the call's result: a line, a last line without
+-- `\n`, the output's end, a silence or a failed read. For each, which step passed at the table.
 use Rattle.std.proofs.Common.{◌≡◌, ◌<◌, ℕ, Bool, true, false, List, [], ◌∷◌, ◌++◌, refl, ap, sym, ◌∙◌, subst, Option, None, Some, Result, Ok, Err, if◌then◌else◌, is_some}
 use Rattle.chess_base.specs.{declared.man.Colour.Colour, declared.man.Move.Move, Men.other}
 use Rattle.cecp_engine.specs.Items.{Item}

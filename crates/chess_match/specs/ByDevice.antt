@@ -13,17 +13,17 @@ use Rattle.chess_match.specs.declared.reason.Reason.{Reason}
 -- ---- what was read
 
 -- the text of the line that this act read from the engine of the side `S` (`None`: it was too long), as a list of one;
--- empty if the act read no such line
+-- otherwise empty
 abbrev pub line_read : Colour → Act → List (Option (List ℕ))
 line_read S (Happens (Line side text moment)) = list_if (same_colour side S) (text ∷ [])
 line_read S _ = []
 
--- whether by this act the end of the output of the engine of the side `S` was read
+-- whether this act read the end of the output of the engine of the side `S`
 abbrev pub is_end_of : Colour → Act → Bool
 is_end_of S (Happens (OutputEnds side)) = same_colour side S
 is_end_of S _ = false
 
--- whether this act is a read from the engine of the side `S` that failed
+-- whether this act is a failed read from the engine of the side `S`
 abbrev pub is_failed_read_of : Colour → Act → Bool
 is_failed_read_of S (Happens (FailsToRead side)) = same_colour side S
 is_failed_read_of S _ = false
@@ -33,8 +33,7 @@ abbrev pub is_silence_of : Colour → Act → Bool
 is_silence_of S (Happens (Silent side moment)) = same_colour side S
 is_silence_of S _ = false
 
--- whether a look for a line of the side `S` by this act found none yet, as a list of one: false if it found a line, the
--- end of the output or a failure. Empty if this act is no such look
+-- whether by this act a look for a line of the side `S` found none yet, as a list of one; empty if it is no such look
 abbrev pub look : Colour → Act → List Bool
 look S (Happens (Silent side moment)) = list_if (same_colour side S) (true ∷ [])
 look S (Happens (Line side text moment)) = list_if (same_colour side S) (false ∷ [])
@@ -42,7 +41,7 @@ look S (Happens (OutputEnds side)) = list_if (same_colour side S) (false ∷ [])
 look S (Happens (FailsToRead side)) = list_if (same_colour side S) (false ∷ [])
 look S _ = []
 
--- the moment that the clock showed in this act, as a list of one; empty if the clock was not read
+-- the moment that the clock showed in this act, as a list of one; empty if it was not read
 abbrev pub moment_shown : Act → List ℕ
 moment_shown (Happens (Line side text moment)) = moment ∷ []
 moment_shown (Happens (Opened side moment)) = moment ∷ []
@@ -56,8 +55,7 @@ abbrev pub lines_to : Colour → Act → List SentLine
 lines_to S (Sends block) = list_if (same_colour block.to S) block.lines
 lines_to S _ = []
 
--- the lines of the block for the side `S` that this act failed to send, as a list of one; empty for any other act. In a
--- match there is at most one such block for each side (the law `failed_blocks_are_last`)
+-- the lines of the block for the side `S` that this act failed to send, as a list of one; otherwise empty
 abbrev pub broken_block : Colour → Act → List (List SentLine)
 broken_block S (SendFails block) = list_if (same_colour block.to S) (block.lines ∷ [])
 broken_block S _ = []
@@ -66,10 +64,8 @@ broken_block S _ = []
 
 -- the notes that a witness, such as the log, is given of this act of a match that ended for this reason
 abbrev pub notes_of : Reason → Act → List Note
--- a block that was sent: its bytes
 notes_of reason (Sends block) = Gives block.to (bytes_of block.lines) ∷ []
--- a block that could not be sent: all its bytes; then the failure, but only if the match ended by it
+-- the failure is noted only if the match ended by it
 notes_of reason (SendFails block) = Gives block.to (bytes_of block.lines)
     ∷ list_if (is_write_fault_of reason block.to) (Happened (FailsToWrite block.to) ∷ [])
--- an event that was read: itself
 notes_of reason (Happens event) = Happened event ∷ []

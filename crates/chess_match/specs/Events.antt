@@ -3,25 +3,23 @@ use Rattle.std.specs.Prelude.{ℕ, Bool, List, Option}
 use Rattle.chess_base.specs.declared.man.Colour.{Colour}
 use Rattle.cecp_engine.specs.Items.{Item}
 
--- an event of a match, which is one game between two engines. `moment` is what the clock showed when it was read right
--- after the event, in milliseconds counted from any beginning
+-- what happens in a match between two engines. `moment` is what the clock showed right after it, in milliseconds
+-- counted from any beginning
 pub data Event : Type 0 where
   -- a line of that side's engine was read: this text, or `None` if the line was too long
   Line : (side : Colour) → (text : Option (List ℕ)) → (moment : ℕ) → Event
-  -- all lines that open that side's turn were sent; the time of the turn runs from `moment` on
+  -- the lines that open that side's turn were all sent; its time runs from `moment` on
   Opened : (side : Colour) → (moment : ℕ) → Event
   -- a look for a line of that side's engine found none, or one that is only begun
   Silent : (side : Colour) → (moment : ℕ) → Event
-  -- that side's engine ended its output
   OutputEnds : (side : Colour) → Event
-  -- reading from that side's engine failed
   FailsToRead : (side : Colour) → Event
   -- a write or a flush to that side's engine failed
   FailsToWrite : (side : Colour) → Event
 
 -- what is known of the engine of one side
 pub record Seat : Type 0 where
-  -- the items of the `feature` lines that were read in its handshake, such as `ping=1`, in order
+  -- the items of the `feature` lines of its handshake, such as `ping=1`, in order
   pub items : List Item
   -- the milliseconds that each of its moves took, in order
   pub used : List ℕ

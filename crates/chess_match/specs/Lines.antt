@@ -12,9 +12,9 @@ use Rattle.chess_text.specs.San.{is_fischerandom}
 pub data SentLine : Type 0 where
   -- this text as it is
   Says : (text : List ℕ) → SentLine
-  -- a move, given as its text, such as `e2e4` or, in SAN, `Nf3`; `prefixed`: with `usermove ` before it
+  -- a move's text, such as `e2e4` or, in SAN, `Nf3`; `prefixed`: with `usermove ` before it
   MoveSent : (prefixed : Bool) → (text : List ℕ) → SentLine
-  -- `time N`: the centiseconds that the engine which gets the line has left
+  -- `time N`: the centiseconds that this engine has left
   Time : (centiseconds : ℕ) → SentLine
   -- `otim N`: the centiseconds that its opponent has left
   Otim : (centiseconds : ℕ) → SentLine
@@ -26,7 +26,7 @@ text_of (MoveSent prefixed text) = list_if prefixed (codes "usermove ") ++ text
 text_of (Time n) = codes "time " ++ decimal n
 text_of (Otim n) = codes "otim " ++ decimal n
 
--- the bytes of these lines one after another, each with `\n` at its end
+-- the bytes of these lines, each with `\n` at its end
 unfoldable pub bytes_of : List SentLine → List ℕ
 bytes_of [] = []
 bytes_of (l ∷ ls) = text_of l ++ new_line ∷ bytes_of ls
@@ -35,8 +35,7 @@ bytes_of (l ∷ ls) = text_of l ++ new_line ∷ bytes_of ls
 abbrev pub ping : ℕ → SentLine
 ping n = Says (codes "ping " ++ decimal n)
 
--- the lines that set the engine of the side `S` up for a game by the rules `r`, up to `ping 1`. `setboard FEN` is left
--- out for the initial position of normal chess, which `new` sets up
+-- the lines that set the engine of the side `S` up for a game by the rules `r`, up to `ping 1`
 unfoldable pub setup_lines : Rules → Colour → List SentLine
 setup_lines r S =
     Says (codes "new") ∷ (list_if (is_fischerandom r.start.variant) (Says (codes "variant fischerandom") ∷ [])

@@ -1,4 +1,4 @@
--- What is fixed when a match begins, and what it asks of the moves played so far.
+-- What is fixed when a match begins, and what is asked of its start, moves and pieces.
 use Rattle.std.specs.Prelude.{ℕ, ◌-◌, Bool, ◌||◌, ◌&&◌, not, if◌then◌else◌, List, [], length, take, Option, None, Some}
 use Rattle.std.specs.List.{last_or, list_all}
 use Rattle.std.specs.Option.{option_map_or}
@@ -16,7 +16,7 @@ use Rattle.chess_match.specs.declared.patience.Patience.{Patience}
 
 -- what is fixed when a match begins
 pub record Rules : Type 0 where
-  -- the position in which its game starts, and with it the variant: normal chess or Chess960
+  -- the position at the start of its game, and with it the variant: normal chess or Chess960
   pub start : Setup
   -- the time control of each side
   pub level : Colour → LevelSeen
@@ -24,22 +24,20 @@ pub record Rules : Type 0 where
   pub patience : Patience
   -- whether draws by threefold repetition and by 50 moves must be claimed
   pub draws : Draws
-  -- how many half-moves can be played at most
+  -- the most half-moves that can be played
   pub limit : ℕ
 
--- the rules of a match from this start, with these time controls, this patience and these draws, of at most `limit`
--- half-moves
+-- the rules of a match from this start, with these time controls, patience, draws and limit of half-moves
 abbrev pub rules_of : Setup → (Colour → LevelSeen) → Patience → Draws → ℕ → Rules
 rules_of start level patience draws limit =
     record { start = start; level = level; patience = patience; draws = draws; limit = limit }
 
--- the FEN that engines are sent by `setboard` for a match from this start; `None` in normal chess from its initial
--- position, which `new` sets up
+-- the FEN that engines are sent by `setboard`; `None` for the initial position of normal chess, which `new` sets up
 unfoldable pub start_fen : Setup → Option (List ℕ)
 start_fen start = if is_initial start && not (is_fischerandom start.variant) then None else Some (fen start)
 
 -- the text of the last of the moves `played` from `start`; empty if there is none. In SAN if `as_san`, such as `Nf3`;
--- otherwise as `shown_move` writes it, by its squares (`g1f3`), or as `O-O` or `O-O-O` for castling of Chess960
+-- otherwise by its squares (`g1f3`), or as `O-O` or `O-O-O` for castling of Chess960
 abbrev pub text_of_last : Bool → Setup → List Move → List ℕ
 text_of_last as_san start played = let before = position_after start (take (length played - 1) played) in
     option_map_or (λ move. if as_san then san before move else shown_move before move) (last_or None played) []

@@ -1,6 +1,5 @@
--- What passes at the table of a match, step by step: what is sent, read and noted. A table has both engines, the clock
--- and a witness, such as the log, which is given the notes; each call of the table is one step, but a look for a line
--- is two: how long it waits, and what it finds.
+-- What passes at the table of a match, step by step. A table has both engines, the clock and a witness, such as the
+-- log; each call of it is one step, but a look for a line is two: how long it waits, and what it finds.
 use Rattle.std.specs.Prelude.{ℕ, Bool, true, false, if◌then◌else◌, List, [], ◌∷◌, ◌++◌, Option, None, Some, Result, Ok, Err}
 use Rattle.byte_devices.specs.Transfers.{Devices}
 use Rattle.chess_base.specs.declared.man.Colour.{Colour}
@@ -18,44 +17,43 @@ use Rattle.chess_match.specs.declared.reason.Reason.{Reason}
 
 -- one step at a table
 pub data Step : Type 0 where
-  -- a look for the next line of that side's engine began, which waits for it until the clock shows the moment `until`;
-  -- `None`: as long as it takes. The next step says what it finds
+  -- a look for the next line of that side's engine began, which waits until the clock shows the moment `until` (`None`:
+  -- as long as it takes). The next step says what it finds
   LooksFor : (side : Colour) → (until : Option ℕ) → Step
   -- this act, done in one call: a block was sent or could not be sent, an output ended, or a read failed
   Does : (act : Act) → Step
   -- a line of that side's engine was read (`None`: it was too long)
   ReadsLine : (side : Colour) → (text : Option (List ℕ)) → Step
-  -- that side's engine was found to have sent no line yet
+  -- a look found that that side's engine has sent no line yet
   FindsNoLine : (side : Colour) → Step
-  -- the clock was read, for a line, a silence or an opening of that side, and showed `moment`, in milliseconds
+  -- the clock was read for that side, and showed `moment`, in milliseconds
   ReadsClock : (side : Colour) → (moment : ℕ) → Step
   -- the witness was given a note
   Notes : (note : Note) → Step
 
--- the steps by which this event is read: a line, or that there is none, and then the clock; the clock alone; or an end
--- or a failure. A line is waited for until the moment `until`, if there is one
+-- the steps by which this event is read. A line is waited for until the moment `until`, if there is one
 abbrev pub reads : Option ℕ → Event → List Step
 reads until (Line S text moment) = LooksFor S until ∷ ReadsLine S text ∷ ReadsClock S moment ∷ []
 reads until (Silent S moment) = LooksFor S until ∷ FindsNoLine S ∷ ReadsClock S moment ∷ []
 reads until (Opened S moment) = ReadsClock S moment ∷ []
 reads until (OutputEnds S) = LooksFor S until ∷ Does (Happens (OutputEnds S)) ∷ []
 reads until (FailsToRead S) = LooksFor S until ∷ Does (Happens (FailsToRead S)) ∷ []
--- `FailsToWrite`, which never comes: a failed write is an act `SendFails`
+-- `FailsToWrite`, which is never read: it is an act `SendFails`
 reads until event = Does (Happens event) ∷ []
 
--- the steps of a match by the rules `r` that ended for this reason: those of its acts, in order, and the note of each
--- (the notes are those of `notes_of`). Before these acts the match is `m`
+-- the steps of a match by the rules `r` that ended for this reason: those of its acts, in order, with the notes of each
+-- (`notes_of`). Before these acts the match is `m`
 abbrev pub watched : Rules → Reason → Match → List Act → List Step
 watched r reason m [] = []
 -- the bytes of a block are noted before it is sent
 watched r reason m (Sends block ∷ H) =
     Notes (Gives block.to (bytes_of block.lines)) ∷ Does (Sends block) ∷ watched r reason m H
--- so are those of a block that could not be sent; the failure is noted after it, if the match ended by it
+-- then the failure is noted, if the match ended by it
 watched r reason m (SendFails block ∷ H) =
     Notes (Gives block.to (bytes_of block.lines)) ∷ Does (SendFails block)
     ∷ (list_if (is_write_fault_of reason block.to) (Notes (Happened (FailsToWrite block.to)) ∷ [])
     ++ watched r reason (if is_over m.phase then m else (effect r m (FailsToWrite block.to)).after) H)
--- an event is noted once it is read; a line is waited for as long as `waits_until` says
+-- an event is noted once it is read
 watched r reason m (Happens event ∷ H) =
     reads (waits_until r m.phase m) event ++ (Notes (Happened event) ∷ watched r reason (effect r m event).after H)
 
@@ -65,11 +63,10 @@ watched r reason m (Happens event ∷ H) =
 abbrev pub sending : Bool → Block → Act
 sending failed block = if failed then SendFails block else Sends block
 
--- the step of reading from the engine of the side `S`, by the result of the read
+-- the step of reading from the engine of the side `S`, by the result of the call
 abbrev pub reading_of : {E : Type 0} → Colour → Result (Option LineSeen) E → Step
--- a line, if `\n` ended it; what comes after the last `\n` counts as the end of the output
+-- a line, if `\n` ended it; bytes after the last `\n` count as the end of the output
 reading_of S (Ok (Some line)) = if line.ended then ReadsLine S (text_read line) else Does (Happens (OutputEnds S))
--- no line: the output has ended
 reading_of S (Ok None) = Does (Happens (OutputEnds S))
 reading_of S (Err e) = Does (Happens (FailsToRead S))
 
@@ -86,24 +83,21 @@ reading_until S (Err e) line = Does (Happens (FailsToRead S))
 
 -- what a table was at first, as far as contracts see it
 pub record Beginning : Type 0 where
-  -- each engine's devices: `input` is the engine's output, which is read, and `output` is its input, which is written
+  -- each engine's devices: `input` is the engine's output, which is read, and `output` is its input
   pub engines : Colour → Devices
-  -- the moment that each reading of the clock was to give, where 0 is the first reading since; `None` if it is not
-  -- known
+  -- the moment that each reading of the clock since was to give, from reading 0 on; `None` if it is not known
   pub coming : ℕ → Option ℕ
-  -- a text that the witness once held, and the notes that it may have been given from then until this beginning. With
-  -- `None` nothing is said of the witness
+  -- a text that the witness once held, and the notes that it may have been given from then to this beginning; `None`:
+  -- nothing is said of it
   pub noted : Option (List ℕ × List Note)
-  -- numbers that tell references apart in contracts: those of the references by which the table has its devices and its
-  -- witness
+  -- numbers by which contracts tell apart the table's references to its devices and its witness
   pub names : List ℕ
 
 -- what contracts see of a table: the claim, for a beginning and steps, that it may have been this at first, and that
--- just these steps may have passed since. Each kind of table says for itself which it claims
+-- just these steps passed since. Each kind of table has its own
 abbrev pub Passing : Type 1
 Passing = Beginning → List Step → Type 0
 
--- from its state `old` to `new` just these steps passed at a table, in this order: whatever may have passed up to
--- `old`, up to `new` that and then these may have passed
+-- from its state `old` to `new` just these steps passed at a table, in this order, after whatever passed up to `old`
 pub record Passes (old new : Passing) (steps : List Step) : Type 0 where
   pub extends : (begun : Beginning) (before : List Step) → old begun before → new begun (before ++ steps)

@@ -1,4 +1,4 @@
-//! Blocks put together: what an event gives to one engine.
+//! Puts together the lines that one engine is sent at an event.
 
 ghost use Rattle.chess_match.specs.declared.block.TheConstants.{BLOCK_LEN};
 ghost use Rattle.std.specs.Prelude.{◌≡◌, ◌+◌, ◌≤◌, ◌++◌, ◌∷◌, [], List, if◌then◌else◌, codes};
@@ -160,7 +160,8 @@ fn is_write_fault_of(reason: Reason, side: Colour) -> bool
     }
 }
 
-// Appends the lines that this side is sent when the match enters the phase that it is in; none if writing to it failed.
+// Appends the lines that this side is sent when the match enters the phase that it is in; none if a failed write to it
+// ended the match.
 #[tactic(auto, using(crate::proofs::Sends::same_end))]
 fn add_entry<G: MatchGame>(block: &mut Block, core: &MatchState, game: &G, side: Colour)
     requires { array_vec_len block.old + 300 ≤ BLOCK_LEN }

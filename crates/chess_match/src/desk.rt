@@ -18,8 +18,8 @@ use byte_devices::{Input, Output, ReadFault, WriteFault, send};
 use chess_base::{ByColour, Colour};
 use text_lines::{Line, Lines};
 
-/// Both engines' pipes, the clock and the witness of a match, each on its own. Each step says what the trait says of
-/// it, and that all but its own device is as it was (`white`, `black`, `others`).
+/// Both engines' pipes, the clock and the witness of a match, each on its own. Besides the clauses of the trait each
+/// call has some of its own (`white`, `black`, `others`): all but the device that it uses is as it was.
 #[derive(Drop)]
 pub(crate) struct Desk<'a, 'b, 'c, 'd, 'e, 'f, R, W, M, L> {
     pub white_reader: &'a mut R,
@@ -53,7 +53,8 @@ impl<R: Input, W: Output, M: Moments, L: Witness> MatchTable
         }
     }
 
-    // Reads the next line of this side's engine, of what is held of it or of its pipe.
+    // Reads the next line of this side's engine into `line`, from bytes that were read before or from its pipe, and
+    // returns whether there was one.
     fn read_line(
         &mut self,
         side: Colour,
@@ -78,8 +79,8 @@ impl<R: Input, W: Output, M: Moments, L: Witness> MatchTable
         }
     }
 
-    // Reads the next line of this side's engine, of what is held of it or of its pipe, if it comes before the clock
-    // shows `until`.
+    // Reads the next line of this side's engine into `line` as `read_line` does, but waits for it only until the clock
+    // shows `until`. Returns `None` if no line had come, otherwise whether there was one.
     fn read_line_until(
         &mut self,
         side: Colour,
@@ -112,7 +113,7 @@ impl<R: Input, W: Output, M: Moments, L: Witness> MatchTable
         }
     }
 
-    // Reads the clock.
+    // Reads the clock: the milliseconds that it shows.
     fn moment(&mut self, _side: Colour) -> u64
         ensures passes { PassesAt R.seen W.seen M.coming L.noted self.old self.new
             (ReadsClock _side result) }

@@ -26,7 +26,7 @@ pub(crate) trait MatchGame {
     ghost use Rattle.chess_base.specs.declared.setup.Setup.{Setup};
     ghost use Rattle.chess_match.specs.Rules.{Rules};
 
-    /// It has the start and the limit of these rules, and no result was declared.
+    /// The claim that it has the start and the limit of these rules, and that no result was declared.
     ghost plays: { Self → Rules → Type 0 };
 
     /// The moves so far.
@@ -52,7 +52,7 @@ pub(crate) trait MatchGame {
         ensures value { (r : Rules) → plays self.now r → result ≡ nat_le r.limit (length (played self.now)) }
         ensures few { result ≡ false → length (played self.now) < MOST_MOVES };
 
-    /// What a text denotes in the current position.
+    /// What a text denotes in the current position: a legal move, or why it is none.
     fn reading(&self, text: &[u8]) -> Reading
         ensures { (r : Rules) → plays self.now r
             → result ≡ reading (position_after r.start (played self.now)) text.now };

@@ -7,7 +7,7 @@ ghost use Rattle.chess_match.specs.Reasons.{win_of, outcome_by_reason, comment_o
 use chess_base::{ByColour, Colour};
 use chess_game::{DrawClaim, HowEnded, Outcome, Verdict};
 
-/// What stopped a match.
+/// A fault that stopped a match, of an engine or of its input or output.
 #[derive(Clone, Copy, Debug, PartialEq, Eq)]
 pub enum MatchFault {
     /// The engine ended its output.
@@ -22,7 +22,7 @@ pub enum MatchFault {
     NoPing,
     /// The start is to be sent, and its handshake doesn't say `setboard=1`.
     NoSetboard,
-    /// It sent 10,000 lines in its setup or in a turn that count as ignored.
+    /// It sent 10,000 ignored lines in its setup or in a turn.
     Flood,
     /// The variant is Chess960, and its handshake says `variants` without `fischerandom`.
     NoVariant,
@@ -32,7 +32,7 @@ pub enum MatchFault {
     NoAnswer,
 }
 
-/// Why a match is over, with the side of which it is said.
+/// Why a match is over. The side is the one that loses, but in `Faulted` the one whose engine failed.
 #[derive(Clone, Copy, Debug, PartialEq, Eq)]
 pub enum Reason {
     /// The board has this verdict.
@@ -41,7 +41,7 @@ pub enum Reason {
     Claimed(DrawClaim),
     /// Both offered a draw.
     Agreed,
-    /// By `resign`, or by `1-0` or `0-1` in which the other side wins.
+    /// It sent `resign`, or `1-0` or `0-1` by which the other side wins.
     Resigns(Colour),
     /// Its `move` denotes no legal move, or more than one.
     MovesIllegally(Colour),
@@ -55,13 +55,13 @@ pub enum Reason {
     Forfeits(Colour),
     /// A side forfeits on time, and the other has only its king.
     ForfeitsToBareKing,
-    /// As many half-moves are current as the limit allows.
+    /// The game has as many half-moves as its limit allows.
     GameTooLong,
     /// That side's engine, or a device of it, failed: the game has no outcome, unless the board has a verdict.
     Faulted(Colour, MatchFault),
 }
 
-// The outcome of a game that this side won.
+// The outcome of a game that this side wins.
 fn win_of(colour: Colour) -> Outcome
     ensures { result ≡ win_of colour }
 {
@@ -107,8 +107,8 @@ impl MatchFault {
 }
 
 impl Reason {
-    /// The outcome of a game that ended for this reason; `Unfinished` if an engine failed or the game is too long. (If
-    /// the start of a match has a verdict, that is its outcome, even if an engine fails.)
+    /// The outcome of a game that ended for this reason; `Unfinished` if an engine failed or the game is too long. (A
+    /// match from a position with a verdict has the verdict's outcome, even if an engine fails.)
     pub fn outcome(self) -> Outcome
         ensures { result ≡ outcome_by_reason self }
     {
@@ -155,7 +155,7 @@ impl Reason {
         }
     }
 
-    /// How a game that ended for this reason came to its end, as the value of the PGN tag `Termination`.
+    /// How a game that ended for this reason came to its end, for the PGN tag `Termination`.
     pub fn ended(self) -> HowEnded
         ensures { result ≡ ended_by self }
     {
@@ -187,8 +187,8 @@ pub(crate) fn reported_reason(verdict: Option<Verdict>, reason: Reason) -> Reaso
     }
 }
 
-// The fault that is reported of a match that ended for this reason, and whose it is: the one that ended it, if one did;
-// otherwise a write of the last lines that failed (`failed` says to which side), White's before Black's.
+// The fault that is reported of a match that ended for this reason, with its side: the one that ended it, if one did;
+// otherwise the failed write of the last lines (`failed` says to which sides), White's before Black's.
 pub(crate) fn reported_fault(reason: Reason, failed: ByColour<bool>) -> Option<(Colour, MatchFault)>
     ensures { result ≡ reported_fault reason (of_colour failed) }
 {

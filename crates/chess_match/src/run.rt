@@ -63,12 +63,12 @@ pub struct Ends<R, W> {
     pub writer: W,
 }
 
-/// What a match begins from.
+/// How a match is to be played.
 #[derive(Clone, Copy)]
 pub struct Setup {
     /// Where the game starts; the variant is that of this position.
     pub start: Position,
-    /// The level of time of each side.
+    /// The time control of each side.
     pub levels: ByColour<Level>,
     /// How long the engines are waited for.
     pub patience: Patience,
@@ -79,19 +79,19 @@ pub struct Setup {
 /// How a match ended.
 #[derive(Drop)]
 pub struct MatchEnd {
-    /// The outcome, which is that of the game: `Unfinished` where a fault ended the match, or where no further move has
-    /// room. But a verdict on the start is the outcome, even if a fault ended the match.
+    /// The outcome of the game: `Unfinished` if a fault ended the match, or if the game has as many half-moves as its
+    /// limit allows. But if the start has a verdict, the outcome is the verdict's, even if a fault ended the match.
     pub outcome: Outcome,
-    /// What is said of the end, as it is sent to the engines after `result`.
+    /// The comment on the end, as in `result 1-0 {Black resigns}`, without braces.
     pub comment: Comment,
-    /// How the match came to its end, as the PGN tag `Termination` has it.
+    /// How the match came to its end, for the PGN tag `Termination`.
     pub ended: HowEnded,
     /// The name that White's engine gave itself; empty where it gave none.
     pub white_name: TagText,
     /// The name that Black's engine gave itself; empty where it gave none.
     pub black_name: TagText,
-    /// The first fault, and whose it is. A failed write of the end lines leaves the outcome as it is; so does a fault
-    /// before the first turn, if the start has a verdict.
+    /// The first fault, and whose it is. If only a write of the last lines failed, the outcome stays; so it does with a
+    /// fault before the first turn, if the start has a verdict.
     pub fault: Option<(Colour, MatchFault)>,
 }
 
@@ -104,9 +104,9 @@ pub struct MatchEnd {
 /// with the clock, and they fix all that was sent, the game and the end. At the end nothing is unflushed, also of what
 /// was written before, except at an engine to which a write or a flush failed.
 ///
-/// The contract sees each device apart; [`run_match_at`], which this calls, says that the calls came in the order of
-/// the acts, and until which moment each line is waited for, by `setup.patience`: no clause here does. Nor does any say
-/// that the readers wait by the clock `moments`, or that so much time has passed. By the code no memory is taken.
+/// The contract sees each device apart. [`run_match_at`], which this calls, has clauses on the order of all calls, and
+/// on the moment until which each line is waited for, by `setup.patience`. No clause says that the readers wait by the
+/// clock `moments`, or that so much time has passed. The code allocates no memory.
 pub fn run_match<R: Input, W: Output, M: Moments, B: Board>(
     white: &mut Ends<R, W>,
     black: &mut Ends<R, W>,
@@ -243,8 +243,8 @@ fn awaited_in(phase: Phase) -> Awaited
     }
 }
 
-// Notes that writing to `side` failed, which ends the match, and sends the other side its last lines, which go to the
-// empty block `waiting`. Returns whether that failed too.
+// Notes that writing to `side` failed, which ends the match, and sends the other side its last lines, put together in
+// the empty block `waiting`. Returns whether that failed too.
 fn end_for_other<T: MatchTable, G: MatchGame>(
     table: &mut T,
     core: &mut MatchState,
@@ -267,8 +267,8 @@ fn end_for_other<T: MatchTable, G: MatchGame>(
     note_and_send(table, core, game, given, waiting, side.other())
 }
 
-// Sends each side the answers in its block and what `given` says, White first, and empties both blocks. Returns to
-// which sides that failed.
+// Sends each side its last lines, White first: the answers in its block and what `given` says. Empties both blocks, and
+// returns to which sides that failed.
 fn send_last<T: MatchTable, G: MatchGame>(
     table: &mut T,
     core: &MatchState,
@@ -298,7 +298,7 @@ fn send_last<T: MatchTable, G: MatchGame>(
     }
 }
 
-// A value by colour: `own` for this side, and `others` for the other.
+// A value for each side: `own` for this one, and `others` for the other.
 fn in_turn(side: Colour, own: bool, others: bool) -> ByColour<bool>
     ensures { (S : Colour) → of_colour result S ≡ by_turn side own others S }
 {
@@ -371,7 +371,7 @@ fn deliver<T: MatchTable, G: MatchGame>(
     }
 }
 
-// Whether a line is read as one: `\n` ended it. What comes after the last `\n` counts as the end of the output.
+// Whether this is a line to be read: `\n` ended it. What comes after the last `\n` counts as the end of the output.
 fn is_parsed(line: &Line<ENGINE_LINE_LEN>) -> bool
     ensures { result ≡ line.now.ended }
 {
@@ -533,9 +533,8 @@ fn declare<B: Board>(game: &mut Game<B>, reason: Reason)
     game.declare_open(reason.outcome(), Comment::cut(reason.comment()));
 }
 
-// Gives what is reported of a match that ended for `reason`, with both engines' names and the first fault (`failed`
-// says to whom a write failed). Also declares the outcome in the game, unless the board has a verdict, which is then
-// reported.
+// Returns the report of a match that ended for `reason`, with both engines' names and the first fault (`failed` says to
+// whom a write failed). Also declares the outcome in the game, unless the board has a verdict, which is then reported.
 #[tactic(auto, using(crate::proofs::Comments::kept_whole))]
 fn end_of<B: Board>(
     core: MatchState,

@@ -1,4 +1,4 @@
-//! Noting and sending the blocks of an event.
+//! Notes what an event gives to an engine, and sends it.
 
 ghost use Rattle.std.specs.Prelude.{◌≡◌, ◌≢◌, ◌+◌, ◌≤◌, ◌<◌, ◌++◌, [], List, length, true};
 ghost use Rattle.arrayvec.specs.ArrayVec.{array_vec_len};

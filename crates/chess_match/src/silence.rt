@@ -1,4 +1,4 @@
-//! Lines that don't come in time.
+//! What a match does when a line doesn't come in time, and how long it waits for one.
 
 ghost use Rattle.std.specs.Prelude.{◌≡◌, ◌+◌, ◌-◌, ◌^◌, List, Some, false, true, min, nat_lt};
 ghost use Rattle.std.specs.Option.{option_map_or};
@@ -16,14 +16,14 @@ use crate::reason::{MatchFault, Reason};
 use crate::state::{Actions, MatchState, NOTHING};
 use chess_base::Colour;
 
-// The first moment after `from` that is more than `limit` milliseconds later, at most the last one of all.
+// The first moment more than `limit` milliseconds after `from`, but at most the last moment, 2 ^ 64 - 1.
 fn first_beyond(from: u64, limit: u64) -> u64
     ensures { result ≡ min (from + limit + 1) (2 ^ 64 - 1) }
 {
     from.saturating_add(limit).saturating_add(1)
 }
 
-// Whether so many milliseconds are more than the limit, if there is one.
+// Whether `waited` milliseconds are more than the limit; false without a limit.
 fn is_beyond(limit: Option<u64>, waited: u64) -> bool
     ensures { result ≡ option_map_or (λ l. nat_lt l waited) limit false }
 {
@@ -34,7 +34,7 @@ fn is_beyond(limit: Option<u64>, waited: u64) -> bool
 }
 
 impl MatchState {
-    // Has the time for a reply run from this moment on.
+    // Lets the time for a reply run from this moment on.
     pub(crate) fn await_since(&mut self, moment: u64)
         ensures stands { (r : Rules) (played : List Move) (m : Match) → Represents r self.old played m
             → Represents r self.new played (awaited_since moment m) }

@@ -64,7 +64,7 @@ pub(crate) struct MatchState {
 /// So many ignored lines in one setup or turn end the match, so that no flood of lines goes on for ever.
 pub(crate) const FLOOD_LEN: u32 = 10_000;
 
-/// So many lines in one handshake without `done=1` end the match, for the same reason.
+/// So many lines in one handshake without `done=1` end the match, so that no handshake goes on for ever.
 pub(crate) const HANDSHAKE_LEN: u32 = 1_000;
 
 /// Nothing is sent.
@@ -144,7 +144,7 @@ impl MatchState {
         }
     }
 
-    /// Who is still to be sent the last move.
+    /// Who is still to be sent the last move; `None` if nobody is.
     pub(crate) fn unsent_to(&self) -> Option<Colour>
         ensures { result ≡ unsent_in self.now.last }
     {

@@ -1,4 +1,4 @@
-//! The texts of the last move.
+//! The texts that are kept of the last move.
 
 ghost use Rattle.std.specs.Prelude.{◌≡◌, ◌≤◌, length};
 ghost use Rattle.chess_match.specs.ties.Texts.{text_in};

@@ -1,4 +1,4 @@
-//! Transitions that all phases share: to the end, into a phase, into a turn; and an ignored line.
+//! What all phases share: how a match ends, enters a phase, opens a turn, or ignores a line.
 
 ghost use Rattle.std.specs.Prelude.{◌≡◌, ◌+◌, ◌<◌, List, false};
 ghost use Rattle.chess_base.specs.declared.man.Colour.{Colour};
@@ -72,7 +72,7 @@ impl MatchState {
         ENTRY
     }
 
-    // Marks the last move, if there is one, as sent: nobody is still to be sent it.
+    // Notes that the last move, if there is one, was sent: nobody is still to be sent it.
     fn note_sent(&mut self)
         ensures { self.new ≡ (record self.old { last = all_sent self.old.last }) }
     {

@@ -1,4 +1,4 @@
--- An engine that plays the arguments that it is given.
+-- A stub: an engine that plays the arguments that it is given.
 use Rattle.std.specs.Prelude.{Bool, true, false, if◌then◌else◌, ◌&&◌, List, [], ◌∷◌, ◌++◌, drop, flat_map, take_while, codes, decimal, ℕ, Option, Some, None, is_some, unwrap_or}
 use Rattle.std.specs.List.{prefix_len}
 use Rattle.byte_devices.specs.Bytes.{new_line}
@@ -11,7 +11,7 @@ use Rattle.chess_cecp.specs.Serving.{Response, says, becomes}
 use Rattle.chess_cecp.specs.declared.command.Command.{Command}
 use Rattle.chess_cecp.specs.declared.command.Command.TheVariants.{New, Ping, Protover, Go, Quit}
 
--- the arguments of a stub, an engine that plays the moves in its arguments; each is a reference to a text
+-- the arguments of a stub; each is a reference to a text
 abbrev pub Arguments : Type 0
 Arguments = List (Bor (List ℕ))
 
@@ -20,18 +20,17 @@ pub record StubState : Type 0 where
   pub arguments : Arguments
   pub plays : Bool
 
--- the state of a stub that plays no side, with these arguments not yet used
+-- a stub that plays no side, with these arguments left
 abbrev pub waiting : Arguments → StubState
 waiting arguments = record { arguments = arguments; plays = false }
 
--- the state of a stub that plays a side, with these arguments not yet used
+-- a stub that plays a side, with these arguments left
 abbrev pub playing : Arguments → StubState
 playing arguments = record { arguments = arguments; plays = true }
 
 -- ---- a turn
 
--- the line that the stub sends after a move for the argument `offer` or `claim` (a claim of a draw); `None` for any
--- other
+-- the line for the argument `offer` or `claim` (of a draw), sent after a move; `None` for any other
 abbrev pub remark : List ℕ → Option (List ℕ)
 remark argument = if bytes_eq argument (codes "offer") then Some (codes "offer draw\n")
     else if bytes_eq argument (codes "claim") then Some (codes "1/2-1/2 {Draw by repetition}\n")
@@ -45,21 +44,20 @@ is_remark argument = is_some (remark argument.now)
 unfoldable pub remarks : Arguments → List ℕ
 remarks arguments = flat_map (λ argument. unwrap_or (remark argument.now) []) (take_while is_remark arguments)
 
--- these arguments without the `offer`s and `claim`s that they begin with
+-- these arguments after the `offer`s and `claim`s at their beginning
 unfoldable pub after_remarks : Arguments → Arguments
 after_remarks arguments = drop (prefix_len is_remark arguments) arguments
 
--- the line that the stub sends for an argument that is played: `resign` as it is, any other after `move`, such as
--- `move e2e4`
+-- the line that the stub sends for an argument that is played: `resign`, or as in `move e2e4`
 abbrev pub played_text : List ℕ → List ℕ
 played_text argument = (if bytes_eq argument (codes "resign") then [] else codes "move ") ++ (argument ++ new_line ∷ [])
 
--- a stub's turn, with these arguments left: what it sends, and its state after it, in which it plays a side
+-- a stub's turn, with these arguments left: what it sends, and its state after it
 abbrev pub turn : Arguments → Response StubState
--- none is left: it resigns
+-- without arguments it resigns
 turn [] = says (playing []) (codes "resign\n")
--- `end` makes it end in the middle of a line, after `mov`. Any other first argument is played, even an `offer` or
--- `claim` (as `move offer`), with the remarks right after it
+-- `end` ends it in the middle of a line. Any other first argument is played, even `offer` (as `move offer`), with the
+-- remarks right after it
 turn (argument ∷ arguments) =
     if bytes_eq argument.now (codes "end") then record (says (playing arguments) (codes "mov")) { ends = true }
     else says (playing (after_remarks arguments)) (played_text argument.now ++ remarks arguments)
@@ -70,12 +68,12 @@ turn (argument ∷ arguments) =
 unfoldable pub stub_row : StubState → List ℕ → Command → Response StubState
 stub_row s text (Protover n) = says s (codes "feature ping=1 setboard=1 usermove=1 myname=\"stub\" done=1\n")
 stub_row s text (Ping n) = says s (codes "pong " ++ (decimal n ++ new_line ∷ []))
--- after `new` it plays no side until `go`; the arguments that it has used are not used again
+-- after `new` it plays no side until `go`, and goes on with the arguments left
 stub_row s text New = becomes (waiting s.arguments)
 stub_row s text Go = turn s.arguments
 stub_row s text Quit = record (becomes s) { ends = true }
--- any other line, by its first word. At `usermove`, whatever follows, it takes its turn if it plays a side. After
--- `force` it plays none until `go`. All else is ignored, even a move without `usermove`
+-- any other line, by its first word: at `usermove`, whatever follows, it takes its turn if it plays a side; after
+-- `force` it plays none until `go`; all else is ignored, even a bare move
 stub_row s text _ =
     if bytes_eq (word_of text) (codes "usermove") && s.plays then turn s.arguments
     else becomes (if bytes_eq (word_of text) (codes "force") then waiting s.arguments else s)

@@ -158,7 +158,7 @@ fn after_turn(arguments: &[&str], at: usize) -> usize
     after_remarks(arguments, at + 1)
 }
 
-/// A stub: its arguments, the index of the next one, and whether it plays.
+/// A stub: its arguments, the index of the next one, and whether it plays a side.
 #[derive(Drop)]
 pub struct Stub<'a> {
     arguments: &'a [&'a str],
@@ -182,7 +182,7 @@ impl<'a> Model for Stub<'a> {
 }
 
 impl<'a> Stub<'a> {
-    /// A stub that plays these arguments; it has no side yet.
+    /// A stub that plays these arguments; it plays no side yet.
     pub fn new(arguments: &'a [&'a str]) -> Self
         ensures { result ≡ waiting arguments.now }
     {

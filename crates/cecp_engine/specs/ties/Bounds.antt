@@ -1,4 +1,4 @@
--- How great the numbers of a level and of its clocks are.
+-- How large the numbers of a time control and of a side's clock can be.
 use Rattle.std.specs.Prelude.{◌≤◌}
 use Rattle.cecp_engine.specs.Levels.{LevelSeen, allotted}
 use Rattle.chess_base.specs.declared.setup.TheConstants.{MOST_MOVES}

@@ -1,4 +1,4 @@
--- What is kept of what an engine said, item by item.
+-- How one item more changes what is known of an engine's features, and the code's value as one of the definitions.
 use Rattle.std.specs.Prelude.{ℕ, Bool, if◌then◌else◌, List, codes, Option, None, Some}
 use Rattle.std.specs.Str.{bytes_eq}
 use Rattle.cecp_engine.specs.Items.{Item, is_one, has_word}
@@ -7,19 +7,18 @@ use Rattle.cecp_engine.specs.Items as items
 use Rattle.cecp_engine.specs.declared.item.Value.{Value}
 use Rattle.cecp_engine.specs.Seen.{value_seen}
 
--- whether an engine has the feature `name` on after the item `i`; `before` says whether it had it on so far: the item
--- decides if it has that name, otherwise that stays
+-- whether an engine has the feature `name` on after the item `i`: the item decides if it has that name, otherwise it
+-- stays as `before`
 abbrev pub said_again : List ℕ → Item → Bool → Bool
 said_again name i before = if bytes_eq i.name name then is_one i.value else before
 
--- whether an engine plays Chess960 after the item `i`; `before` says whether it did so far: the item decides if it is
--- `variants`, otherwise that stays
+-- whether an engine plays Chess960 after the item `i`: the item decides if it is `variants`, otherwise it stays as
+-- `before`
 abbrev pub fischerandom_again : Item → Bool → Bool
 fischerandom_again i before = if bytes_eq i.name (codes "variants") then has_word (codes "fischerandom")
     i.value.text else before
 
--- the value and the text after it, as the definitions have them, that the code's function `read_value` returned; `None`
--- if it returned none
+-- the value, and the text after it, that the code's function `read_value` returned; `None` if it returned none
 abbrev pub value_read : Option (Value × Bor (List ℕ)) → Option (items.Value × List ℕ)
 value_read None = None
 value_read (Some p) = Some (value_seen p.0, p.1.now)

@@ -3,7 +3,7 @@ use Rattle.std.specs.Prelude.{ℕ, Bool, List, [], ◌∷◌, codes}
 use Rattle.std.specs.List.{list_any}
 use Rattle.std.specs.Str.{bytes_eq}
 
--- the ignored commands of the protocol, and of how an engine is to play
+-- the ignored commands of the handshake, and of how an engine is to play
 abbrev pub engine_commands : List (List ℕ)
 engine_commands =
     codes "xboard" ∷ codes "accepted" ∷ codes "rejected" ∷ codes "force" ∷ codes "random" ∷ codes "hard" ∷ codes "easy"
@@ -15,7 +15,7 @@ opponent_and_clock_commands =
     codes "computer" ∷ codes "name" ∷ codes "rating" ∷ codes "ics" ∷ codes "draw" ∷ codes "level" ∷ codes "st"
     ∷ codes "sd" ∷ codes "time" ∷ codes "otim" ∷ []
 
--- whether a word is an ignored command of the protocol, or of how an engine is to play
+-- whether a word is an ignored command of the handshake, or of how an engine is to play
 unfoldable pub is_engine_command : List ℕ → Bool
 is_engine_command word = list_any (bytes_eq word) engine_commands
 

@@ -38,8 +38,8 @@ is_quit_command command = false
 unfoldable pub is_quit : LineSeen → Bool
 is_quit line = not line.too_long && is_quit_command (command_of line.text)
 
--- what a line commands whose first word is no command's name: a move, if its text has the shape of one, otherwise
--- nothing that is known
+-- the command of a line whose first word is no command's name: a move without `usermove`, if its text has the shape of
+-- one, otherwise `Unknown`
 abbrev pub unnamed_command : List ℕ → Command
 unnamed_command text = if shape text then BareMove else Unknown
 

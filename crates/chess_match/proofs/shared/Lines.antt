@@ -1,4 +1,4 @@
--- The bytes of lines that are sent.
+-- The bytes of two lists of lines, one after the other, are those of each: by induction over the first list.
 use Rattle.std.proofs.Common.{◌≡◌, List, [], ◌∷◌, ◌++◌, refl, sym, append_assoc}
 use Rattle.chess_match.specs.Lines.{SentLine, bytes_of, text_of}
 

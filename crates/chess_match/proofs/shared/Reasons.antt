@@ -1,4 +1,4 @@
--- Reasons that are failed writes.
+-- The reason of a match that ended by a failed write to a side says so (`is_write_fault_of`), as the reasons are equal.
 use Rattle.std.proofs.Common.{◌≡◌, true, sym, ap, ◌∙◌}
 use Rattle.chess_base.specs.declared.man.Colour.{Colour}
 use Rattle.chess_base.proofs.shared.Men.{same_colour-self}

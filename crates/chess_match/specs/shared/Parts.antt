@@ -1,5 +1,4 @@
--- Parts of effects, and what is due after a line, by names that proofs use, also those of chess_match_laws and of
--- match_runner.
+-- Parts of effects, and what is due after a line, by names that proofs use, here and in crates above.
 use Rattle.std.specs.Prelude.{ℕ, if◌then◌else◌, List, [], ◌∷◌, ◌++◌, codes, Option, Some}
 use Rattle.chess_base.specs.declared.man.Colour.{Colour}
 use Rattle.chess_base.specs.declared.man.Colour.TheVariants.{White}
@@ -17,24 +16,23 @@ use Rattle.chess_match.specs.Lines.{SentLine, Says}
 abbrev pub enter : Phase → Match → Match
 enter phase m = record m { phase = phase; count = 0 }
 
--- since when a reply is awaited, once a line of this kind came at this moment in a handshake: after a `feature` line
--- from there on, after any other as before (`since`)
+-- since when a reply is awaited, once a line of this kind came at this moment in a handshake: from there on after a
+-- `feature` line, otherwise as before
 abbrev pub since_counted : LineKind → ℕ → Option ℕ → Option ℕ
 since_counted (Features text) moment since = Some moment
 since_counted _ moment since = since
 
--- the match `m`, with `since` as it is once a line of this kind came at this moment in a handshake
+-- the match `m`, with `since` as it is after a line of this kind, which came at this moment in a handshake
 abbrev pub counted : LineKind → ℕ → Match → Match
 counted kind moment m = record m { since = since_counted kind moment m.since }
 
--- the blocks that are due after a line of the side `S` had the effect `done`: first the one for `S`, then the other
--- side's; but if the match is over after it, first White's, then Black's
+-- the blocks that are due after a line of the side `S` had the effect `done`: first the one for `S`; but if the match
+-- is then over, first White's
 abbrev pub blocks_after : Colour → Effect → List Block
 blocks_after S done = blocks_from (if is_over done.after.phase then White else S) done.to
 
--- the lines that end the match for the side `S`, if it ends in the state `m` for this reason and writing to `S` did not
--- fail: the last move, if `S` was not yet sent it; the result with its comment, such as `result 1-0 {Black resigns}`;
--- and `quit`
+-- the last lines for the side `S`, if the match ends in the state `m` for this reason, and writing to `S` did not fail:
+-- the last move, if it is owed; the result, such as `result 1-0 {Black resigns}`; and `quit`
 abbrev pub farewell : Rules → Match → Reason → Colour → List SentLine
 farewell r m reason S =
     list_if (is_owed_move m.phase S) (move_line r m S ∷ [])

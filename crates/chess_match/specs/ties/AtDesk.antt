@@ -1,4 +1,4 @@
--- What passed at a desk, as each of its devices, seen apart, shows.
+-- What passed at a desk, the table made of pipes, a clock and a witness, as each of these devices shows it.
 use Rattle.std.specs.Prelude.{◌≡◌, ℕ, ◌+◌, List, [], ◌∷◌, ◌++◌, Option, None, Some}
 use Rattle.std.specs.Bool.{MatchBool}
 use Rattle.byte_devices.specs.Devices.{InputState, OutputState, CutShort}
@@ -17,8 +17,7 @@ use Rattle.chess_match.specs.Table.{Step, Does, LooksFor, ReadsLine, FindsNoLine
 use Rattle.chess_match.specs.declared.desk.Desk.{Desk}
 use Rattle.chess_match.specs.ties.EngineOutput.{OutputAt}
 
--- the acts at engines among these steps; a line that was read, or had not come, has the moment 0, whatever the clock
--- then showed
+-- the acts at engines among these steps; a line or a silence has the moment 0, as these devices don't show the clock's
 abbrev pub acts_in : List Step → List Act
 acts_in [] = []
 acts_in (Does act ∷ K) = act ∷ acts_in K
@@ -40,8 +39,8 @@ notes_in [] = []
 notes_in (Notes note ∷ K) = note ∷ notes_in K
 notes_in (_ ∷ K) = notes_in K
 
--- these acts took the output of the engine of the side `S` from `r` to `r'`; `h` and `h'` are the bytes of it that are
--- held, before and after
+-- these acts took the output of the engine of the side `S` from `r` to `r'`; `h` and `h'` are the bytes of it that were
+-- read and not yet returned, before and after
 abbrev pub ReadsOf : Colour → List Act → InputState → InputState → Held → Held → Type 0
 ReadsOf S [] r r' h h' = (r' ≡ r) × (h' ≡ h)
 ReadsOf S (a ∷ H) r r' h h' =
@@ -99,6 +98,6 @@ abbrev pub LooksAt : {R W M L : Type 0} → (R → InputState) → (W → Output
 LooksAt input output shown noted old new side until step = Passes (passed_at input output shown noted old)
     (passed_at input output shown noted new) (LooksFor side until ∷ step ∷ [])
 
--- how much can still be read at the desk `d` at most
+-- a bound on what can still be read at the desk `d`
 abbrev pub left_at : {R W M L : Type 0} → (R → InputState) → Desk R W M L → ℕ
 left_at input d = work (input d.white_reader.now) d.lines.white + work (input d.black_reader.now) d.lines.black

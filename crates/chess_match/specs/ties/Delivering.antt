@@ -1,4 +1,4 @@
--- Lines that are put in by calls of their own.
+-- The lines for which the code has functions of their own.
 use Rattle.std.specs.Prelude.{ℕ, ◌/◌, if◌then◌else◌, nat_lt, List, [], ◌∷◌, ◌++◌, length, codes, Option}
 use Rattle.std.specs.Option.{option_map_or}
 use Rattle.chess_base.specs.declared.man.Colour.{Colour}
@@ -28,7 +28,7 @@ variant_command v = list_if (is_fischerandom v) (Says (codes "variant fischerand
 abbrev pub last_move : Rules → Match → Colour → List SentLine
 last_move r m S = list_if (nat_lt 0 (length m.played)) (move_line r m S ∷ [])
 
--- the lines that tell the side `S` the clocks: `time T`, its own, and `otim U`, the other's, in centiseconds, rounded
+-- the lines that give the side `S` both clocks: `time T`, its own, and `otim U`, the other's, in centiseconds, rounded
 -- down; no lines if its engine turned these off, as by `time=0`
 abbrev pub clocks : Rules → Match → Colour → List SentLine
 clocks r m S =

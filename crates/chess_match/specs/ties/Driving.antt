@@ -59,7 +59,7 @@ giving failed S [] = []
 giving failed S (l ∷ ls) =
     Notes (Gives S (bytes_of (l ∷ ls))) ∷ Does (sending failed (record { to = S; lines = l ∷ ls })) ∷ []
 
--- the event is one of the output of the engine of the side `S`
+-- whether the event is one of the output of the engine of the side `S`
 abbrev pub is_of_output : Colour → Event → Bool
 is_of_output S (Line c text moment) = same_colour c S
 is_of_output S (Silent c moment) = same_colour c S

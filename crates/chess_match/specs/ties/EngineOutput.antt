@@ -1,4 +1,4 @@
--- What came of an engine so far, and what is held of it.
+-- What came from an engine so far, and which bytes of it are held: read, but not yet returned as lines.
 use Rattle.std.specs.Prelude.{◌≡◌, ◌⊎◌, ℕ, Bool, false, List, ◌++◌, map, Option}
 use Rattle.std.specs.Bool.{MatchBool}
 use Rattle.std.specs.Io.KnownBytes.{Consumes}

@@ -1,4 +1,4 @@
--- When the core and the game stand for a match, and what the core gives to send.
+-- When the code's state (the core) and its game stand for a match of the definitions, and what the core gives to send.
 use Rattle.std.specs.Prelude.{◌≡◌, ℕ, Bool, true, false, if◌then◌else◌, List, [], ◌∷◌, ◌++◌, length, sum, codes, Option, None, Some}
 use Rattle.std.specs.Option.{option_map_or}
 use Rattle.chess_base.specs.declared.man.Colour.{Colour}
@@ -54,7 +54,7 @@ abbrev pub clocks_of : (Colour → LevelSeen) → Match → ClocksSeen
 clocks_of level m =
     record { white = side_of (level White) (m.seat White); black = side_of (level Black) (m.seat Black) }
 
--- a phase of the code, as a phase of a match; `opened` is the moment at which the turn began
+-- the phase of a match that a phase of the code stands for; `opened` is the moment at which the turn began
 abbrev pub phase_of : ℕ → CorePhase → Phase
 phase_of opened (core_in.Handshake c) = Handshake c
 phase_of opened (core_in.Setup c) = Setup c
@@ -145,7 +145,7 @@ pub record Goes (r : Rules) (core : MatchState) (played : List Move) (given : Ac
 
 -- ---- steps of the core
 
--- the code's state `core` with the difference that this side's offer of a draw is open
+-- the code's state `core`, but this side's offer of a draw is open
 abbrev pub offered_core : MatchState → Colour → MatchState
 offered_core core S = record core { players = with_colour core.players S (record (player core S) { offers = true }) }
 

@@ -1,4 +1,5 @@
--- What passed at the desk is what its devices show, and the desk still holds the same references.
+-- From the steps that passed at the desk follows what each of its devices shows (DesksPlayed); the desk still holds the
+-- same references.
 use Rattle.std.proofs.Common.{◌≡◌, ℕ, [], ◌∷◌, ap}
 use Rattle.chess_base.specs.ByColour.{by_colour}
 use Rattle.text_lines.specs.Lines.{nothing_held}

@@ -1,4 +1,4 @@
--- The next line was read from one pipe; the other stays as it was.
+-- The next line was read from one pipe, which is one look at the table (AtDesk.read_moves); all else stays as it was.
 use Rattle.std.proofs.Common.{refl}
 use Rattle.chess_base.specs.declared.man.Colour.TheVariants.{White, Black}
 use Rattle.chess_match.proofs.AtDesk.{read_moves}

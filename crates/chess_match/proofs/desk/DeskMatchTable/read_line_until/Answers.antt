@@ -1,4 +1,5 @@
--- The next line was read from one pipe, or had not come in time; the other stays as it was.
+-- The next line was read from one pipe, or had not come in time, which is one look at the table (AtDesk.until_moves);
+-- all else stays as it was.
 use Rattle.std.proofs.Common.{refl}
 use Rattle.chess_base.specs.declared.man.Colour.TheVariants.{White, Black}
 use Rattle.chess_match.proofs.AtDesk.{until_moves}

@@ -1,4 +1,5 @@
--- The text was written and flushed at one pipe, or a call failed; the others stay as they were.
+-- The text was written and flushed at one pipe, or a call failed (SentNow), which is one step at the table
+-- (AtDesk.send_moves); all else stays as it was.
 use Rattle.std.proofs.Common.{refl, is_err}
 use Rattle.chess_base.specs.declared.man.Colour.TheVariants.{White, Black}
 use Rattle.chess_match.proofs.{AtDesk.send_moves, SentNow.sent_now}

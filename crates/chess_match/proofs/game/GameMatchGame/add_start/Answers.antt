@@ -1,4 +1,5 @@
--- The start that is sent is that of the rules, and its line is put in three parts.
+-- The game's start is that of the rules, so the same FEN is sent, or none; the line `setboard FEN` is put in three
+-- parts.
 use Rattle.std.proofs.Common.{◌≡◌, ℕ, List, [], ◌∷◌, ◌++◌, ap, sym, ◌∙◌, append_assoc, Some}
 use Rattle.chess_match.specs.{Rules.Rules, Rules.start_fen, Lines.bytes_of}
 use Rattle.chess_match.proofs.game.GameMatchGame.add_start.Goals as goal

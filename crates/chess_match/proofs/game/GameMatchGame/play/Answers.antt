@@ -1,5 +1,5 @@
--- The move is legal, so it can be written before it is played; its mark is that of the position that it gives
--- (LastMoves.texts_of_last).
+-- The move is legal, so its SAN can be begun before it is played; the check mark that is added then is that of the
+-- position after it (LastMoves.texts_of_last).
 use Rattle.std.proofs.Common.{◌≡◌, List, [], ◌∷◌, ◌++◌, ap, sym, ◌∙◌}
 use Rattle.chess_base.specs.{declared.man.Move.Move, declared.setup.Setup.Setup, Moves.after}
 use Rattle.chess_game.specs.Game as game
