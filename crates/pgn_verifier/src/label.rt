@@ -49,8 +49,8 @@ fn blanks_len(text: &[u8]) -> usize
         .count()
 }
 
-// The offset at which the game of a text begins that is read from the offset `at` on: that of its first byte that is no
-// white space.
+// The offset at which the game begins that is read from the offset `at` of a text on: after a byte order mark (only if
+// `at` is 0) and white space.
 fn game_begin(text: &[u8], at: usize) -> usize
     requires { at ≤ length text.now }
     ensures value { result ≡ game_begin text.now at }
@@ -103,7 +103,7 @@ impl Label {
     }
 }
 
-// The span of the current piece.
+// The part of the input that the current piece is.
 fn piece_span(pieces: &PgnPieces) -> Span
     ensures begin { result.begin ≡ (current pieces.now).offset }
     ensures end { result.end ≡ (current pieces.now).end }
@@ -114,7 +114,7 @@ fn piece_span(pieces: &PgnPieces) -> Span
     }
 }
 
-// The offset in a text at which reading goes on (`next`); if it doesn't, that of the text's end.
+// The offset of a text at which reading goes on (`next`); the text's end if it doesn't go on.
 fn next_or_end(next: Option<usize>, text: &[u8]) -> usize
     requires { IfSome next (λ next. next ≤ length text.now) }
     ensures value { result ≡ unwrap_or next (length text.now) }
