@@ -161,7 +161,7 @@ abbrev pub is_left : Report → Bool
 is_left (Game plies outcome termination) = false
 is_left (Faulty fault names wrong_at part why is_unread) = is_unread
 
--- the same, of a report with its span
+-- whether a report with its span says so (`is_left`)
 abbrev pub leaves_bytes : Placed → Bool
 leaves_bytes p = is_left p.report
 

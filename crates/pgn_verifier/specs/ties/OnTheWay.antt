@@ -137,8 +137,8 @@ counted t reports = fold (λ t placed. with_report t placed.report) t reports
 abbrev pub next_number : Tally → ℕ
 next_number before = before.games + before.faults + 1
 
--- between the output's states `w` and `w'` the lines of these reports on games of the input were written, and `after`
--- counts them on top of `before`, the counts so far; or a write failed, and a beginning of the lines was written
+-- between the output's states `w` and `w'` the lines of these reports were written, and `after` are the counts `before`
+-- with them added; or a write failed, and a beginning of the lines was written. `input`: all that was read
 abbrev pub Writes : {E : Type 0} → VerifyOptions → List ℕ → Tally → OutputState → OutputState → Result Tally E
     → List Placed → Type 0
 Writes options input before w w' (Ok after) reports =
