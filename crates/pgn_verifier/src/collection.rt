@@ -60,8 +60,8 @@ fn verify_piece<W: Output>(
     }
 }
 
-// The number of the line after the current piece, which begins on the line `line`; any number if faults aren't
-// explained.
+// The number of the line after the current piece, which begins on the line `line`. If faults aren't explained, lines
+// aren't counted, and it is `line`.
 fn line_after(explain: bool, line: usize, pieces: &PgnPieces) -> usize
     requires { line + length pieces.now.part < 2 ^ 64 }
     ensures counted { explain ≡ true → result ≡ line + (current pieces.now).line_ends }

@@ -53,7 +53,7 @@ pub(crate) fn verify_text<W: Output>(
 {
     let mut at = 0;
     let mut tally = before;
-    // Lines and columns are counted on from this offset, that of the last fault.
+    // Lines and columns are counted on from here: from the last fault, at first from the text's beginning.
     let mut place = Place::at_start(start);
     loop {
         let number = tally.next_number();

@@ -18,9 +18,8 @@ use Rattle.pgn_verifier.specs.declared.options.Strictness.{Strictness}
 abbrev pub looked_for : Bool → Option GameFault → Option GameFault
 looked_for is_looked_for fault = if is_looked_for then fault else None
 
--- the first fault in the variations of a game of `text`. The game is read from the offset `at` on, starts in the
--- position `start` and ends before `end.offset`. `split other from`: the tokens of a text `other` from its offset
--- `from` on
+-- the first fault in the variations of the game of `text` from the offset `at` on, which starts in the position `start`
+-- and ends before `end.offset`. `split other from`: the tokens of a text `other` from its offset `from` on
 abbrev pub variation_in : (List ℕ → ℕ → List (ℕ × Token)) → List ℕ → ℕ → Setup → PgnEnd → Option PgnFault
 variation_in split text at start end =
     variations_fault split (take end.offset text) start (after_byte_order_mark text at)
