@@ -45,6 +45,7 @@ with_spans = record plain { spans = true }
 abbrev pub with_names : VerifyOptions
 with_names = record plain { names = true }
 
+-- `verify --spans --names`
 abbrev pub with_spans_and_names : VerifyOptions
 with_spans_and_names = record plain { spans = true; names = true }
 

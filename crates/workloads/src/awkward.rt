@@ -122,8 +122,11 @@ fn many_queens(
     Ok(())
 }
 
-/// Does each of the awkward jobs: verifies 20,000 short pieces, 20,000 unclosed ones and a piece of 20,000 lines for
-/// each of the `times` (at most 1,000), and plays so many long games and four times as many walks with queens.
+/// Does each of the awkward jobs: verifies short pieces, unclosed pieces, and a piece of many lines, 20,000 of each for
+/// each of the `times` (at most 1,000); then plays `times` long games, and makes four times as many walks with queens.
+///
+/// # Errors
+/// If memory runs out.
 pub fn ask_awkward(
     alloc: Global,
     times: usize,

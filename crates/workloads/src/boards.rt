@@ -53,7 +53,7 @@ fn go_through<B: Board>(board: &mut B, m: &Move, depth: u8, digest: &mut Digest)
     board.take_back(*m, saved);
 }
 
-// Does what `go_through` does with each legal move of the board's position, and returns one of them, chosen at random;
+// Does what `go_through` does with each legal move of the board's position, and returns one of them, drawn at random;
 // `None` if there is none.
 fn go_over<B: Board>(
     board: &mut B,
@@ -68,8 +68,8 @@ fn go_over<B: Board>(
     choose(board.setup(), moves.as_slice(), Style::Lively, random)
 }
 
-// Adds the legal moves, as the plain board lists them, to the digest, and whether each of eight moves mixed of two of
-// them, most of which are illegal, is legal.
+// Adds to the digest the legal moves, as the plain board lists them, and of eight moves, each mixed of two legal ones,
+// whether they are legal; most are not.
 fn judge_moves(position: &Position, random: &mut Random, digest: &mut Digest) {
     let mut plain = Plain::new();
     plain.set(position);
@@ -168,6 +168,9 @@ fn start_for(number: usize, random: &mut Random) -> Position {
 
 /// Makes `walks` walks, each of 24 to 96 moves if there are as many, and asks the board all about each sixth position.
 /// At the last one it counts the lines of four moves.
+///
+/// # Errors
+/// If memory runs out.
 pub fn ask_boards(
     alloc: Global,
     walks: usize,

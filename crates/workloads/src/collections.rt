@@ -24,6 +24,9 @@ pub fn outcome_text(game: &Game<Bits<'_>>, random: &mut Random) -> &'static [u8]
 
 /// Makes the next game of a collection by random moves. Every third game begins anew; the others keep half to five
 /// sixths of the game before, as if both had the same opening. `texts` are the moves as SAN.
+///
+/// # Errors
+/// If memory runs out.
 pub fn next_game(
     game: &mut Game<Bits<'_>>,
     number: usize,
@@ -131,6 +134,9 @@ fn make_forms(alloc: Global, games: usize, random: &mut Random) -> Result<Forms,
 /// Makes a collection of `games` games, and verifies it in three forms: as moves alone; with an evaluation and a
 /// clock's time after each half-move; and annotated, with all that a quality check asks for. Adds the reports to the
 /// digest.
+///
+/// # Errors
+/// If memory runs out.
 pub fn verify_collections(
     alloc: Global,
     games: usize,

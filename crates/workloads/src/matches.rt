@@ -133,6 +133,9 @@ fn add_move(text: &mut Vec<u8>, m: &[u8], ply: usize, talk: Talk) -> Result<(), 
 }
 
 /// Writes what both engines send in a match with the moves of this game, after which the side on move resigns.
+///
+/// # Errors
+/// If memory runs out.
 pub fn write_script(
     alloc: Global,
     game: &Game<Bits<'_>>,
@@ -221,6 +224,9 @@ const TALKS: [Talk; 3] = [Talk::Squares, Talk::San, Talk::Thinking];
 /// Makes `games` games by random moves, every fifth one a long one, and plays each as three matches: between engines
 /// that write moves by squares, that write SAN, and that write lines of their thinking too. Adds the results to the
 /// digest.
+///
+/// # Errors
+/// If memory runs out, or a level of time is none.
 pub fn play_matches(
     alloc: Global,
     games: usize,

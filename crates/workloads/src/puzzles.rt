@@ -106,6 +106,9 @@ fn make_puzzles(alloc: Global, games: usize, random: &mut Random) -> Result<Vec<
 
 /// Makes a file of puzzles out of `games` games of random moves, with games of Chess960 between them, verifies it, and
 /// adds the reports to the digest.
+///
+/// # Errors
+/// If memory runs out.
 pub fn verify_puzzles(
     alloc: Global,
     games: usize,

@@ -21,6 +21,9 @@ fn a_second(count: u64, spent: Duration) -> u64 {
 
 /// Counts the lines of `depth` legal moves from a position (perft), and prints their number, and on standard error how
 /// many a second.
+///
+/// # Errors
+/// If memory runs out, or a write or the clock fails.
 pub fn time_lines(rt: &HostRuntime, depth: u8, start: &Position) -> io::Result<ExitCode> {
     let tables = AttackTables::open(rt.alloc())?;
     let mut board = Bits::new(&tables);
@@ -53,6 +56,9 @@ fn time_reading(rt: &HostRuntime, text: &[u8], game: &mut Game<Bits<'_>>) -> io:
 
 /// Reads all games of a PGN text, and prints how many games and half-moves there are, and on standard error how many
 /// half-moves a second. If a game has a fault, it prints the fault's offset there, and returns status 1.
+///
+/// # Errors
+/// If memory runs out, or a write or the clock fails.
 pub fn time_games(rt: &HostRuntime, text: &[u8]) -> io::Result<ExitCode> {
     let tables = AttackTables::open(rt.alloc())?;
     let mut game = Game::open(rt.alloc(), Bits::new(&tables), MOST_MOVES)?;
@@ -82,6 +88,9 @@ fn time_matches(
 
 /// Plays one long game so many times between two engines in memory, and prints how many half-moves that were, and on
 /// standard error how many a second.
+///
+/// # Errors
+/// If memory runs out, or a write or the clock fails.
 pub fn time_relay(rt: &HostRuntime, times: u32, seed: u32) -> io::Result<ExitCode> {
     let tables = AttackTables::open(rt.alloc())?;
     let mut game = Game::open(rt.alloc(), Bits::new(&tables), MOST_MOVES)?;

@@ -46,6 +46,9 @@ fn play(alloc: Global, script: &Script, level: Level, game: &mut Game<Bits<'_>>)
 }
 
 /// Plays the match of a script `times` times, and returns how many half-moves these matches have in all.
+///
+/// # Errors
+/// None: `0 60 0` denotes a level.
 pub fn relay(
     alloc: Global,
     times: u32,

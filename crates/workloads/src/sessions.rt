@@ -55,7 +55,8 @@ fn add_squares(text: &mut Vec<u8>, game: &Game<Bits<'_>>, ply: usize) -> Result<
     }
 }
 
-// Adds the line of a half-move: its SAN (`san`) alone, or `usermove e2e4`.
+// Adds the line of the half-move `ply` of the game: its SAN (`san`) alone if `in_san`, otherwise `usermove` and the
+// move by squares.
 fn add_move(
     text: &mut Vec<u8>,
     game: &Game<Bits<'_>>,
@@ -160,6 +161,9 @@ fn write_lines(alloc: Global, games: usize, random: &mut Random) -> Result<Vec<u
 }
 
 /// Runs a session on these lines, and adds how it ended and all that it wrote to the digest.
+///
+/// # Errors
+/// If memory runs out.
 pub fn answer_lines(alloc: Global, lines: &[u8], digest: &mut Digest) -> Result<(), AllocError> {
     let tables = AttackTables::open(alloc)?;
     let board = Bits::new(&tables);
@@ -178,6 +182,9 @@ pub fn answer_lines(alloc: Global, lines: &[u8], digest: &mut Digest) -> Result<
 
 /// Makes `games` games by random moves, and asks a session about each: its moves as SAN and by squares, its positions,
 /// its PGN. Adds the answers to the digest.
+///
+/// # Errors
+/// If memory runs out.
 pub fn ask_session(
     alloc: Global,
     games: usize,

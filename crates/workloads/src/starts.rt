@@ -25,7 +25,7 @@ fn free_from(rank: &[u8; 8], from: usize) -> usize
     0
 }
 
-// Puts a piece, by its letter in a FEN, on a random empty square of the rank.
+// Puts a piece, by its letter in a FEN, on the first empty square of the rank from a random one on.
 fn put(rank: &mut [u8; 8], letter: u8, random: &mut Random) {
     let at = free_from(rank, random.below(8) % 8);
     rank[at] = letter;

@@ -14,7 +14,7 @@ pub struct Record<'a> {
     pub has_fault: bool,
 }
 
-/// Adds the bytes of `piece`.
+/// Adds the bytes of `piece` to the text.
 ///
 /// # Errors
 /// If memory runs out.
@@ -58,7 +58,7 @@ fn add_number_tag(
     add(text, b"\"]\n")
 }
 
-// The tags of a game: sites, names of players (a number follows each), and codes of openings.
+// The sites that games name in their tags.
 const SITES: [&[u8]; 4] = [
     b"Hall of the club, table 4",
     b"Reykjavik ISL",
@@ -66,6 +66,7 @@ const SITES: [&[u8]; 4] = [
     b"?",
 ];
 
+/// The names of players in tags; a number follows each.
 const NAMES: [&[u8]; 6] = [
     b"Anderssen, Adolf ",
     b"Morphy, Paul Charles ",
@@ -75,6 +76,7 @@ const NAMES: [&[u8]; 6] = [
     b"Menchik, Vera ",
 ];
 
+/// The codes of openings (ECO) in tags.
 const OPENINGS: [&[u8]; 5] = [b"A04", b"B33", b"C42", b"D85", b"E97"];
 
 /// Adds the tags of a game, some 250 bytes, without the empty line after them.
@@ -202,8 +204,7 @@ pub fn add_clocks(
     add(text, b"\n\n")
 }
 
-// What an annotator writes after a half-move: comments in both forms, some with commands in them or over two lines, and
-// glyphs.
+// The comments that an annotator writes after a half-move: in both forms, some with commands in them or over two lines.
 const REMARKS: [&[u8]; 5] = [
     b"{Better was the other knight.}",
     b"{An old line, which came into fashion once more\nafter the match of 1972; White has the centre.}",
@@ -212,6 +213,7 @@ const REMARKS: [&[u8]; 5] = [
     b"{[%cal Gd2d4,Ge2e4] with the idea of an early f4}",
 ];
 
+/// The glyphs that an annotator writes after a half-move.
 const GLYPHS: [&[u8]; 6] = [b"$1", b"$2", b"$14", b"$146", b"$5", b"$18"];
 
 // Adds a variation that begins at the half-move `ply`, of two to seven moves from the beginning of the record (which
@@ -266,6 +268,9 @@ fn add_annotation(
 }
 
 /// Adds a game with marks, glyphs, comments and variations, in lines.
+///
+/// # Errors
+/// If memory runs out.
 pub fn add_annotated(
     text: &mut Vec<u8>,
     record: &Record<'_>,

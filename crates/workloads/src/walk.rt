@@ -104,6 +104,9 @@ fn play_on(game: &mut Game<Bits<'_>>, m: Move, texts: &mut Texts) -> Result<bool
 
 /// Plays up to `half_moves` more half-moves, drawn by the style, and adds their SAN to `texts`. It stops if the game is
 /// over.
+///
+/// # Errors
+/// If memory runs out.
 pub fn walk_on(
     game: &mut Game<Bits<'_>>,
     style: Style,

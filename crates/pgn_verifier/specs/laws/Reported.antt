@@ -114,7 +114,7 @@ abbrev pub games_of : Bool → Strictness → ℕ → List ℕ → List Plain
 games_of goes_on strict start text = games_from goes_on strict start (length text + 1) text 0
 
 -- the reports on all games of a text up to its first fault. The text begins at the offset `start` of the input;
--- `strict`: what is looked for at a game's end
+-- `strict`: which faults are looked for
 abbrev pub reports_on : Strictness → ℕ → List ℕ → List Plain
 reports_on = games_of false
 
@@ -124,13 +124,13 @@ too_long_report piece =
     PlainFault (record { kind = Pgn TooLong; offset = piece.offset }) piece.offset (shown piece.bytes)
 
 -- the reports on the games of a piece, which is read as a text of its own; a piece that is too long has one report.
--- `strict`: what is looked for at a game's end
+-- `strict`: which faults are looked for
 abbrev pub reports_in : Strictness → Piece → List Plain
 reports_in strict piece = if nat_le (length piece.bytes) PIECE_LEN then games_of true strict piece.offset piece.bytes
     else too_long_report piece ∷ []
 
 -- the reports on the games of a collection of which this text was read: on all its pieces, if the text is all of it
--- (`ended`), otherwise on all but the last. `strict`: what is looked for at a game's end
+-- (`ended`), otherwise on all but the last. `strict`: which faults are looked for
 abbrev pub collection_reports : Strictness → Bool → List ℕ → List Plain
 collection_reports strict ended text = flat_map (reports_in strict) (pieces ended 0 text)
 

@@ -152,7 +152,7 @@ pub record StandsAt (start : TextStart) (input text : List ℕ) : Type 0 where
   pub line : line_of input start.offset ≡ start.line
   pub column : column_of input start.offset ≡ 1
 
--- the same, if faults are explained
+-- if faults are explained, the text is in the input where it begins, at the beginning of a line
 abbrev pub StandsIf : Bool → TextStart → List ℕ → List ℕ → Type 0
 StandsIf explain start input text = explain ≡ true → StandsAt start input text
 
@@ -162,7 +162,7 @@ pub record PieceStandsAt (number : ℕ) (input : List ℕ) (piece : PieceSeen) :
   pub line : line_of input piece.offset ≡ number
   pub column : column_of input piece.offset ≡ 1
 
--- the same, if faults are explained
+-- if faults are explained, the piece is in the input at its offset, at the beginning of the line with this number
 abbrev pub PieceStandsIf : Bool → ℕ → List ℕ → PieceSeen → Type 0
 PieceStandsIf explain number input piece = explain ≡ true → PieceStandsAt number input piece
 
