@@ -17,8 +17,9 @@ use Rattle.pgn_verifier.specs.declared.options.Strictness.{Strictness}
 abbrev pub won_by_white : PgnEnd
 won_by_white = record { outcome = WhiteWins; termination = None; offset = 93 }
 
--- what is reported of a game with this end and these faults, if they are looked for: an illegal move in a variation (at
--- the byte 60), an unknown tag Variant (at 10), a tag Result `1/2-1/2` (at 30), and a mate by Black on the board
+-- what is reported of a game that ends with `1-0` and has these faults, if they are looked for: an illegal move in a
+-- variation (at the byte 60), an unknown tag Variant (at 10), a tag Result `1/2-1/2` (at 30), a mate by Black on the
+-- board
 abbrev pub found : (variations variant result board : Bool) → Result (Option PgnEnd) GameFault
 found variations variant result board =
     judged (record {

@@ -57,8 +57,8 @@ pub data HoldsWhole (strict : Strictness) (before part after : List ℕ) : ℕ �
       (length before + at)).state.moves) end.outcome end.termination
       ∷ games)
 
--- of a part that holds whole games, the reports are theirs. From the part's beginning on, those on the text are theirs
--- too, and then those from the part's end on. `start`: the input's offset at which the part, or the text, begins
+-- of a part that holds whole games, the reports are theirs. Those on the text, from the part's beginning on, are theirs
+-- and then those from the part's end on. `start`: the input's offset at which the part, or the text, begins
 pub record AreReportedAlike (strict : Strictness) (start : ℕ) (before part after : List ℕ) (games : List Plain)
     : Type 0 where
   pub alone : reports_on strict start part ≡ games
@@ -76,7 +76,7 @@ WholeGamesAreReportedAlike = (strict : Strictness) → strict.variations ≡ fal
 
 -- ---- the games of all parts
 
--- each of a text's parts, one after another, begins where a line begins and holds whole games; these are the reports on
+-- each of these parts, one after another, begins where a line begins and holds whole games; these are the reports on
 -- all. The first argument after `strict` is the text before the parts
 pub data AllHoldWhole (strict : Strictness) : List ℕ → List (List ℕ) → List Plain → Type 0 where
   no_parts : {before : List ℕ} → AllHoldWhole strict before [] []

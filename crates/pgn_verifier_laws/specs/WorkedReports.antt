@@ -62,7 +62,7 @@ abbrev pub illegal : Report
 illegal =
     Faulty (record { kind = Pgn IllegalMove; offset = 39 }) (codes " | A - B, E F") 39 (codes "Ke3") [] false
 
--- the report on a move after the end of that game
+-- the report on a move after the end of a game between A and B
 abbrev pub after_end : Report
 after_end = Faulty (record { kind = Pgn AfterEnd; offset = 39 }) (codes " | A - B, E F") 39 (codes "O-O") [] false
 
@@ -87,7 +87,7 @@ whole text = record { text = text; early = text; ended = true; failed = false; s
 abbrev pub cut_off : List ℕ → FromInput
 cut_off text = record { text = text; early = []; ended = false; failed = true; silences = 0 }
 
--- the lines of both reports, with these options, are this text
+-- the lines of the two reports (`both`), with these options, are this text
 abbrev pub AreWritten : VerifyOptions → Text → Type 0
 AreWritten options text = report_lines options [] 1 both ≡ codes text
 
@@ -209,7 +209,7 @@ pub record PiecesBegin : Type 0 where
   pub no_moves : AreItsPieces "%a\n;b\n \n[Event \"c\"]\n" (codes "%a\n;b\n \n[Event \"c\"]\n" ∷ [])
   -- at any tag line after a line of moves
   pub moves : AreItsPieces "1. e4 *\n[White \"b\"]\n" (codes "1. e4 *\n" ∷ codes "[White \"b\"]\n" ∷ [])
-  -- also if these moves are in a tag's line, after one tag or more and a comment
+  -- also if these moves are in a tag's line, after one tag or more
   pub moves_after_tag : AreItsPieces "[Event \"a\"] e4 *\n[White \"b\"]\n"
       (codes "[Event \"a\"] e4 *\n" ∷ codes "[White \"b\"]\n" ∷ [])
   pub moves_after_tags : AreItsPieces "[Event \"a\"] [Site \"b\"] e4 *\n[White \"c\"]\n"
