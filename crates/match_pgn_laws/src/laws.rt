@@ -6,9 +6,10 @@ ghost use Rattle.match_pgn_laws.specs.Scores.{ScoresAreSums};
 use chess_match_laws::{games_are_lines, games_end_at_verdicts, verdicts_end_matches};
 use pgn_verifier_laws::{reports_are_the_only_ones, written_texts_have_no_fault};
 
-/// States a law: the score is the sum of the tags `Result` above it. The last line of a match has for its first engine
-/// how many games it won, lost and drew by the lines `[Result ..]` above, where it has White in the first game, Black
-/// in the second, and so on. Each game has such a line, and no other line of the output begins with `[Result `.
+/// States a law and does nothing: the score is the sum of the tags `Result` above it. The last line of a match says how
+/// many games its first engine won, lost and drew, and how many were unfinished. These are the numbers by the lines
+/// `[Result ..]` above, where this engine has White in the first game, Black in the second, and so on. Each game has
+/// such a line, and no other line of the output begins with `[Result `.
 ///
 /// It refuses colours that never change, a draw that counts as a win, and a score of another outcome than the tag's.
 pub fn scores_are_sums()
@@ -19,8 +20,8 @@ pub fn scores_are_sums()
     verdicts_end_matches();
 }
 
-/// States a law: what a match writes above its score, `verify` accepts, with `--strict` or without (but without
-/// `--variations`): it reports each game, without a fault and with the outcome of its tag `Result`. (Without
+/// States a law and does nothing: `verify` accepts what a match writes above its score, with `--strict` or without (but
+/// without `--variations`). It reports each game, without a fault and with the outcome of its tag `Result`. (Without
 /// `--keep-going`, `verify` takes at most 16,777,216 bytes.)
 pub fn matches_pass_verify()
     ensures { MatchesPassVerify }

@@ -1,5 +1,5 @@
 -- The ends of `verify` and of a collection: after the lines (of a collection with the counts last) all is flushed; or a
--- write or the flush failed, and then a beginning of the lines was written, or nothing was begun for want of memory.
+-- write or the flush failed, and then a beginning of the lines was written; or memory ran out, and nothing was begun.
 use Rattle.std.proofs.Common.{◌≡◌, ℕ, Bool, true, false, List, [], ◌++◌, Ok, Err, refl, ap, subst, ◌∙◌, append-nil}
 use Rattle.std.proofs.Math.Seq.{take-length}
 use Rattle.byte_devices.specs.Devices.{InputState, OutputState, Took, Sent, CutShort, TookThenFailed}

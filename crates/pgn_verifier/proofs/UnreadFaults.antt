@@ -1,6 +1,6 @@
--- If a game's fault is at what can't be read as a token, no end of the game is found, so nothing is read after it
--- (none_next). For such a fault is one of reading the game, for which the law `unreadable_games_have_no_end` says so,
--- and never one that is looked for at a game's end.
+-- If a game's fault is at what can't be read as a token, no end of the game is found (none_after), so nothing is read
+-- after it (none_next). Such a fault is one of reading the game, for which the law `unreadable_games_have_no_end` says
+-- so; it is never one that is looked for at a game's end.
 use Rattle.std.proofs.Common.{◌≡◌, ℕ, Bool, true, false, List, length, Option, Some, None, IfErr, IfSome, Result, Ok, Err, refl, sym, ap, ◌∙◌, if◌then◌else◌}
 use Rattle.std.specs.Option.{option_eq, option_map, option_map_or, option_or}
 use Rattle.byte_devices.specs.Bytes.{after_byte_order_mark}

@@ -21,8 +21,7 @@ use Rattle.pgn_verifier.specs.WrongParts.{from_field, field_at, field_number, fe
 abbrev pub shown_word : List ℕ → List ℕ
 shown_word word = if length word == 0 then codes "(end)" else map shown_byte word
 
--- what an explanation shows of a text: its bytes before the first white space, at most 40, with `?` for each that is
--- not printable ASCII; `(end)` if there are none
+-- what is shown of a text (`shown_word`): its bytes before the first white space, at most 40
 abbrev pub shown : List ℕ → List ℕ
 shown text = shown_word (take_while (λ c. not (is_white_space c)) (take 40 text))
 
@@ -31,47 +30,41 @@ shown text = shown_word (take_while (λ c. not (is_white_space c)) (take 40 text
 -- the part of a text that is wrong, by the kind of the fault: the offset at which it begins, and what is shown of it.
 -- `at`: the fault's offset; `begin`: that of its game
 abbrev pub wrong_part : FaultKind → List ℕ → (begin at : ℕ) → ℕ × List ℕ
--- of a bad FEN it is a field, at most 80 bytes of it; the FEN is looked at only up to its next quote, even one after a
--- backslash
+-- of a bad FEN it is a field, at most 80 bytes of it. The FEN ends at the next quote, even at one after a backslash
 wrong_part (Pgn (BadFen fault)) text begin at =
     let all = take_while (λ c. not (c == byte "\"")) (drop at text) in let number = field_number fault all in
     (at + (length all - length (from_field number all)), shown_word (take 80 (field_at number all)))
--- of a missing result it is the first word of the game, as the fault's byte is the next game's or the text's end
+-- of a missing result it is the game's first word, since the fault's byte is the next game's or the text's end
 wrong_part (Pgn NoResult) text begin at = (begin, shown (drop begin text))
 -- of any other fault it is the first word from the fault's byte on
 wrong_part _ text begin at = (at, shown (drop at text))
 
 -- ---- the reason
 
--- `reason` is the reason that is given for a fault of this kind, `None` for none. `text`: all from the fault's byte on;
--- `verdict`: the one that ended the game where reading stopped, `None` for none
+-- `reason` is the one given for a fault of this kind, `None` for none. `text`: all from the fault's byte on; `verdict`:
+-- what ended the game where reading stopped, `None` for none
 abbrev pub IsReason : FaultKind → List ℕ → Option Verdict → Option (List ℕ) → Type 0
--- what a bad tag lacks, and what is wrong with a bad FEN or token
 IsReason (Pgn BadTag) text verdict reason = IsTagReason text reason
 IsReason (Pgn (BadFen fault)) text verdict reason = reason ≡ Some (fen_reason fault)
 IsReason (Pgn BadToken) text verdict reason = reason ≡ Some (token_reason text)
--- of an illegal move only if it is the word `0-0`, which may be meant as a result
+-- the word `0-0`, which may be meant as a result
 IsReason (Pgn IllegalMove) text verdict reason = reason ≡ (if bytes_eq (take_while is_word_byte text) (codes "0-0")
     then Some (codes "castling, and no result of PGN") else None)
--- a move after the end: the verdict that ended the game, such as `0-1 {Black mates}`
+-- the verdict that ended the game, such as `0-1 {Black mates}`
 IsReason (Pgn AfterEnd) text verdict reason = reason ≡ option_map (λ v. result_text (verdict_result v)) verdict
--- a bad token in a variation
 IsReason (InVariation BadToken) text verdict reason = reason ≡ Some (token_reason text)
--- `unknown variant`
 IsReason UnknownVariant text verdict reason =
     reason ≡ Some (codes "neither normal chess nor Chess960, by a name that is known")
--- `result differs`: the first word of the tag Result, which has `tag_len` bytes between its quotes, and the outcome of
--- the game's termination marker, as in `Result 1-0, ended 0-1`
+-- the first word of the tag Result, which has `tag_len` bytes between its quotes, and the game's termination marker, as
+-- in `Result 1-0, ended 0-1`
 IsReason (ResultDiffers tag_len outcome) text verdict reason =
     reason ≡ Some (codes "Result " ++ (shown (take tag_len text) ++ (codes ", ended " ++ outcome_text outcome)))
--- `board says otherwise`: the board's verdict, such as `0-1 {Black mates}`
 IsReason BoardSaysOtherwise text verdict reason = reason ≡ option_map (λ v. result_text (verdict_result v)) verdict
--- any other fault
 IsReason _ text verdict reason = reason ≡ None
 
 -- ---- the explanation
 
--- whether the explanation of a fault of this kind shows a position: not for a bad tag, a bad FEN or an unknown variant,
+-- whether the explanation of a fault of this kind shows a position: not of a bad tag, a bad FEN or an unknown variant,
 -- and not in a variation
 abbrev pub has_position : FaultKind → Bool
 has_position (Pgn BadTag) = false
@@ -80,14 +73,13 @@ has_position (InVariation kind) = false
 has_position UnknownVariant = false
 has_position _ = true
 
--- what explains a fault besides the part that is wrong: the FEN of the position in which reading stopped, for the kinds
--- that show one (`has_position`), and the reason, unless it is `None`, each after ` | `. `s`: the game as far as it was
--- read
+-- what explains a fault besides the part that is wrong, each after ` | `: the FEN of the position in which reading
+-- stopped, if its kind shows one, and the reason, if there is one. `s`: the game as far as it was read
 abbrev pub explanation : State → FaultKind → Option (List ℕ) → List ℕ
 explanation s kind reason = (if has_position kind then codes " | " ++ fen (current s) else [])
     ++ option_map_or (λ why. codes " | " ++ why) reason []
 
--- the line that explains a fault by this text: `# line 2 column 4 ` and the text. The line and the column are those of
+-- the line that explains a fault by this text, such as `# line 2 column 4 Ke3`. The line and the column are those of
 -- the offset `begin` of `input`, which is all that was read
 unfoldable pub explanation_line : List ℕ → ℕ → List ℕ → List ℕ
 explanation_line input begin text = codes "# line " ++ (decimal (line_of input begin) ++ (codes " column "

@@ -1,4 +1,4 @@
--- The faults of a game, and when its result contradicts its text or the board.
+-- The faults of a game. With `--strict` they include a result that contradicts the tags or the board.
 use Rattle.std.specs.Prelude.{◌≡◌, ℕ, ◌-◌, ◌++◌, if◌then◌else◌, List, length, take, codes, Option, Some, None, Result, Ok, Err}
 use Rattle.std.specs.Option.{option_eq, option_map, option_map_or, option_or}
 use Rattle.chess_game.specs.Game.{State, contradicts_verdict}
@@ -24,26 +24,25 @@ use Rattle.pgn_verifier.specs.declared.game_fault.GameFault.{GameFault}
 
 -- ---- at a game's end
 
--- the fault of a game whose last tag Result (`tag`; `None` if it has none) names no outcome, or another than its
--- termination marker (`end`), at the first byte between the tag's quotes; `None` if both agree, or if there is no such
--- tag
+-- the fault of a game whose last tag Result (`tag`; `None` without one) names no outcome, or another than its
+-- termination marker (`end`), at the first byte between the tag's quotes; `None` if both agree or there is no such tag
 abbrev pub result_differs : Option ResultTag → PgnEnd → Option GameFault
 result_differs None end = None
 result_differs (Some tag) end = if option_eq same_outcome tag.outcome (Some end.outcome) then None
     else Some (record { kind = ResultDiffers tag.len end.outcome; offset = tag.offset })
 
--- the fault of a game whose termination marker (`end`) differs from the outcome of the board's `verdict`, as `*` always
--- does, at the marker's first byte; `None` if both agree, or if there is no verdict
+-- the fault of a game whose termination marker (`end`) isn't the outcome of the board's `verdict`, as `*` never is, at
+-- the marker's first byte; `None` if both agree or there is no verdict
 abbrev pub board_says_otherwise : Option Verdict → PgnEnd → Option GameFault
 board_says_otherwise verdict end = if contradicts_verdict verdict end.outcome
     then Some (record { kind = BoardSaysOtherwise; offset = end.offset - length (outcome_text end.outcome) }) else None
 
 -- ---- a game
 
--- what is reported of a game, by what was read of it (the last argument): that there is none (`Ok None`), the fault of
--- reading, or its end; but in place of its end the first of these faults that it has and that `strict` asks for: one in
--- its variations (`variation end`); an unknown variant, named at the offset `unknown`; a marker that differs from the
--- last tag Result (`tag`), or from the board's `verdict`. The last three are `None` if there is none
+-- what is reported of a game, by how reading it ended (the last argument). `Ok None`: there is no game. `Err`: the
+-- fault of reading. `Ok (Some end)`: its end, unless it has a fault that `strict` asks for. The first is reported of:
+-- one in its variations (`variation end`); an unknown variant, named at the offset `unknown`; a marker that contradicts
+-- the last tag Result (`tag`), or the board's `verdict`
 abbrev pub judged : Strictness → (PgnEnd → Option PgnFault) → Option ℕ → Option ResultTag → Option Verdict
     → Result (Option PgnEnd) PgnFault → Result (Option PgnEnd) GameFault
 judged strict variation unknown tag verdict (Ok None) = Ok None
@@ -55,16 +54,15 @@ judged strict variation unknown tag verdict (Ok (Some end)) = option_map_or Err
     (if strict.board then board_says_otherwise verdict end else None)))) (Ok (Some end))
 judged strict variation unknown tag verdict (Err fault) = Err (record { kind = Pgn fault.kind; offset = fault.offset })
 
--- `answer` is what is reported (`judged`) of the first game from the offset `at` of the text on: `Ok (Some end)` with
--- its end, `Ok None` if there is no game, or `Err` with a fault. `s`: this game as far as it was read, at most 20,000
--- half-moves (`MOST_MOVES`). `strict`: which faults are looked for, and whether fivefold repetition and 75 moves end a
--- game (`draws_of_2014`)
+-- `answer` is what is reported of the first game from the offset `at` of the text on (see `judged`). `s`: this game as
+-- far as it was read, at most 20,000 half-moves (`MOST_MOVES`). `strict`: which faults are looked for, and whether
+-- fivefold repetition and 75 moves end a game (`draws_of_2014`)
 pub record IsJudged (strict : Strictness) (text : List ℕ) (at : ℕ) (s : State)
     (answer : Result (Option PgnEnd) GameFault) : Type 0 where
-  -- the text's tokens from `at` on, by its only split
+  -- the text's tokens from `at` on
   pub tokens : List (ℕ × Token)
   pub split : IsSplit text (after_byte_order_mark text at) tokens
-  -- the tokens of each text, from an offset on. Variations are read in the text up to the game's end (`end.offset`)
+  -- the tokens of each text from each offset on. Variations are read in the text up to the game's end (`end.offset`)
   pub split_of : List ℕ → ℕ → List (ℕ × Token)
   pub splits : (other : List ℕ) (from : ℕ) → IsSplit other from (split_of other from)
   -- how reading the game ended
@@ -89,7 +87,7 @@ pgn_fault_name UnclosedComment = codes "unclosed comment"
 pgn_fault_name UnclosedVariation = codes "unclosed variation"
 pgn_fault_name NoResult = codes "no result"
 
--- the words by which a line names a game's fault, as in `game 2: illegal move at byte 39`
+-- the words for a game's fault, as in `game 2: illegal move at byte 39`
 abbrev pub fault_name : FaultKind → List ℕ
 fault_name (Pgn kind) = pgn_fault_name kind
 fault_name (InVariation kind) = pgn_fault_name kind ++ codes " in a variation"

@@ -1,4 +1,4 @@
--- The reports on the games of a text and of pieces, their lines and their counts.
+-- The reports on the games of a text and of a collection's pieces, their lines and their counts.
 use Rattle.std.specs.Prelude.{◌≡◌, ℕ, ◌+◌, ◌==◌, ◌&&◌, nat_le, nat_lt, Bool, true, false, not, if◌then◌else◌, List, [], ◌∷◌, ◌++◌, length, map, take, drop, codes, decimal, is_some, Option, Some, None, Ok, Err}
 use Rattle.std.specs.List.{count_by, prefix_len, sum_by}
 use Rattle.std.specs.Bool.{MatchBool}
@@ -30,46 +30,45 @@ use Rattle.pgn_verifier.specs.declared.tally.Verified.TheVariants.{EachGame, Fau
 
 -- a report on a game, or on a piece that is too long
 pub data Report : Type 0 where
-  -- a game without a fault: how many half-moves it has, the outcome of its termination marker, and what its last tag
-  -- Termination names (`None`: none of the standard's values, or there is no such tag)
+  -- a game without a fault: how many half-moves it has, the outcome of its termination marker, and the value of its
+  -- last tag Termination (`None` if that is missing or not one of the standard's)
   Game : (plies : ℕ) (outcome : Outcome) (termination : Option Termination) → Report
-  -- a fault, at its offset in the input. `names`: what names its game (`names_of`), empty for a piece that is too long;
-  -- `wrong_at`, `part`: the offset in the input of the part that is wrong, and what is shown of it; `why`: what else
+  -- a fault, at its offset in the input. `names`: the game's players, event and date, empty for a piece that is too
+  -- long; `wrong_at`, `part`: the input's offset of the part that is wrong, and what is shown of it; `why`: what else
   -- explains the fault; `is_unread`: whether to say that from the fault's byte on the text isn't read
   Faulty : (fault : GameFault) (names : List ℕ) (wrong_at : ℕ) (part why : List ℕ) (is_unread : Bool) → Report
 
--- a report with its span, the part of the input that it is on: from the byte at the offset `begin` to the last one
--- before the offset `end`
+-- a report with its span: the part of the input from the byte at the offset `begin` on, before that at `end`
 pub record Placed : Type 0 where
   pub begin : ℕ
   pub end : ℕ
   pub report : Report
 
--- the report with its span: from the byte at the offset `begin` to the last one before the offset `end`
+-- a report with this span
 abbrev pub spanning : (begin end : ℕ) → Report → Placed
 spanning begin end report = record { begin = begin; end = end; report = report }
 
--- the offset in a text at which the game from the offset `at` on begins: after a byte order mark (only if `at` is 0),
--- and then after white space
+-- the offset at which the next game from the offset `at` on begins: after a byte order mark (only if `at` is 0), and
+-- then after white space
 abbrev pub game_begin : List ℕ → ℕ → ℕ
 game_begin text at = let first = after_byte_order_mark text at in first + prefix_len is_white_space (drop first text)
 
--- the text of a game's last tag with this name as a line shows it: its first 40 bytes, with `?` for each that is not
+-- the value of a game's last tag with this name as a line shows it: its first 40 bytes, with `?` for each that is not
 -- printable ASCII; `?` alone if there is no such tag
 abbrev pub shown_tag : List (ℕ × Token) → List ℕ → List ℕ
 shown_tag tokens name =
     option_map_or (λ tag. map shown_byte (take 40 tag.0)) (last_tag name (tag_section tokens)) (codes "?")
 
--- what names the game with these tokens in a line, from the last tags of these names: ` | White - Black, Event Date`
+-- what names the game with these tokens in a line, by its last tags of these names: ` | White - Black, Event Date`
 abbrev pub names_of : List (ℕ × Token) → List ℕ
 names_of tokens = codes " | " ++ (shown_tag tokens (codes "White") ++ (codes " - " ++ (shown_tag tokens (codes "Black")
     ++ (codes ", " ++ (shown_tag tokens (codes "Event") ++ (codes " " ++ shown_tag tokens (codes "Date")))))))
 
 -- ---- the reports on the games of a text
 
--- these are the reports on the games of `text` from its offset `at` on (the number before the reports). The text begins
--- at the offset `start` of the input; reports have offsets in the input. `strict`: which faults are looked for;
--- `goes_on`: whether the text is read on after a fault
+-- these are the reports on the games of `text` from an offset on (the number before the reports). The text begins at
+-- the offset `start` of the input; reports have offsets in the input. `strict`: which faults are looked for; `goes_on`:
+-- whether the text is read on after a fault
 pub data AreReports (goes_on : Bool) (strict : Strictness) (start : ℕ) (text : List ℕ) : ℕ → List Placed → Type 0 where
   -- no game comes from `at` on
   none_left : {at : ℕ} {s : State} → IsJudged strict text at s (Ok None) → AreReports goes_on strict start text at []
@@ -79,9 +78,9 @@ pub data AreReports (goes_on : Bool) (strict : Strictness) (start : ℕ) (text :
       → AreReports goes_on strict start text at (spanning (start + game_begin text at) (start + end.offset)
       (Game (length s.moves) end.outcome end.termination) ∷ reports)
   -- the next game has a fault: `part` is the part that is wrong, `reason` why, and `next` where the game ends (`None`
-  -- if not `goes_on`, or if no end is found). The game's span goes to there, and the other reports are on the games
-  -- after it; with `None` the span goes to the text's end, and there are no other reports. If `goes_on`, but no end is
-  -- found, the report says that from the fault's byte on the text isn't read, if there is such a byte
+  -- if not `goes_on`, or if no end is found). The game's span goes to there, or with `None` to the text's end, and
+  -- reading goes on there. If `goes_on`, but no end is found, the report says that from the fault's byte on, if there
+  -- is one, the text isn't read
   next_fault : {at : ℕ} {s : State} {fault : GameFault} {reports : List Placed} (part : ℕ × List ℕ)
       (reason : Option (List ℕ)) (next : Option ℕ) (game : IsJudged strict text at s (Err fault))
       → part ≡ wrong_part fault.kind text (game_begin text at) fault.offset
@@ -95,9 +94,9 @@ pub data AreReports (goes_on : Bool) (strict : Strictness) (start : ℕ) (text :
 
 -- ---- the reports on the games of pieces
 
--- these are the reports on a piece that begins at this offset of the input, read as a text of its own from its first
--- byte on (0), also after faults (`true`); or, if it has more than 16,777,216 bytes (`PIECE_LEN`), the one report,
--- without names and reason (`[]`), that it is too long, a fault at its first byte, and isn't read (`true`)
+-- these are the reports on a piece that begins at this offset of the input, read as a text of its own, also after
+-- faults (`true`). If it has more than 16,777,216 bytes (`PIECE_LEN`), its only report is a fault at its first byte: it
+-- is too long and isn't read
 abbrev pub AreReportsIn : Strictness → ℕ → List ℕ → List Placed → Type 0
 AreReportsIn strict offset piece reports =
     MatchBool (nat_le (length piece) PIECE_LEN) (AreReports true strict offset piece 0 reports)
@@ -106,27 +105,26 @@ AreReportsIn strict offset piece reports =
 
 -- ---- their lines
 
--- the line of the report with this number, which says this text, such as `game 2: illegal move at byte 39`
+-- the line of the report with this number and text, such as `game 2: illegal move at byte 39`
 unfoldable pub report_line : ℕ → List ℕ → List ℕ
 report_line number text = codes "game " ++ (decimal number ++ (codes ": " ++ (text ++ new_line ∷ [])))
 
--- what a report's line says of its span, if `options.spans`, such as `, bytes 61 to 120`: it begins at the offset 61
--- and ends before 120; otherwise nothing
+-- what a report's line says of its span, if `options.spans`, such as `, bytes 61 to 120`: from the byte 61 on, before
+-- 120
 abbrev pub span_text : VerifyOptions → Placed → List ℕ
 span_text options p =
     if options.spans then codes ", bytes " ++ (decimal p.begin ++ (codes " to " ++ decimal p.end)) else []
 
--- what is written of `placed`, whose report is also given by itself (the last argument), so that its cases can be
--- distinguished. `input`: what was read of the input; `number`: the report's number
+-- what is written of `placed`, whose report is also the last argument, so that its cases can be distinguished. `input`:
+-- all that was read; `number`: the report's number
 abbrev pub written_line : VerifyOptions → List ℕ → ℕ → Placed → Report → List ℕ
--- a game's line, such as `game 3: 4 half-moves, 0-1, time forfeit`, unless `options.quiet` leaves it out. The span
--- comes last
+-- a game's line, such as `game 3: 4 half-moves, 0-1, time forfeit`, unless `options.quiet` leaves it out
 written_line options input number placed (Game plies outcome termination) =
     if options.quiet then [] else report_line number (decimal plies ++ (codes " half-moves, " ++ (outcome_text outcome
     ++ (option_map_or (λ t. codes ", " ++ termination_text t) termination [] ++ span_text options placed))))
--- a fault's line, such as `game 2: illegal move at byte 39`, after which come the span and, with `options.names`, what
--- names the game; and with `options.explain` a line that explains the fault, and may end with the bytes that aren't
--- read, such as ` | bytes 151 to 606 not read`: those from the offset 151 on, before 606
+-- a fault's line, such as `game 2: illegal move at byte 39`, with the span and, if `options.names`, what names the
+-- game. If `options.explain`, a line follows that explains the fault, and may end with the bytes that aren't read, such
+-- as ` | bytes 151 to 606 not read`: from the byte 151 on, before 606
 written_line options input number placed (Faulty fault names wrong_at part why is_unread) =
     report_line number (fault_name fault.kind ++ (codes " at byte " ++ (decimal fault.offset
     ++ (span_text options placed ++ (if options.names then names else [])))))
@@ -134,8 +132,8 @@ written_line options input number placed (Faulty fault names wrong_at part why i
     then codes " | bytes " ++ (decimal fault.offset ++ (codes " to " ++ (decimal placed.end ++ codes " not read")))
     else []))) else [])
 
--- the lines of these reports, which are numbered from `number` on; one that `options.quiet` leaves out has a number
--- too. `input`: what was read of the input
+-- the lines of these reports, numbered from `number` on; one that `options.quiet` leaves out has a number too. `input`:
+-- all that was read
 abbrev pub report_lines : VerifyOptions → List ℕ → ℕ → List Placed → List ℕ
 report_lines options input number [] = []
 report_lines options input number (placed ∷ rest) =
@@ -153,7 +151,7 @@ abbrev pub plies_of : Report → ℕ
 plies_of (Game plies outcome termination) = plies
 plies_of (Faulty fault names wrong_at part why is_unread) = 0
 
--- the counts of these reports: the games without a fault, their half-moves, and the faults
+-- the counts of these reports
 abbrev pub counts_of : List Placed → Tally
 counts_of reports = record {
   games = count_by (λ placed. is_game placed.report) reports;
@@ -161,7 +159,7 @@ counts_of reports = record {
   faults = count_by (λ placed. not (is_game placed.report)) reports;
 }
 
--- how verifying ended, by the counts of all reports: with a fault (`FaultReported`) or without (`EachGame`)
+-- how verifying ended, by the counts of all reports
 abbrev pub verified : Tally → Verified
 verified t = if t.faults == 0 then EachGame else FaultReported
 

@@ -8,25 +8,23 @@ use Rattle.pgn_verifier.specs.declared.options.VerifyOptions.{VerifyOptions}
 use Rattle.pgn_verifier.specs.declared.tally.Verified.{Verified}
 use Rattle.pgn_verifier.specs.Reports.{Placed, AreReports, report_lines, counts_of, verified}
 
--- what verifying a text reads (`i`) and writes (`o`), by its result. `PIECE_LEN` is 16,777,216. `AreReports` gets
--- `false`, since the text isn't read on after a fault, and 0 twice: the text begins at offset 0 of the input, and is
--- read from its offset 0 on. The lines are numbered from 1
+-- what verifying a text reads (`i`) and writes (`o`), by its result. The text is the whole input, has at most
+-- 16,777,216 bytes (`PIECE_LEN`), and isn't read on after a fault (`false`). Lines are numbered from 1
 abbrev pub Verifies : VerifyOptions → Result Verified VerifyFault → FromInput → ToOutput → Type 0
--- the whole input was read, and has at most `PIECE_LEN` bytes; the lines of its games up to the first fault were
--- written and flushed (flushed also if there are none)
+-- all was read; the lines of its games up to the first fault were written and flushed (flushed even if there are none)
 Verifies options (Ok summary) i o = IsWhole i × (length i.text ≤ PIECE_LEN)
     × ((reports : List Placed) × AreReports false options.strict 0 i.text 0 reports
     × (o ≡ all_of (report_lines options i.text 1 reports)) × (summary ≡ verified (counts_of reports)))
--- the whole input was read, and has at most `PIECE_LEN` bytes; a beginning of these lines, maybe nothing or all, was
--- written, nothing was flushed, and then a write or the flush failed
+-- all was read; then a write or the flush failed. A beginning of these lines was written, maybe nothing or all, and
+-- nothing was flushed
 Verifies options (Err WriteFailed) i o = IsWhole i × (length i.text ≤ PIECE_LEN)
     × ((reports : List Placed) × AreReports false options.strict 0 i.text 0 reports
     × BreaksOffIn nothing (report_lines options i.text 1 reports) o)
 -- a read failed before the input's end, and nothing was written
 Verifies options (Err ReadFailed) i o = (i.ended ≡ false) × (i.failed ≡ true) × (o ≡ nothing)
--- memory ran out before the input's end, or at the end of at most `PIECE_LEN` bytes; no read failed, and nothing was
+-- memory ran out before the input's end, or at the end of one that isn't too long; no read failed, and nothing was
 -- written
 Verifies options (Err NoMemory) i o = (i.failed ≡ false) × (i.ended ≡ true → length i.text ≤ PIECE_LEN) × (o ≡ nothing)
--- more than `PIECE_LEN` bytes were read, before the input's end; no read failed, and nothing was written
+-- more than `PIECE_LEN` bytes were read, without the input's end; no read failed, and nothing was written
 Verifies options (Err InputTooLong) i o =
     (i.failed ≡ false) × (i.ended ≡ false) × (PIECE_LEN < length i.text) × (o ≡ nothing)

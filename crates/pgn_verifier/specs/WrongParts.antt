@@ -1,5 +1,5 @@
--- Which part of a game's text a fault is about, and what is wrong there (PGN standard of 1994): the field of a FEN
--- (section 16.1.3), what a tag lacks (8.1), and what begins no token (7 and 8.2).
+-- Which part of a game's text is wrong, and why (PGN standard of 1994): the field of a FEN (section 16.1.3), what a tag
+-- lacks (8.1), and what begins no token (7 and 8.2).
 use Rattle.std.specs.Prelude.{◌≡◌, ℕ, zero, suc, ◌==◌, true, false, not, ◌||◌, List, [], ◌∷◌, ◌++◌, take, take_while, Option, Some, codes, is_some, if◌then◌else◌}
 use Rattle.std.specs.List.{list_any}
 use Rattle.std.specs.Str.{bytes_eq}
@@ -14,20 +14,19 @@ use Rattle.pgn_pieces.specs.Pieces.{drop_while}
 
 -- ---- the fields of a FEN
 
--- a FEN from its field with this number on, 0 for the first; one or more spaces separate fields. Empty if it has no
--- such field. From field 4 of `8/8 w - - 0 1` on it is `0 1`
+-- a FEN from its field with this number on, 0 for the first; empty without such a field. One or more spaces separate
+-- fields. From field 4 of `8/8 w - - 0 1` on it is `0 1`
 unfoldable pub from_field : ℕ → List ℕ → List ℕ
 from_field zero fen = drop_while (λ c. c == space) fen
 from_field (suc number) fen = from_field number (drop_while (λ c. not (c == space)) (drop_while (λ c. c == space) fen))
 
--- the field of a FEN with this number, 0 for the first: its bytes before the next space or the FEN's end. Empty if the
--- FEN has no such field
+-- the field of a FEN with this number; empty without such a field
 abbrev pub field_at : ℕ → List ℕ → List ℕ
 field_at number fen = take_while (λ c. not (c == space)) (from_field number fen)
 
 -- the number of the field that is shown for this fault of a FEN, 0 for the first. Of the counters it is the halfmove
--- clock (4), unless that is a number of 1 to 6 digits: then it is the fullmove number (5). For a fault of the
--- placement, or of no single field, such as two kings, it is the first (0)
+-- clock, or if that is a number of 1 to 6 digits, the fullmove number. For a fault of no single field, such as two
+-- kings, it is the first
 abbrev pub field_number : FenFault → List ℕ → ℕ
 field_number Side fen = 1
 field_number Castling fen = 2
@@ -35,30 +34,30 @@ field_number EnPassant fen = 3
 field_number Counters fen = if is_some (short_number 6 (field_at 4 fen)) then 5 else 4
 field_number _ fen = 0
 
--- the reason for a bad FEN: the name of its fault. For a fault of castling, in both variants, also how a FEN is read,
--- since a tag Variant may give Chess960 a name that is not known, which counts as normal chess
+-- the reason for a bad FEN: the name of its fault; for castling also how a FEN is read, since a tag Variant with an
+-- unknown name counts as normal chess
 abbrev pub fen_reason : FenFault → List ℕ
 fen_reason Castling = codes "castling, as in normal chess unless the tag Variant names Chess960"
 fen_reason fault = fen_fault_name fault
 
 -- ---- tags
 
--- the text begins with `[`, a gap (white space and `%` lines, or nothing), and a name's first byte: a letter, digit or
--- `_`. The gap begins inside a line (`false`), so a `%` right after the `[` is not skipped
+-- the text begins with `[`, maybe white space and `%` lines (a gap), and a name's first byte: a letter, digit or `_`. A
+-- `%` right after the `[` is inside a line (`false`), so it isn't skipped
 abbrev pub HasName : List ℕ → Type 0
 HasName text = (gap : List ℕ) × (c : ℕ) × (rest : List ℕ) × IsGap false gap × (is_name_byte c ≡ true)
     × (text ≡ byte "[" ∷ (gap ++ c ∷ rest))
 
--- the text begins with the opening of a tag, such as `[Event "`; `rest` is all that comes after that
+-- the text is the opening of a tag, such as `[Event "`, and then `rest`
 abbrev pub HasOpening : List ℕ → List ℕ → Type 0
 HasOpening text rest = (name opening : List ℕ) × OpensTag name opening × (text ≡ opening ++ rest)
 
--- the text, which comes after a tag's opening quote, begins with the tag's string (maybe empty) and a quote: `a"`
+-- the text, which comes after a tag's opening quote, begins with the tag's value, maybe empty, and a quote: `a"`
 abbrev pub HasString : List ℕ → Type 0
 HasString text = (string rest : List ℕ) × IsString string × (text ≡ string ++ byte "\"" ∷ rest)
 
--- the second argument is the reason for a bad tag, never `None`: the first part that is missing of a name, a quote
--- after it, a quote that ends the value, and `]`. `text`: all from the tag's `[` on, where no tag can be read
+-- the second argument is the reason for a bad tag: the first part that is missing of a name, a quote after it, a quote
+-- that ends the value, and `]`. `text`: all from the tag's `[` on, where no tag can be read
 pub data IsTagReason (text : List ℕ) : Option (List ℕ) → Type 0 where
   no_name : (HasName text → ⊥) → IsTagReason text (Some (codes "no name"))
   no_value : HasName text → ((rest : List ℕ) → HasOpening text rest → ⊥) → IsTagReason text (Some (codes "no value"))
@@ -69,18 +68,16 @@ pub data IsTagReason (text : List ℕ) : Option (List ℕ) → Type 0 where
 
 -- ---- tokens
 
--- the reason for a bad token; `text`: all from the token's first byte on
+-- the reason for a bad token; `text`: all from its first byte on
 abbrev pub token_reason : List ℕ → List ℕ
 token_reason text =
-    -- a draw that PGN writes in another way: the word `1/2`, or `½`, which is the bytes C2 BD
+    -- a draw written in another way: `1/2`, or `½`, which is the bytes C2 BD
     if bytes_eq (take_while is_word_byte text) (codes "1/2") || bytes_eq (take 2 text) (194 ∷ 189 ∷ [])
     then codes "a draw is written 1/2-1/2"
     -- an en dash, the bytes E2 80 93, as in `1–0`
     else if bytes_eq (take 3 text) (226 ∷ 128 ∷ 147 ∷ []) then codes "an en dash, where results have a hyphen"
-    -- a null move, as other programs write it
     else if list_any (bytes_eq (take_while is_word_byte text)) (codes "--" ∷ codes "Z0" ∷ [])
     then codes "a null move, which chess does not have"
-    -- a variation with no move before it
     else if bytes_eq (take 1 text) (codes "(") then codes "no move that this variation replaces"
-    -- any other word is not a move, and any other byte begins no token (in a variation also the `[` of a tag)
+    -- in a variation also the `[` of a tag begins no token
     else if list_any is_word_byte (take 1 text) then codes "not a move" else codes "begins no token"

@@ -16,12 +16,13 @@ use chess_pgn::{PgnFaultKind, game_end, unreadable_games_have_no_end};
 pub(crate) struct AfterFault {
     /// The offset in the text at which reading goes on; `None` if it doesn't.
     pub next: Option<usize>,
-    /// The offset in the text from which on nothing is read, because it isn't found where the next game begins; `None`
-    /// if nothing is left unread, or reading isn't to go on after faults.
+    /// The offset in the text from which on nothing is read, because the end of the game isn't found; `None` if nothing
+    /// is left unread, or reading isn't to go on after faults.
     pub unread: Option<usize>,
 }
 
-// Whether a fault of reading at the offset `at` is one of what can't be read as a token.
+// Whether a fault of reading at the offset `at` is one of bytes that can't be read as a token: a bad tag, a comment or
+// variation that isn't closed, or a bad token that isn't a word.
 fn is_unreadable(text: &[u8], at: usize, kind: PgnFaultKind) -> bool
     requires { at ≤ length text.now }
     ensures { result ≡ is_unreadable text.now at kind }
@@ -40,7 +41,8 @@ fn is_unreadable(text: &[u8], at: usize, kind: PgnFaultKind) -> bool
     }
 }
 
-// Whether the tokens of the text stop at a game's fault, since it is one of what can't be read as a token.
+// Whether the text can't be split into tokens beyond a game's fault, since the fault is one of bytes that can't be read
+// as a token.
 fn stops_tokens(text: &[u8], fault: GameFault) -> bool
     requires { fault.offset ≤ length text.now }
     ensures { result ≡ stops_tokens text.now fault.offset fault.kind }
@@ -55,8 +57,8 @@ fn stops_tokens(text: &[u8], fault: GameFault) -> bool
 }
 
 // The offset at which reading goes on after a game with this fault, which is read from the offset `at` on: where the
-// game ends. `None` if that isn't found, or reading isn't to go on after faults (`goes_on`). It isn't looked for if the
-// text's tokens stop at the fault.
+// game ends. `None` if no end is found, or if reading isn't to go on after faults (`goes_on`). No end is looked for if
+// the text can't be split into tokens beyond the fault.
 fn next_at(goes_on: bool, text: &[u8], at: usize, fault: GameFault) -> Option<usize>
     requires at { at ≤ length text.now }
     requires fault { fault.offset ≤ length text.now }
@@ -76,16 +78,16 @@ fn next_at(goes_on: bool, text: &[u8], at: usize, fault: GameFault) -> Option<us
     game_end(text, at)
 }
 
-// Whether there is a rest of a text of `len` bytes from the fault's offset `offset` on, and it is left unread although
-// reading is to go on after faults (`goes_on`), since it isn't known where (`next` is `None`).
+// Whether a text of `len` bytes is left unread from a fault's offset `offset` on: reading is to go on after faults
+// (`goes_on`), but no offset `next` was found for that, and the fault isn't at the text's end.
 fn is_unread(goes_on: bool, len: usize, offset: usize, next: Option<usize>) -> bool
     ensures { result ≡ (goes_on && not (is_some next) && nat_lt offset len) }
 {
     goes_on && next.is_none() && offset < len
 }
 
-// The offset from which on the rest of a text of `len` bytes is left unread (`is_unread`), that of the fault, `offset`;
-// `None` if it isn't. `next` is the offset at which reading goes on.
+// The fault's offset `offset`, if a text of `len` bytes is left unread from there on (`is_unread`); otherwise `None`.
+// `next` is the offset at which reading goes on.
 fn unread_from(goes_on: bool, len: usize, offset: usize, next: Option<usize>) -> Option<usize>
     ensures value { result ≡ unread_from goes_on len offset next }
     ensures within { IfSome result (λ begin. begin ≤ len) }

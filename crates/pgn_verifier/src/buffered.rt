@@ -41,8 +41,8 @@ fn read_all<R: Input>(alloc: Global, input: &mut R) -> Result<Vec<u8>, VerifyFau
     }
 }
 
-// Reads the games of a text, writes their lines to `output` and flushes it; returns whether each game is without a
-// fault. `game` is only room for the games that are read.
+// Reads the games of a text, one after another into `game`, writes their lines to `output` and flushes it; returns
+// whether each game is without a fault.
 fn finish<W: Output>(
     options: VerifyOptions,
     text: &[u8],

@@ -23,9 +23,9 @@ use chess_game::Game;
 use pgn_pieces::{PgnPieces, pieces_are_cut, pieces_are_in_place};
 use std::alloc::Global;
 
-// Reads the games of the current piece and writes their lines; returns the counts, `before` with these reports added. A
-// piece that is too long is one fault. The piece begins on the line `line`; `game` is only room for the games that are
-// read.
+// Reads the games of the current piece into `game`, one after another, and writes their lines; returns the counts:
+// `before` with these reports added. A piece that is too long is one fault. The piece begins on the line `line` of the
+// input.
 fn verify_piece<W: Output>(
     options: VerifyOptions,
     line: usize,
@@ -60,7 +60,8 @@ fn verify_piece<W: Output>(
     }
 }
 
-// The line after the current piece, which begins on the line `line`. Lines are counted only if faults are explained.
+// The number of the line after the current piece, which begins on the line `line`. If faults aren't explained, lines
+// aren't counted, and it is `line`.
 fn line_after(explain: bool, line: usize, pieces: &PgnPieces) -> usize
     requires { line + length pieces.now.part < 2 ^ 64 }
     ensures counted { explain ≡ true → result ≡ line + (current pieces.now).line_ends }
@@ -73,8 +74,8 @@ fn line_after(explain: bool, line: usize, pieces: &PgnPieces) -> usize
     }
 }
 
-// Reads the games of all pieces of the input and writes their lines; returns the counts of the reports. `game` is only
-// room for the games that are read.
+// Reads the games of all pieces of the input into `game`, one after another, and writes their lines; returns the counts
+// of the reports.
 fn verify_pieces<R: Input, W: Output>(
     options: VerifyOptions,
     pieces: &mut PgnPieces,
@@ -103,7 +104,7 @@ fn verify_pieces<R: Input, W: Output>(
     }
 }
 
-// Writes the line of counts, as `games 2 half-moves 6 faults 1`, and flushes the output.
+// Writes the line of counts, such as `games 2 half-moves 6 faults 1`, and flushes the output.
 fn finish<W: Output>(output: &mut W, tally: Tally) -> Result<(), WriteFault>
     ensures { Sends (W.seen output.old) (W.seen output.new) result (counts_line tally) }
 {

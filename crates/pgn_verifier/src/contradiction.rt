@@ -17,7 +17,8 @@ use chess_game::{Game, Outcome, Verdict};
 use chess_moves::Board;
 use chess_pgn::{PgnEnd, ResultTag, ending, result_tag};
 
-// Whether a tag `Result` names this outcome; `denoted` is what its text denotes, `None` if it denotes no outcome.
+// Whether a tag `Result` names this outcome; `denoted` is the outcome that the tag's text denotes, `None` if it denotes
+// none.
 fn is_text_of(outcome: Outcome, denoted: Option<Outcome>) -> bool
     ensures { result ≡ option_eq same_outcome denoted (Some outcome) }
 {
@@ -45,7 +46,7 @@ fn result_differs(tag: Option<ResultTag>, end: PgnEnd) -> Option<GameFault>
     })
 }
 
-// Whether the board has a verdict, such as mate, and its outcome is not this one.
+// Whether the board has a verdict, such as mate, with another outcome than this one.
 fn is_other(verdict: Option<Verdict>, outcome: Outcome) -> bool
     ensures { result ≡ contradicts_verdict verdict outcome }
 {
@@ -69,8 +70,9 @@ fn board_says_otherwise(verdict: Option<Verdict>, end: PgnEnd) -> Option<GameFau
     })
 }
 
-// The fault of a game that ends with another outcome (`end`) than its last tag `Result` names; `None` also if that
-// isn't looked for (`is_looked_for`). The game was read from `at` on.
+// The fault of a game that ends with another outcome (`end`) than its last tag `Result` names; `None` if they agree, if
+// there is no such tag, or if that isn't looked for (`is_looked_for`). The game was read from the offset `at` of the
+// text on.
 fn result_fault(is_looked_for: bool, text: &[u8], at: usize, end: PgnEnd) -> Option<GameFault>
     requires at { at ≤ length text.now }
     ensures fault { result ≡ looked_for is_looked_for (result_differs
@@ -83,8 +85,8 @@ fn result_fault(is_looked_for: bool, text: &[u8], at: usize, end: PgnEnd) -> Opt
     result_differs(result_tag(text, at), end)
 }
 
-// The fault of a game that ends with another outcome (`end`) than the verdict by which it ends; `None` also if that
-// isn't looked for (`strict.board`).
+// The fault of a game that ends with another outcome (`end`) than the board's verdict; `None` if they agree, if there
+// is no verdict, or if that isn't looked for (`strict.board`).
 fn board_fault<B: Board>(strict: Strictness, game: &Game<B>, end: PgnEnd) -> Option<GameFault>
     ensures { result
         ≡ looked_for strict.board (board_says_otherwise (ending strict.draws_of_2014 game.now.state) end) }
@@ -95,8 +97,9 @@ fn board_fault<B: Board>(strict: Strictness, game: &Game<B>, end: PgnEnd) -> Opt
     board_says_otherwise(ending(strict.draws_of_2014, game), end)
 }
 
-// What is wrong with the outcome (`end`) of the game that was read from `at` on: it differs from its tag `Result`, or
-// else from the board's verdict. `None` if it agrees, and where it isn't compared.
+// The fault of a game that ends with another outcome (`end`) than its last tag `Result` names, or else than the board's
+// verdict; `None` if neither is so, or isn't looked for (`strict`). The game was read from the offset `at` of the text
+// on.
 pub(crate) fn contradiction<B: Board>(
     strict: Strictness,
     text: &[u8],

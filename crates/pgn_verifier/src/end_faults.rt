@@ -19,8 +19,8 @@ use chess_bits::Bits;
 use chess_game::Game;
 use chess_pgn::{PgnEnd, PgnFault, has_variation, read_variations, unknown_variant};
 
-// The first fault in the variations of the game that was read from `at` on, started in the position `start` and ended
-// with `end`; of `game` only the kind of board is used.
+// Reads the variations of the game that was read from `at` on, started in the position `start` and ended with `end`;
+// returns their first fault. `game` only gives the kind of board.
 fn found_in_variations(
     text: &[u8],
     at: usize,
@@ -46,7 +46,7 @@ fn found_in_variations(
     read_variations(played, first, start, &mut board)
 }
 
-// The fault of a game with a fault in its variations (`found_in_variations`).
+// The fault of a game whose variations have a fault (see `found_in_variations`); `None` if they have none.
 fn fault_in_variations(
     text: &[u8],
     at: usize,
@@ -68,7 +68,8 @@ fn fault_in_variations(
     }
 }
 
-// The fault of a game with a fault in its variations; `None` also if that isn't looked for (`is_looked_for`).
+// The fault of a game whose variations have a fault; `None` if they have none, or if that isn't looked for
+// (`is_looked_for`). The game was read from `at` on, and starts as `game` does.
 fn variation_fault(
     is_looked_for: bool,
     text: &[u8],
@@ -88,7 +89,8 @@ fn variation_fault(
     fault_in_variations(text, at, &game.start(), game, end)
 }
 
-// The same for a game that started in the position `start`, which may not be that of `game`.
+// The fault of a game whose variations have a fault; `None` if they have none, or if that isn't looked for
+// (`is_looked_for`). The game was read from `at` on, and started in the position `start`, unlike perhaps `game`.
 fn variation_fault_from(
     is_looked_for: bool,
     text: &[u8],
@@ -109,8 +111,8 @@ fn variation_fault_from(
     fault_in_variations(text, at, start, game, end)
 }
 
-// The fault of the game that is read from `at` on, if its tag `Variant` names no variant that is known; `None` also if
-// that isn't looked for (`is_looked_for`).
+// The fault of a game whose last tag `Variant` names no variant that is known; `None` if there is no such tag, or if
+// that isn't looked for (`is_looked_for`). The game is read from `at` on.
 fn variant_fault(is_looked_for: bool, text: &[u8], at: usize) -> Option<GameFault>
     requires at { at ≤ length text.now }
     ensures fault { result
@@ -128,8 +130,8 @@ fn variant_fault(is_looked_for: bool, text: &[u8], at: usize) -> Option<GameFaul
     })
 }
 
-// The first of the faults that `strict` names in the game that was read from `at` on and ended with `end`, but not in
-// its variations: of its variant, or of its outcome. `game` is at its last position.
+// The first fault, besides those in variations, that `strict` names in the game that was read from `at` on and ended
+// with `end`: of its variant, or of its outcome. `game` is at its last position.
 fn fault_but_variations(
     strict: Strictness,
     text: &[u8],
@@ -150,8 +152,8 @@ fn fault_but_variations(
     of_variant.or(contradiction(strict, text, at, game, end))
 }
 
-// The first of the faults that `strict` names in the game that was read from `at` on and ended with `end`: in its
-// variations, of its variant, or of its outcome. `game` has the game's start, and is at its last position.
+// The first fault that `strict` names in the game that was read from `at` on and ended with `end`: in its variations,
+// of its variant, or of its outcome. `game` has the game's start, and is at its last position.
 pub(crate) fn end_fault(
     strict: Strictness,
     text: &[u8],
@@ -172,7 +174,8 @@ pub(crate) fn end_fault(
     variation_fault(strict.variations, text, at, game, end).or(found)
 }
 
-// The same for a game that started in the position `start`; `game` is only at its last position.
+// The first fault that `strict` names in the game that was read from `at` on and ended with `end`: in its variations,
+// of its variant, or of its outcome. The game started in the position `start`; `game` is only at its last position.
 pub(crate) fn end_fault_from(
     strict: Strictness,
     text: &[u8],

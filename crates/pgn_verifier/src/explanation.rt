@@ -60,7 +60,8 @@ fn append_fault_name(lines: &mut FaultLines, kind: FaultKind)
     }
 }
 
-// Appends the line of a fault, such as `game 2: illegal move at byte 39`.
+// Appends the line of a fault, such as `game 2: illegal move at byte 39`, with the span and the names that its label
+// has.
 #[tactic(auto, unfolding(crate::specs::Reports::report_line))]
 fn append_fault_line(lines: &mut FaultLines, label: &FaultLabel, fault: GameFault)
     requires { array_vec_len lines.old + 320 ≤ FAULT_LINES_LEN }
@@ -79,8 +80,8 @@ fn append_fault_line(lines: &mut FaultLines, label: &FaultLabel, fault: GameFaul
     lines.push(b'\n');
 }
 
-// How many bytes after a fault's byte the part begins that is wrong: of a FEN the field that is shown for its fault,
-// otherwise the byte itself. `text` is the text from the byte on.
+// How many bytes after a fault's byte the part begins that is wrong: of a bad FEN that of the field that is shown, else
+// 0. `text` is the text from the fault's byte on.
 fn part_offset(kind: FaultKind, text: &[u8]) -> usize
     ensures value { result ≡ (part_on kind text.now).0 }
     ensures within { result ≤ length text.now }
@@ -91,7 +92,8 @@ fn part_offset(kind: FaultKind, text: &[u8]) -> usize
     }
 }
 
-// What is shown of the part that is wrong; `text` is the text from the fault's byte on.
+// What is shown of the part that is wrong from a fault's byte on; of a missing result nothing, since it is explained
+// where its game begins. `text` is the text from the fault's byte on.
 fn shown_part(kind: FaultKind, text: &[u8]) -> Shown
     ensures { result.items ≡ (part_on kind text.now).1 }
 {
@@ -104,15 +106,15 @@ fn shown_part(kind: FaultKind, text: &[u8]) -> Shown
     }
 }
 
-// Whether a fault is explained where its game begins, and the game's first word is shown: a missing result.
+// Whether a fault is explained by the first word of its game, where the game begins: whether it is a missing result.
 fn is_at_begin(kind: FaultKind) -> bool
     ensures { result ≡ is_at_begin kind }
 {
     matches!(kind, FaultKind::Pgn(PgnFaultKind::NoResult))
 }
 
-/// The offset in a text at which a fault is explained: that of its game's beginning (`begin`), or of the part that is
-/// wrong.
+/// The offset in a text that the explanation of a fault is about: the beginning of its game (`begin`) for a missing
+/// result, otherwise that of the part that is wrong.
 pub(crate) fn explained_at(fault: GameFault, begin: usize, text: &[u8]) -> usize
     requires offset { fault.offset ≤ length text.now }
     requires begin { begin ≤ length text.now }
@@ -126,8 +128,8 @@ pub(crate) fn explained_at(fault: GameFault, begin: usize, text: &[u8]) -> usize
     fault.offset + part_offset(fault.kind, &text[fault.offset..])
 }
 
-// Appends the first word of a game as it is shown, if the fault is explained where the game begins; `text` is the text
-// from there on.
+// Appends the first word of a game as it is shown, if the fault is explained by that; `text` is the text from the
+// game's beginning on.
 fn append_first(lines: &mut FaultLines, kind: FaultKind, text: &[u8])
     requires { array_vec_len lines.old + 45 ≤ FAULT_LINES_LEN }
     ensures text { lines.new.items ≡ lines.old.items ++ (if is_at_begin kind then shown text.now else []) }
@@ -166,8 +168,8 @@ fn append_part(lines: &mut FaultLines, reason: &[u8])
     append(lines, reason);
 }
 
-// Appends ` | ` and what is wrong with the illegal move at the text's front, if it is `0-0`: it is castling, and may
-// have been meant as a result. Nothing for any other move.
+// Appends ` | ` and the reason for the illegal move at the text's front, if that is `0-0`: it is castling, and may have
+// been meant as a result. Nothing for any other move.
 fn append_move_reason(lines: &mut FaultLines, text: &[u8])
     requires { array_vec_len lines.old + 80 ≤ FAULT_LINES_LEN }
     ensures text { lines.new.items
@@ -180,7 +182,7 @@ fn append_move_reason(lines: &mut FaultLines, text: &[u8])
 }
 
 // Appends ` | ` and the reason for a fault of reading a game's text; nothing if there is none. `text` is the text from
-// the fault's byte on.
+// the fault's byte on; `verdict` is the one that ended the game, if any.
 fn append_pgn_reason(
     lines: &mut FaultLines,
     kind: PgnFaultKind,
@@ -202,8 +204,8 @@ fn append_pgn_reason(
     }
 }
 
-// Appends ` | ` and the reason for a fault in a variation; nothing if there is none. `text` is the text from its byte
-// on.
+// Appends ` | ` and the reason for a fault in a variation, if it is a bad token; nothing for others. `text` is the text
+// from the fault's byte on.
 fn append_variation_reason(lines: &mut FaultLines, kind: PgnFaultKind, text: &[u8])
     requires { array_vec_len lines.old + 80 ≤ FAULT_LINES_LEN }
     ensures text { lines.new.items ≡ lines.old.items
@@ -215,7 +217,7 @@ fn append_variation_reason(lines: &mut FaultLines, kind: PgnFaultKind, text: &[u
     }
 }
 
-// Appends ` | Result TEXT, ended OUTCOME`: the text of the tag `Result` and the outcome that ends the game's text.
+// Appends ` | Result TEXT, ended OUTCOME`: the text of the tag `Result`, and the outcome of the termination marker.
 fn append_results(lines: &mut FaultLines, tag: &[u8], outcome: Outcome)
     requires { array_vec_len lines.old + 80 ≤ FAULT_LINES_LEN }
     ensures text { lines.new.items ≡ lines.old.items ++ (codes " | " ++ (codes "Result " ++ (shown tag.now
@@ -229,7 +231,8 @@ fn append_results(lines: &mut FaultLines, tag: &[u8], outcome: Outcome)
     append(lines, outcome.text());
 }
 
-// Appends ` | ` and the reason for a fault; nothing if there is none. `text` is the text from its byte on.
+// Appends ` | ` and the reason for a fault; nothing if there is none. `text` is the text from the fault's byte on;
+// `verdict` is the one that ended the game, if any.
 fn append_reason(lines: &mut FaultLines, kind: FaultKind, text: &[u8], verdict: Option<Verdict>)
     requires { array_vec_len lines.old + 80 ≤ FAULT_LINES_LEN }
     ensures text { lines.new.items
@@ -247,7 +250,8 @@ fn append_reason(lines: &mut FaultLines, kind: FaultKind, text: &[u8], verdict: 
     }
 }
 
-// Whether a position is shown at a fault: not at one of the tags, such as a bad FEN, and not in a variation.
+// Whether the explanation of a fault shows a position: not of a bad tag, a bad FEN or an unknown variant, and not in a
+// variation.
 fn has_position(kind: FaultKind) -> bool
     ensures { result ≡ has_position kind }
 {
@@ -260,7 +264,7 @@ fn has_position(kind: FaultKind) -> bool
     )
 }
 
-// Appends ` | ` and the FEN of the position in which reading stopped; nothing if none is known.
+// Appends ` | ` and the FEN of the position in which reading stopped; nothing for a fault that shows none.
 fn append_position<B: Board>(lines: &mut FaultLines, kind: FaultKind, game: &Game<B>)
     requires { array_vec_len lines.old + 98 ≤ FAULT_LINES_LEN }
     ensures text { lines.new.items ≡ lines.old.items
@@ -273,7 +277,7 @@ fn append_position<B: Board>(lines: &mut FaultLines, kind: FaultKind, game: &Gam
     }
 }
 
-// Appends `# line 2 column 4 `.
+// Appends where a fault is, such as `# line 2 column 4 `.
 fn append_place(lines: &mut FaultLines, line: usize, column: usize)
     requires { array_vec_len lines.old + 60 ≤ FAULT_LINES_LEN }
     ensures text { lines.new.items ≡ lines.old.items
@@ -287,7 +291,7 @@ fn append_place(lines: &mut FaultLines, line: usize, column: usize)
     append(lines, b" ");
 }
 
-// Appends which part of the input isn't read, as ` | bytes 151 to 606 not read`; nothing if there is none.
+// Appends which part of the input isn't read, such as ` | bytes 151 to 606 not read`; nothing if there is none.
 fn append_unread(lines: &mut FaultLines, unread: Option<Span>)
     requires { array_vec_len lines.old + 62 ≤ FAULT_LINES_LEN }
     ensures text { lines.new.items ≡ lines.old.items ++ unread_written unread }
@@ -302,8 +306,8 @@ fn append_unread(lines: &mut FaultLines, unread: Option<Span>)
     }
 }
 
-// Appends the text that explains a fault of the game; `text` is the text from the fault's byte on. `draws_of_2014`:
-// whether these draws end a game.
+// Appends the text that explains a fault of the game: the part that is wrong, the position and the reason. `text` is
+// the text from the fault's byte on; `draws_of_2014` says whether fivefold repetition and 75 moves end a game.
 fn append_explanation<B: Board>(
     lines: &mut FaultLines,
     draws_of_2014: bool,
@@ -320,8 +324,8 @@ fn append_explanation<B: Board>(
     append_reason(lines, kind, text, ending(draws_of_2014, game));
 }
 
-/// The lines on a fault of the game: its own, and with `options.explain` the one that explains it. The fault is in this
-/// text, and is explained at this place.
+/// The lines on a fault of the game: its own, and with `options.explain` the one that explains it. `text` is the text
+/// in which the fault is; `place` is what the explanation is about.
 pub(crate) fn fault_lines<B: Board>(
     options: VerifyOptions,
     label: &FaultLabel,

@@ -56,7 +56,7 @@ impl From<AllocError> for VerifyFault {
 impl From<PieceFault> for VerifyFault {
     ghost from_gives = { λ piece fault. fault ≡ of_piece piece };
 
-    // The fault of the same name.
+    // The fault of the same name, if cutting the input into pieces failed.
     fn from(fault: PieceFault) -> VerifyFault {
         match fault {
             PieceFault::ReadFailed => VerifyFault::ReadFailed,

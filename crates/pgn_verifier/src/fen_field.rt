@@ -40,15 +40,16 @@ fn from_field(number: usize, fen: &[u8]) -> &[u8]
     after_spaces(rest)
 }
 
-// A FEN's field with this number, 0 for the first; empty if there are fewer.
+// The field of a FEN with this number, 0 for the first; empty if the FEN has no such field.
 fn field_at(number: usize, fen: &[u8]) -> &[u8]
     ensures { result.now ≡ field_at number fen.now }
 {
     split_while(from_field(number, fen), |byte| byte != b' ').0
 }
 
-// The number (0 for the first) of the field that is shown for a FEN's fault: of the counters the first that is no
-// number, and where no field alone is wrong, the first of all.
+// The number of the field that is shown for a fault of a FEN, 0 for the first. Of the counters it is the halfmove
+// clock, or if that is a number of at most 6 digits, the fullmove number. For a fault of the placement, or of no single
+// field, it is the first.
 fn field_number(fault: FenFault, fen: &[u8]) -> usize
     ensures { result ≡ field_number fault fen.now }
 {
@@ -67,8 +68,8 @@ fn field_number(fault: FenFault, fen: &[u8]) -> usize
     }
 }
 
-/// What is looked at of the FEN at a text's front: the bytes before the first quote, even where a backslash before the
-/// quote keeps it in the FEN.
+/// The bytes of a text before its first quote, which are looked at as the FEN at its front. A quote after a backslash
+/// ends them too, although the tag's value goes on there.
 pub(crate) fn fen_text(text: &[u8]) -> &[u8]
     ensures value { result.now ≡ take_while (λ c. not (c == byte "\"")) text.now }
     ensures shorter { length result.now ≤ length text.now }
@@ -76,7 +77,7 @@ pub(crate) fn fen_text(text: &[u8]) -> &[u8]
     split_while(text, |byte| byte != b'"').0
 }
 
-/// The field that is shown for a FEN's fault.
+/// The field of a FEN that is shown for its fault.
 pub(crate) fn wrong_field(fault: FenFault, fen: &[u8]) -> &[u8]
     ensures { result.now ≡ field_at (field_number fault fen.now) fen.now }
 {
@@ -91,7 +92,7 @@ pub(crate) fn field_offset(fault: FenFault, fen: &[u8]) -> usize
     fen.len() - from_field(field_number(fault, fen), fen).len()
 }
 
-/// The reason for a bad FEN: the name of its fault, and of a bad castling field how it was read.
+/// The reason for a bad FEN: the name of its fault, and of a bad castling field also how it was read.
 pub(crate) fn fen_reason(fault: FenFault) -> &'static [u8]
     ensures value { result.now ≡ fen_reason fault }
     ensures short { length result.now ≤ 77 }

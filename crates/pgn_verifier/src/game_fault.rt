@@ -23,17 +23,18 @@ pub enum FaultKind {
     BoardSaysOtherwise,
 }
 
-/// A fault of a game, and its byte.
+/// A fault of a game, and where it is.
 #[derive(Clone, Copy, Debug, PartialEq, Eq)]
 pub struct GameFault {
     /// What is wrong.
     pub kind: FaultKind,
-    /// The byte at which it is, counted from the text's first byte; from the input's, once it is reported.
+    /// The offset of the fault's byte, counted from the text's first byte, or once it is reported from the input's.
     pub offset: usize,
 }
 
 impl GameFault {
-    // The same fault, with its offset counted from the input's first byte; the game's text begins at `start` there.
+    // The same fault with its offset counted from the input's first byte; the game's text begins at the offset `start`
+    // there.
     pub(crate) fn moved(self, start: usize) -> Self
         requires { start + self.offset < 2 ^ 64 }
         ensures { result ≡ moved start self }
@@ -48,7 +49,7 @@ impl GameFault {
 impl From<PgnFault> for GameFault {
     ghost from_gives = { λ pgn fault. fault ≡ record { kind = Pgn pgn.kind; offset = pgn.offset } };
 
-    // The same kind, at the same byte.
+    // A fault of reading as a game's fault, at the same byte.
     fn from(fault: PgnFault) -> GameFault {
         GameFault {
             kind: FaultKind::Pgn(fault.kind),
@@ -57,7 +58,7 @@ impl From<PgnFault> for GameFault {
     }
 }
 
-// The words for a fault of reading a game's text, as `illegal move`.
+// The words for a fault of reading a game's text, such as `illegal move`.
 pub(crate) fn pgn_fault_name(kind: PgnFaultKind) -> &'static [u8]
     ensures value { result.now ≡ pgn_fault_name kind }
     ensures short { length result.now ≤ 18 }

@@ -19,7 +19,7 @@ use chess_bits::{AttackTables, Bits};
 use chess_game::{Game, MOST_MOVES};
 use std::alloc::{AllocError, Global};
 
-// A new game of at most `MOST_MOVES` half-moves, on a bitboard that uses these tables.
+// A new game of at most 20,000 half-moves (`MOST_MOVES`), on a bitboard that uses these tables.
 pub(crate) fn open_game<'t>(
     alloc: Global,
     tables: &'t AttackTables,
@@ -29,9 +29,9 @@ pub(crate) fn open_game<'t>(
     Game::open(alloc, Bits::new(tables), MOST_MOVES)
 }
 
-// Reads the games of a text up to its first fault, or if it is read on (`start.goes_on`) also those after faults,
-// writes their lines, and returns the counts, `before` with these reports added. The text begins at `start` in the
-// input; `game` is only room for the games that are read.
+// Reads the games of a text into `game`, one after another, up to the first fault, or if reading goes on after faults
+// (`start.goes_on`) also those after it. Writes their lines, and returns the counts: `before` with these reports added.
+// The text begins at `start` in the input.
 pub(crate) fn verify_text<W: Output>(
     options: VerifyOptions,
     start: TextStart,
@@ -53,7 +53,7 @@ pub(crate) fn verify_text<W: Output>(
 {
     let mut at = 0;
     let mut tally = before;
-    // Lines and columns are counted on from here.
+    // Lines and columns are counted on from here: from the last fault, at first from the text's beginning.
     let mut place = Place::at_start(start);
     loop {
         let number = tally.next_number();

@@ -24,7 +24,7 @@ pub(crate) struct Judged {
 }
 
 // Reads the game of a text from the offset `at` on into `game`, and returns its end or its fault; `None` if no game is
-// left. What `strict` names at a game's end is a fault, too.
+// left. The faults that `strict` names are looked for at the game's end. Fivefold repetition and 75 moves end a game.
 fn judge_by_laws(
     strict: Strictness,
     text: &[u8],
@@ -57,7 +57,8 @@ fn judge_by_laws(
     }
 }
 
-// The same, but fivefold repetition and 75 moves end no game. `game` is then at the position in which reading stopped.
+// Does the same as `judge_by_laws`, but fivefold repetition and 75 moves end no game. Afterwards `game` is at the
+// position in which reading stopped, but may have another start.
 fn judge_past_draws(
     strict: Strictness,
     text: &[u8],
@@ -94,9 +95,9 @@ fn judge_past_draws(
     }
 }
 
-/// Reads the game of a text from the offset `at` on, and returns its end or its fault; `None` if no game is left. What
-/// `strict` names is a fault, too. `game` is only room for the game; it is then at the position in which reading
-/// stopped, and the same verdict ends it as the game that was read, if any.
+/// Reads the game of a text from the offset `at` on, and returns its end or its fault; `None` if no game is left. The
+/// faults that `strict` names are looked for, too. Whatever `game` held is dropped: it is then at the position in which
+/// reading stopped, and the same verdict, if any, ends it as the game that was read.
 pub(crate) fn judge_game(
     strict: Strictness,
     text: &[u8],

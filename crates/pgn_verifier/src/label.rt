@@ -49,8 +49,8 @@ fn blanks_len(text: &[u8]) -> usize
         .count()
 }
 
-// The offset at which the game of a text begins that is read from the offset `at` on: that of its first byte that is no
-// white space.
+// The offset at which the game begins that is read from the offset `at` of a text on: after a byte order mark (only if
+// `at` is 0) and white space.
 fn game_begin(text: &[u8], at: usize) -> usize
     requires { at ≤ length text.now }
     ensures value { result ≡ game_begin text.now at }
@@ -61,8 +61,8 @@ fn game_begin(text: &[u8], at: usize) -> usize
 }
 
 impl Label {
-    /// The label of the game of a text that is read from the offset `at` on, and ends before the offset `end`. The text
-    /// begins at `start` in the input.
+    /// What a report's line says of the game that is read from the offset `at` of a text on and ends before the offset
+    /// `end`: its number, and with `options.spans` its span. The text begins at the offset `start` of the input.
     pub(crate) fn of_game(
         options: VerifyOptions,
         number: usize,
@@ -88,7 +88,7 @@ impl Label {
         Label { number, span }
     }
 
-    // The label of the current piece, which is too long.
+    // What a report's line says of the current piece, which is too long: its number, and with `options.spans` its span.
     fn of_piece(options: VerifyOptions, number: usize, pieces: &PgnPieces) -> Self
         ensures number { result.number ≡ number }
         ensures span { span_written result.span
@@ -103,7 +103,7 @@ impl Label {
     }
 }
 
-// The span of the current piece.
+// The part of the input that the current piece is.
 fn piece_span(pieces: &PgnPieces) -> Span
     ensures begin { result.begin ≡ (current pieces.now).offset }
     ensures end { result.end ≡ (current pieces.now).end }
@@ -114,7 +114,7 @@ fn piece_span(pieces: &PgnPieces) -> Span
     }
 }
 
-// The offset in a text at which reading goes on (`next`); if it doesn't, that of the text's end.
+// The offset of a text at which reading goes on (`next`); the text's end if it doesn't go on.
 fn next_or_end(next: Option<usize>, text: &[u8]) -> usize
     requires { IfSome next (λ next. next ≤ length text.now) }
     ensures value { result ≡ unwrap_or next (length text.now) }
@@ -140,8 +140,8 @@ pub(crate) struct FaultLabel {
 }
 
 impl FaultLabel {
-    /// The label of the game of a text that is read from the offset `at` on, and has a fault: it ends where reading
-    /// goes on, or with the text. The text begins at `start` in the input.
+    /// What is said of a game with a fault, which is read from the offset `at` of a text on, and ends where reading
+    /// goes on, or with the text (`after`). The text begins at the offset `start` of the input.
     pub(crate) fn of_game(
         options: VerifyOptions,
         number: usize,
@@ -186,7 +186,7 @@ impl FaultLabel {
         }
     }
 
-    /// The label of the current piece, which is too long: no tags of it are known.
+    /// What is said of the current piece, which is too long: no tags of it are known, and none of its bytes is read.
     pub(crate) fn of_piece(options: VerifyOptions, number: usize, pieces: &PgnPieces) -> Self
         ensures number { result.game.number ≡ number }
         ensures span { span_written result.game.span

@@ -1,4 +1,4 @@
-//! Games of a PGN text verified: each is read according to the rules, and reported on a line of an output.
+//! Verifies the games of a PGN text: each is read according to the Laws of Chess, and reported on a line of an output.
 //!
 //! ```
 //! let mut input = Counted::reading(b"1. e4 *".as_slice());

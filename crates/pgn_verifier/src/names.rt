@@ -20,8 +20,8 @@ const NAMES_LEN: usize = 170;
 /// it.
 pub(crate) type NamesText = ArrayVec<u8, NAMES_LEN>;
 
-// Appends the text of the last tag with this name, of the game of a text that is read from the offset `at` on: at most
-// 40 bytes, as they are shown; `?` if it has no such tag.
+// Appends the value of the last tag with this name, of the game that is read from the offset `at` of a text on: its
+// first 40 bytes, as they are shown; `?` if the game has no such tag.
 fn append_tag(names: &mut NamesText, text: &[u8], at: usize, name: &[u8])
     requires at { at ≤ length text.now }
     requires room { array_vec_len names.old + 40 ≤ NAMES_LEN }
@@ -35,8 +35,8 @@ fn append_tag(names: &mut NamesText, text: &[u8], at: usize, name: &[u8])
     }
 }
 
-/// The end of a line that names the game of a text that is read from the offset `at` on: `White - Black, Event Date`,
-/// by its tags.
+/// The end of a line that names the game that is read from the offset `at` of a text on, by its tags: ` | White -
+/// Black, Event Date`.
 pub(crate) fn game_names(text: &[u8], at: usize) -> NamesText
     requires { at ≤ length text.now }
     ensures { result.items ≡ names_at text.now at }

@@ -1,4 +1,4 @@
-//! A place in a text, with its line and its column. They are counted from one place to the next, so that the time to
+//! An offset in a text, with its line and its column. They are counted from one offset to the next, so that the time to
 //! explain the faults of a text grows only with its length.
 
 ghost use Rattle.std.specs.Prelude.{◌≡◌, ◌≤◌, ◌<◌, ◌+◌, ◌-◌, ◌^◌, not, true, Bool, length};
@@ -9,12 +9,12 @@ ghost use Rattle.pgn_verifier.specs.ties.Counting.{Known, column_on};
 use crate::start::TextStart;
 use pgn_pieces::line_ends;
 
-/// A place in a text, with its line and its column in the input; they are known only if faults are explained.
+/// An offset in a text, with its line and its column in the input, which are known only if faults are explained.
 #[derive(Clone, Copy)]
 pub(crate) struct Place {
     /// Where the text begins.
     pub start: TextStart,
-    /// The offset in the text.
+    /// The offset, counted from the text's first byte.
     pub offset: usize,
     /// The number of the line, counted from 1.
     pub line: usize,
@@ -22,14 +22,14 @@ pub(crate) struct Place {
     pub column: usize,
 }
 
-// Whether columns are counted anew after this byte: it is `\n` or `\r`.
+// Whether columns are counted anew after this byte: whether it is `\n` or `\r`.
 fn breaks_line(byte: u8) -> bool
     ensures { result ≡ breaks_line byte }
 {
     byte == b'\n' || byte == b'\r'
 }
 
-// How many bytes a text has after its last `\n` or `\r`.
+// How many bytes a text has after its last `\n` or `\r`; all of them if it has none.
 fn last_line_len(text: &[u8]) -> usize
     ensures value { result ≡ suffix_len (λ c. not (breaks_line c)) text.now }
     ensures within { result ≤ length text.now }
@@ -40,7 +40,7 @@ fn last_line_len(text: &[u8]) -> usize
         .count()
 }
 
-// The column after these bytes, which begin in the column `column`.
+// The column right after these bytes, the first of which is in the column `column`.
 fn column_on(column: usize, bytes: &[u8]) -> usize
     requires { column + length bytes.now < 2 ^ 64 }
     ensures { result ≡ column_on column bytes.now }
@@ -54,7 +54,7 @@ fn column_on(column: usize, bytes: &[u8]) -> usize
 }
 
 impl Place {
-    /// The place where the text begins.
+    /// The text's beginning: the offset 0, in column 1 of the line on which the text begins.
     pub(crate) fn at_start(start: TextStart) -> Self
         ensures { result ≡ record { start = start; offset = 0; line = start.line; column = 1 } }
     {
@@ -66,7 +66,8 @@ impl Place {
         }
     }
 
-    // The place at this offset of the text, which isn't before this place.
+    // Moves on to this offset of the text, which isn't before the present one: counts the lines and the column in the
+    // bytes between them.
     fn moved_to(self, text: &[u8], offset: usize) -> Self
         requires forward { self.offset ≤ offset }
         requires within { offset ≤ length text.now }
@@ -85,8 +86,8 @@ impl Place {
         }
     }
 
-    /// The place at this offset of the text, if faults are explained; otherwise the place stays. Only the bytes from
-    /// this place on are looked at, if it isn't after the offset.
+    /// Moves to this offset of the text if faults are explained; otherwise stays. It counts on from the present offset,
+    /// or from the text's beginning if the new offset is before the present one.
     pub(crate) fn counted_to(self, explain: bool, text: &[u8], offset: usize) -> Self
         requires known { Known explain text.now self }
         requires within { offset ≤ length text.now }

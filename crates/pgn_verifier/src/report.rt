@@ -15,13 +15,13 @@ use arrayvec::ArrayVec;
 use byte_devices::{Output, WriteFault, append, append_number, put};
 use chess_pgn::{PgnEnd, Termination};
 
-// The most bytes of a line: four numbers' and 60 more.
+// The most bytes of a line: four numbers of 20 digits, and 60 more.
 const LINE_LEN: usize = 140;
 
 // A line on a game.
 type ReportLine = ArrayVec<u8, LINE_LEN>;
 
-// Appends what the tag `Termination` says, such as `, time forfeit`; nothing if there is none.
+// Appends the end of a game's line that names its termination, such as `, time forfeit`; nothing if there is none.
 fn append_termination(line: &mut ReportLine, termination: Option<Termination>)
     requires { array_vec_len line.old + 18 ≤ LINE_LEN }
     ensures text { line.new.items ≡ line.old.items
@@ -34,7 +34,8 @@ fn append_termination(line: &mut ReportLine, termination: Option<Termination>)
     }
 }
 
-// The line of a game without a fault, such as `game 3: 4 half-moves, 0-1`; `plies` is how many half-moves it has.
+// The line of a game without a fault, such as `game 3: 4 half-moves, 0-1`, and its span if the label has one. `plies`
+// is how many half-moves the game has.
 #[tactic(auto, unfolding(crate::specs::Reports::report_line))]
 fn game_line(label: Label, plies: usize, end: PgnEnd) -> ReportLine
     ensures { result.items ≡ game_line label.number plies end.outcome end.termination (span_written label.span) }

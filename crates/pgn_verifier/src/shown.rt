@@ -20,7 +20,7 @@ const FIELD_LEN: usize = 80;
 /// A word or a field as it is shown.
 pub(crate) type Shown = ArrayVec<u8, FIELD_LEN>;
 
-// The first bytes of a text, at most so many.
+// The first `most` bytes of a text; the whole text if it has fewer.
 fn first_bytes(most: usize, text: &[u8]) -> &[u8]
     ensures value { result.now ≡ take most text.now }
     ensures few { length result.now ≤ most }
@@ -36,7 +36,7 @@ fn first_word(text: &[u8]) -> &[u8]
     split_while(first_bytes(WORD_LEN, text), |byte| !is_white_space(byte)).0
 }
 
-// The bytes of a word, or of a tag's text, as they are shown. A space is only in a tag's text.
+// A word, or a tag's text, as it is shown: with `?` for each byte that is not printable ASCII.
 fn shown_bytes(word: &[u8]) -> Shown
     requires { length word.now ≤ FIELD_LEN }
     ensures text { result.items ≡ map shown_byte word.now }
@@ -49,7 +49,7 @@ fn shown_bytes(word: &[u8]) -> Shown
     shown
 }
 
-// A word as it is shown: bytes outside 32 to 126 are `?`, and an empty word is `(end)`.
+// A word as it is shown: with `?` for each byte that is not printable ASCII; `(end)` for an empty word.
 fn shown_word(word: &[u8]) -> Shown
     requires { length word.now ≤ FIELD_LEN }
     ensures text { result.items ≡ shown_word word.now }
@@ -69,7 +69,7 @@ pub(crate) fn shown(text: &[u8]) -> Shown
     shown_word(first_word(text))
 }
 
-/// The first bytes of a text as they are shown, at most 40.
+/// The first 40 bytes of a text as they are shown; the whole text if it has fewer.
 pub(crate) fn shown_beginning(text: &[u8]) -> Shown
     ensures text { result.items ≡ map shown_byte (take 40 text.now) }
     ensures len { array_vec_len result ≤ 40 }
@@ -77,7 +77,7 @@ pub(crate) fn shown_beginning(text: &[u8]) -> Shown
     shown_bytes(first_bytes(WORD_LEN, text))
 }
 
-/// A FEN's field as it is shown, at most 80 bytes of it.
+/// A field of a FEN as it is shown, at most 80 bytes of it.
 pub(crate) fn shown_field(field: &[u8]) -> Shown
     ensures { result.items ≡ shown_word (take 80 field.now) }
 {

@@ -7,6 +7,6 @@ pub(crate) struct TextStart {
     pub offset: usize,
     /// The number of the line, counted from 1. It is known only if faults are explained.
     pub line: usize,
-    /// Whether games after one with a fault are read too, where it is found where the next one begins.
+    /// Whether reading goes on after a game with a fault, if the end of that game is found.
     pub goes_on: bool,
 }

@@ -1,4 +1,4 @@
-//! Counts of games.
+//! Counts of games, and how verifying ended.
 
 ghost use Rattle.std.specs.Prelude.{◌≡◌, ◌<◌, ◌+◌, ◌^◌};
 ghost use Rattle.pgn_verifier.specs.Reports.{verified};
@@ -60,7 +60,7 @@ impl Tally {
         }
     }
 
-    // The number of the next game: games are counted with and without faults.
+    // The number of the next game: one more than the games so far, with and without faults.
     pub(crate) fn next_number(self) -> usize
         requires { self.games + self.faults + 1 < 2 ^ 64 }
         ensures { result ≡ self.games + self.faults + 1 }
@@ -68,7 +68,7 @@ impl Tally {
         self.games + self.faults + 1
     }
 
-    // How verifying ended, by the counts of all reports: each game is without a fault, or a fault was reported.
+    // How verifying ended, by the counts of all reports: with or without a fault.
     pub(crate) fn verified(self) -> Verified
         ensures { result ≡ verified self }
     {

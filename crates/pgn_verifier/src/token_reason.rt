@@ -1,4 +1,4 @@
-//! What is wrong with a tag or another token.
+//! Why a tag or another token is bad.
 
 ghost use Rattle.std.specs.Prelude.{◌≡◌, ◌≤◌, ◌||◌, ◌∷◌, [], length, take, take_while, codes, Option};
 ghost use Rattle.std.specs.List.{list_any, prefix_len};
@@ -10,7 +10,7 @@ ghost use Rattle.pgn_verifier.specs.laws.Reasons.{move_reason, string_reason, va
 
 use pgn_tokens::{after_gap, is_word_byte, split_name, split_string};
 
-// The text after the name at its front; `None` if it begins with no name.
+// The text after the name at its front; `None` if it doesn't begin with a name.
 fn after_name(text: &[u8]) -> Option<&[u8]>
     ensures { option_map (λ r. r.now) result ≡ option_map (λ name. name.1) (name_at text.now) }
 {
@@ -67,7 +67,7 @@ pub(crate) fn bad_tag_reason(text: &[u8]) -> &'static [u8]
     }
 }
 
-/// Whether the text begins with a byte of a word.
+/// Whether the text's first byte is one of a word.
 pub(crate) fn begins_word(text: &[u8]) -> bool
     ensures { result ≡ list_any is_word_byte (take 1 text.now) }
 {
@@ -85,14 +85,14 @@ fn word_len(text: &[u8]) -> usize
     text.iter().take_while(|byte| is_word_byte(**byte)).count()
 }
 
-// The word at a text's front: `1/2` of `1/2 *`. It is empty if the text begins with no word.
+// The word at a text's front, such as `1/2` of `1/2 *`; empty if the text begins with no word.
 fn first_word(text: &[u8]) -> &[u8]
     ensures { result.now ≡ take_while is_word_byte text.now }
 {
     &text[..word_len(text)]
 }
 
-// Whether the text begins with a draw as it is written elsewhere: `1/2`, whole, or `½`.
+// Whether the text begins with a draw as it is written elsewhere: the word `1/2`, or `½`.
 fn begins_with_half(text: &[u8]) -> bool
     ensures { result
         ≡ (bytes_eq (take_while is_word_byte text.now) (codes "1/2")
@@ -108,15 +108,15 @@ fn begins_with_dash(text: &[u8]) -> bool
     text.starts_with(&[0xE2, 0x80, 0x93])
 }
 
-// Whether the text begins with a null move as other programs write it: `--` or `Z0`, whole.
+// Whether the text begins with a null move as other programs write it: the word `--` or `Z0`.
 fn begins_with_null_move(text: &[u8]) -> bool
     ensures { result ≡ list_any (bytes_eq (take_while is_word_byte text.now)) (codes "--" ∷ codes "Z0" ∷ []) }
 {
     first_word(text) == b"--".as_slice() || first_word(text) == b"Z0".as_slice()
 }
 
-/// What is wrong with a bad token: it is a draw as PGN doesn't write it, an en dash, a null move, a variation with no
-/// move before it, another word and not a move, or its first byte begins no token.
+/// The reason for a bad token at the text's front: a draw that PGN writes in another way, an en dash, a null move, a
+/// variation with no move before it, another word (which is not a move), or a byte that begins no token.
 pub(crate) fn token_reason(text: &[u8]) -> &'static [u8]
     ensures value { result.now ≡ token_reason text.now }
     ensures short { length result.now ≤ 40 }
@@ -136,7 +136,8 @@ pub(crate) fn token_reason(text: &[u8]) -> &'static [u8]
     }
 }
 
-/// Why a move is illegal that may have been meant as a result: the word `0-0` is castling. `None` for any other.
+/// The reason for an illegal move at the text's front, if that is `0-0`: it is castling, but may have been meant as a
+/// result. `None` for any other move.
 pub(crate) fn move_reason(text: &[u8]) -> Option<&'static [u8]>
     ensures value { option_map (λ r. r.now) result ≡ move_reason text.now }
     ensures short { IfSome result (λ r. length r.now ≤ 40) }

@@ -41,7 +41,7 @@ alone p word m h = at (shape word) h
     at true e = one_alone (filter (λ n. denotes p word n) (moves p)) m e
     at false e = absurd (cc)
 
--- each word tells the move at its index, which is legal; by induction over the words
+-- each word denotes the move at its index, which is legal; by induction over the words
 told : ReadMovesAreLegal
     → (draws : Bool) (limit : ℕ) (start : Setup) (done : List Move) (words : List (List ℕ)) (ms : List Move)
     → AreReadAs draws limit start done words ms → AreTold (position_after start done) words ms

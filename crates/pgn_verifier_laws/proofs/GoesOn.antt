@@ -1,5 +1,5 @@
--- Without a fault the reports on a text are the same, whether reading goes on after faults or not (a, b): only a report
--- on a fault asks for that.
+-- Without a fault the reports on a text are the same, whether reading goes on after faults or not (same_of): only after
+-- a fault does that matter. `a` and `b` are two choices.
 use Rattle.std.proofs.Common.{◌≡◌, ℕ, zero, suc, ◌+◌, Bool, true, false, List, ◌∷◌, length, Option, Some, None, Result, Ok, Err, refl, ap}
 use Rattle.std.specs.List.{list_all}
 use Rattle.chess_game.specs.Game.{State}

@@ -1,4 +1,4 @@
--- Which fault is reported of a game that has several at its end, and after which ends a game may continue, worked out.
+-- Which of several faults at a game's end is reported, and after which ends a game may continue, worked out.
 use Rattle.std.specs.Prelude.{◌≡◌, ℕ, Bool, true, false, Option, Some, None, Result, Ok, Err}
 use Rattle.chess_game.specs.declared.results.Outcome.TheVariants.{WhiteWins, Draw, Unfinished}
 use Rattle.chess_game.specs.declared.verdicts.Verdict.{Verdict}
@@ -13,13 +13,13 @@ use Rattle.pgn_verifier.specs.declared.game_fault.FaultKind.TheVariants.{Pgn, In
 use Rattle.pgn_verifier.specs.declared.game_fault.GameFault.{GameFault}
 use Rattle.pgn_verifier.specs.declared.options.Strictness.{Strictness}
 
--- a game's end whose marker is `1-0`, from the byte 90 on
+-- a game's end with the marker `1-0`, which begins at the byte 90
 abbrev pub won_by_white : PgnEnd
 won_by_white = record { outcome = WhiteWins; termination = None; offset = 93 }
 
--- what is reported of a game with this end, if such faults are looked for. It has all: a move in a variation is illegal
--- (at the byte 60), the tag Variant names no variant that is known (at 10), the tag Result is `1/2-1/2` (at 30), and on
--- the board Black has mated
+-- what is reported of a game that ends with `1-0` and has these faults, if they are looked for: an illegal move in a
+-- variation (at the byte 60), an unknown tag Variant (at 10), a tag Result `1/2-1/2` (at 30), a mate by Black on the
+-- board
 abbrev pub found : (variations variant result board : Bool) → Result (Option PgnEnd) GameFault
 found variations variant result board =
     judged (record {
@@ -32,11 +32,11 @@ found variations variant result board =
     (λ end. Some (record { kind = IllegalMove; offset = 60 })) (Some 10)
     (Some (record { outcome = Some Draw; offset = 30; len = 7 })) (Some BlackMates) (Ok (Some won_by_white))
 
--- the board is looked at, and nothing more
+-- only a verdict of the board is looked for
 abbrev pub only_board : Strictness
 only_board = record { draws_of_2014 = true; variations = false; variant = false; result = false; board = true }
 
--- a game's end whose marker is `*`, at the byte 90
+-- a game's end with the marker `*`, at the byte 90
 abbrev pub unfinished_at_90 : PgnEnd
 unfinished_at_90 = record { outcome = Unfinished; termination = None; offset = 91 }
 
@@ -57,24 +57,24 @@ pub record FaultsAreInOrder : Type 0 where
   pub no_outcome : judged (record only_board { result = true }) (λ end. None) None
       (Some (record { outcome = None; offset = 30; len = 3 })) None (Ok (Some won_by_white))
       ≡ fault_at (ResultDiffers 3 WhiteWins) 30
-  -- the marker `*` at the byte 90 contradicts a mate too
+  -- the marker `*` contradicts a mate too
   pub unfinished : judged only_board (λ end. None) None None (Some BlackMates) (Ok (Some unfinished_at_90))
       ≡ fault_at BoardSaysOtherwise 90
-  -- a fault of reading is reported as it is, such as a move after a mate, and nothing else is looked for
+  -- a fault of reading, such as a move after a mate, comes before all of these
   pub after_end : judged only_board (λ end. None) None None (Some BlackMates)
       (Err (record { kind = AfterEnd; offset = 39 })) ≡ fault_at (Pgn AfterEnd) 39
 
 -- ---- ends that `--ignore after-end` passes over
 
--- this verdict ends a game also for a reader that passes the draws of 2014 over
+-- this verdict ends a game also if fivefold repetition and 75 moves don't
 abbrev pub EndsEachGame : Verdict → Type 0
 EndsEachGame v = not_of_2014 v ≡ Some v
 
--- after two draws, which the Laws of Chess have had since July 2014, a game may continue then, and after no other end
+-- a game may continue after the two draws that the Laws of Chess have had since July 2014, and after no other end
 pub record DrawsArePassed : Type 0 where
   pub fivefold : not_of_2014 FivefoldRepetition ≡ None
   pub seventy_five_moves : not_of_2014 SeventyFiveMoves ≡ None
-  -- a game in which 75 moves were reached is over only for a reader that doesn't pass them over
+  -- 75 moves end a game only if these draws do
   pub passed : (s : State) → verdict_now s ≡ Some SeventyFiveMoves → ending false s ≡ None
   pub heeded : (s : State) → verdict_now s ≡ Some SeventyFiveMoves → ending true s ≡ Some SeventyFiveMoves
   pub white_mates : EndsEachGame WhiteMates

@@ -1,4 +1,4 @@
--- The pieces of a text that is cut into shards.
+-- The pieces of a text that is divided into two parts (shards).
 use Rattle.std.specs.Prelude.{◌≡◌, ℕ, true, Bool, false, if◌then◌else◌, List, [], ◌∷◌, ◌++◌}
 use Rattle.std.specs.List.{list_all}
 use Rattle.pgn_pieces.specs.Pieces.{lines_of, is_tag_line, is_empty_line, is_moves_line, cut}
@@ -13,8 +13,8 @@ abbrev pub begins_in_tag : List (List ℕ) → Bool
 begins_in_tag [] = false
 begins_in_tag (line ∷ lines) = is_tag_line line
 
--- a text cut in two between two lines, after a line of moves and any empty lines, and before a tag line, has the pieces
--- of its first part and then those of its second part
+-- a text that is divided after a line of moves and any empty lines, and before a tag line, has the pieces of its first
+-- part and then those of its second
 abbrev pub ShardsAreCut : Type 0
 ShardsAreCut = (front rest : List ℕ) → ends_in_moves (lines_of (front ++ 10 ∷ [])) ≡ true
     → begins_in_tag (lines_of rest) ≡ true → cut ((front ++ 10 ∷ []) ++ rest) ≡ cut (front ++ 10 ∷ []) ++ cut rest

@@ -21,11 +21,11 @@ use Rattle.pgn_verifier.specs.laws.Reasons.{tag_reason}
 
 -- ---- names
 
--- the line of a fault of this kind names it so
+-- a fault of this kind has this name
 abbrev pub IsCalled : FaultKind → Text → Type 0
 IsCalled kind name = fault_name kind ≡ codes name
 
--- how each fault is named
+-- how faults are named
 pub record FaultsAreCalled : Type 0 where
   pub bad_tag : IsCalled (Pgn BadTag) "bad tag"
   pub bad_fen : (fault : FenFault) → IsCalled (Pgn (BadFen fault)) "bad FEN"
@@ -44,27 +44,25 @@ pub record FaultsAreCalled : Type 0 where
 
 -- ---- the part that is wrong
 
--- the part that is shown for this fault of the FEN in this text, which begins at the byte 6
+-- the part that is shown for this fault of a FEN, which begins at the byte 6 of this text
 abbrev pub field_shown : Text → FenFault → ℕ × List ℕ
 field_shown text fault = wrong_part (Pgn (BadFen fault)) (codes text) 0 6
 
--- a text with a FEN of six fields, whose halfmove clock is no number
+-- a FEN of six fields, whose halfmove clock is no number
 abbrev pub wrong_clock : Text
 wrong_clock = "[FEN \"8/8 w KQ e3 x 9\"] *"
 
 -- what is shown of a text, and from which byte on
 pub record PartsAreShown : Type 0 where
-  -- of a FEN the field that is wrong (PGN standard of 1994, section 16.1.3)
+  -- the wrong field of a FEN (PGN standard of 1994, section 16.1.3)
   pub side : field_shown wrong_clock faults.Side ≡ (10, codes "w")
   pub castling : field_shown wrong_clock faults.Castling ≡ (12, codes "KQ")
   pub target : field_shown wrong_clock faults.EnPassant ≡ (15, codes "e3")
   pub clock : field_shown wrong_clock faults.Counters ≡ (18, codes "x")
   pub number : field_shown "[FEN \"8/8 w KQ e3 7 y\"] *" faults.Counters ≡ (20, codes "y")
-  -- a clock has at most six digits, and is the wrong one if it has seven
+  -- a clock of seven digits is wrong
   pub long_clock : field_shown "[FEN \"8/8 w KQ e3 1000000 y\"] *" faults.Counters ≡ (18, codes "1000000")
-  -- several spaces may be between fields
   pub spaces : field_shown "[FEN \"8/8  w KQ\"] *" faults.Side ≡ (11, codes "w")
-  -- at most 80 bytes of a field
   pub long_field : wrong_part (Pgn (BadFen faults.Placement)) (replicate 81 (byte "z")) 0 0
       ≡ (0, replicate 80 (byte "z"))
   -- the first field, if the fault is of the placement, of the whole position, or of the number of fields
@@ -74,7 +72,7 @@ pub record PartsAreShown : Type 0 where
   -- of an illegal move its word, and of a game without a result its first word
   pub move : wrong_part (Pgn IllegalMove) (codes "1. e9 *") 0 3 ≡ (3, codes "e9")
   pub game : wrong_part (Pgn NoResult) (codes " 1. e4 ") 1 7 ≡ (1, codes "1.")
-  -- `?` for each byte that is not printable ASCII, as of `é` in UTF-8; only up to white space
+  -- `?` for each byte that is not printable ASCII, as of `é` in UTF-8; up to white space
   pub unprintable : shown (195 ∷ 169 ∷ codes "4 e5") ≡ codes "??4"
   -- at most 40 bytes; `(end)` where the text ends
   pub long : shown (replicate 41 (byte "z")) ≡ replicate 40 (byte "z")
@@ -85,14 +83,12 @@ pub record PartsAreShown : Type 0 where
   -- a carriage return begins no line, but columns count from it
   pub column : explanation_line (codes "a\nbc" ++ (carriage_return ∷ codes "def")) 7 (codes "f")
       ≡ codes "# line 2 column 3 f\n"
-  -- the position in which reading stopped; but none for a bad tag, a bad FEN, a fault in a variation and an unknown
-  -- variant
+  -- the position in which reading stopped; none for a bad tag, a bad FEN, a fault in a variation or an unknown variant
   pub position : explanation (from_start initial_setup) (Pgn IllegalMove) None
       ≡ codes " | rnbqkbnr/pppppppp/8/8/8/8/PPPPPPPP/RNBQKBNR w KQkq - 0 1"
-  -- it is the game's last, not its start; `FEN` is in place of that position's
+  -- the game's last, not its start (`FEN` is in place of a position's)
   pub last_position : (s : State) → fen (current s) ≡ codes "FEN"
       → explanation s (Pgn IllegalMove) None ≡ codes " | FEN"
-  -- and the reason comes after it
   pub reason_after_it : (s : State) → fen (current s) ≡ codes "FEN"
       → explanation s (Pgn IllegalMove) (Some (codes "why")) ≡ codes " | FEN | why"
   pub no_position : (s : State) → map (λ kind. explanation s kind None)
@@ -100,22 +96,21 @@ pub record PartsAreShown : Type 0 where
 
 -- ---- reasons
 
--- the reason for a bad token, where this text begins
+-- this is the reason for a bad token that begins this text
 abbrev pub IsTokenReason : Text → Text → Type 0
 IsTokenReason text reason = token_reason (codes text) ≡ codes reason
 
--- the reason for a bad tag, where this text begins. The law `reports_are_the_only_ones` says that it is the one that is
--- given
+-- this is the reason for a bad tag that begins this text
 abbrev pub IsTagReasonOf : Text → Text → Type 0
 IsTagReasonOf text reason = tag_reason (codes text) ≡ codes reason
 
--- this is the reason for a fault of this kind, where this text begins; the board has mated White
+-- this is the reason for a fault of this kind at the beginning of this text, in a game in which Black has mated
 abbrev pub IsGiven : FaultKind → Text → Text → Type 0
 IsGiven kind text reason = IsReason kind (codes text) (Some BlackMates) (Some (codes reason))
 
 -- which reasons are given
 pub record ReasonsAreGiven : Type 0 where
-  -- for a token that is none
+  -- for a bad token
   pub draw : IsTokenReason "1/2 *" "a draw is written 1/2-1/2"
   -- `½`, and an en dash
   pub half : token_reason (194 ∷ 189 ∷ []) ≡ codes "a draw is written 1/2-1/2"
@@ -130,11 +125,9 @@ pub record ReasonsAreGiven : Type 0 where
   pub no_value : IsTagReasonOf "[A b\"] *" "no value"
   pub not_closed : IsTagReasonOf "[A \"b] *" "string not closed"
   pub no_bracket : IsTagReasonOf "[A \"b\" *" "no bracket after the value"
-  -- a `%` after the bracket is no line of its own, so it is in place of a name
+  -- a `%` after the bracket begins no line to be skipped
   pub percent : IsTagReasonOf "[%\nA \"b\"] *" "no name"
-  -- for a bad FEN
   pub castling : fen_reason faults.Castling ≡ codes "castling, as in normal chess unless the tag Variant names Chess960"
-  -- for other faults
   pub zeros : IsGiven (Pgn IllegalMove) "0-0 *" "castling, and no result of PGN"
   -- not of castling on the queen's side
   pub no_zeros : IsReason (Pgn IllegalMove) (codes "0-0-0 *") (Some BlackMates) None

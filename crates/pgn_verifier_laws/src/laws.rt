@@ -26,8 +26,8 @@ use chess_base::{Position, Variant};
 use chess_pgn_laws::{a_game_is_tags_and_moves, games_are_of_tokens, pgn_is_read_back};
 use chess_text::read_moves_are_legal;
 
-/// States a law and does nothing: a game is judged in one way, and a text and a collection have one list of reports. It
-/// is the one that is made by reading games one after another. Without their spans (`Plain`) the reports are those of
+/// States a law and does nothing: a game is judged in one way only, and a text and a collection have one list of
+/// reports only: those made by reading games one after another. Without their spans (`Plain`) they are the reports of
 /// which the other laws speak.
 pub fn reports_are_the_only_ones()
     ensures game { (strict : Strictness) (text : List ℕ) (at : ℕ)
@@ -71,7 +71,7 @@ pub fn written_texts_have_no_fault()
     a_game_is_tags_and_moves();
 }
 
-/// States a law and does nothing: a game that is read in a text without a fault, from a place in one of its parts on,
+/// States a law and does nothing: a game that is read in a text without a fault, from a byte of one of its parts on,
 /// and that ends in that part, is read in the part alone, if the part begins where a line begins. So where the pieces
 /// of a text of at most 16,777,216 bytes hold whole games, `verify` and `verify_collection` report the same games.
 /// Variations aren't looked at.
@@ -106,11 +106,11 @@ pub fn spans_make_up_the_text()
     a_game_is_tags_and_moves();
 }
 
-/// States a law: a game that `verify` counts is a game. It has a sound start, and as many moves as the report says, one
-/// for each word between the tags and the termination marker that is no number and no marks. Each move is legal where
-/// it is made, and the one legal move that its word denotes. Before the last one no verdict had ended the game: neither
-/// mate, stalemate nor a dead position, nor, unless they are ignored, fivefold repetition or 75 moves. The next game
-/// begins where this one ends.
+/// States a law and does nothing: a game that `verify` counts is a game by the Laws. It has a sound start, and as many
+/// moves as the report says, one for each word between the tags and the termination marker that is no number and no
+/// marks. Each move is legal where it is made, and the one legal move that its word denotes. Before the last one no
+/// verdict had ended the game: neither mate, stalemate nor a dead position, nor, unless they are ignored, fivefold
+/// repetition or 75 moves. The next game begins where this one ends.
 ///
 /// It refuses a move after mate, a word that is passed over, and a report of another number of half-moves.
 pub fn counted_games_are_games()
@@ -155,10 +155,11 @@ pub fn faults_are_in_order()
     ensures draws { DrawsArePassed }
 {}
 
-/// States a law and does nothing: the lines of some reports, of their counts and of an explanation, byte by byte, with
-/// some options of `verify`, and what is written of a text or a collection with two reports; where two games of a text
-/// begin and end; where some texts are read on after a fault; and into which pieces some texts are cut. And how each
-/// fault is named, which part of a text is shown for it, as for each fault of a FEN, and for which reasons.
+/// States a law and does nothing: examples are worked out of all that `verify` reports. Byte by byte: the lines of some
+/// reports, of their counts and of an explanation, with some options, and what is written of a text and of a collection
+/// with two reports. Also where two games of a text begin and end; where some texts are read on after a fault; into
+/// which pieces some texts are cut; how each fault is named, which part of a text is shown for it, and for which
+/// reasons.
 ///
 /// It refuses a game that is numbered only if it is shown, Black's name before White's, white space that belongs to the
 /// game after it, a result that is read again after a fault, an Event line that begins no piece, or begins one after

@@ -24,7 +24,7 @@ const SHORT: [&[u8]; 4] = [
 // What is opened and never closed.
 const UNCLOSED: [&[u8]; 4] = [b"1. e4 (", b"1. d4 {", b"(((((((((", b"1. e4 e5 [x \"y"];
 
-// So many of the shortest pieces, as a text.
+// A text of `count` of the shortest pieces that a collection can be cut into.
 fn short_pieces(alloc: Global, count: usize, random: &mut Random) -> Result<Vec<u8>, AllocError> {
     let mut text = Vec::new(alloc);
     for _ in 0..count {
@@ -33,7 +33,7 @@ fn short_pieces(alloc: Global, count: usize, random: &mut Random) -> Result<Vec<
     Ok(text)
 }
 
-// So many pieces in which something is opened that is never closed, as a text.
+// A text of `count` pieces, in each of which a comment, a variation or a tag is opened and never closed.
 fn unclosed_pieces(
     alloc: Global,
     count: usize,
@@ -49,7 +49,7 @@ fn unclosed_pieces(
     Ok(text)
 }
 
-// One piece of so many lines, in the first of which a comment, a variation or a tag is opened that is never closed.
+// A text that is one piece: a comment, a variation or a tag is opened and never closed, and `lines` lines follow.
 fn long_piece(alloc: Global, lines: usize, random: &mut Random) -> Result<Vec<u8>, AllocError> {
     let mut text = Vec::new(alloc);
     add(&mut text, random.one_of(&UNCLOSED))?;
@@ -67,8 +67,8 @@ fn long_piece(alloc: Global, lines: usize, random: &mut Random) -> Result<Vec<u8
     Ok(text)
 }
 
-// Long games without captures or moves of pawns for long: as a text, and as lines of a session that plays each of
-// them, asks for its text, takes all its moves back and asks for the state.
+// Makes `games` very long games, with few captures and moves of pawns, and verifies their text. It then runs a session
+// that plays each of them, asks for its PGN, takes all its moves back and asks for the state.
 fn long_games(
     alloc: Global,
     games: usize,
@@ -106,7 +106,7 @@ fn long_games(
     answer_lines(alloc, lines.as_slice(), digest)
 }
 
-// Walks from positions with many queens, and asks each sixth position all that a board answers.
+// Makes `walks` walks from positions with many queens, and asks each sixth position all that a board answers.
 fn many_queens(
     alloc: Global,
     walks: usize,
@@ -122,8 +122,8 @@ fn many_queens(
     Ok(())
 }
 
-/// Asks for what is awkward, so many times of each kind; of short pieces, of unclosed ones and of lines of a long one
-/// 20,000 for each time.
+/// Does each of the awkward jobs: verifies short pieces, unclosed pieces, and a piece of many lines, 20,000 of each for
+/// each of the `times` (at most 1,000); then plays `times` long games, and makes four times as many walks with queens.
 ///
 /// # Errors
 /// If memory runs out.

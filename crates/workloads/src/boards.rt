@@ -15,7 +15,7 @@ use chess_moves::{Board, Plain};
 use chess_text::{Reading, coordinate, read_move, san};
 use std::alloc::{AllocError, Global};
 
-// A number for a move.
+// A number for a move; different moves have different numbers.
 fn number_of(m: &Move) -> u64 {
     let promotion = match m.promotion {
         Some(kind) => kind as u64 + 1,
@@ -24,7 +24,7 @@ fn number_of(m: &Move) -> u64 {
     (u64::from(m.from.number()) * 64 + u64::from(m.to.number())) * 8 + promotion
 }
 
-// Adds a reading of a text to the digest.
+// Adds to the digest as which move a text was read, or why as none.
 fn add_reading(reading: Reading, digest: &mut Digest) {
     match reading {
         Reading::Move(m) => digest.add(number_of(&m)),
@@ -36,7 +36,7 @@ fn add_reading(reading: Reading, digest: &mut Digest) {
 }
 
 // Writes a legal move as SAN and by squares, reads both texts, makes the move, counts the lines of `depth` legal moves
-// after it, and takes it back.
+// after it, and takes it back. Adds all results to the digest.
 fn go_through<B: Board>(board: &mut B, m: &Move, depth: u8, digest: &mut Digest)
     requires { IsTrue (is_legal (B.position board.old) m.now) }
     ensures { B.position board.new ≡ B.position board.old }
@@ -53,7 +53,7 @@ fn go_through<B: Board>(board: &mut B, m: &Move, depth: u8, digest: &mut Digest)
     board.take_back(*m, saved);
 }
 
-// Does what `go_through` does with each legal move of the board's position, and returns one of them, chosen at random;
+// Does what `go_through` does with each legal move of the board's position, and returns one of them, drawn at random;
 // `None` if there is none.
 fn go_over<B: Board>(
     board: &mut B,
@@ -68,7 +68,8 @@ fn go_over<B: Board>(
     choose(board.setup(), moves.as_slice(), Style::Lively, random)
 }
 
-// Lists the legal moves on the plain board, and asks of a few moves, most of them illegal, whether they are legal.
+// Adds to the digest the legal moves, as the plain board lists them, and of eight moves, each mixed of two legal ones,
+// whether they are legal; most are not.
 fn judge_moves(position: &Position, random: &mut Random, digest: &mut Digest) {
     let mut plain = Plain::new();
     plain.set(position);
@@ -91,7 +92,7 @@ fn judge_moves(position: &Position, random: &mut Random, digest: &mut Digest) {
     }
 }
 
-// Writes the position as FEN and reads it again.
+// Writes a position as FEN, adds this to the digest, and returns the position that is read from it.
 fn through_fen(position: &Position, digest: &mut Digest) -> Position {
     let fen = write_fen(position);
     digest.add_bytes(fen.as_slice());
@@ -101,8 +102,8 @@ fn through_fen(position: &Position, digest: &mut Digest) -> Position {
     }
 }
 
-// Asks all of the board's position: its FEN, its moves on both boards, and the lines of `depth` moves after each;
-// returns one of the moves.
+// Asks the board all about its position: its FEN, its legal moves on both kinds of board, and the lines of `depth`
+// moves after each. Returns one of the moves; `None` if there is none.
 fn ask_position(
     board: &mut Bits<'_>,
     depth: u8,
@@ -115,9 +116,9 @@ fn ask_position(
     go_over(board, depth, random, digest)
 }
 
-// What the walk does at the board's position, with `left` more moves to go: at each sixth position and at the last it
-// asks all that a board answers, and counts the lines of one more move after each move, at the last of `last_depth`.
-// Returns the move with which it goes on; `None` if there is none.
+// Returns the move with which a walk goes on from the board's position; `None` if there is none. `left` is how many
+// more moves are to come: if it is a multiple of 6, the board is first asked all about its position (`ask_position`),
+// with lines of one move, or if it is 0, of `last_depth`.
 fn step(
     board: &mut Bits<'_>,
     left: usize,
@@ -132,9 +133,9 @@ fn step(
     }
 }
 
-/// Makes `positions` moves and one more from the position `start`, as far as there are legal ones, and asks each sixth
-/// position on the way and the last all that a board answers; there the lines of `last_depth` moves after each move are
-/// counted.
+/// Makes `positions` random moves and one more from the position `start`, as long as there are legal ones. It asks the
+/// board all about each sixth position on the way and the last one; there it counts the lines of `last_depth` moves
+/// after each move.
 pub fn ask_walk(
     board: &mut Bits<'_>,
     start: &Position,
@@ -165,8 +166,8 @@ fn start_for(number: usize, random: &mut Random) -> Position {
     }
 }
 
-/// Makes so many walks, each of 24 to 96 moves if there are as many, and asks each sixth position of each all that a
-/// board answers, and at the last one counts the lines of four moves.
+/// Makes `walks` walks, each of 24 to 96 moves if there are as many, and asks the board all about each sixth position.
+/// At the last one it counts the lines of four moves.
 ///
 /// # Errors
 /// If memory runs out.

@@ -11,10 +11,10 @@ use chess_game::{Game, MOST_MOVES, Outcome};
 use pgn_verifier::{LENIENT, STRICT_FAULTS, Verified, VerifyOptions, verify_collection};
 use std::alloc::{AllocError, Global};
 
-// What the record of a game may have as its outcome where the board has none.
+// What a game's record may have as its outcome if the game isn't over.
 const OUTCOMES: [&[u8]; 4] = [b"1-0", b"0-1", b"1/2-1/2", b"*"];
 
-/// The outcome of a game as its record has it: the board's, or any if the board has none.
+/// The outcome that a game's record names: the board's, or a random one if the game isn't over.
 pub fn outcome_text(game: &Game<Bits<'_>>, random: &mut Random) -> &'static [u8] {
     match game.outcome() {
         Outcome::Unfinished => random.one_of(&OUTCOMES),
@@ -22,8 +22,8 @@ pub fn outcome_text(game: &Game<Bits<'_>>, random: &mut Random) -> &'static [u8]
     }
 }
 
-/// Walks from the initial position, or on from a position of the game before, of which half to five sixths are kept: of
-/// three games that follow each other the second and the third begin as the one before does, as if by one opening.
+/// Makes the next game of a collection by random moves. Every third game begins anew; the others keep half to five
+/// sixths of the game before, as if both had the same opening. `texts` are the moves as SAN.
 ///
 /// # Errors
 /// If memory runs out.
@@ -64,7 +64,7 @@ pub fn verify_text(
     Ok(())
 }
 
-/// Options of verifying.
+/// Options by which only faults are reported.
 pub const QUIET: VerifyOptions = VerifyOptions {
     quiet: true,
     strict: LENIENT,
@@ -72,7 +72,7 @@ pub const QUIET: VerifyOptions = VerifyOptions {
     names: false,
     explain: false,
 };
-/// Options of verifying in a quality check.
+/// Options of a quality check: results are compared, and faults explained.
 pub const CAREFUL: VerifyOptions = VerifyOptions {
     quiet: false,
     strict: STRICT_FAULTS,
@@ -81,7 +81,7 @@ pub const CAREFUL: VerifyOptions = VerifyOptions {
     explain: true,
 };
 
-// The texts of one collection in three forms.
+// One collection written in three forms.
 #[derive(Drop)]
 struct Forms {
     plain: Vec<u8>,
@@ -99,7 +99,7 @@ impl Forms {
         }
     }
 
-    // Adds a game to each.
+    // Adds the game to each of the three texts.
     fn add_game(&mut self, record: &Record<'_>, random: &mut Random) -> Result<(), AllocError> {
         add_tags(&mut self.plain, record.number, record.outcome, random)?;
         add_plain(&mut self.plain, record, random)?;
@@ -110,7 +110,8 @@ impl Forms {
     }
 }
 
-// Makes the collections of so many games.
+// Makes a collection of `games` games by random moves, and writes it in its three forms; once in 1,000 games one move
+// is written wrong.
 fn make_forms(alloc: Global, games: usize, random: &mut Random) -> Result<Forms, AllocError> {
     let tables = AttackTables::open(alloc)?;
     let mut game = Game::open(alloc, Bits::new(&tables), MOST_MOVES)?;
@@ -130,8 +131,9 @@ fn make_forms(alloc: Global, games: usize, random: &mut Random) -> Result<Forms,
     Ok(forms)
 }
 
-/// Makes a collection of so many games, and verifies it in three forms: as moves alone; with an evaluation and a
-/// clock's time after each half-move; and annotated, with all that a quality check asks for.
+/// Makes a collection of `games` games, and verifies it in three forms: as moves alone; with an evaluation and a
+/// clock's time after each half-move; and annotated, with all that a quality check asks for. Adds the reports to the
+/// digest.
 ///
 /// # Errors
 /// If memory runs out.

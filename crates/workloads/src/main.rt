@@ -68,7 +68,8 @@ fn words_of(rt: &HostRuntime) -> io::Result<Vec<String>> {
     Ok(words)
 }
 
-// Does the job of this name in this size, and returns the digest of its results; `None` if there is no such job.
+// Does the job of this name and size on random input from this seed, and returns the digest of its results; `None` if
+// there is no such job.
 fn digest_of(alloc: Global, job: &str, size: u32, seed: u32) -> Result<Option<u64>, AllocError> {
     let mut random = Random::new(seed);
     let mut digest = Digest::new();
@@ -85,7 +86,7 @@ fn digest_of(alloc: Global, job: &str, size: u32, seed: u32) -> Result<Option<u6
     Ok(Some(digest.value()))
 }
 
-// Does a job, and prints the digest of its results.
+// Does a job, and prints the digest of its results; prints how the program is called if there is no such job.
 fn do_job(rt: &HostRuntime, job: &str, size: u32, seed: u32) -> io::Result<ExitCode> {
     match digest_of(rt.alloc(), job, size, seed)? {
         Some(digest) => {
@@ -96,7 +97,8 @@ fn do_job(rt: &HostRuntime, job: &str, size: u32, seed: u32) -> io::Result<ExitC
     }
 }
 
-// Counts lines from the position of a FEN, if the arguments are a number and a FEN.
+// Counts the lines of `depth` legal moves from the position of a FEN; prints how the program is called if the depth is
+// no number or the FEN can't be read.
 fn do_lines(rt: &HostRuntime, depth: &str, fen: &[u8]) -> io::Result<ExitCode> {
     match (depth.parse(), read_fen(fen)) {
         (Ok(depth), Ok(start)) => time_lines(rt, depth, &start),
@@ -104,7 +106,7 @@ fn do_lines(rt: &HostRuntime, depth: &str, fen: &[u8]) -> io::Result<ExitCode> {
     }
 }
 
-// Does a little of each job.
+// Does each job in its smallest size.
 fn do_each(rt: &HostRuntime) -> io::Result<ExitCode> {
     for job in &JOBS {
         do_job(rt, job, 1, 1)?;

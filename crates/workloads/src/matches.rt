@@ -22,7 +22,7 @@ pub struct Script {
     pub black: Vec<u8>,
 }
 
-/// A clock by which each look takes a few milliseconds.
+/// A clock that goes on by 7 milliseconds each time it is read.
 #[derive(Drop)]
 pub struct Ticking {
     pub moment: u64,
@@ -33,7 +33,7 @@ impl Moments for Ticking {
 
     ghost coming = { λ m n. None };
 
-    // Reads the clock, which has gone on by 7 milliseconds.
+    // Reads the clock, after it has gone on by 7 milliseconds.
     fn now(&mut self) -> u64 {
         self.moment = self.moment.saturating_add(7);
         self.moment
@@ -47,7 +47,7 @@ struct Log {
 }
 
 impl Log {
-    // Adds what happened on one side at a moment.
+    // Adds an event on one side at a moment; `event` is a number for its kind.
     fn add(&mut self, event: u64, side: Colour, moment: u64) {
         self.digest.add(event);
         match side {
@@ -61,7 +61,7 @@ impl Log {
 impl Witness for Log {
     ghost noted = { λ w before notes. Unit {0} };
 
-    // Adds the note: which it is, whose, its moment (0 if it has none) and its text.
+    // Adds the note: a number for its kind, its side, its moment (0 if it has none) and its text.
     fn note(&mut self, note: Note<'_>) {
         match note {
             Note::Line { side, text, moment } => {
@@ -106,7 +106,7 @@ fn add_greeting(text: &mut Vec<u8>, talk: Talk) -> Result<(), AllocError> {
     add(text, b" done=1\npong 1\n")
 }
 
-// Adds a few lines of an engine's thinking output.
+// Adds three lines of an engine's thinking output (CECP: depth, score, time, nodes, moves).
 fn add_thinking(text: &mut Vec<u8>, ply: usize) -> Result<(), AllocError> {
     for depth in 7..10 {
         add_number(text, depth)?;
@@ -119,7 +119,8 @@ fn add_thinking(text: &mut Vec<u8>, ply: usize) -> Result<(), AllocError> {
     Ok(())
 }
 
-// Adds an engine's lines for its move: the move, and the answer to the `ping` after it.
+// Adds the lines that an engine sends for its half-move `ply`, counted from 0: the move `m`, and the answer to the
+// `ping` after it.
 fn add_move(text: &mut Vec<u8>, m: &[u8], ply: usize, talk: Talk) -> Result<(), AllocError> {
     if talk == Talk::Thinking {
         add_thinking(text, ply)?;
@@ -131,7 +132,7 @@ fn add_move(text: &mut Vec<u8>, m: &[u8], ply: usize, talk: Talk) -> Result<(), 
     add(text, b"\n")
 }
 
-/// What both engines send in a match that has the moves of this game, after which the side on move resigns.
+/// Writes what both engines send in a match with the moves of this game, after which the side on move resigns.
 ///
 /// # Errors
 /// If memory runs out.
@@ -162,7 +163,7 @@ pub fn write_script(
     Ok(Script { white, black })
 }
 
-/// The ends of an engine that sends this text, 4,096 bytes at a time.
+/// Both ends of an engine in memory: it sends this text, 4,096 bytes a read, and what it is sent is kept.
 pub fn ends(alloc: Global, text: &[u8]) -> Ends<Counted<PieceReader<'_>>, Counted<PieceWriter>> {
     Ends {
         reader: Counted::reading(PieceReader::new(text, 4096, 0)),
@@ -185,7 +186,8 @@ fn add_end(end: &MatchEnd, digest: &mut Digest) {
     }
 }
 
-// Plays the match of a script before a log, and adds all that both engines were sent, and the end, to the digest.
+// Plays the match of a script with a log, and adds what both engines were sent, the log and the match's end to the
+// digest.
 fn play(
     alloc: Global,
     script: &Script,
@@ -219,8 +221,9 @@ fn play(
 // The forms in which the two engines of each game talk, one match for each.
 const TALKS: [Talk; 3] = [Talk::Squares, Talk::San, Talk::Thinking];
 
-/// Walks through so many games, every fifth one a long one, and plays each as three matches: between engines that write
-/// squares, that write SAN, and that write lines of their thinking too.
+/// Makes `games` games by random moves, every fifth one a long one, and plays each as three matches: between engines
+/// that write moves by squares, that write SAN, and that write lines of their thinking too. Adds the results to the
+/// digest.
 ///
 /// # Errors
 /// If memory runs out, or a level of time is none.

@@ -12,7 +12,7 @@ use chess_fen::write_fen;
 use chess_game::{Game, MOST_MOVES};
 use std::alloc::{AllocError, Global};
 
-// Adds the tags of a start and the empty line after all tags.
+// Adds the tags that name the start of a game: its variant if it is Chess960, and its FEN.
 fn add_start(text: &mut Vec<u8>, start: &Position) -> Result<(), AllocError> {
     if start.variant() == Variant::Fischerandom {
         add_tag(text, b"Variant", b"fischerandom")?;
@@ -21,7 +21,7 @@ fn add_start(text: &mut Vec<u8>, start: &Position) -> Result<(), AllocError> {
     add_tag(text, b"FEN", write_fen(start).as_slice())
 }
 
-// Adds the number before the first move of a puzzle.
+// Adds the move number before the first move of a puzzle, such as `12. ` or `12... `.
 fn add_first_number(text: &mut Vec<u8>, start: &Position) -> Result<(), AllocError> {
     add_number(text, start.setup().fullmove as usize)?;
     match start.side() {
@@ -30,7 +30,7 @@ fn add_first_number(text: &mut Vec<u8>, start: &Position) -> Result<(), AllocErr
     }
 }
 
-// Adds a puzzle: its tags, and none to three moves of the game from which it is taken.
+// Adds a puzzle: its tags, and none to three moves of the game from which it is taken, from the half-move `ply` on.
 fn add_puzzle(
     text: &mut Vec<u8>,
     start: &Position,
@@ -79,7 +79,7 @@ fn add_all(
     Ok(())
 }
 
-// Makes the puzzles of so many games, every third one of Chess960.
+// Makes the puzzles of `games` games of random moves, every third one of Chess960.
 fn make_puzzles(alloc: Global, games: usize, random: &mut Random) -> Result<Vec<u8>, AllocError> {
     let tables = AttackTables::open(alloc)?;
     let mut game = Game::open(alloc, Bits::new(&tables), MOST_MOVES)?;
@@ -104,7 +104,8 @@ fn make_puzzles(alloc: Global, games: usize, random: &mut Random) -> Result<Vec<
     Ok(text)
 }
 
-/// Makes a file of puzzles out of so many games, with games of Chess960 between them, and verifies it.
+/// Makes a file of puzzles out of `games` games of random moves, with games of Chess960 between them, verifies it, and
+/// adds the reports to the digest.
 ///
 /// # Errors
 /// If memory runs out.

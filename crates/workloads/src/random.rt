@@ -24,19 +24,19 @@ impl Random {
         second ^ (second >> 31)
     }
 
-    /// A number below `limit`; 0 if the limit is 0.
+    /// A random number below `limit`; 0 if the limit is 0.
     pub fn below(&mut self, limit: usize) -> usize
         ensures { result ≤ limit }
     {
         (self.next() >> 33) as usize % limit.max(1)
     }
 
-    /// Whether something happens that happens once in `times`.
+    /// Returns true at random, on average once in `times` calls.
     pub fn once_in(&mut self, times: usize) -> bool {
         self.below(times) == 0
     }
 
-    /// One of these texts; empty if there is none.
+    /// One of these texts, at random; empty if there are none.
     pub fn one_of<'a>(&mut self, texts: &[&'a [u8]]) -> &'a [u8] {
         match texts.get(self.below(texts.len())) {
             Some(text) => text,

@@ -13,14 +13,14 @@ use std::io::{self, ErrorKind};
 use std::process::ExitCode;
 use std::time::{Duration, Instant};
 
-// How many there are a second, if there are `count` of them in the time `spent`, which counts as at least a
-// millisecond.
+// How many things a second there are, if `count` of them take the time `spent`; less than a millisecond counts as one.
 fn a_second(count: u64, spent: Duration) -> u64 {
     let millis = u64::try_from(spent.as_millis()).unwrap_or(u64::MAX).max(1);
     count.saturating_mul(1000) / millis
 }
 
-/// Counts the lines of `depth` legal moves from a position.
+/// Counts the lines of `depth` legal moves from a position (perft), and prints their number, and on standard error how
+/// many a second.
 ///
 /// # Errors
 /// If memory runs out, or a write or the clock fails.
@@ -36,7 +36,8 @@ pub fn time_lines(rt: &HostRuntime, depth: u8, start: &Position) -> io::Result<E
     Ok(ExitCode::SUCCESS)
 }
 
-// Reads all games of a PGN text into `game`, and counts them and their half-moves.
+// Reads all games of a PGN text into `game`, one after another, and prints how many games and half-moves there are, and
+// on standard error how many half-moves a second; or the offset of a fault.
 fn time_reading(rt: &HostRuntime, text: &[u8], game: &mut Game<Bits<'_>>) -> io::Result<ExitCode> {
     let begun = Instant::now(rt)?;
     match read_games(text, game) {
@@ -53,8 +54,8 @@ fn time_reading(rt: &HostRuntime, text: &[u8], game: &mut Game<Bits<'_>>) -> io:
     }
 }
 
-/// Reads all games of a PGN text, and counts them and their half-moves; of a fault it prints the offset on standard
-/// error, and returns status 1.
+/// Reads all games of a PGN text, and prints how many games and half-moves there are, and on standard error how many
+/// half-moves a second. If a game has a fault, it prints the fault's offset there, and returns status 1.
 ///
 /// # Errors
 /// If memory runs out, or a write or the clock fails.
@@ -64,10 +65,11 @@ pub fn time_games(rt: &HostRuntime, text: &[u8]) -> io::Result<ExitCode> {
     time_reading(rt, text, &mut game)
 }
 
-// How many half-moves the game has that two engines play again and again, if it is not over before.
+// At most how many half-moves the game of `relay` has; it has fewer only if it is over before.
 const LONG: usize = 500;
 
-// Plays so many matches by this script, and counts their half-moves.
+// Plays the match of this script so many times, and prints how many half-moves that were, and on standard error how
+// many a second.
 fn time_matches(
     rt: &HostRuntime,
     times: u32,
@@ -84,7 +86,8 @@ fn time_matches(
     Ok(ExitCode::SUCCESS)
 }
 
-/// Plays a long game so many times between two engines in memory, and counts the half-moves of all these matches.
+/// Plays one long game so many times between two engines in memory, and prints how many half-moves that were, and on
+/// standard error how many a second.
 ///
 /// # Errors
 /// If memory runs out, or a write or the clock fails.

@@ -27,7 +27,7 @@ pub fn long_script(
     write_script(alloc, game, &texts, Talk::Squares)
 }
 
-// Plays the match of a script, and returns how many half-moves it has.
+// Plays the match of a script, with this level of time for both sides, and returns how many half-moves it has.
 fn play(alloc: Global, script: &Script, level: Level, game: &mut Game<Bits<'_>>) -> usize {
     let mut white = ends(alloc, script.white.as_slice());
     let mut black = ends(alloc, script.black.as_slice());
@@ -45,7 +45,7 @@ fn play(alloc: Global, script: &Script, level: Level, game: &mut Game<Bits<'_>>)
     game.ply()
 }
 
-/// Plays the match of a script so many times, and returns how many half-moves these matches have in all.
+/// Plays the match of a script `times` times, and returns how many half-moves these matches have in all.
 ///
 /// # Errors
 /// None: `0 60 0` denotes a level.

@@ -15,7 +15,7 @@ use chess_pgn::Tags;
 use chess_text::{coordinate, move_text};
 use std::alloc::{AllocError, Global};
 
-// Adds the lines that set up the start of a game.
+// Adds the lines that set up the start of a game, by its variant.
 fn add_start(text: &mut Vec<u8>, start: &Position) -> Result<(), AllocError> {
     match start.variant() {
         Variant::Normal => add(text, b"variant normal\nnew\n"),
@@ -40,7 +40,8 @@ const QUESTIONS: [&[u8]; 8] = [
     b"e2e5x\n",
 ];
 
-// Adds a half-move of the game by squares, as `e2e4`; in Chess960 castling is `O-O`.
+// Adds the half-move `ply` of the game by squares, such as `e2e4`; in Chess960 castling is `O-O`. Adds nothing if the
+// game has no such half-move.
 fn add_squares(text: &mut Vec<u8>, game: &Game<Bits<'_>>, ply: usize) -> Result<(), AllocError> {
     if ply >= game.ply() {
         return Ok(());
@@ -54,7 +55,8 @@ fn add_squares(text: &mut Vec<u8>, game: &Game<Bits<'_>>, ply: usize) -> Result<
     }
 }
 
-// Adds the line of a half-move: its SAN (`san`) alone, or `usermove e2e4`.
+// Adds the line of the half-move `ply` of the game: its SAN (`san`) alone if `in_san`, otherwise `usermove` and the
+// move by squares.
 fn add_move(
     text: &mut Vec<u8>,
     game: &Game<Bits<'_>>,
@@ -93,8 +95,8 @@ fn add_moves(
     Ok(())
 }
 
-// Adds eight positions of a game that has moves, each set up by its FEN and followed by the game's next six moves, or
-// by as many as there are.
+// Adds the lines that set up eight random positions of a game by their FEN, each followed by the game's next six moves,
+// or by as many as there are. Adds nothing if the game has no moves.
 fn add_late_start(
     text: &mut Vec<u8>,
     game: &Game<Bits<'_>>,
@@ -116,7 +118,8 @@ fn add_late_start(
     Ok(())
 }
 
-// Adds all lines about one game.
+// Adds all lines about one game: its moves as SAN, its PGN, its moves by squares, a result and the PGN again, and some
+// of its positions.
 fn add_game(
     text: &mut Vec<u8>,
     game: &Game<Bits<'_>>,
@@ -132,7 +135,7 @@ fn add_game(
     add_late_start(text, game, texts, random)
 }
 
-// Writes the lines of a session about so many games, every fourth one of Chess960.
+// Writes the lines of a session about `games` games of random moves, every fourth one of Chess960.
 fn write_lines(alloc: Global, games: usize, random: &mut Random) -> Result<Vec<u8>, AllocError> {
     let tables = AttackTables::open(alloc)?;
     let mut game = Game::open(alloc, Bits::new(&tables), MOST_MOVES)?;
@@ -157,7 +160,7 @@ fn write_lines(alloc: Global, games: usize, random: &mut Random) -> Result<Vec<u
     Ok(text)
 }
 
-/// Answers the lines of a session, and adds all that was written to the digest.
+/// Runs a session on these lines, and adds how it ended and all that it wrote to the digest.
 ///
 /// # Errors
 /// If memory runs out.
@@ -177,8 +180,8 @@ pub fn answer_lines(alloc: Global, lines: &[u8], digest: &mut Digest) -> Result<
     Ok(())
 }
 
-/// Walks through so many games, and asks a session about each: its moves in SAN and by squares, its positions, its
-/// text.
+/// Makes `games` games by random moves, and asks a session about each: its moves as SAN and by squares, its positions,
+/// its PGN. Adds the answers to the digest.
 ///
 /// # Errors
 /// If memory runs out.

@@ -8,10 +8,11 @@ use byte_devices::append;
 use chess_base::{Position, Variant};
 use chess_fen::{read_fen, read_fen_as};
 
-// The ranks of a FEN in a starting position of Chess960 between the first and the last.
+// The part of a FEN between the ranks of pieces, in a starting position of Chess960.
 const MIDDLE: &[u8] = b"/pppppppp/8/8/8/8/PPPPPPPP/";
 
-// The first empty square of a rank from this one on, going round.
+// The index of the first empty square of a rank, from the index `from` on and then from the rank's beginning; 0 if
+// there is none.
 fn free_from(rank: &[u8; 8], from: usize) -> usize
     ensures { result < 8 }
 {
@@ -24,13 +25,14 @@ fn free_from(rank: &[u8; 8], from: usize) -> usize
     0
 }
 
-// Puts a piece on an empty square of the rank, at random.
+// Puts a piece, by its letter in a FEN, on the first empty square of the rank from a random one on.
 fn put(rank: &mut [u8; 8], letter: u8, random: &mut Random) {
     let at = free_from(rank, random.below(8) % 8);
     rank[at] = letter;
 }
 
-// The first rank of a starting position of Chess960: bishops on squares of both colours, the king between the rooks.
+// The back rank of a random starting position of Chess960, in the small letters of a FEN: the bishops are on squares of
+// both colours, and the king is between the rooks.
 fn first_rank(random: &mut Random) -> [u8; 8] {
     let mut rank = [b' '; 8];
     rank[random.below(4) % 4 * 2] = b'b';
@@ -54,7 +56,7 @@ fn in_capitals(rank: &[u8; 8]) -> [u8; 8] {
     capitals
 }
 
-/// A starting position of Chess960.
+/// A random starting position of Chess960.
 pub fn fischerandom_start(random: &mut Random) -> Position {
     let rank = first_rank(random);
     let mut fen: ArrayVec<u8, 80> = ArrayVec::new();
@@ -75,7 +77,7 @@ pub const QUEENS: [&[u8]; 3] = [
     b"q3k2q/1q4q1/2q2q2/8/8/2Q2Q2/1Q4Q1/Q3K2Q w - - 0 1",
 ];
 
-/// The position of a FEN of normal chess; the initial one if the text is no FEN.
+/// The position of a FEN of normal chess; the initial one if the text is no such FEN.
 pub fn start_of(fen: &[u8]) -> Position {
     match read_fen(fen) {
         Ok(position) => position,

@@ -4,7 +4,7 @@ use crate::random::Random;
 use crate::walk::Texts;
 use std::alloc::AllocError;
 
-/// A game to be written: its number in the collection, its SAN and its outcome.
+/// A game to be written: its number in the collection, its moves in SAN and its outcome.
 #[derive(Clone, Copy)]
 pub struct Record<'a> {
     pub number: usize,
@@ -14,7 +14,7 @@ pub struct Record<'a> {
     pub has_fault: bool,
 }
 
-/// Adds the bytes of `piece`.
+/// Adds the bytes of `piece` to the text.
 ///
 /// # Errors
 /// If memory runs out.
@@ -43,7 +43,7 @@ pub fn add_tag(text: &mut Vec<u8>, name: &[u8], value: &[u8]) -> Result<(), Allo
     add(text, b"\"]\n")
 }
 
-// Adds a tag with a number after its text.
+// Adds a tag with its line end; its value is the text `value` and then the number.
 fn add_number_tag(
     text: &mut Vec<u8>,
     name: &[u8],
@@ -58,7 +58,7 @@ fn add_number_tag(
     add(text, b"\"]\n")
 }
 
-// The tags of a game: sites, names of players (a number follows each), and codes of openings.
+// The sites that games name in their tags.
 const SITES: [&[u8]; 4] = [
     b"Hall of the club, table 4",
     b"Reykjavik ISL",
@@ -66,6 +66,7 @@ const SITES: [&[u8]; 4] = [
     b"?",
 ];
 
+/// The names of players in tags; a number follows each.
 const NAMES: [&[u8]; 6] = [
     b"Anderssen, Adolf ",
     b"Morphy, Paul Charles ",
@@ -75,6 +76,7 @@ const NAMES: [&[u8]; 6] = [
     b"Menchik, Vera ",
 ];
 
+/// The codes of openings (ECO) in tags.
 const OPENINGS: [&[u8]; 5] = [b"A04", b"B33", b"C42", b"D85", b"E97"];
 
 /// Adds the tags of a game, some 250 bytes, without the empty line after them.
@@ -100,7 +102,7 @@ pub fn add_tags(
     add_tag(text, b"TimeControl", b"40/5400+30:1800+30")
 }
 
-// Adds a move's number: `12.` before White's half-move, `12...` before Black's.
+// Adds the number before the half-move `ply`, counted from 0: `12.` before White's, `12...` before Black's.
 fn add_move_number(text: &mut Vec<u8>, ply: usize) -> Result<(), AllocError> {
     add_number(text, ply / 2 + 1)?;
     if ply % 2 == 0 {
@@ -110,8 +112,8 @@ fn add_move_number(text: &mut Vec<u8>, ply: usize) -> Result<(), AllocError> {
     }
 }
 
-// Begins a new line where the line that began at `start` would get too long, and adds a space elsewhere; returns where
-// the line now begins. In a plain game a token has at most 7 bytes, so that a line has at most 80.
+// Adds a line feed if the line that begins at the offset `start` has more than 72 bytes, otherwise a space; returns the
+// offset at which the present line begins. In a plain game a token has at most 7 bytes, so that a line has at most 80.
 fn next_token(text: &mut Vec<u8>, start: usize) -> Result<usize, AllocError> {
     if text.len().saturating_sub(start) > 72 {
         add(text, b"\n")?;
@@ -124,7 +126,7 @@ fn next_token(text: &mut Vec<u8>, start: usize) -> Result<usize, AllocError> {
 // What is written in place of a move where a game has a fault.
 const FAULTS: [&[u8]; 5] = [b"Qxh9", b"O-O-O", b"Kd5", b"{", b"e4e5e6"];
 
-// The ply that is written wrong; none, a number above all plies, if the record has no fault.
+// The half-move that is written wrong, counted from 0; if the record has no fault, a number that no half-move has.
 fn fault_ply(record: &Record<'_>, random: &mut Random) -> usize {
     if record.has_fault {
         random.below(record.texts.len())
@@ -161,7 +163,7 @@ pub fn add_plain(
     add(text, b"\n\n")
 }
 
-// Adds a comment with an evaluation and a clock's time, whose four numbers are made of parts of one random number.
+// Adds a comment with an evaluation and a clock's time. Their four numbers are made of parts of one random number.
 fn add_clock(text: &mut Vec<u8>, random: &mut Random) -> Result<(), AllocError> {
     let bits = random.next() as usize;
     add(text, b"{ [%eval ")?;
@@ -202,8 +204,7 @@ pub fn add_clocks(
     add(text, b"\n\n")
 }
 
-// What an annotator writes after a half-move: comments in both forms, some with commands in them or over two lines, and
-// glyphs.
+// The comments that an annotator writes after a half-move: in both forms, some with commands in them or over two lines.
 const REMARKS: [&[u8]; 5] = [
     b"{Better was the other knight.}",
     b"{An old line, which came into fashion once more\nafter the match of 1972; White has the centre.}",
@@ -212,9 +213,11 @@ const REMARKS: [&[u8]; 5] = [
     b"{[%cal Gd2d4,Ge2e4] with the idea of an early f4}",
 ];
 
+/// The glyphs that an annotator writes after a half-move.
 const GLYPHS: [&[u8]; 6] = [b"$1", b"$2", b"$14", b"$146", b"$5", b"$18"];
 
-// Adds a variation of a few moves, with another one in it at times.
+// Adds a variation that begins at the half-move `ply`, of two to seven moves from the beginning of the record (which
+// needn't be legal there), and sometimes another variation inside it.
 fn add_variation(
     text: &mut Vec<u8>,
     record: &Record<'_>,
@@ -241,7 +244,8 @@ fn add_variation(
     add(text, b")")
 }
 
-// Adds what an annotator says after a half-move: a glyph once in 6, a remark once in 9, a variation once in 16.
+// Adds what an annotator writes after the half-move `ply`: a glyph once in 6 times, a remark once in 9, a variation
+// once in 16.
 fn add_annotation(
     text: &mut Vec<u8>,
     record: &Record<'_>,
@@ -263,7 +267,7 @@ fn add_annotation(
     Ok(())
 }
 
-/// Adds a game with glyphs, comments and variations.
+/// Adds a game with marks, glyphs, comments and variations, in lines.
 ///
 /// # Errors
 /// If memory runs out.

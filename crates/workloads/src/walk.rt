@@ -1,4 +1,4 @@
-//! Games made by walks over legal moves.
+//! Games made of random legal moves.
 
 use crate::random::Random;
 use chess_base::{Kind, Move, Setup};
@@ -17,7 +17,7 @@ pub enum Style {
     Long,
 }
 
-// How likely a move of this kind of piece is to be taken, of 8 times.
+// How often in 8 draws a move of this kind of piece is played in a lively game.
 fn liveliness(kind: Kind) -> usize {
     match kind {
         Kind::King => 1,
@@ -28,7 +28,8 @@ fn liveliness(kind: Kind) -> usize {
     }
 }
 
-// How likely a move is to be taken in a lively game, of 8 times.
+// How often in 8 draws this move is played in a lively game: a capture or castling always, any other move by its kind
+// of piece. `setup` is the position before the move.
 fn lively_weight(setup: &Setup, m: &Move) -> usize {
     if setup.men[m.to.index()].is_some() {
         return 8;
@@ -42,12 +43,12 @@ fn lively_weight(setup: &Setup, m: &Move) -> usize {
     liveliness(man.kind)
 }
 
-// From this halfmove clock on only pawns move in a long game, before it only other pieces. At 150 the game would be
+// In a long game only pawns move from this halfmove clock on, and only other pieces before it. At 150 the game would be
 // over (75 moves), so there are 29 half-moves at which a pawn's move can be drawn.
 const PAWNS_FROM: u32 = 121;
 
-// How likely a move is to be taken in a long game, of 8 times: 8 if it captures nothing, and is a pawn's exactly if the
-// halfmove clock is at least `PAWNS_FROM`; otherwise 0.
+// How often in 8 draws this move is played in a long game: always if it captures nothing, and is a pawn's exactly if
+// the halfmove clock is at least `PAWNS_FROM`; otherwise never. `setup` is the position before the move.
 fn long_weight(setup: &Setup, m: &Move) -> usize {
     let is_pawn = setup.men[m.from.index()].is_some_and(|man| man.kind == Kind::Pawn);
     let is_capture = setup.men[m.to.index()].is_some();
@@ -58,8 +59,8 @@ fn long_weight(setup: &Setup, m: &Move) -> usize {
     }
 }
 
-/// One of these moves of a position, chosen by the style: of 24 draws the first that is taken; if none is, the last,
-/// whatever its weight. `None` if there are no moves.
+/// Draws one of these moves of a position at random, by the style. Of up to 24 moves drawn it returns the first that
+/// the style takes, or else the last; `None` if there are no moves.
 pub fn choose(setup: &Setup, moves: &[Move], style: Style, random: &mut Random) -> Option<Move> {
     let mut chosen = None;
     for _ in 0..24 {
@@ -76,7 +77,7 @@ pub fn choose(setup: &Setup, moves: &[Move], style: Style, random: &mut Random) 
     chosen
 }
 
-/// A legal move of the board's position, chosen by the style; `None` if there is none.
+/// A random legal move of the board's position, drawn by the style; `None` if there is none.
 pub fn next_move(board: &Bits<'_>, style: Style, random: &mut Random) -> Option<Move> {
     let moves = board.legal_moves();
     choose(board.setup(), moves.as_slice(), style, random)
@@ -85,7 +86,8 @@ pub fn next_move(board: &Bits<'_>, style: Style, random: &mut Random) -> Option<
 /// The moves of a walk, each as SAN.
 pub type Texts = Vec<SanText>;
 
-// Plays a move that was chosen, and adds its SAN; returns whether it was played.
+// Plays a move in the game and adds its SAN to `texts`; returns whether it was played, which it isn't if it is illegal
+// or the game is over.
 fn play_on(game: &mut Game<Bits<'_>>, m: Move, texts: &mut Texts) -> Result<bool, AllocError> {
     let again = m;
     if !game.board().is_legal(&m) {
@@ -100,7 +102,8 @@ fn play_on(game: &mut Game<Bits<'_>>, m: Move, texts: &mut Texts) -> Result<bool
     Ok(true)
 }
 
-/// Plays up to `half_moves` more half-moves in a game, and adds their SAN to `texts`. It stops where the game is over.
+/// Plays up to `half_moves` more half-moves, drawn by the style, and adds their SAN to `texts`. It stops if the game is
+/// over.
 ///
 /// # Errors
 /// If memory runs out.

@@ -16,8 +16,8 @@ use Rattle.pgn_verifier.specs.declared.game_fault.FaultKind.TheVariants.{Pgn, In
 
 -- ---- tags
 
--- what a bad tag lacks, from the text after its opening quote on: the closing quote on the same line; or if that is
--- there, the tag's `]`, since nothing else can be missing
+-- what a bad tag lacks, from the text after its opening quote on: the closing quote on the same line, or if that is
+-- there, the tag's `]`
 abbrev pub string_reason : List ℕ → List ℕ
 string_reason string =
     if is_some (string_at string) then codes "no bracket after the value" else codes "string not closed"
@@ -38,14 +38,14 @@ tag_reason text = option_map_or name_reason (after_byte (byte "[") text) (codes 
 
 -- ---- faults
 
--- the reason for an illegal move, which begins the text: of the word `0-0`, which may be meant as a result
+-- the reason for an illegal move at the front of the text: only for the word `0-0`, which may be meant as a result
 abbrev pub move_reason : List ℕ → Option (List ℕ)
 move_reason text =
     if bytes_eq (take_while is_word_byte text) (codes "0-0") then Some (codes "castling, and no result of PGN")
     else None
 
--- the reason for a fault (see `IsReason`), or `None` if none is given. `text` is the text from the fault's byte on, and
--- `verdict` is the one that ended the game where reading stopped, if any
+-- the reason for a fault (see `IsReason`), or `None` if none is given. `text`: all from the fault's byte on; `verdict`:
+-- the one that ended the game where reading stopped, if any
 abbrev pub reason : FaultKind → List ℕ → Option Verdict → Option (List ℕ)
 reason (Pgn BadTag) text verdict = Some (tag_reason text)
 reason (Pgn (BadFen fault)) text verdict = Some (fen_reason fault)

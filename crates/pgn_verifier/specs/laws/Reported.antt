@@ -28,25 +28,26 @@ use Rattle.pgn_verifier.specs.shared.Contradictions.{variation_in}
 use Rattle.pgn_verifier.specs.declared.game_fault.GameFault.{GameFault}
 use Rattle.pgn_verifier.specs.laws.Reasons.{reason}
 
--- what is read of a text from an offset on: a game of at most 20,000 half-moves, none, or a fault. `draws`: whether the
--- draws of 2014 end a game
+-- what is read of a text from its offset `at` on: a game of at most 20,000 half-moves, none, or a fault. `draws`:
+-- whether the draws of 2014 (fivefold repetition and 75 moves) end a game
 abbrev pub read_at : Bool → List ℕ → ℕ → GameRead
 read_at draws = pgn_read draws MOST_MOVES
 
--- what is reported of the game from the offset `at` on of which this was read (`read`): its end, its fault, or `None`
--- if the text has no more games. `strict`: what is looked for
+-- what is reported of the game from the offset `at` on, from what was read of it (`read`): its end, its fault, or
+-- `None` if the text has no more games. `strict`: which faults are looked for
 abbrev pub judged_of : Strictness → List ℕ → ℕ → GameRead → Result (Option PgnEnd) GameFault
 judged_of strict text at read =
     let tokens = tokens_from text (after_byte_order_mark text at) in
     judged strict (variation_in tokens_from text at read.state.start) (unknown_variant_in (length text) tokens)
     (result_tag_of (length text) tokens) (ending strict.draws_of_2014 read.state) read.answer
 
--- what is reported of the game from the offset `at` on
+-- what is reported of the game from the offset `at` of a text on: its end, its fault, or `None` if there is none.
+-- `strict`: which faults are looked for
 abbrev pub judged_at : Strictness → List ℕ → ℕ → Result (Option PgnEnd) GameFault
 judged_at strict text at = judged_of strict text at (read_at strict.draws_of_2014 text at)
 
--- where reading goes on after the game from the offset `at` on, if that has a fault: where the game ends, if reading is
--- to go on (`goes_on`) and that is found
+-- where reading goes on after the game from the offset `at` on, if that has a fault: where the game ends; `None` if no
+-- end is found, or reading isn't to go on after faults (`goes_on`)
 abbrev pub next_at : Bool → List ℕ → ℕ → Option ℕ
 next_at goes_on text at =
     if goes_on then game_end (length text) (tokens_from text (after_byte_order_mark text at)) else None
@@ -58,12 +59,12 @@ pub data Plain : Type 0 where
   PlainGame : (plies : ℕ) (outcome : Outcome) (termination : Option Termination) → Plain
   PlainFault : (fault : GameFault) (wrong_at : ℕ) (explanation : List ℕ) → Plain
 
--- whether such a fault is explained where its game begins: a missing result
+-- whether a fault of this kind is explained where its game begins: only a missing result
 abbrev pub is_at_begin : FaultKind → Bool
 is_at_begin (Pgn NoResult) = true
 is_at_begin _ = false
 
--- such a report; a missing result is then explained at its byte, and without its game's first word
+-- the report without its span; a missing result is then explained at its own byte, and without its game's first word
 abbrev pub plain_of : Report → Plain
 plain_of (Game plies outcome termination) = PlainGame plies outcome termination
 plain_of (Faulty fault names wrong_at part why is_unread) =
@@ -74,17 +75,17 @@ plain_of (Faulty fault names wrong_at part why is_unread) =
 abbrev pub without_spans : List Placed → List Plain
 without_spans reports = map (λ placed. plain_of placed.report) reports
 
--- the report on a fault of a text, without its span; `s` is the game that was read. The text begins at the offset
--- `start` of the input; `draws`: whether the draws of 2014 end a game
+-- the report on a fault of a text, without its span; `s` is the game as far as it was read. The text begins at the
+-- offset `start` of the input; `draws`: whether the draws of 2014 end a game
 abbrev pub plain_fault : Bool → ℕ → List ℕ → GameFault → State → Plain
 plain_fault draws start text fault s = PlainFault (record fault { offset = start + fault.offset })
     (start + (wrong_part fault.kind text fault.offset fault.offset).0)
     ((if is_at_begin fault.kind then [] else (wrong_part fault.kind text fault.offset fault.offset).1)
     ++ explanation s fault.kind (reason fault.kind (drop fault.offset text) (ending draws s)))
 
--- the report on a game of a text, from how it was judged and the game that was read (`s`), and then what `later` gives
--- for the offset of its end; after a fault what it gives for `next`, if that is some offset. `start` is the input's
--- offset at which the text begins; `draws`: whether the draws of 2014 end a game
+-- the report on a game of a text, by how it was judged (the argument before `s`), and then what `later` gives for the
+-- offset of its end, or after a fault for `next`, unless that is `None`. `s`: the game as far as it was read. The text
+-- begins at the offset `start` of the input; `draws`: whether the draws of 2014 end a game
 abbrev pub report_then : Bool → ℕ → List ℕ → Option ℕ → Result (Option PgnEnd) GameFault → State → (ℕ → List Plain)
     → List Plain
 report_then draws start text next (Ok None) s later = []
@@ -94,8 +95,8 @@ report_then draws start text next (Err fault) s later =
     plain_fault draws start text fault s ∷ option_map_or later next []
 
 -- the reports on at most n games (the fourth argument) of a text from its offset `at` on, up to its first fault, or if
--- `goes_on` also after faults. The text begins at the offset `start` of the input; `strict`: what is looked for at a
--- game's end
+-- `goes_on` also after faults. The text begins at the offset `start` of the input; `strict`: which faults are looked
+-- for
 unfoldable pub games_from : Bool → Strictness → ℕ → ℕ → List ℕ → ℕ → List Plain
 games_from goes_on strict start zero text at = []
 games_from goes_on strict start (suc n) text at =
@@ -113,7 +114,7 @@ abbrev pub games_of : Bool → Strictness → ℕ → List ℕ → List Plain
 games_of goes_on strict start text = games_from goes_on strict start (length text + 1) text 0
 
 -- the reports on all games of a text up to its first fault. The text begins at the offset `start` of the input;
--- `strict`: what is looked for at a game's end
+-- `strict`: which faults are looked for
 abbrev pub reports_on : Strictness → ℕ → List ℕ → List Plain
 reports_on = games_of false
 
@@ -123,23 +124,23 @@ too_long_report piece =
     PlainFault (record { kind = Pgn TooLong; offset = piece.offset }) piece.offset (shown piece.bytes)
 
 -- the reports on the games of a piece, which is read as a text of its own; a piece that is too long has one report.
--- `strict`: what is looked for at a game's end
+-- `strict`: which faults are looked for
 abbrev pub reports_in : Strictness → Piece → List Plain
 reports_in strict piece = if nat_le (length piece.bytes) PIECE_LEN then games_of true strict piece.offset piece.bytes
     else too_long_report piece ∷ []
 
 -- the reports on the games of a collection of which this text was read: on all its pieces, if the text is all of it
--- (`ended`), otherwise on all but the last. `strict`: what is looked for at a game's end
+-- (`ended`), otherwise on all but the last. `strict`: which faults are looked for
 abbrev pub collection_reports : Strictness → Bool → List ℕ → List Plain
 collection_reports strict ended text = flat_map (reports_in strict) (pieces ended 0 text)
 
 -- ---- with their spans
 
--- what names the game of a text from its offset `at` on in a line
+-- what names the game from the offset `at` of a text on in a line: ` | White - Black, Event Date`
 abbrev pub names_at : List ℕ → ℕ → List ℕ
 names_at text at = names_of (tokens_from text (after_byte_order_mark text at))
 
--- the report on the game of a text from its offset `at` on, with its span, if it has no fault: `end` is its end, and
+-- the report on the game from the offset `at` of a text on, with its span, if it has no fault: `end` is its end, and
 -- `s` the game that was read. The text begins at the offset `start` of the input
 abbrev pub game_placed : ℕ → List ℕ → ℕ → PgnEnd → State → Placed
 game_placed start text at end s = record {
@@ -148,8 +149,9 @@ game_placed start text at end s = record {
   report = Game (length s.moves) end.outcome end.termination;
 }
 
--- the report on this fault of the game of a text from its offset `at` on; `s` is the game that was read. Reading
--- continues at `next`; if that is `None`, it doesn't. `draws`: whether the draws of 2014 end a game
+-- the report on this fault of the game from the offset `at` of a text on; `s` is the game as far as it was read.
+-- Reading continues at `next`; if that is `None`, it doesn't. `goes_on`: whether it should continue after faults;
+-- `draws`: whether the draws of 2014 end a game
 abbrev pub fault_report : Bool → Bool → ℕ → List ℕ → ℕ → Option ℕ → GameFault → State → Report
 fault_report draws goes_on start text at next fault s =
     Faulty (record fault { offset = start + fault.offset }) (names_at text at)
@@ -158,7 +160,8 @@ fault_report draws goes_on start text at next fault s =
     (explanation s fault.kind (reason fault.kind (drop fault.offset text) (ending draws s)))
     (goes_on && not (is_some next) && nat_lt fault.offset (length text))
 
--- the same with its span, which goes to the text's end if reading doesn't continue
+-- the report on a fault (`fault_report`) with its span, which goes up to `next`, where reading continues, or if it
+-- doesn't to the text's end
 abbrev pub fault_placed : Bool → Bool → ℕ → List ℕ → ℕ → Option ℕ → GameFault → State → Placed
 fault_placed draws goes_on start text at next fault s = record {
   begin = start + game_begin text at;
@@ -166,7 +169,8 @@ fault_placed draws goes_on start text at next fault s = record {
   report = fault_report draws goes_on start text at next fault s;
 }
 
--- the report on the game of a text from its offset `at` on, with its span, as `report_then` gives it without
+-- the report on a game of a text, with its span, and then what `later` gives for the offset of its end, or after a
+-- fault for `next`, unless that is `None` (as `report_then` without spans)
 abbrev pub placed_then : Bool → Bool → ℕ → List ℕ → ℕ → Option ℕ → Result (Option PgnEnd) GameFault → State
     → (ℕ → List Placed) → List Placed
 placed_then draws goes_on start text at next (Ok None) s later = []
@@ -175,7 +179,8 @@ placed_then draws goes_on start text at next (Ok (Some end)) s later =
 placed_then draws goes_on start text at next (Err fault) s later =
     fault_placed draws goes_on start text at next fault s ∷ option_map_or later next []
 
--- the reports of `games_from`, with their spans
+-- the reports on at most n games (the fourth argument) of a text from its offset `at` on, with their spans (as
+-- `games_from` without)
 unfoldable pub placed_from : Bool → Strictness → ℕ → ℕ → List ℕ → ℕ → List Placed
 placed_from goes_on strict start zero text at = []
 placed_from goes_on strict start (suc n) text at =
@@ -183,11 +188,11 @@ placed_from goes_on strict start (suc n) text at =
     (read_at strict.draws_of_2014 text at).state
     (λ next. placed_from goes_on strict start n text next)
 
--- the reports of `games_of`, with their spans
+-- the reports on all games of a text, with their spans, up to its first fault, or if `goes_on` also after faults
 abbrev pub placed_of : Bool → Strictness → ℕ → List ℕ → List Placed
 placed_of goes_on strict start text = placed_from goes_on strict start (length text + 1) text 0
 
--- the reports of `reports_on`, with their spans
+-- the reports on all games of a text up to its first fault, with their spans
 abbrev pub placed_on : Strictness → ℕ → List ℕ → List Placed
 placed_on = placed_of false
 
@@ -199,11 +204,12 @@ too_long_placed piece = record {
   report = Faulty (record { kind = Pgn TooLong; offset = piece.offset }) [] piece.offset (shown piece.bytes) [] true;
 }
 
--- the reports of `reports_in`, with their spans
+-- the reports on the games of a piece, with their spans; a piece that is too long has one report
 abbrev pub placed_in : Strictness → Piece → List Placed
 placed_in strict piece = if nat_le (length piece.bytes) PIECE_LEN then placed_of true strict piece.offset piece.bytes
     else too_long_placed piece ∷ []
 
--- the reports of `collection_reports`, with their spans
+-- the reports on the games of a collection of which this text was read, with their spans: on all its pieces, if the
+-- text is all of it (`ended`), otherwise on all but the last
 abbrev pub collection_placed : Strictness → Bool → List ℕ → List Placed
 collection_placed strict ended text = flat_map (placed_in strict) (pieces ended 0 text)

@@ -7,8 +7,8 @@ use Rattle.pgn_verifier.specs.declared.game_fault.GameFault.{GameFault}
 use Rattle.pgn_verifier.specs.declared.options.Strictness.{Strictness}
 use Rattle.pgn_verifier.specs.laws.Reported.{judged_at}
 
--- whether the tokens of the text stop at a game's fault of this kind, at the offset `at`: it is one of what can't be
--- read as a token
+-- whether a game's fault of this kind, at the offset `at`, is one of bytes that can't be read as a token: then the text
+-- can't be split into tokens beyond it
 abbrev pub stops_tokens : List ℕ → ℕ → FaultKind → Bool
 stops_tokens text at (Pgn kind) = is_unreadable text at kind
 stops_tokens text at _ = false

@@ -1,21 +1,22 @@
--- Lines and columns, counted from one place of a text to the next.
+-- Lines and columns, counted from one offset of a text to the next.
 use Rattle.std.specs.Prelude.{◌≡◌, ◌≤◌, ◌<◌, ℕ, ◌+◌, ◌==◌, Bool, true, not, if◌then◌else◌, List, length}
 use Rattle.std.specs.List.{suffix_len}
 use Rattle.pgn_pieces.specs.Places.{breaks_line, line_of, column_of}
 use Rattle.pgn_verifier.specs.declared.place.Place.{Place}
 use Rattle.pgn_verifier.specs.ties.OnTheWay.{StandsIf}
 
--- the column after these bytes, which begin in that column
+-- the column right after these bytes, the first of which is in the column `column`
 abbrev pub column_on : ℕ → List ℕ → ℕ
 column_on column bytes = let last = suffix_len (λ c. not (breaks_line c)) bytes in
     if last == length bytes then column + last else last + 1
 
--- the place has the line and the column in the input that it says
+-- `place` has the line and the column that its offset has in the input
 pub record IsHere (place : Place) (input : List ℕ) : Type 0 where
   pub line : line_of input (place.start.offset + place.offset) ≡ place.line
   pub column : column_of input (place.start.offset + place.offset) ≡ place.column
 
--- so it is if faults are explained and the text is there in the input; and there are few lines and columns
+-- if faults are explained and the text is in the input where it begins, `place` has the line and the column of its
+-- offset; in any case they are bounded by the bytes before it
 pub record Known (explain : Bool) (text : List ℕ) (place : Place) : Type 0 where
   pub offset : place.offset ≤ length text
   pub line : place.line ≤ place.start.line + place.offset

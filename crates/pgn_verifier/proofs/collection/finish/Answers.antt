@@ -1,4 +1,4 @@
--- The counts were written, and then flushed; or a beginning of them was written.
+-- The counts were written, and then flushed; or the write or the flush failed, and a beginning of them was written.
 use Rattle.byte_devices.proofs.shared.Devices.{flush_on, sends_exit}
 use Rattle.pgn_verifier.proofs.collection.finish.Goals as goal
 

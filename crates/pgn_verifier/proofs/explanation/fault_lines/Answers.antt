@@ -1,5 +1,5 @@
--- The place that is shown is that of the definition. The code appends the parts one by one, so `++` groups them to the
--- left, and the definition groups them to the right: the text is the same.
+-- The line and the column that are shown are those of the definition. The code appends the parts one by one, so `++`
+-- groups them to the left, and the definition groups them to the right: the text is the same.
 use Rattle.std.proofs.Common.{◌≡◌, ◌+◌, [], ◌++◌, drop, sym, ap, ◌∙◌, append_assoc, if◌then◌else◌}
 use Rattle.pgn_pieces.specs.Places.{line_of, column_of}
 use Rattle.pgn_verifier.specs.{Explanations.shown, Explanations.explanation_line, laws.Reported.is_at_begin, ties.Explaining.explanation_of, ties.Explaining.part_on, ties.OnTheWay.fault_line, ties.OnTheWay.span_written}

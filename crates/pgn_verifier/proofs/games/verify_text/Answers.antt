@@ -1,6 +1,6 @@
--- By the invariant the games before `at` were reported (TextVerified.SoFar). A game more keeps this, and so does a
--- fault after which reading goes on. No game left, any other fault and a failed write each end the loop by one lemma of
--- TextVerified; the lines on a fault are those of FaultLines.
+-- By the invariant the games before `at` were reported (TextVerified.SoFar). One more game keeps this, and so does a
+-- fault after which reading goes on. If no game is left, after any other fault and if a write fails, the loop ends,
+-- each time by one lemma of TextVerified. The lines on a fault are those of FaultLines.
 use Rattle.std.proofs.Common.{◌≡◌, ◌≤◌, ◌+◌, ◌∙◌, ◌++◌, ℕ, List, ◌∷◌, [], Ok, length, refl, sym, ap, subst, arith, if◌then◌else◌}
 use Rattle.byte_devices.specs.{Devices.Took, Devices.CutShort, declared.traits.WriteFault.WriteFault}
 use Rattle.pgn_verifier.specs.{declared.tally.Tally.Tally, declared.place.Place.Place, declared.start.TextStart.TextStart, ties.Counting.Known, ties.OnTheWay.StandsIf, ties.OnTheWay.Writes, ties.OnTheWay.game_line}

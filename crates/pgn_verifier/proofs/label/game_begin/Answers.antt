@@ -1,4 +1,5 @@
--- White space is skipped in the slice of the text from its first byte read; that slice is `drop` of the definition.
+-- The code skips white space in a slice of the text, from the byte after a byte order mark on. That slice is the `drop`
+-- of the definition.
 use Rattle.std.proofs.Common.{◌+◌, drop, ap, ◌∙◌}
 use Rattle.std.specs.List.{prefix_len}
 use Rattle.pgn_tokens.specs.Tokens.{is_white_space}
