@@ -28,6 +28,7 @@ SHORT = {
     "pgn": "chess_pgn",
     "pgn_laws": "chess_pgn_laws",
     "pieces": "pgn_pieces",
+    "verify_options": "verify_options",
     "verifier": "pgn_verifier",
     "verifier_laws": "pgn_verifier_laws",
     "cecp": "chess_cecp",

@@ -9,7 +9,7 @@ use Rattle.clap.specs.{declared.error.Error.Error, declared.parser.matches.ArgMa
 use Rattle.arbiter_grammar.specs.Grammar.{IsComplete, IsParsed, OptionNames, arbiter_app}
 use Rattle.arbiter_cli.specs.Plans.{IsMatchPlan, IsPlanOf, IsReadAs, IsReading, Said, Values, ignores_kinds, is_date, levels_asked, levels_start_and_date, number_of, said_by, start_asked}
 use Rattle.arbiter_cli.specs.ties.Requests.{IsJudged, IsJudgedFault, IsMatchOf, IsPlanFault, IsPlanned, IsRequestOf, Refuses, asked, is_kind, levels_by, levels_in, names_in, said_of, start_of}
-use Rattle.match_runner.specs.declared.plan.GamesPlan.{GamesPlan}
+use Rattle.chess_match.specs.declared.games_plan.GamesPlan.{GamesPlan}
 use Rattle.chess_match.specs.declared.patience.Patience.{Patience}
 use Rattle.arbiter_cli.specs.{declared.fault.WordsFault.WordsFault, declared.plan.Plan.Plan, declared.request.MatchRequest.MatchRequest, declared.request.Request.Request}
 use Rattle.arbiter_cli.specs.declared.fault.WordsFault.TheVariants.{Words, NoMemory, BadLevel, BadFen, BadDate, BadKind}

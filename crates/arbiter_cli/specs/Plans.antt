@@ -9,9 +9,9 @@ use Rattle.clap.specs.Words.{IsAmong, Kinds, Text, all_of, fault_of, first_of, k
 use Rattle.arbiter_grammar.specs.Grammar.{OptionNames, arbiter_app}
 use Rattle.arbiter_cli.specs.declared.plan.Plan.{Plan}
 use Rattle.arbiter_cli.specs.declared.plan.Plan.TheVariants.{Session, Verify, Stub, Match}
-use Rattle.match_runner.specs.declared.plan.GamesPlan.{GamesPlan}
+use Rattle.chess_match.specs.declared.games_plan.GamesPlan.{GamesPlan}
 use Rattle.chess_match.specs.declared.draws.Draws.TheVariants.{Automatic, Claimed}
-use Rattle.pgn_verifier.specs.declared.options.VerifyOptions.{VerifyOptions}
+use Rattle.verify_options.specs.declared.options.VerifyOptions.{VerifyOptions}
 use Rattle.arbiter_cli.specs.declared.fault.WordsFault.{WordsFault}
 use Rattle.arbiter_cli.specs.declared.fault.WordsFault.TheVariants.{Words, NoMemory, BadLevel, BadFen, BadDate, BadKind}
 use Rattle.chess_base.specs.Initial.{initial_setup_of}

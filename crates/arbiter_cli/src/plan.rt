@@ -14,9 +14,8 @@ use crate::request::{MatchRequest, Request};
 use cecp_engine::{Level, LevelFault};
 use chess_base::{FenFault, Position, Variant};
 use chess_fen::read_fen_as;
-use chess_match::Patience;
-use match_runner::GamesPlan;
-use pgn_verifier::VerifyOptions;
+use chess_match::{GamesPlan, Patience};
+use verify_options::VerifyOptions;
 
 /// What the arguments ask for.
 #[derive(Drop)]

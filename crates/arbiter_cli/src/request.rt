@@ -12,8 +12,8 @@ use crate::ignored::is_ignored;
 use chess_base::Variant;
 use chess_match::Draws;
 use clap::ArgMatches;
-use pgn_verifier::{Strictness, VerifyOptions};
 use std::alloc::{AllocError, Global};
+use verify_options::{Strictness, VerifyOptions};
 
 /// The options of a match, not yet read as time controls or positions. Each field has the value of the option of its
 /// name, and `reply` that of `--reply-timeout`, in seconds.

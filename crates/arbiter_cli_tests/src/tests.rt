@@ -4,13 +4,12 @@ use arbiter_cli::{Plan, WordsFault, read_words};
 use cecp_engine::{Level, LevelFault};
 use chess_base::Variant;
 use chess_fen::write_fen;
-use chess_match::Draws;
-use match_runner::GamesPlan;
-use pgn_verifier::{Strictness, VerifyOptions};
+use chess_match::{Draws, GamesPlan};
 use std::alloc::{AllocError, Global};
 use std::fmt::Debug;
 use std::process::Abort;
 use std::test::Fail;
+use verify_options::{Strictness, VerifyOptions};
 
 // Asserts that two values are equal. One function for all types, since an assertion for each costs much to prove.
 fn is_equal<T: PartialEq + Debug>(rt: &impl Abort, found: &T, wanted: &T) {

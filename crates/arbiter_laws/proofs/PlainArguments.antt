@@ -14,7 +14,8 @@ use Rattle.byte_devices.specs.Transfers.{Devices, InputGave, Ran, nothing}
 use Rattle.byte_devices.proofs.{shared.Transfers.came, shared.Transfers.took_nothing, shared.Devices.consumes_none}
 use Rattle.chess_arbiter.specs.Program.{Does, Surroundings}
 use Rattle.match_runner.specs.GamesTable.{HostStep}
-use Rattle.pgn_verifier.specs.{Verify.Verifies, declared.options.VerifyOptions.VerifyOptions}
+use Rattle.verify_options.specs.declared.options.VerifyOptions.{VerifyOptions}
+use Rattle.pgn_verifier.specs.Verify.{Verifies}
 use Rattle.pgn_verifier.specs.declared.fault.VerifyFault.TheVariants as verifying
 
 -- a text that is shorter than another one is not equal to it

@@ -15,9 +15,9 @@ use Rattle.chess_fen.specs.Reading.{◌>>=◌, fen_reading_as}
 use Rattle.arbiter_cli.specs.Plans.{IsMatchPlan, IsReadAs, Said, Values, ignored_in, is_date, is_set, levels_asked, levels_start_and_date, number_of, said_by, start_asked, verify_options_of}
 use Rattle.arbiter_cli.specs.{declared.plan.Plan.Plan, declared.fault.WordsFault.WordsFault}
 use Rattle.arbiter_cli.specs.declared.plan.Plan.TheVariants.{Session, Verify, Stub, Match}
-use Rattle.match_runner.specs.declared.plan.GamesPlan.{GamesPlan}
+use Rattle.chess_match.specs.declared.games_plan.GamesPlan.{GamesPlan}
 use Rattle.cecp_engine.specs.{Levels.LevelSeen, Levels.level_reading, declared.level_fault.LevelFault.LevelFault}
-use Rattle.pgn_verifier.specs.declared.options.VerifyOptions.{VerifyOptions}
+use Rattle.verify_options.specs.declared.options.VerifyOptions.{VerifyOptions}
 use Rattle.chess_match.specs.{declared.draws.Draws.Draws, declared.draws.Draws.TheVariants.Automatic, declared.draws.Draws.TheVariants.Claimed}
 use Rattle.arbiter_cli.specs.declared.fault.WordsFault.TheVariants.{Words, NoMemory, BadLevel, BadFen, BadDate, BadKind}
 use Rattle.arbiter_laws.specs.PlainArguments.{CommandLine, Given, IsOfMatch, IsOfVerify, IsPlain, PlainArgumentsAreRead, arguments_of, empty, match, said_in, session, stub, values_in, verify, written}

@@ -8,7 +8,7 @@ use Rattle.arbiter_grammar.specs.Grammar.{OptionNames, arbiter_app}
 use Rattle.arbiter_cli.specs.declared.plan.Plan.{Plan}
 use Rattle.arbiter_cli.specs.declared.plan.Plan.TheVariants.{Session, Verify, Stub, Match}
 use Rattle.arbiter_cli.specs.Plans.{IsPlanOf, Said, Values, ignored_in, is_set, said_by, verify_options_of}
-use Rattle.pgn_verifier.specs.declared.options.VerifyOptions.{VerifyOptions}
+use Rattle.verify_options.specs.declared.options.VerifyOptions.{VerifyOptions}
 
 -- the name of the subcommand that asks for this plan
 abbrev pub command_name : Plan → Text

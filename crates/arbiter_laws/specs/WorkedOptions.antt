@@ -18,9 +18,9 @@ use Rattle.cecp_engine.specs.Levels.{LevelSeen}
 use Rattle.cecp_engine.specs.declared.level_fault.LevelFault.{LevelFault}
 use Rattle.cecp_engine.specs.declared.level_fault.LevelFault.TheVariants.{Words, Base}
 use Rattle.chess_match.specs.declared.draws.Draws.TheVariants.{Automatic, Claimed}
-use Rattle.match_runner.specs.declared.plan.GamesPlan.{GamesPlan}
-use Rattle.pgn_verifier.specs.declared.options.Strictness.{Strictness}
-use Rattle.pgn_verifier.specs.declared.options.VerifyOptions.{VerifyOptions}
+use Rattle.chess_match.specs.declared.games_plan.GamesPlan.{GamesPlan}
+use Rattle.verify_options.specs.declared.options.Strictness.{Strictness}
+use Rattle.verify_options.specs.declared.options.VerifyOptions.{VerifyOptions}
 use Rattle.arbiter_laws.specs.Arguments.{bare_options, bare_plan, verify_plan_of}
 use Rattle.arbiter_laws.specs.PlainArguments.{Given, valued, flag, values_in}
 

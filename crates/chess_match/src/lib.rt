@@ -26,6 +26,7 @@ mod desk;
 mod draws;
 mod events;
 mod game;
+mod games_plan;
 mod handshake;
 mod match_game;
 mod moments;
@@ -45,6 +46,7 @@ mod witness;
 
 pub use chess_game::DrawClaim;
 pub use draws::Draws;
+pub use games_plan::GamesPlan;
 pub use moments::Moments;
 pub use note::Note;
 pub use patience::Patience;

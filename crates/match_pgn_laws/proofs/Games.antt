@@ -12,7 +12,8 @@ use Rattle.chess_match_laws.specs.OfActs.{GamesAreLines, OutcomesAreOfTheGame}
 use Rattle.chess_pgn_laws.specs.PgnLaw.{AreTagTexts}
 use Rattle.match_runner.specs.Games.{AreAllGames, GameRecord, IsOfPlan, WritesGames, game_texts, score_line, setup_of, tags_of}
 use Rattle.match_runner.specs.GamesTable.{GamesStep, HostStep, OpensClock, Outputs, PlaysBy, PlaysGamesWith, at_host}
-use Rattle.match_runner.specs.{declared.fault.GamesFault.GamesFault, declared.plan.GamesPlan.GamesPlan}
+use Rattle.chess_match.specs.declared.games_plan.GamesPlan.{GamesPlan}
+use Rattle.match_runner.specs.declared.fault.GamesFault.{GamesFault}
 use Rattle.match_runner.specs.declared.fault.GamesFault.TheVariants.{WriteFailed, NoMemory, CanNotStart, Game}
 use Rattle.match_pgn_laws.specs.Scores.{HasScore}
 

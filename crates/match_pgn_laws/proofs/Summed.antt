@@ -11,7 +11,7 @@ use Rattle.chess_game.specs.declared.results.Outcome.TheVariants.{WhiteWins, Bla
 use Rattle.chess_match.specs.Reasons.{win_of}
 use Rattle.chess_match_laws.specs.OfActs.{GamesAreLines, OutcomesAreOfTheGame}
 use Rattle.match_runner.specs.Games.{GameRecord, first_side, game_text, game_texts, score_line, tags_of}
-use Rattle.match_runner.specs.declared.plan.GamesPlan.{GamesPlan}
+use Rattle.chess_match.specs.declared.games_plan.GamesPlan.{GamesPlan}
 use Rattle.match_pgn_laws.specs.Scores.{ScoresAreSums, games_with, result_lines, sum_of}
 use Rattle.match_pgn_laws.proofs.Games.{AreOfPlan, is_game, is_line, is_sound, tag_texts, wrote}
 use Rattle.match_pgn_laws.proofs.ResultLines.{game_found, result_tag}

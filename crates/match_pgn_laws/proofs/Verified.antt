@@ -9,8 +9,9 @@ use Rattle.chess_game.specs.{Ends.verdict, Game.IsPlayable, Game.outcome_now, Re
 use Rattle.chess_game.specs.declared.results.Outcome.TheVariants.{WhiteWins, BlackWins, Draw, Unfinished}
 use Rattle.chess_match_laws.specs.OfActs.{EndsAtVerdicts, GamesAreLines, InEachMatch, OutcomesAreOfTheGame}
 use Rattle.match_runner.specs.Games.{GameRecord, game_text, game_texts, tags_of}
-use Rattle.match_runner.specs.declared.plan.GamesPlan.{GamesPlan}
-use Rattle.pgn_verifier.specs.{declared.options.Strictness.Strictness, Reports.AreReports, laws.Reported.Plain, laws.Reported.placed_on, laws.Reported.reports_on, laws.Reported.without_spans}
+use Rattle.chess_match.specs.declared.games_plan.GamesPlan.{GamesPlan}
+use Rattle.verify_options.specs.declared.options.Strictness.{Strictness}
+use Rattle.pgn_verifier.specs.{Reports.AreReports, laws.Reported.Plain, laws.Reported.placed_on, laws.Reported.reports_on, laws.Reported.without_spans}
 use Rattle.pgn_verifier_laws.specs.WrittenGames.{AreWritable, TaggedGame, WrittenTextsHaveNoFault, report_of, written_text}
 use Rattle.match_pgn_laws.specs.{Scores.result_lines, Scores.sum_of, Verified.MatchesPassVerify, Verified.result_reported}
 use Rattle.match_pgn_laws.proofs.Games.{AreOfPlan, IsGame, is_game, is_line, is_sound, tag_texts, wrote}

@@ -9,7 +9,7 @@ use Rattle.chess_base.specs.Sound.{IsSound}
 use Rattle.match_runner.specs.GamesTable.{HostStep, Outputs, PlaysGamesWith}
 use Rattle.match_runner.specs.declared.fault.GamesFault.{GamesFault}
 use Rattle.match_runner.specs.declared.fault.GamesFault.TheVariants.{Game}
-use Rattle.match_runner.specs.declared.plan.GamesPlan.{GamesPlan}
+use Rattle.chess_match.specs.declared.games_plan.GamesPlan.{GamesPlan}
 
 -- the lines of a text that begin with `[Result `, in order
 abbrev pub result_lines : List ℕ → List (List ℕ)

@@ -5,8 +5,8 @@ use Rattle.chess_base.specs.Sound.{IsSound}
 use Rattle.chess_game.specs.Results.{outcome_text}
 use Rattle.match_runner.specs.GamesTable.{HostStep, Outputs, PlaysGamesWith}
 use Rattle.match_runner.specs.declared.fault.GamesFault.{GamesFault}
-use Rattle.match_runner.specs.declared.plan.GamesPlan.{GamesPlan}
-use Rattle.pgn_verifier.specs.declared.options.Strictness.{Strictness}
+use Rattle.chess_match.specs.declared.games_plan.GamesPlan.{GamesPlan}
+use Rattle.verify_options.specs.declared.options.Strictness.{Strictness}
 use Rattle.pgn_verifier.specs.Reports.{AreReports, Placed}
 use Rattle.pgn_verifier.specs.laws.Reported.{Plain, PlainGame, without_spans}
 use Rattle.match_pgn_laws.specs.Scores.{HasScore, result_lines, sum_of}

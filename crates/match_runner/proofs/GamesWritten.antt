@@ -5,7 +5,8 @@
 use Rattle.std.proofs.Common.{◌≡◌, ◌∙◌, ◌<◌, ◌≤◌, ◌+◌, ◌⊎◌, ℕ, Bool, true, false, List, [], ◌∷◌, ◌++◌, length, Bor, Option, Some, None, Ok, Err, Result, refl, sym, ap, subst, append-nil, append_assoc, length-append, arith, inl, inr, IfErr, cond, count_by, flat_map, if◌then◌else◌}
 use Rattle.std.specs.List.{AllByRecursion, enumerate_from}
 use Rattle.std.proofs.{lemmas.List.Concat.flat_map-append, lemmas.List.FromFn.length-enumerate_from, lemmas.List.Sums.count_by-le-length, lemmas.List.Sums.sum_by_push}
-use Rattle.match_runner.specs.{declared.plan.GamesPlan.GamesPlan, Log.LogSeen, Log.Logged, Log.log_from, declared.fault.GamesFault.GamesFault, declared.games.GamesPlayed.GamesPlayed, declared.score.Score.Score}
+use Rattle.chess_match.specs.declared.games_plan.GamesPlan.{GamesPlan}
+use Rattle.match_runner.specs.{Log.LogSeen, Log.Logged, Log.log_from, declared.fault.GamesFault.GamesFault, declared.games.GamesPlayed.GamesPlayed, declared.score.Score.Score}
 use Rattle.chess_base.specs.{Men.other, Men.same_colour, Options.list_if, declared.man.Colour.Colour, declared.man.Colour.TheVariants.White, declared.man.Colour.TheVariants.Black}
 use Rattle.byte_devices.specs.Devices.{OutputState, Begins, CutShort, Sent}
 use Rattle.byte_devices.specs.Transfers.{ToOutput, OutputTook, all_of}

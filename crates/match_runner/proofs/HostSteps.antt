@@ -2,7 +2,8 @@
 -- (`MarkedBy`) ends with a mark, which shows that the table holds the same reference to the host all the time.
 use Rattle.std.proofs.Common.{◌≡◌, ◌∙◌, ℕ, Bool, true, false, List, [], ◌∷◌, ◌++◌, Option, Result, Err, refl, sym, ap, subst, append_assoc, inl, inr, map}
 use Rattle.std.proofs.{lemmas.List.Concat.flat_map-append, lemmas.List.same_from_push}
-use Rattle.match_runner.specs.{declared.plan.GamesPlan.GamesPlan, declared.fault.GamesFault.GamesFault, declared.fault.GamesFault.TheVariants.NoMemory, ties.AtHost.MarkedBy}
+use Rattle.chess_match.specs.declared.games_plan.GamesPlan.{GamesPlan}
+use Rattle.match_runner.specs.{declared.fault.GamesFault.GamesFault, declared.fault.GamesFault.TheVariants.NoMemory, ties.AtHost.MarkedBy}
 use Rattle.match_runner.specs.GamesTable.{AtHost, GamesStep, HostFuture, HostStep, OpensClock, Outputs, PlaysBy, PlaysGamesAt, PlaysGamesWith, StepsPass, WriteFails, Writes, at_host, of_host, writing}
 use Rattle.match_runner.proofs.GamesWritten.{steps_more, steps_none}
 

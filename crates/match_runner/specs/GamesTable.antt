@@ -7,7 +7,7 @@ use Rattle.chess_base.specs.declared.man.Colour.TheVariants.{White, Black}
 use Rattle.chess_base.specs.declared.by_colour.ByColour.{ByColour}
 use Rattle.match_runner.specs.declared.fault.GamesFault.{GamesFault}
 use Rattle.match_runner.specs.declared.fault.GamesFault.TheVariants.{NoMemory, CanNotStart}
-use Rattle.match_runner.specs.declared.plan.GamesPlan.{GamesPlan}
+use Rattle.chess_match.specs.declared.games_plan.GamesPlan.{GamesPlan}
 use Rattle.byte_devices.specs.Devices.{OutputState}
 use Rattle.byte_devices.specs.Transfers.{Devices, ToOutput, OutputTook}
 use Rattle.match_runner.specs.Games.{GameRecord, LogsGames, WritesGames, engine_command, game_by_game, game_text, none_killed}

@@ -28,17 +28,16 @@ mod log;
 mod memory_host;
 mod moments;
 mod pipes;
-mod plan;
 mod process_host;
 mod score;
 mod table;
 
+pub use chess_match::GamesPlan;
 pub use fault::GamesFault;
 pub use games::{play_games, play_games_at, play_games_with};
 pub use host::{Engines, Host};
 pub use log::{Log, run_match_logged};
 pub use memory_host::{MemoryClock, MemoryEngine, MemoryGame, MemoryHost};
 pub use moments::SinceStart;
-pub use plan::GamesPlan;
 pub use process_host::ProcessHost;
 pub use table::GamesTable;

@@ -7,7 +7,8 @@ use Rattle.byte_devices.specs.{Devices.OutputState, Transfers.ToOutput, Transfer
 use Rattle.byte_devices.proofs.shared.Transfers.{saturating_increment_if}
 use Rattle.chess_base.specs.{declared.man.Colour.Colour, declared.man.Colour.TheVariants.White, declared.man.Colour.TheVariants.Black}
 use Rattle.chess_match.specs.{laws.Laws.broken_blocks, laws.Laws.is_broken, laws.Laws.lines_sent, Lines.SentLine, Notes.Note, Played.PlayedNoting, Played.WasSent, Played.World, Reasons.reported_fault, declared.reason.MatchFault.MatchFault, declared.reason.MatchFault.TheVariants.Write, declared.reason.Reason.Reason, declared.reason.Reason.TheVariants.Faulted, declared.run.MatchEnd.MatchEnd, declared.run.Setup.Setup}
-use Rattle.match_runner.specs.{Games.GameRecord, Games.IsOfPlan, declared.plan.GamesPlan.GamesPlan}
+use Rattle.chess_match.specs.declared.games_plan.GamesPlan.{GamesPlan}
+use Rattle.match_runner.specs.{Games.GameRecord, Games.IsOfPlan}
 use Rattle.match_runner_laws.specs.Faults.{KeepsFailureCounts, OnlyLastGamesHaveFailedWrites}
 
 -- ---- a match without a fault

@@ -13,7 +13,8 @@ use Rattle.chess_match.specs.{Acts.Act, Effects.Match, Effects.Over, Lines.bytes
 use Rattle.chess_match.specs.Reasons.{comment_of, ended_by, outcome_by_reason, reported_fault}
 use Rattle.chess_match.specs.laws.Laws.{is_broken, lines_sent, moments_shown, notes_given}
 use Rattle.chess_match_laws.specs.OfActs.{OnlyOneMatch, SilencesAreAskedFor, endless}
-use Rattle.match_runner.specs.{declared.fault.GamesFault.GamesFault, declared.memory_host.MemoryEngine.MemoryEngine, declared.plan.GamesPlan.GamesPlan, Log.Logged}
+use Rattle.chess_match.specs.declared.games_plan.GamesPlan.{GamesPlan}
+use Rattle.match_runner.specs.{declared.fault.GamesFault.GamesFault, declared.memory_host.MemoryEngine.MemoryEngine, Log.Logged}
 use Rattle.match_runner.specs.declared.fault.GamesFault.TheVariants.{CanNotStart, Game, NoMemory, WriteFailed}
 use Rattle.match_runner.specs.Games.{AreAllGames, GameRecord, IsOfPlan, LogsGames, WritesGames, game_log, game_text, game_texts, report_of, score_line}
 use Rattle.match_runner.specs.GamesTable.{ComeInTurn, GamesStep, HostStep, OpensClock, Outputs, PlaysGamesWith, Writes, at_host, games_steps, last_steps, steps_by}

@@ -11,7 +11,8 @@ use Rattle.chess_game.specs.{Game.Seen, Game.State, Results.cut_tag, Results.sam
 use Rattle.chess_match.specs.{Acts.Act, laws.Laws.is_broken, laws.Laws.notes_given, Effects.Match, Effects.Over, Notes.Note, Played.Passed, Rules.Rules, Rules.rules_of, declared.reason.Reason.Reason}
 use Rattle.chess_match.specs.Reasons.{declared_at, ended_by, outcome_by_reason, reported_fault, reported_reason, win_of}
 use Rattle.pgn_writer.specs.GameText.{pgn}
-use Rattle.match_runner.specs.{declared.plan.GamesPlan.GamesPlan, Log.log_from}
+use Rattle.chess_match.specs.declared.games_plan.GamesPlan.{GamesPlan}
+use Rattle.match_runner.specs.Log.{log_from}
 use Rattle.match_runner.specs.Games.{GameRecord, IsOfPlan, count_of, engine_command, first_side, game_text, game_texts, player_name, score_line, setup_of}
 use Rattle.match_runner_laws.specs.{Entries.IsShown, Entries.entries_from, ReadBack.AreAlike, ReadBack.LogsGiveTheOutput, ReadBack.LogsGiveThePgn}
 use Rattle.match_runner_laws.proofs.LogsRead.{logs_give_the_game}

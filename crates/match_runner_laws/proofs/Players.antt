@@ -5,7 +5,8 @@ use Rattle.std.specs.Fmt.{digits}
 use Rattle.chess_base.specs.{ByColour.of_colour, Men.same_colour, declared.by_colour.ByColour.ByColour, declared.man.Colour.Colour, declared.man.Colour.TheVariants.White, declared.man.Colour.TheVariants.Black}
 use Rattle.cecp_engine.specs.Levels.{LevelSeen}
 use Rattle.chess_game.specs.{Results.cut_tag, declared.results.Outcome.Outcome, declared.tags.HowEnded.HowEnded, declared.tags.HowEnded.TheVariants.TimeForfeit}
-use Rattle.match_runner.specs.{Games.engine_command, Games.first_side, Games.player_name, declared.plan.GamesPlan.GamesPlan}
+use Rattle.chess_match.specs.declared.games_plan.GamesPlan.{GamesPlan}
+use Rattle.match_runner.specs.{Games.engine_command, Games.first_side, Games.player_name}
 use Rattle.pgn_writer.specs.Terminations.{termination_of, termination_text}
 use Rattle.match_runner_laws.specs.Players.{EachKeepsItsLevel, GamesAreTagged, Player}
 

@@ -2,7 +2,7 @@
 use Rattle.std.specs.Prelude.{◌≡◌, List}
 use Rattle.std.specs.List.{AllByRecursion}
 use Rattle.chess_base.specs.declared.man.Colour.{Colour}
-use Rattle.match_runner.specs.declared.plan.GamesPlan.{GamesPlan}
+use Rattle.chess_match.specs.declared.games_plan.GamesPlan.{GamesPlan}
 use Rattle.match_runner.specs.Games.{GameRecord, FaultlessGames}
 
 -- in this game, its end lines included, no write or flush to an engine failed: the failure count of each engine's

@@ -12,7 +12,7 @@ use Rattle.match_runner.specs.MemoryHost.{MayCome}
 use Rattle.match_runner.specs.declared.fault.GamesFault.{GamesFault}
 use Rattle.match_runner.specs.declared.fault.GamesFault.TheVariants.{Game}
 use Rattle.match_runner.specs.declared.memory_host.MemoryHost.{MemoryHost}
-use Rattle.match_runner.specs.declared.plan.GamesPlan.{GamesPlan}
+use Rattle.chess_match.specs.declared.games_plan.GamesPlan.{GamesPlan}
 
 -- if engines are ended in this step, no read, write or flush at their pipes had failed
 abbrev pub FinishesWell : HostStep → Type 0

@@ -9,7 +9,7 @@ use Rattle.chess_game.specs.declared.results.Outcome.TheVariants.{BlackWins}
 use Rattle.chess_game.specs.declared.tags.HowEnded.TheVariants.{TimeForfeit}
 use Rattle.chess_match.specs.declared.run.MatchEnd.{MatchEnd}
 use Rattle.match_runner.specs.Games.{engine_command, setup_of, tags_of}
-use Rattle.match_runner.specs.declared.plan.GamesPlan.{GamesPlan}
+use Rattle.chess_match.specs.declared.games_plan.GamesPlan.{GamesPlan}
 use Rattle.pgn_writer.specs.Terminations.{termination_of, termination_text}
 
 -- an engine as a plan has it: its command and its time control

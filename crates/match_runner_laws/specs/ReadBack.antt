@@ -11,7 +11,7 @@ use Rattle.chess_match.specs.Acts.{Act, IsMatch}
 use Rattle.chess_match.specs.Effects.{Match, Over}
 use Rattle.chess_match.specs.Events.{Event, Line, Opened, Silent, OutputEnds, FailsToRead, FailsToWrite}
 use Rattle.chess_match.specs.laws.Laws.{events_in, notes_given, lines_given}
-use Rattle.match_runner.specs.declared.plan.GamesPlan.{GamesPlan}
+use Rattle.chess_match.specs.declared.games_plan.GamesPlan.{GamesPlan}
 use Rattle.match_runner.specs.Games.{GameRecord, IsOfPlan, first_side, game_text, game_texts, score_line}
 use Rattle.match_runner.specs.Log.{log_from}
 use Rattle.match_runner_laws.specs.Entries.{Entry, IsShown, entries_from, entries_text}

@@ -6,7 +6,9 @@ use Rattle.std.specs.Option.{option_map_or}
 use Rattle.pgn_tokens.specs.Tokens.{is_white_space}
 use Rattle.chess_pgn.specs.declared.read.PgnFaultKind.TheVariants.{TooLong}
 use Rattle.pgn_pieces.specs.{declared.pieces.TheConstants.PIECE_LEN, declared.pieces.PieceFault.PieceFault, laws.HandedOut.PiecesAreCut, laws.Places.PiecesAreInPlace}
-use Rattle.pgn_verifier.specs.{declared.options.Strictness.Strictness, Explanations.shown, Explanations.shown_word, declared.game_fault.FaultKind.TheVariants.Pgn, declared.options.VerifyOptions.VerifyOptions, declared.tally.Tally.Tally, declared.fault.VerifyFault.TheVariants.WriteFailed, Collection.VerifiesCollection, Faults.of_piece}
+use Rattle.verify_options.specs.declared.options.Strictness.{Strictness}
+use Rattle.verify_options.specs.declared.options.VerifyOptions.{VerifyOptions}
+use Rattle.pgn_verifier.specs.{Explanations.shown, Explanations.shown_word, declared.game_fault.FaultKind.TheVariants.Pgn, declared.tally.Tally.Tally, declared.fault.VerifyFault.TheVariants.WriteFailed, Collection.VerifiesCollection, Faults.of_piece}
 use Rattle.std.proofs.{lemmas.List.Concat.flat_map-append, lemmas.List.Sums.sum_by_push}
 use Rattle.byte_devices.specs.{declared.traits.WriteFault.WriteFault, Transfers.Ran}
 use Rattle.byte_devices.specs.Devices.{InputState, OutputState, Took, CutShort}

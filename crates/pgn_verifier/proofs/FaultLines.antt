@@ -8,7 +8,8 @@ use Rattle.chess_pgn.specs.PastDraws.{Stands}
 use Rattle.chess_pgn.specs.declared.read.PgnFaultKind.TheVariants.{BadTag, BadFen, BadToken, IllegalMove, AmbiguousMove, AfterEnd, TooLong, UnclosedComment, UnclosedVariation, NoResult}
 use Rattle.pgn_verifier.specs.Explanations.{shown, wrong_part, explanation, explanation_line}
 use Rattle.pgn_verifier.specs.Reports.{game_begin}
-use Rattle.pgn_verifier.specs.{declared.after_fault.AfterFault.AfterFault, declared.game_fault.FaultKind.FaultKind, declared.game_fault.GameFault.GameFault, declared.label.FaultLabel.FaultLabel, declared.options.VerifyOptions.VerifyOptions, declared.start.TextStart.TextStart, declared.tally.Tally.Tally, laws.Reasons.reason, laws.Reported.is_at_begin, laws.Reported.names_at, laws.Reported.next_at, laws.Reported.fault_placed}
+use Rattle.verify_options.specs.declared.options.VerifyOptions.{VerifyOptions}
+use Rattle.pgn_verifier.specs.{declared.after_fault.AfterFault.AfterFault, declared.game_fault.FaultKind.FaultKind, declared.game_fault.GameFault.GameFault, declared.label.FaultLabel.FaultLabel, declared.start.TextStart.TextStart, declared.tally.Tally.Tally, laws.Reasons.reason, laws.Reported.is_at_begin, laws.Reported.names_at, laws.Reported.next_at, laws.Reported.fault_placed}
 use Rattle.pgn_verifier.specs.declared.game_fault.FaultKind.TheVariants.{Pgn, InVariation, UnknownVariant, ResultDiffers, BoardSaysOtherwise}
 use Rattle.pgn_verifier.specs.ties.Explaining.{explanation_of, part_on, span_from, unread_from, unread_text}
 use Rattle.pgn_verifier.specs.ties.OnTheWay.{moved, fault_line, next_number, span_written, unread_written}

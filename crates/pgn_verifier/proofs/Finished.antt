@@ -6,7 +6,9 @@ use Rattle.byte_devices.specs.Devices.{InputState, OutputState, Took, Sent, CutS
 use Rattle.byte_devices.specs.Transfers.{Ran}
 use Rattle.byte_devices.proofs.shared.Devices.{appends_more, took_none, breaks_more, failed_more}
 use Rattle.pgn_pieces.specs.Stream.{pieces}
-use Rattle.pgn_verifier.specs.{declared.options.Strictness.Strictness, declared.options.VerifyOptions.VerifyOptions, declared.tally.Tally.Tally, declared.tally.Verified.Verified, declared.fault.VerifyFault.TheVariants.WriteFailed, declared.fault.VerifyFault.TheVariants.NoMemory, Collection.VerifiesCollection, laws.Reported.placed_on, laws.Reported.collection_placed}
+use Rattle.verify_options.specs.declared.options.Strictness.{Strictness}
+use Rattle.verify_options.specs.declared.options.VerifyOptions.{VerifyOptions}
+use Rattle.pgn_verifier.specs.{declared.tally.Tally.Tally, declared.tally.Verified.Verified, declared.fault.VerifyFault.TheVariants.WriteFailed, declared.fault.VerifyFault.TheVariants.NoMemory, Collection.VerifiesCollection, laws.Reported.placed_on, laws.Reported.collection_placed}
 use Rattle.pgn_pieces.specs.declared.pieces.PieceFault.TheVariants as piece
 use Rattle.pgn_pieces.proofs.shared.Inputs.{nothing_read}
 use Rattle.pgn_verifier.specs.Reports.{report_lines, counts_line, counts_of, verified}

@@ -10,7 +10,8 @@ use Rattle.chess_game.specs.{Game.State, Game.current, declared.game.TheConstant
 use Rattle.chess_pgn.specs.{GameRead.GameRead, GameRead.ending, ResultTags.result_tag_of, UnknownVariants.unknown_variant_in, declared.past_draws.ReadGame.ReadGame, declared.read.PgnEnd.PgnEnd, declared.read.PgnFault.PgnFault, declared.tagged_result.ResultTag.ResultTag, laws.Offsets.FaultsHaveOffsets, laws.Offsets.HalfMovesHaveBytes, PastDraws.IsAnswer, PastDraws.Stands}
 use Rattle.pgn_tokens.specs.Tokens.{Token, tokens_from}
 use Rattle.chess_pgn.proofs.shared.Ends.{ends_in_text}
-use Rattle.pgn_verifier.specs.{Explanations.explanation, Explanations.has_position, GameFaults.judged, declared.game_fault.FaultKind.FaultKind, declared.game_fault.FaultKind.TheVariants.Pgn, declared.game_fault.GameFault.GameFault, declared.options.Strictness.Strictness, laws.Reasons.reason, laws.Reported.judged_of, laws.Reported.read_at, shared.Contradictions.end_fault, shared.Contradictions.variation_in, ties.Explaining.explanation_of, ties.Explaining.part_on}
+use Rattle.verify_options.specs.declared.options.Strictness.{Strictness}
+use Rattle.pgn_verifier.specs.{Explanations.explanation, Explanations.has_position, GameFaults.judged, declared.game_fault.FaultKind.FaultKind, declared.game_fault.FaultKind.TheVariants.Pgn, declared.game_fault.GameFault.GameFault, laws.Reasons.reason, laws.Reported.judged_of, laws.Reported.read_at, shared.Contradictions.end_fault, shared.Contradictions.variation_in, ties.Explaining.explanation_of, ties.Explaining.part_on}
 
 -- a game stands for itself
 pub stands_same : (draws : Bool) (g s : State) → g ≡ s → Stands draws g s

@@ -5,7 +5,8 @@ use Rattle.std.proofs.Common.{◌≡◌, ℕ, ◌+◌, cond, not, List, [], ◌�
 use Rattle.std.proofs.lemmas.List.Sums.{sum_by-cons}
 use Rattle.byte_devices.specs.Devices.{OutputState, Took, CutShort}
 use Rattle.byte_devices.proofs.shared.Devices.{took_none, took_more, breaks_more, breaks_longer}
-use Rattle.pgn_verifier.specs.{declared.options.VerifyOptions.VerifyOptions, declared.tally.Tally.Tally}
+use Rattle.verify_options.specs.declared.options.VerifyOptions.{VerifyOptions}
+use Rattle.pgn_verifier.specs.declared.tally.Tally.{Tally}
 use Rattle.pgn_verifier.specs.Reports.{Report, Game, Faulty, Placed, written_line, report_lines, counts_of, is_game, plies_of}
 use Rattle.pgn_verifier.specs.ties.OnTheWay.{next_number, Writes, counted, with_report}
 

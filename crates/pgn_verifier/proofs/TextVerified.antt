@@ -6,7 +6,9 @@ use Rattle.std.specs.Option.{option_map_or}
 use Rattle.byte_devices.specs.Devices.{OutputState, Took, CutShort}
 use Rattle.chess_game.specs.Game.{State}
 use Rattle.chess_pgn.specs.declared.read.PgnEnd.{PgnEnd}
-use Rattle.pgn_verifier.specs.{declared.options.Strictness.Strictness, declared.game_fault.GameFault.GameFault, declared.options.VerifyOptions.VerifyOptions, declared.tally.Tally.Tally, declared.start.TextStart.TextStart}
+use Rattle.verify_options.specs.declared.options.Strictness.{Strictness}
+use Rattle.verify_options.specs.declared.options.VerifyOptions.{VerifyOptions}
+use Rattle.pgn_verifier.specs.{declared.game_fault.GameFault.GameFault, declared.tally.Tally.Tally, declared.start.TextStart.TextStart}
 use Rattle.pgn_verifier.specs.Reports.{Placed, game_begin, report_lines}
 use Rattle.pgn_verifier.specs.laws.Reported.{read_at, judged_at, next_at, game_placed, fault_placed, placed_then, placed_from, placed_of}
 use Rattle.pgn_verifier.specs.ties.Explaining.{span_from}

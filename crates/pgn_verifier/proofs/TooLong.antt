@@ -5,7 +5,8 @@ use Rattle.std.specs.Option.{option_map_or}
 use Rattle.byte_devices.specs.Devices.{OutputState, Took, CutShort}
 use Rattle.chess_pgn.specs.declared.read.PgnFaultKind.TheVariants.{TooLong}
 use Rattle.pgn_pieces.specs.{Places.line_of, Places.column_of, Stream.PieceSeen}
-use Rattle.pgn_verifier.specs.{Explanations.shown, Explanations.explanation_line, declared.game_fault.FaultKind.TheVariants.Pgn, declared.options.VerifyOptions.VerifyOptions, declared.start.TextStart.TextStart, declared.tally.Tally.Tally, laws.Reported.placed_of}
+use Rattle.verify_options.specs.declared.options.VerifyOptions.{VerifyOptions}
+use Rattle.pgn_verifier.specs.{Explanations.shown, Explanations.explanation_line, declared.game_fault.FaultKind.TheVariants.Pgn, declared.start.TextStart.TextStart, declared.tally.Tally.Tally, laws.Reported.placed_of}
 use Rattle.pgn_verifier.specs.Reports.{report_lines}
 use Rattle.pgn_verifier.specs.ties.Explaining.{span_from, unread_text}
 use Rattle.pgn_verifier.specs.ties.OnTheWay.{StandsIf, PieceStandsIf, Writes, counted, fault_line, next_number, reports_seen, too_long_seen}

@@ -10,7 +10,7 @@ use Rattle.pgn_tokens.specs.Tokens.{tokens_from}
 use Rattle.pgn_verifier.specs.GameFaults.{board_says_otherwise, judged, result_differs}
 use Rattle.pgn_verifier.specs.declared.game_fault.FaultKind.TheVariants.{Pgn, InVariation, UnknownVariant}
 use Rattle.pgn_verifier.specs.declared.game_fault.GameFault.{GameFault}
-use Rattle.pgn_verifier.specs.declared.options.Strictness.{Strictness}
+use Rattle.verify_options.specs.declared.options.Strictness.{Strictness}
 use Rattle.pgn_verifier.specs.laws.Reported.{read_at}
 use Rattle.pgn_verifier.specs.shared.Contradictions.{looked_for, variation_in}
 use Rattle.pgn_verifier.specs.ties.AfterFaults.{IsFaultAt, stops_tokens}

@@ -7,7 +7,8 @@ use Rattle.byte_devices.proofs.shared.Transfers.{came, broke, took_nothing, took
 use Rattle.pgn_pieces.specs.Pieces.{known_pieces, HasRead, GaveThenFailed, IsCause}
 use Rattle.pgn_pieces.specs.declared.pieces.PieceFault.{PieceFault}
 use Rattle.pgn_pieces.specs.declared.pieces.PieceFault.TheVariants as piece
-use Rattle.pgn_verifier.specs.{declared.fault.VerifyFault.VerifyFault, declared.options.VerifyOptions.VerifyOptions, declared.tally.Verified.Verified, Verify.Verifies, Collection.AreCollectionReports, Collection.VerifiesCollection, laws.Reported.placed_on, laws.Reported.collection_placed, Faults.of_piece}
+use Rattle.verify_options.specs.declared.options.VerifyOptions.{VerifyOptions}
+use Rattle.pgn_verifier.specs.{declared.fault.VerifyFault.VerifyFault, declared.tally.Verified.Verified, Verify.Verifies, Collection.AreCollectionReports, Collection.VerifiesCollection, laws.Reported.placed_on, laws.Reported.collection_placed, Faults.of_piece}
 use Rattle.pgn_verifier.specs.declared.fault.VerifyFault.TheVariants.{ReadFailed, WriteFailed, NoMemory, InputTooLong}
 use Rattle.pgn_verifier.specs.Reports.{Placed, counts_of, verified}
 use Rattle.pgn_verifier.proofs.shared.ReportsAre.{are_reports, are_collection_reports}

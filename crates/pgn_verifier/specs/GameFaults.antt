@@ -9,7 +9,7 @@ use Rattle.chess_pgn.specs.GameRead.{ending, read_of_split}
 use Rattle.chess_pgn.specs.ResultTags.{result_tag_of}
 use Rattle.chess_pgn.specs.UnknownVariants.{unknown_variant_in}
 use Rattle.chess_pgn.specs.Variations.{variations_fault}
-use Rattle.pgn_verifier.specs.declared.options.Strictness.{Strictness}
+use Rattle.verify_options.specs.declared.options.Strictness.{Strictness}
 use Rattle.pgn_tokens.specs.Split.{IsSplit}
 use Rattle.pgn_tokens.specs.Tokens.{Token}
 use Rattle.byte_devices.specs.Bytes.{after_byte_order_mark}

@@ -4,7 +4,7 @@ use Rattle.byte_devices.specs.Transfers.{FromInput, ToOutput, IsWhole, nothing, 
 use Rattle.pgn_pieces.specs.declared.pieces.TheConstants.{PIECE_LEN}
 use Rattle.pgn_verifier.specs.declared.fault.VerifyFault.{VerifyFault}
 use Rattle.pgn_verifier.specs.declared.fault.VerifyFault.TheVariants.{ReadFailed, WriteFailed, NoMemory, InputTooLong}
-use Rattle.pgn_verifier.specs.declared.options.VerifyOptions.{VerifyOptions}
+use Rattle.verify_options.specs.declared.options.VerifyOptions.{VerifyOptions}
 use Rattle.pgn_verifier.specs.declared.tally.Verified.{Verified}
 use Rattle.pgn_verifier.specs.Reports.{Placed, AreReports, report_lines, counts_of, verified}
 

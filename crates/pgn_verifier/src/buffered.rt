@@ -10,7 +10,6 @@ ghost use Rattle.pgn_pieces.specs.declared.pieces.TheConstants.{PIECE_LEN};
 
 use crate::fault::VerifyFault;
 use crate::games::{open_game, verify_text};
-use crate::options::VerifyOptions;
 use crate::start::TextStart;
 use crate::tally::{Tally, Verified};
 use byte_devices::{Input, Output, WriteFault};
@@ -18,6 +17,7 @@ use chess_bits::{AttackTables, Bits};
 use chess_game::Game;
 use pgn_pieces::PIECE_LEN;
 use std::alloc::Global;
+use verify_options::VerifyOptions;
 
 // How many bytes a read asks for.
 const READ_LEN: usize = 4096;

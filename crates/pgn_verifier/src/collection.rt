@@ -13,7 +13,6 @@ use crate::explanation::too_long_lines;
 use crate::fault::VerifyFault;
 use crate::games::{open_game, verify_text};
 use crate::label::FaultLabel;
-use crate::options::VerifyOptions;
 use crate::report::write_counts;
 use crate::start::TextStart;
 use crate::tally::{Tally, Verified};
@@ -22,6 +21,7 @@ use chess_bits::{AttackTables, Bits};
 use chess_game::Game;
 use pgn_pieces::{PgnPieces, pieces_are_cut, pieces_are_in_place};
 use std::alloc::Global;
+use verify_options::VerifyOptions;
 
 // Reads the games of the current piece into `game`, one after another, and writes their lines; returns the counts:
 // `before` with these reports added. A piece that is too long is one fault. The piece begins on the line `line` of the

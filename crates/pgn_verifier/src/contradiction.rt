@@ -12,10 +12,10 @@ ghost use Rattle.pgn_verifier.specs.GameFaults.{result_differs, board_says_other
 ghost use Rattle.pgn_verifier.specs.shared.Contradictions.{contradiction, looked_for};
 
 use crate::game_fault::{FaultKind, GameFault};
-use crate::options::Strictness;
 use chess_game::{Game, Outcome, Verdict};
 use chess_moves::Board;
 use chess_pgn::{PgnEnd, ResultTag, ending, result_tag};
+use verify_options::Strictness;
 
 // Whether a tag `Result` names this outcome; `denoted` is the outcome that the tag's text denotes, `None` if it denotes
 // none.

@@ -12,12 +12,12 @@ ghost use Rattle.pgn_verifier.specs.shared.Contradictions.{contradiction, end_fa
 
 use crate::contradiction::contradiction;
 use crate::game_fault::{FaultKind, GameFault};
-use crate::options::Strictness;
 use byte_devices::after_byte_order_mark;
 use chess_base::Position;
 use chess_bits::Bits;
 use chess_game::Game;
 use chess_pgn::{PgnEnd, PgnFault, has_variation, read_variations, unknown_variant};
+use verify_options::Strictness;
 
 // Reads the variations of the game that was read from `at` on, started in the position `start` and ended with `end`;
 // returns their first fault. `game` only gives the kind of board.

@@ -21,7 +21,6 @@ ghost use Rattle.pgn_verifier.specs.declared.explanation.TheConstants.{FAULT_LIN
 use crate::fen_field::{fen_reason, fen_text, field_offset, wrong_field};
 use crate::game_fault::{FaultKind, GameFault, pgn_fault_name};
 use crate::label::{FaultLabel, Span, append_span};
-use crate::options::VerifyOptions;
 use crate::place::Place;
 use crate::shown::{Shown, shown, shown_field};
 use crate::start::TextStart;
@@ -32,6 +31,7 @@ use chess_fen::write_fen;
 use chess_game::{Game, Outcome, Verdict};
 use chess_moves::Board;
 use chess_pgn::{PgnFaultKind, ending};
+use verify_options::VerifyOptions;
 
 // The most bytes of the lines on a fault: of its own 320, and of the one that explains it 466.
 const FAULT_LINES_LEN: usize = 786;

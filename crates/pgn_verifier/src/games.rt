@@ -9,7 +9,6 @@ use crate::after_fault::AfterFault;
 use crate::explanation::{explained_at, fault_lines};
 use crate::judged::judge_game;
 use crate::label::{FaultLabel, Label};
-use crate::options::VerifyOptions;
 use crate::place::Place;
 use crate::report::write_game;
 use crate::start::TextStart;
@@ -18,6 +17,7 @@ use byte_devices::{Output, WriteFault, put};
 use chess_bits::{AttackTables, Bits};
 use chess_game::{Game, MOST_MOVES};
 use std::alloc::{AllocError, Global};
+use verify_options::VerifyOptions;
 
 // A new game of at most 20,000 half-moves (`MOST_MOVES`), on a bitboard that uses these tables.
 pub(crate) fn open_game<'t>(

@@ -9,10 +9,10 @@ ghost use Rattle.pgn_verifier.specs.ties.OnTheWay.{end_seen};
 
 use crate::end_faults::{end_fault, end_fault_from};
 use crate::game_fault::GameFault;
-use crate::options::Strictness;
 use chess_bits::Bits;
 use chess_game::Game;
 use chess_pgn::{PgnEnd, faults_have_offsets, half_moves_have_bytes, read_past_draws, read_pgn};
+use verify_options::Strictness;
 
 /// A game that was read to its termination marker, and has no fault.
 #[derive(Clone, Copy)]

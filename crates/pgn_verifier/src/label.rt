@@ -15,11 +15,11 @@ ghost use Rattle.pgn_verifier.specs.ties.OnTheWay.{span_written, unread_written}
 
 use crate::after_fault::AfterFault;
 use crate::names::{NamesText, game_names};
-use crate::options::VerifyOptions;
 use arrayvec::ArrayVec;
 use byte_devices::{after_byte_order_mark, append, append_number};
 use pgn_pieces::PgnPieces;
 use pgn_tokens::is_white_space;
+use verify_options::VerifyOptions;
 
 /// A part of the input.
 #[derive(Clone, Copy)]

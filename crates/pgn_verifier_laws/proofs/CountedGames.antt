@@ -14,7 +14,8 @@ use Rattle.chess_text.specs.Moves.{denotes, one_of, reading, shape}
 use Rattle.chess_text.specs.declared.reading.Reading.TheVariants as reads
 use Rattle.chess_text.specs.laws.Laws.{ReadMovesAreLegal}
 use Rattle.pgn_pieces.specs.declared.pieces.TheConstants.{PIECE_LEN}
-use Rattle.pgn_verifier.specs.{declared.options.Strictness.Strictness, Explanations.shown, declared.game_fault.FaultKind.TheVariants.Pgn, GameFaults.IsJudged, shared.Contradictions.variation_in}
+use Rattle.verify_options.specs.declared.options.Strictness.{Strictness}
+use Rattle.pgn_verifier.specs.{Explanations.shown, declared.game_fault.FaultKind.TheVariants.Pgn, GameFaults.IsJudged, shared.Contradictions.variation_in}
 use Rattle.pgn_verifier.specs.Reports.{AreReports, Placed, Faulty, none_left, next_game, next_fault, spanning}
 use Rattle.pgn_verifier.specs.laws.Reported.{without_spans}
 use Rattle.pgn_writer.specs.Outcomes.{outcome_of}

@@ -9,7 +9,8 @@ use Rattle.chess_pgn.specs.declared.read.PgnEnd.{PgnEnd}
 use Rattle.byte_devices.specs.Bytes.{after_byte_order_mark}
 use Rattle.pgn_pieces.specs.{Pieces.cut, Places.breaks_line, Stream.with_offsets, Stream.pieces, declared.pieces.TheConstants.PIECE_LEN}
 use Rattle.pgn_pieces.proofs.shared.Cuts.{AreLines, no_texts, last_text, next_text, cut_is_all, cut_ends}
-use Rattle.pgn_verifier.specs.{declared.options.Strictness.Strictness, declared.game_fault.GameFault.GameFault, declared.tally.Verified.TheVariants.EachGame, declared.tally.Verified.TheVariants.FaultReported}
+use Rattle.verify_options.specs.declared.options.Strictness.{Strictness}
+use Rattle.pgn_verifier.specs.{declared.game_fault.GameFault.GameFault, declared.tally.Verified.TheVariants.EachGame, declared.tally.Verified.TheVariants.FaultReported}
 use Rattle.pgn_verifier.specs.Reports.{Report, Game, Faulty, Placed, is_game as is_counted, counts_of, verified}
 use Rattle.pgn_verifier_laws.specs.NoFaults.{begins_with_mark, ends_with_return, FaultlessTextsAreReportedAlike}
 use Rattle.pgn_verifier_laws.specs.Parts.{BeginsAlike, HoldsWhole, no_more, game, AllHoldWhole, no_parts, next_part}

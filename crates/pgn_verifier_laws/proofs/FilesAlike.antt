@@ -8,7 +8,8 @@ use Rattle.std.proofs.{Math.Path.fun_ext, lemmas.List.map-append, lemmas.List.Co
 use Rattle.chess_pgn.specs.{GameRead.ending, declared.read.PgnEnd.PgnEnd}
 use Rattle.pgn_pieces.specs.{Pieces.cut, Pieces.lines_of, Places.breaks_line, Stream.with_offsets, declared.pieces.TheConstants.PIECE_LEN}
 use Rattle.pgn_pieces.proofs.shared.Cuts.{cut_is_all}
-use Rattle.pgn_verifier.specs.{declared.options.Strictness.Strictness, Collection.AreCollectionReports, Explanations.explanation, Explanations.wrong_part, declared.game_fault.GameFault.GameFault, laws.Reasons.reason}
+use Rattle.verify_options.specs.declared.options.Strictness.{Strictness}
+use Rattle.pgn_verifier.specs.{Collection.AreCollectionReports, Explanations.explanation, Explanations.wrong_part, declared.game_fault.GameFault.GameFault, laws.Reasons.reason}
 use Rattle.pgn_verifier.specs.Reports.{Report, Game, Faulty, Placed, game_begin, is_game, plies_of, counts_of}
 use Rattle.pgn_verifier.specs.laws.Reported.{names_at, next_at, read_at, judged_at, game_placed, fault_placed, placed_then, placed_from, placed_of, placed_in, too_long_placed}
 use Rattle.pgn_verifier_laws.specs.Files.{AreCutWherePiecesBegin, moved, one_after_another, IsSumOf, FilesAreVerifiedAlike}

@@ -4,7 +4,8 @@ use Rattle.std.proofs.Common.{◌≡◌, ℕ, zero, suc, ◌+◌, Bool, true, fa
 use Rattle.std.specs.List.{list_all}
 use Rattle.chess_game.specs.Game.{State}
 use Rattle.chess_pgn.specs.declared.read.PgnEnd.{PgnEnd}
-use Rattle.pgn_verifier.specs.{declared.options.Strictness.Strictness, declared.game_fault.GameFault.GameFault}
+use Rattle.verify_options.specs.declared.options.Strictness.{Strictness}
+use Rattle.pgn_verifier.specs.declared.game_fault.GameFault.{GameFault}
 use Rattle.pgn_verifier.specs.laws.Reported.{Plain, PlainGame, PlainFault, games_from, games_of, judged_at, next_at, read_at, report_then}
 
 -- whether a report is on a game without a fault

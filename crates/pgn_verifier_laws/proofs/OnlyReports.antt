@@ -10,7 +10,8 @@ use Rattle.pgn_tokens.specs.{Split.IsSplit, Tokens.Token, Tokens.tokens_from}
 use Rattle.byte_devices.specs.Bytes.{after_byte_order_mark}
 use Rattle.pgn_tokens.proofs.shared.Tokens.{split_read}
 use Rattle.pgn_pieces.specs.{Pieces.known_pieces, Stream.Piece, Stream.with_offsets, Stream.pieces, declared.pieces.TheConstants.PIECE_LEN}
-use Rattle.pgn_verifier.specs.{declared.options.Strictness.Strictness, Collection.AreCollectionReports, Collection.no_piece, Collection.next_piece, Explanations.IsReason, Explanations.explanation, Explanations.shown, Explanations.wrong_part, GameFaults.judged, GameFaults.IsJudged, declared.game_fault.FaultKind.FaultKind, declared.game_fault.GameFault.GameFault, laws.Reasons.reason, shared.Contradictions.variation_in}
+use Rattle.verify_options.specs.declared.options.Strictness.{Strictness}
+use Rattle.pgn_verifier.specs.{Collection.AreCollectionReports, Collection.no_piece, Collection.next_piece, Explanations.IsReason, Explanations.explanation, Explanations.shown, Explanations.wrong_part, GameFaults.judged, GameFaults.IsJudged, declared.game_fault.FaultKind.FaultKind, declared.game_fault.GameFault.GameFault, laws.Reasons.reason, shared.Contradictions.variation_in}
 use Rattle.pgn_verifier.specs.declared.game_fault.FaultKind.TheVariants.{Pgn, InVariation, UnknownVariant, ResultDiffers, BoardSaysOtherwise}
 use Rattle.chess_pgn.specs.declared.read.PgnFaultKind.TheVariants as pgn
 use Rattle.pgn_verifier.specs.Reports.{Faulty, Placed, game_begin, names_of, AreReports, none_left, next_game, next_fault, AreReportsIn, spanning}

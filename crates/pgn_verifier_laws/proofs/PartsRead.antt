@@ -22,7 +22,8 @@ use Rattle.chess_pgn.specs.{laws.WordKinds.word_kind, declared.read.PgnEnd.PgnEn
 use Rattle.chess_pgn.specs.laws.TokenByToken.{SoFar, Step, On, Stop, move_step, word_step, fen_step, step, read_rest_with, game_of, nothing_read, tokens_read}
 use Rattle.chess_pgn.proofs.shared.Words.{word_cases}
 use Rattle.pgn_tokens.proofs.shared.Tokens.{read_kinds, kinds_read, stays_longest, token_some}
-use Rattle.pgn_verifier.specs.{declared.options.Strictness.Strictness, GameFaults.judged, shared.Contradictions.end_fault, shared.Contradictions.variation_in, declared.game_fault.GameFault.GameFault}
+use Rattle.verify_options.specs.declared.options.Strictness.{Strictness}
+use Rattle.pgn_verifier.specs.{GameFaults.judged, shared.Contradictions.end_fault, shared.Contradictions.variation_in, declared.game_fault.GameFault.GameFault}
 use Rattle.pgn_verifier_laws.specs.Parts.{BeginsAlike}
 use Rattle.pgn_verifier_laws.proofs.GamesAlike.{Fits, found}
 use Rattle.pgn_verifier_laws.proofs.PartsAlike.{TokenByToken, there, lines, over, own_more, same_variant, outcome_in, same_result, same_known, faults_stop, read_so, found_so, judged_so, agrees, not_before, no_mark}

@@ -13,7 +13,8 @@ use Rattle.chess_pgn.proofs.shared.Ends.{ends_in_text}
 use Rattle.pgn_tokens.proofs.shared.Tokens.{kinds_read}
 use Rattle.pgn_pieces.specs.{Pieces.cut, Stream.Piece, Stream.with_offsets, Stream.pieces, declared.pieces.TheConstants.PIECE_LEN}
 use Rattle.pgn_pieces.proofs.shared.Cuts.{cut_is_all}
-use Rattle.pgn_verifier.specs.{declared.options.Strictness.Strictness, GameFaults.judged, Reports.Placed, Reports.game_begin, declared.game_fault.GameFault.GameFault, shared.Contradictions.variation_in}
+use Rattle.verify_options.specs.declared.options.Strictness.{Strictness}
+use Rattle.pgn_verifier.specs.{GameFaults.judged, Reports.Placed, Reports.game_begin, declared.game_fault.GameFault.GameFault, shared.Contradictions.variation_in}
 use Rattle.pgn_verifier.specs.laws.Reported.{next_at, read_at, judged_at, fault_placed, placed_then, placed_from, placed_of, placed_in, collection_placed, too_long_placed}
 use Rattle.pgn_verifier.proofs.shared.ReportsAre.{later_there}
 use Rattle.pgn_verifier_laws.specs.Spans.{MakeUp, no_more, next, SpansMakeUpTheText, SpansMakeUpTheCollection}

@@ -9,7 +9,8 @@ use Rattle.chess_pgn.specs.{GameRead.GameRead, GameRead.ending, GameRead.not_of_
 use Rattle.pgn_tokens.specs.Tokens.{tokens_from}
 use Rattle.pgn_writer.specs.{GameText.pgn, Terminations.termination_of}
 use Rattle.byte_devices.specs.Bytes.{after_byte_order_mark}
-use Rattle.pgn_verifier.specs.{declared.game_fault.GameFault.GameFault, declared.options.Strictness.Strictness, shared.Contradictions.end_fault, shared.Contradictions.looked_for, shared.Contradictions.variant_fault, shared.Contradictions.variation_in}
+use Rattle.verify_options.specs.declared.options.Strictness.{Strictness}
+use Rattle.pgn_verifier.specs.{declared.game_fault.GameFault.GameFault, shared.Contradictions.end_fault, shared.Contradictions.looked_for, shared.Contradictions.variant_fault, shared.Contradictions.variation_in}
 use Rattle.chess_pgn_laws.specs.PgnLaw.{PgnIsReadBack, ResultIsWritten, VariantIsWritten}
 use Rattle.pgn_tokens.proofs.shared.Tokens.{read_split}
 use Rattle.pgn_verifier.specs.GameFaults.{result_differs, board_says_otherwise, judged, IsJudged}

@@ -14,7 +14,8 @@ use Rattle.byte_devices.specs.Bytes.{after_byte_order_mark}
 use Rattle.pgn_writer.specs.Written as written
 use Rattle.chess_pgn_laws.specs.PgnLaw.{AreTagTexts, IsReadBack, PgnIsReadBack}
 use Rattle.pgn_tokens.proofs.shared.Tokens.{kinds_read}
-use Rattle.pgn_verifier.specs.{declared.options.Strictness.Strictness, GameFaults.judged, shared.Contradictions.variation_in}
+use Rattle.verify_options.specs.declared.options.Strictness.{Strictness}
+use Rattle.pgn_verifier.specs.{GameFaults.judged, shared.Contradictions.variation_in}
 use Rattle.pgn_verifier_laws.specs.NoFaults.{begins_with_mark}
 use Rattle.pgn_verifier_laws.specs.Parts.{BeginsAlike, AllHoldWhole, no_parts, next_part}
 use Rattle.pgn_verifier_laws.specs.WrittenGames.{HasNoFault, TaggedGame, AreWritable, written_text, report_of, WrittenTextsHaveNoFault}

@@ -13,7 +13,7 @@ use Rattle.pgn_tokens.specs.Tokens.{Token, Word}
 use Rattle.byte_devices.specs.Bytes.{after_byte_order_mark}
 use Rattle.chess_pgn_laws.specs.GameOfTokens.{game_by, move_words}
 use Rattle.chess_text.specs.Moves.{denotes}
-use Rattle.pgn_verifier.specs.declared.options.Strictness.{Strictness}
+use Rattle.verify_options.specs.declared.options.Strictness.{Strictness}
 use Rattle.pgn_verifier.specs.Reports.{AreReports, AreReportsIn, Placed}
 use Rattle.pgn_verifier.specs.laws.Reported.{Plain, PlainGame, PlainFault, without_spans}
 use Rattle.pgn_writer.specs.Outcomes.{outcome_of}

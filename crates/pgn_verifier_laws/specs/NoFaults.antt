@@ -4,7 +4,7 @@ use Rattle.std.specs.List.{list_any}
 use Rattle.std.specs.Str.{bytes_eq}
 use Rattle.byte_devices.specs.Bytes.{carriage_return}
 use Rattle.pgn_pieces.specs.Pieces.{cut}
-use Rattle.pgn_verifier.specs.declared.options.Strictness.{Strictness}
+use Rattle.verify_options.specs.declared.options.Strictness.{Strictness}
 use Rattle.pgn_verifier.specs.declared.tally.Verified.TheVariants.{EachGame}
 use Rattle.pgn_verifier.specs.Reports.{counts_of, verified}
 use Rattle.pgn_verifier.specs.laws.Reported.{collection_placed, collection_reports, reports_on}

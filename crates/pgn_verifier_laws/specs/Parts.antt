@@ -6,7 +6,7 @@ use Rattle.byte_devices.specs.Bytes.{new_line, after_byte_order_mark}
 use Rattle.chess_pgn.specs.declared.read.PgnEnd.{PgnEnd}
 use Rattle.pgn_pieces.specs.Pieces.{cut}
 use Rattle.pgn_pieces.specs.declared.pieces.TheConstants.{PIECE_LEN}
-use Rattle.pgn_verifier.specs.declared.options.Strictness.{Strictness}
+use Rattle.verify_options.specs.declared.options.Strictness.{Strictness}
 use Rattle.pgn_verifier.specs.laws.Reported.{Plain, PlainGame, collection_reports, read_at, judged_at, reports_from, reports_on}
 
 -- ---- one game

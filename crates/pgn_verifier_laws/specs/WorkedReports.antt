@@ -17,8 +17,8 @@ use Rattle.pgn_verifier.specs.Reports.{AreReports, Report, Placed, Game, Faulty,
 use Rattle.pgn_verifier.specs.Verify.{Verifies}
 use Rattle.pgn_verifier.specs.declared.fault.VerifyFault.TheVariants.{ReadFailed, NoMemory, InputTooLong}
 use Rattle.pgn_verifier.specs.declared.game_fault.FaultKind.TheVariants.{Pgn}
-use Rattle.pgn_verifier.specs.declared.options.Strictness.{Strictness}
-use Rattle.pgn_verifier.specs.declared.options.VerifyOptions.{VerifyOptions}
+use Rattle.verify_options.specs.declared.options.Strictness.{Strictness}
+use Rattle.verify_options.specs.declared.options.VerifyOptions.{VerifyOptions}
 use Rattle.pgn_verifier.specs.declared.tally.Verified.TheVariants.{EachGame, FaultReported}
 use Rattle.pgn_verifier.specs.laws.Reported.{judged_at, placed_of, placed_on, too_long_placed}
 use Rattle.pgn_writer.specs.declared.termination.Termination.TheVariants.{TimeForfeit}

@@ -8,7 +8,7 @@ use Rattle.pgn_writer.specs.Terminations.{termination_of}
 use Rattle.chess_pgn.specs.declared.read.PgnEnd.{PgnEnd}
 use Rattle.pgn_writer.specs.declared.tags.Tags.{Tags}
 use Rattle.chess_pgn_laws.specs.PgnLaw.{AreTagTexts}
-use Rattle.pgn_verifier.specs.declared.options.Strictness.{Strictness}
+use Rattle.verify_options.specs.declared.options.Strictness.{Strictness}
 use Rattle.pgn_verifier.specs.GameFaults.{IsJudged}
 use Rattle.pgn_verifier.specs.laws.Reported.{Plain, PlainGame, reports_on}
 

@@ -4,7 +4,7 @@
 ghost use Rattle.std.specs.Prelude.{◌≡◌, Bool, false, List, Option, Result, ℕ};
 ghost use Rattle.chess_game.specs.Game.{State};
 ghost use Rattle.chess_pgn.specs.declared.read.PgnEnd.{PgnEnd};
-ghost use Rattle.pgn_verifier.specs.declared.options.Strictness.{Strictness};
+ghost use Rattle.verify_options.specs.declared.options.Strictness.{Strictness};
 ghost use Rattle.pgn_verifier.specs.declared.game_fault.GameFault.{GameFault};
 ghost use Rattle.pgn_pieces.specs.Pieces.{known_pieces};
 ghost use Rattle.pgn_verifier.specs.Collection.{AreCollectionReports};

@@ -7,7 +7,7 @@ use Rattle.clap.specs.Words.{Row, Text, all_of, first_of, kind_of, subcommand_of
 use Rattle.arbiter_grammar.specs.Grammar.{OptionNames, arbiter_app}
 use Rattle.arbiter_cli.specs.declared.plan.Plan.{Plan}
 use Rattle.arbiter_cli.specs.declared.plan.Plan.TheVariants.{Session, Verify, Stub, Match}
-use Rattle.match_runner.specs.declared.plan.GamesPlan.{GamesPlan}
+use Rattle.chess_match.specs.declared.games_plan.GamesPlan.{GamesPlan}
 use Rattle.chess_match.specs.declared.draws.Draws.{Draws}
 use Rattle.chess_match.specs.declared.draws.Draws.TheVariants.{Automatic, Claimed}
 use Rattle.chess_match.specs.declared.patience.Patience.{Patience}

@@ -10,7 +10,8 @@ use Rattle.byte_devices.specs.Bytes.{after_byte_order_mark}
 use Rattle.chess_pgn.proofs.shared.Ends.{ends_in_text, end_in_text}
 use Rattle.pgn_tokens.proofs.shared.Tokens.{none_from_end, read_split, split_read}
 use Rattle.pgn_pieces.specs.{Pieces.known_pieces, Stream.Piece, Stream.with_offsets, Stream.pieces, declared.pieces.TheConstants.PIECE_LEN}
-use Rattle.pgn_verifier.specs.{declared.options.Strictness.Strictness, Collection.AreCollectionReports, Collection.no_piece, Collection.next_piece, GameFaults.judged, GameFaults.IsJudged, shared.Contradictions.end_fault, shared.Contradictions.variation_in, declared.game_fault.GameFault.GameFault, laws.Reasons.reason}
+use Rattle.verify_options.specs.declared.options.Strictness.{Strictness}
+use Rattle.pgn_verifier.specs.{Collection.AreCollectionReports, Collection.no_piece, Collection.next_piece, GameFaults.judged, GameFaults.IsJudged, shared.Contradictions.end_fault, shared.Contradictions.variation_in, declared.game_fault.GameFault.GameFault, laws.Reasons.reason}
 use Rattle.pgn_verifier.specs.Reports.{Faulty, Placed, game_begin, names_of, AreReports, none_left, next_game, next_fault, AreReportsIn}
 use Rattle.pgn_verifier.specs.Explanations.{explanation, wrong_part}
 use Rattle.pgn_verifier.proofs.shared.TagReasons.{reason_is}

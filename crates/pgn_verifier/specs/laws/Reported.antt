@@ -16,7 +16,7 @@ use Rattle.byte_devices.specs.Bytes.{after_byte_order_mark}
 use Rattle.chess_pgn.specs.declared.read.PgnEnd.{PgnEnd}
 use Rattle.chess_pgn.specs.declared.read.PgnFaultKind.TheVariants.{TooLong, NoResult}
 use Rattle.pgn_writer.specs.declared.termination.Termination.{Termination}
-use Rattle.pgn_verifier.specs.declared.options.Strictness.{Strictness}
+use Rattle.verify_options.specs.declared.options.Strictness.{Strictness}
 use Rattle.pgn_verifier.specs.declared.game_fault.FaultKind.{FaultKind}
 use Rattle.pgn_verifier.specs.declared.game_fault.FaultKind.TheVariants.{Pgn}
 use Rattle.pgn_pieces.specs.Stream.{Piece, pieces}

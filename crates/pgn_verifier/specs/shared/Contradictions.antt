@@ -12,7 +12,7 @@ use Rattle.pgn_tokens.specs.Tokens.{Token}
 use Rattle.chess_pgn.specs.Variations.{variations_fault}
 use Rattle.pgn_verifier.specs.declared.game_fault.FaultKind.TheVariants.{InVariation, UnknownVariant}
 use Rattle.pgn_verifier.specs.declared.game_fault.GameFault.{GameFault}
-use Rattle.pgn_verifier.specs.declared.options.Strictness.{Strictness}
+use Rattle.verify_options.specs.declared.options.Strictness.{Strictness}
 
 -- this fault, if faults of its kind are looked for, otherwise none
 abbrev pub looked_for : Bool → Option GameFault → Option GameFault

@@ -4,7 +4,7 @@ use Rattle.chess_pgn.specs.laws.Unreadable.{is_unreadable}
 use Rattle.pgn_verifier.specs.declared.game_fault.FaultKind.{FaultKind}
 use Rattle.pgn_verifier.specs.declared.game_fault.FaultKind.TheVariants.{Pgn}
 use Rattle.pgn_verifier.specs.declared.game_fault.GameFault.{GameFault}
-use Rattle.pgn_verifier.specs.declared.options.Strictness.{Strictness}
+use Rattle.verify_options.specs.declared.options.Strictness.{Strictness}
 use Rattle.pgn_verifier.specs.laws.Reported.{judged_at}
 
 -- whether a game's fault of this kind, at the offset `at`, is one of bytes that can't be read as a token: then the text

@@ -7,7 +7,7 @@ use Rattle.chess_pgn.specs.GameRead.{ending}
 use Rattle.chess_pgn.specs.declared.read.PgnFaultKind.TheVariants.{BadFen, NoResult}
 use Rattle.pgn_verifier.specs.declared.game_fault.FaultKind.{FaultKind}
 use Rattle.pgn_verifier.specs.declared.game_fault.FaultKind.TheVariants.{Pgn}
-use Rattle.pgn_verifier.specs.declared.options.VerifyOptions.{VerifyOptions}
+use Rattle.verify_options.specs.declared.options.VerifyOptions.{VerifyOptions}
 use Rattle.pgn_verifier.specs.Explanations.{explanation, shown, shown_word}
 use Rattle.pgn_verifier.specs.WrongParts.{field_at, field_number, from_field}
 use Rattle.pgn_verifier.specs.laws.Reasons.{reason}

@@ -1,8 +1,9 @@
 //! The plan of a match's games.
 
+use crate::draws::Draws;
+use crate::patience::Patience;
 use cecp_engine::Level;
 use chess_base::Position;
-use chess_match::{Draws, Patience};
 
 /// How the games of a match are played.
 #[derive(Clone, Copy)]
