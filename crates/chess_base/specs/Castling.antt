@@ -1,5 +1,5 @@
 -- Castling (Laws of Chess 2023, article 3.8.2). In Chess960 (Guidelines II of the Laws) king and rooks begin anywhere
--- on the first rank, the king between the rooks; they end on the same squares as in normal chess.
+-- on the first rank, the king between the rooks, and end as in normal chess.
 use Rattle.std.specs.Prelude.{ℕ, ◌+◌, ◌*◌, ◌==◌, nat_lt, Bool, true, false, not, ◌&&◌, ◌||◌, Option, is_none, [], ◌∷◌, find, position, option_and_then}
 use Rattle.std.specs.Option.{option_map, option_map_or}
 use Rattle.chess_base.specs.declared.castling.Castle.{Castle}
@@ -18,7 +18,7 @@ use Rattle.chess_base.specs.ByColour.{by_colour}
 use Rattle.chess_base.specs.Men.{Men, man_at, is_man, other, first_rank}
 use Rattle.chess_base.specs.Attacks.{is_attacked}
 
--- of the king side's value and the queen side's, which are the first two arguments, the given side's
+-- the given side's of two values, the king side's and the queen side's
 abbrev pub by_side : {A : Type 0} → A → A → CastlingSide → A
 by_side king_side queen_side KingSide = king_side
 by_side king_side queen_side QueenSide = queen_side
@@ -33,42 +33,42 @@ home_square c f = 8 * first_rank c + f
 abbrev pub king_home_file : ℕ
 king_home_file = 4
 
--- normal chess: the file on which the rook for castling on this side begins, h (7) or a (0) (2.3)
+-- normal chess: the initial file of this side's rook, h (7) or a (0) (2.3)
 abbrev pub rook_file : CastlingSide → ℕ
 rook_file = by_side 7 0
 
--- the file to which castling on this side takes the king, in both variants: g (6) or c (2) (3.8.2)
+-- the king's file after castling on this side, in both variants: g (6) or c (2) (3.8.2)
 abbrev pub castled_king_file : CastlingSide → ℕ
 castled_king_file = by_side 6 2
 
--- the file to which castling on this side takes the rook, in both variants: f (5) or d (3) (3.8.2)
+-- the rook's file after castling on this side, in both variants: f (5) or d (3) (3.8.2)
 abbrev pub castled_rook_file : CastlingSide → ℕ
 castled_rook_file = by_side 5 3
 
 -- ---- rights (3.8.2.1)
 
--- colour c's castling right on the given side: the square of the rook with which c may castle there, or none
+-- colour c's castling right on the given side: the square of the rook to castle with, or none
 abbrev pub right_of : Rights → Colour → CastlingSide → Option ℕ
 right_of r c KingSide = (by_colour r.white r.black c).king_side
 right_of r c QueenSide = (by_colour r.white r.black c).queen_side
 
--- the four castling rights: colour c's on side w is `f c w`, the rook's square or none
+-- the four castling rights: colour c's on side w is `f c w`
 abbrev pub rights_by : (Colour → CastlingSide → Option ℕ) → Rights
 rights_by f = record {
   white = record { king_side = f White KingSide; queen_side = f White QueenSide };
   black = record { king_side = f Black KingSide; queen_side = f Black QueenSide };
 }
 
--- the square of colour c's king: the first from a1 to h8 if c has several, none if c has none
+-- the square of colour c's king, if any: the first from a1 to h8
 unfoldable pub king_square : Men → Colour → Option ℕ
 king_square men c = position (λ o. is_man c King o) men
 
--- square s is on the given side of square `king` of its rank: towards file h (king side) or a (queen side)
+-- square s is on side w of square `king` of its rank: towards file h (king side) or a (queen side)
 abbrev pub is_to_side : CastlingSide → ℕ → ℕ → Bool
 is_to_side w king s = by_side (nat_lt king s) (nat_lt s king) w
 
 -- colour c's king, and a rook of c on square s, are where castling on side w begins: in normal chess on their initial
--- squares, as e1 and h1; in Chess960 on c's first rank, with the rook on side w of the king
+-- squares, as e1 and h1; in Chess960 on c's first rank, the rook on side w of the king
 abbrev pub are_placed_for_castling : Variant → Men → Colour → CastlingSide → ℕ → Bool
 are_placed_for_castling Normal men c w s =
     (s == home_square c (rook_file w)) && is_man c King (man_at men (home_square c king_home_file))
@@ -77,33 +77,33 @@ are_placed_for_castling Fischerandom men c w s =
     option_map_or (λ king. (rank king == first_rank c) && (rank s == first_rank c) && is_to_side w king s)
     (king_square men c) false && is_man c Rook (man_at men s)
 
--- if colour c has a castling right on side w, its king and that right's rook are where this castling begins
+-- if colour c has a castling right on side w, king and rook are where this castling begins
 unfoldable pub right_is_sound : Setup → Colour → CastlingSide → Bool
 right_is_sound p c w = option_map_or (are_placed_for_castling p.variant p.men c w) (right_of p.rights c w) true
 
 -- ---- which moves are castling
 
 -- the squares of move m name colour c's castling on side w with the rook on square `rook`: in normal chess from the
--- king's initial square to its square after castling (e1g1), in Chess960 along the rook's rank to the rook (e1h1)
+-- king's initial square to where it ends (e1g1), in Chess960 along the rook's rank to the rook (e1h1)
 abbrev pub names_castling_with : Variant → Colour → Move → CastlingSide → ℕ → Bool
 names_castling_with Normal c m w rook = (m.from == home_square c king_home_file)
     && (m.to == home_square c (castled_king_file w))
 names_castling_with Fischerandom c m w rook = (rank m.from == rank rook) && (m.to == rook)
 
--- move m is written as castling to side w, legal or not: the king of the side on move makes it, that side has this
--- right, and the squares of m name this castling
+-- move m is written as castling to side w, legal or not: the mover's king makes it, the mover has this right, and m's
+-- squares name this castling
 unfoldable pub is_castling_to : Setup → Move → CastlingSide → Bool
 is_castling_to p m w = is_man p.side King (man_at p.men m.from)
     && option_map_or (names_castling_with p.variant p.side m w) (right_of p.rights p.side w) false
 
--- the side to which move m is written as castling, legal or not; none if m is not castling. If both sides fit (in
--- Chess960, and in no sound position), it is king side
+-- the side to which move m is written as castling, legal or not, if any; king side if both fit (in Chess960, and in no
+-- sound position)
 unfoldable pub castling : Setup → Move → Option CastlingSide
 castling p m = find (is_castling_to p m) (KingSide ∷ QueenSide ∷ [])
 
 -- ---- the squares of a castling
 
--- the four squares of colour c's castling on side w, from the squares `king` and `rook` where the two start
+-- the four squares of colour c's castling on side w; king and rook start on `king` and `rook`
 abbrev pub castle_from : Colour → CastlingSide → ℕ → ℕ → Castle
 castle_from c w king rook = record {
   king_from = king;
@@ -112,7 +112,7 @@ castle_from c w king rook = record {
   rook_to = home_square c (castled_rook_file w);
 }
 
--- the four squares of the castling that move m is written as, legal or not; none if m is not castling
+-- the four squares of the castling that move m is written as, legal or not, if any
 unfoldable pub castle_of : Setup → Move → Option Castle
 castle_of p m =
     option_and_then (λ w. option_map (castle_from p.side w m.from) (right_of p.rights p.side w)) (castling p m)
@@ -123,7 +123,7 @@ castle_of p m =
 abbrev pub is_on_way : ℕ → ℕ → ℕ → Bool
 is_on_way a b x = (x == a) || (x == b) || is_between a b x
 
--- castling k needs square x empty: king or rook crosses it or ends on it, and neither of the two starts on it
+-- castling k needs square x empty: king or rook crosses it or ends on it, and neither starts on it
 unfoldable pub castling_needs_empty : Castle → ℕ → Bool
 castling_needs_empty k x = (is_on_way k.king_from k.king_to x || is_on_way k.rook_from k.rook_to x)
     && not (x == k.king_from) && not (x == k.rook_from)
@@ -132,24 +132,22 @@ castling_needs_empty k x = (is_on_way k.king_from k.king_to x || is_on_way k.roo
 unfoldable pub castling_way_is_empty : Men → Castle → Bool
 castling_way_is_empty men k = each_square (λ x. not (castling_needs_empty k x) || is_none (man_at men x))
 
--- before castling k of colour c, no square that the king starts on, crosses or ends on is attacked (3.8.2.2.1)
+-- before colour c's castling k, no square that the king starts on, crosses or ends on is attacked (3.8.2.2.1)
 unfoldable pub castling_way_is_safe : Men → Colour → Castle → Bool
 castling_way_is_safe men c k = each_square
     (λ x. not (is_on_way k.king_from k.king_to x) || not (is_attacked men x (other c)))
 
--- castling k, as which move m is written, is pseudo-legal: nothing is in the way, no square on the king's way is
--- attacked, and m names no promotion. Whether the king is in check after it isn't asked here: in Chess960 the rook may
--- uncover an attack
+-- castling k, as which move m is written, is pseudo-legal. Whether the king is in check after it isn't asked: in
+-- Chess960 the rook may uncover an attack
 unfoldable pub castles : Setup → Move → Castle → Bool
 castles p m k = is_none m.promotion && castling_way_is_empty p.men k && castling_way_is_safe p.men p.side k
 
 -- ---- where mover and castling rook end
 
--- the mover's square after move m: m.to, or the king's end square if m is castling (in Chess960 m.to is then the rook's
--- square)
+-- the mover's square after move m: m.to, or the king's end square in castling (in Chess960 m.to is then the rook's)
 unfoldable pub mover_end : Setup → Move → ℕ
 mover_end p m = option_map_or (λ k. k.king_to) (castle_of p m) m.to
 
--- the square on which the castling rook ends, as f1 for e1g1; none if the move is not castling
+-- the square on which the castling rook ends, f1 for e1g1; none without castling
 unfoldable pub castling_rook_to : Setup → Move → Option ℕ
 castling_rook_to p m = option_map (λ k. k.rook_to) (castle_of p m)

@@ -1,12 +1,12 @@
--- What changes on the board when a move is made or taken back: the mover and perhaps a second piece leave, and then
--- perhaps a second piece and the mover arrive. All leave first: in Chess960 a castling king and rook may change places.
+-- What changes on the board when a move is made or taken back: first the mover and perhaps a second piece leave, then
+-- perhaps a second piece and the mover arrive, since in Chess960 a castling king and rook may change places.
 use Rattle.std.specs.Prelude.{ℕ, ◌==◌, ◌||◌, Option, None, if◌then◌else◌, map}
 use Rattle.chess_base.specs.declared.man.Man.{Man}
 use Rattle.chess_base.specs.declared.steps.Steps.{Steps}
 use Rattle.chess_base.specs.Squares.{is_at, squares}
 use Rattle.chess_base.specs.Men.{Men, man_at}
 
--- what is on square s after the steps t; `men` are the pieces before them
+-- what is on square s after the steps t; `men` are the pieces before
 abbrev pub man_stepped : Men → Steps → ℕ → Option Man
 man_stepped men t s =
     if t.to == s then t.mover

@@ -14,21 +14,21 @@ use Rattle.chess_fen.specs.RightNames.{names_rights_well, rights_in}
 use Rattle.chess_fen.specs.Texts.{from_top, is_castling_field, fields_of}
 use Rattle.chess_fen.specs.Writing.{side_text, target_text}
 
--- a byte of a rank's text denotes these squares: a letter one with its piece, a digit n from 1 to 8 n empty ones
+-- a byte of a rank denotes these squares: a letter one with its piece, a digit n from 1 to 8 n empty ones
 abbrev pub StandsFor : ℕ → List (Option Man) → Type 0
 StandsFor c squares = ((man : Man) × (c ≡ letter man) × (squares ≡ Some man ∷ []))
     ⊎ ((n : ℕ) × (0 < n) × (n ≤ 8) × (c ≡ byte "0" + n) × (squares ≡ replicate n None))
 
--- a part of a rank's text denotes these squares, from left to right: "p2" a black pawn and two empty squares
+-- a part of a rank's text denotes these squares: "p2" a black pawn, then two empty ones
 abbrev pub DenotesSquares : List ℕ → List (Option Man) → Type 0
 DenotesSquares text squares = (parts : List (List (Option Man))) × AllZip StandsFor text parts
     × (squares ≡ flat_map (λ part. part) parts)
 
--- the text denotes these eight squares of a rank, from file a to file h
+-- the text denotes these eight squares of a rank, from file a to h
 abbrev pub DenotesRank : List ℕ → List (Option Man) → Type 0
 DenotesRank text row = DenotesSquares text row × (length row ≡ 8)
 
--- a FEN's first field denotes these pieces: eight ranks, rank 8 first, with a slash between them
+-- a FEN's first field denotes these pieces: eight ranks, rank 8 first, with slashes between
 abbrev pub DenotesPlacement : List ℕ → List (Option Man) → Type 0
 DenotesPlacement text men = (rows : List (List (Option Man))) × (length rows ≡ 8)
     × AllZip DenotesRank (slice_split (λ c. c == byte "/") text) rows × (men ≡ from_top rows)
@@ -38,8 +38,8 @@ abbrev pub DenotesTarget : List ℕ → Option ℕ → Type 0
 DenotesTarget text target = (text ≡ target_text target)
     × IfSome target (λ square. (rank square ≡ 2) ⊎ (rank square ≡ 5))
 
--- the fields after the target denote the halfmove clock and the fullmove number: none (then 0 and 1), or both, each of
--- 1 to 6 digits; a fullmove number of 0 is read as 1
+-- the fields after the target denote halfmove clock and fullmove number: none (then 0 and 1), or both, each of 1 to 6
+-- digits; a fullmove number of 0 is read as 1
 abbrev pub DenotesCounters : List (List ℕ) → ℕ → ℕ → Type 0
 DenotesCounters [] halfmove fullmove = (halfmove ≡ 0) × (fullmove ≡ 1)
 DenotesCounters (a ∷ []) halfmove fullmove = ⊥
@@ -48,7 +48,7 @@ DenotesCounters (a ∷ b ∷ []) halfmove fullmove =
 DenotesCounters (a ∷ b ∷ c ∷ more) halfmove fullmove = ⊥
 
 -- the fields of a FEN of variant v denote position p, sound or not: a the pieces, b the side, c the rights, d the
--- target, and `counters_text` the two counters, which may be left out
+-- target, `counters_text` the two counters, if any
 pub record DenotesFields (v : Variant) (a b c d : List ℕ) (counters_text : List (List ℕ)) (p : Setup) : Type 0 where
   pub variant : p.variant ≡ v
   pub men : DenotesPlacement a p.men
@@ -59,12 +59,12 @@ pub record DenotesFields (v : Variant) (a b c d : List ℕ) (counters_text : Lis
   pub target : DenotesTarget d p.target
   pub counters : DenotesCounters counters_text p.halfmove p.fullmove
 
--- the text's fields, of which c is that of castling, denote position p, sound or not, as a FEN of variant v
+-- the text's fields, c that of castling, denote position p, sound or not, as a FEN of variant v
 abbrev pub DenotesText : Variant → List ℕ → List ℕ → Setup → Type 0
 DenotesText v text c p = (a : List ℕ) × (b : List ℕ) × (d : List ℕ) × (more : List (List ℕ))
     × (fields_of text ≡ a ∷ b ∷ c ∷ d ∷ more) × DenotesFields v a b c d more p
 
--- the text denotes position p, sound or not, as a FEN of variant v, and names no castling right wrongly
+-- the text denotes position p, sound or not, as a FEN of variant v, naming no castling right wrongly
 abbrev pub DenotesFenAs : Variant → List ℕ → Setup → Type 0
 DenotesFenAs v text p = (castling : List ℕ) × DenotesText v text castling p
     × IsTrue (names_rights_well p.variant p.men castling)

@@ -1,5 +1,5 @@
--- What the fault of a text says of it, as a relation: a wrong number of fields; or the first field that denotes
--- nothing; or the first condition that fails.
+-- What a text's fault is, as a relation: a wrong number of fields, or the first field that denotes nothing, or the
+-- first condition that fails.
 use Rattle.std.specs.Prelude.{◌≡◌, ◌≢◌, ◌⊎◌, ℕ, false, List, ◌∷◌, length, Option, Some, IsTrue}
 use Rattle.chess_base.specs.declared.man.Colour.{Colour}
 use Rattle.chess_base.specs.declared.man.Variant.{Variant}
@@ -14,20 +14,20 @@ use Rattle.chess_fen.specs.Writing.{side_text}
 use Rattle.chess_fen.specs.Reading.{conditions_of}
 use Rattle.chess_fen.specs.Denotation.{DenotesPlacement, DenotesTarget, DenotesCounters, DenotesText}
 
--- a FEN's first field denotes the pieces of a board
+-- a FEN's first field denotes pieces
 abbrev pub DenotesSomeMen : List ℕ → Type 0
 DenotesSomeMen text = (men : Men) × DenotesPlacement text men
 
--- a FEN's second field denotes a side: it is w or b
+-- a FEN's second field is w or b
 abbrev pub DenotesSomeSide : List ℕ → Type 0
 DenotesSomeSide text = (colour : Colour) × (text ≡ side_text colour)
 
--- a FEN's fourth field denotes an en passant target, or by a dash none
+-- a FEN's fourth field denotes a target, or by a dash none
 abbrev pub DenotesSomeTarget : List ℕ → Type 0
 DenotesSomeTarget text = (target : Option ℕ) × DenotesTarget text target
 
--- the field that the fault is about denotes nothing, and each field before it denotes something. The first four fields
--- are a, b, c and d; `more` are the two counters, or none. False for a fault that is about no field
+-- the field that the fault is about denotes nothing, and each field before it something. The first four fields are a,
+-- b, c and d; `more` are the two counters, if any. False for a fault about no field
 abbrev pub IsFieldFault : Variant → List ℕ → List ℕ → List ℕ → List ℕ → List (List ℕ) → FenFault → Type 0
 IsFieldFault v a b c d more Placement = (men : Men) → DenotesPlacement a men → ⊥
 IsFieldFault v a b c d more Side = DenotesSomeMen a × ((colour : Colour) → b ≢ side_text colour)
@@ -42,7 +42,7 @@ IsFieldFault v a b c d more f = ⊥
 abbrev pub HasWrongFieldCount : List ℕ → FenFault → Type 0
 HasWrongFieldCount text f = (f ≡ Fields) × (length (fields_of text) ≢ 4) × (length (fields_of text) ≢ 6)
 
--- the text has four or six fields, and the first of them that denotes nothing is the one that fault f is about
+-- the text has four or six fields, and fault f is about the first that denotes nothing
 abbrev pub IsMalformed : Variant → List ℕ → FenFault → Type 0
 IsMalformed v text f =
     (a : List ℕ) × (b : List ℕ) × (c : List ℕ) × (d : List ℕ) × (more : List (List ℕ))
@@ -50,13 +50,13 @@ IsMalformed v text f =
     × ((length more ≡ 0) ⊎ (length more ≡ 2))
     × IsFieldFault v a b c d more f
 
--- each field of the text denotes something, but together they give an unsound position, or a castling right is named
--- wrongly: f is the fault of the first condition that fails
+-- each field denotes something, but the position is unsound, or a castling right is named wrongly: f is the fault of
+-- the first condition that fails
 abbrev pub IsUnsound : Variant → List ℕ → FenFault → Type 0
 IsUnsound v text f = (p : Setup) × (castling : List ℕ) × DenotesText v text castling p
     × (first_failing (conditions_of castling p) ≡ Some f)
 
--- f is the fault of the text as a FEN of variant v: of its number of fields, of a field, or of a condition
+-- f is the fault of the text as a FEN of variant v
 abbrev pub IsFaultAs : Variant → List ℕ → FenFault → Type 0
 IsFaultAs v text f = HasWrongFieldCount text f ⊎ IsMalformed v text f ⊎ IsUnsound v text f
 

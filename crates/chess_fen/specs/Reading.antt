@@ -1,5 +1,5 @@
--- The position that a text denotes as FEN, or its first fault. Allowed beyond the standard: the counters may be left
--- out, and a fullmove number of 0 is read as 1. Denotation and FenFaults say the same by relations.
+-- The position that a text denotes as FEN, or its first fault. Beyond the standard, the counters may be left out, and a
+-- fullmove number of 0 is read as 1. Denotation and FenFaults say the same by relations.
 use Rattle.std.specs.Prelude.{ℕ, max, codes, Bool, List, [], ◌∷◌, ◌++◌, length, Option, Some, None, Result, Ok, Err, ◌==◌, if◌then◌else◌}
 use Rattle.std.specs.Option.{ok_or, option_map_or}
 use Rattle.chess_base.specs.declared.man.Colour.{Colour}
@@ -16,23 +16,23 @@ use Rattle.chess_fen.specs.RightNames.{names_rights_well, rights_in}
 use Rattle.chess_fen.specs.Texts.{placement_of, is_castling_field, target_of, fields_of}
 
 infixl 10 ◌>>=◌
--- f of a result's value, or the error if it is one. In a `do`, a line `x ← r` and those below it are `r >>= (λ x. ..)`,
--- so the first error is the result of all
+-- f of a result's value, or its error. In a `do`, a line `x ← r` and those below it are `r >>= (λ x. ..)`: the first
+-- error is the result
 abbrev pub ◌>>=◌ : {A B E : Type 0} → Result A E → (A → Result B E) → Result B E
 (Ok x) >>= f = f x
 (Err e) >>= f = Err e
 
--- the side that a FEN's second field denotes, w or b; none for any other text
+-- the side that a FEN's second field denotes, if it is w or b
 abbrev pub side_of : List ℕ → Option Colour
 side_of (c ∷ []) = if c == byte "w" then Some White else (if c == byte "b" then Some Black else None)
 side_of _ = None
 
--- the conditions of a sound position p, each with its fault, if `letters` are the castling field of its FEN
+-- the conditions of a sound position p, each with its fault; `letters` are its FEN's castling field
 abbrev pub conditions_of : List ℕ → Setup → List (FenFault × Bool)
 conditions_of letters p = conditions_if (names_rights_well p.variant p.men letters) p
 
--- the sound position that the six fields of a FEN denote; or the fault of the first field that denotes nothing, or else
--- of the first condition that fails
+-- the sound position that a FEN's six fields denote; or the fault of the first field that denotes nothing, otherwise of
+-- the first condition that fails
 abbrev pub reading_in : Variant → List (List ℕ) → Result Setup FenFault
 reading_in v (placement ∷ side ∷ castling ∷ target ∷ halfmove ∷ fullmove ∷ []) = do
   pieces ← ok_or (placement_of placement) faults.Placement
@@ -58,6 +58,6 @@ abbrev pub fen_reading_as : Variant → List ℕ → Result Setup FenFault
 fen_reading_as v text = let fields = fields_of text in
     reading_in v (if length fields == 4 then fields ++ (codes "0" ∷ codes "1" ∷ []) else fields)
 
--- the sound position that a text denotes as a FEN of normal chess, or its first fault
+-- the same for a FEN of normal chess
 abbrev pub fen_reading : List ℕ → Result Setup FenFault
 fen_reading text = fen_reading_as Normal text
