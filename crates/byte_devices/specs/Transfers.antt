@@ -24,7 +24,7 @@ pub record ToOutput : Type 0 where
   pub flushed : List ℕ
   -- the bytes written after those, not flushed
   pub left : List ℕ
-  -- whether a flush succeeded, even one with no bytes to flush
+  -- whether a flush succeeded, even of no bytes
   pub any_flush : Bool
   -- whether a write or a flush failed after all these bytes
   pub failed : Bool
@@ -58,7 +58,7 @@ abbrev pub RanWithWaits : (FromInput → ToOutput → Type 0) → Devices → De
 RanWithWaits P d d' =
     (i : FromInput) × (o : ToOutput) × InputGave d.input d'.input i × OutputTook d.output d'.output o × P i o
 
--- `RanWithWaits`, without a wait in which nothing came
+-- as `RanWithWaits`, but without a wait in which nothing came
 abbrev pub Ran : (FromInput → ToOutput → Type 0) → Devices → Devices → Type 0
 Ran P = RanWithWaits (λ i o. (i.silences ≡ 0) × P i o)
 
@@ -74,16 +74,16 @@ IsWhole i = (i.ended ≡ true) × (i.failed ≡ false)
 abbrev pub nothing : ToOutput
 nothing = record { flushed = []; left = []; any_flush = false; failed = false }
 
--- all of this text was written and flushed, even if it is empty, and nothing failed
+-- this text, maybe empty, was written and flushed, and nothing failed
 abbrev pub all_of : List ℕ → ToOutput
 all_of text = record { flushed = text; left = []; any_flush = true; failed = false }
 
--- all of this text was written and flushed, and nothing failed. `flushes`: whether a flush succeeded; without one the
--- text must be empty
+-- this text was written and flushed, and nothing failed. `flushes`: whether a flush succeeded; without one the text
+-- must be empty
 abbrev pub all_flushed : Bool → List ℕ → ToOutput
 all_flushed flushes text = record { flushed = text; left = []; any_flush = flushes; failed = false }
 
--- all of this text was written, no flush succeeded, and nothing failed
+-- this text was written, no flush succeeded, and nothing failed
 abbrev pub all_unflushed : List ℕ → ToOutput
 all_unflushed text = record { flushed = []; left = text; any_flush = false; failed = false }
 

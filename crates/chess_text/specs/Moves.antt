@@ -83,13 +83,13 @@ texts_of_pawn d = list_if (same_kind Pawn d.man)
 abbrev pub castling_texts : CastlingSide → List (List ℕ)
 castling_texts = by_side (codes "O-O" ∷ codes "0-0" ∷ []) (codes "O-O-O" ∷ codes "0-0-0" ∷ [])
 
--- the text, without its marks, denotes the move d: as castling, by its two squares, by its piece's letter, or as a
--- pawn's
+-- the text, without its marks, denotes move d: as castling, by its two squares, by its piece's letter, or as a pawn's
 unfoldable pub denotes_described : List ℕ → Described → Bool
 denotes_described text d = list_any (bytes_eq (unmarked text))
     (option_map_or castling_texts d.castles [] ++ (texts_by_squares d ++ (texts_by_letter d ++ texts_of_pawn d)))
 
--- all descriptions of moves, possible or not: each kind of piece, both squares, promotion, capture and castling or none
+-- all descriptions of moves, possible or not: each kind of piece, start, end, promotion or none, capture or not,
+-- castling or none
 unfoldable pub all_described : List Described
 all_described = flat_map (λ man. flat_map (λ m. flat_map (λ takes. map (λ castles.
     record { man = man; from = m.from; to = m.to; promotion = m.promotion; captures = takes; castles = castles })
@@ -112,8 +112,8 @@ one_of [] = reads.NoSuch
 one_of (m ∷ []) = reads.Move m
 one_of (m ∷ n ∷ ms) = reads.Ambiguous
 
--- what the text is read as in position p: `NotAMove` if it has no move's shape; otherwise by the legal moves that it
--- denotes
+-- what the text is read as in position p: `NotAMove` if it has no move's shape; otherwise `one_of` the legal moves that
+-- it denotes
 unfoldable pub reading : Setup → List ℕ → Reading
 reading p text = if shape text then one_of (filter (λ m. denotes p text m) (moves p)) else reads.NotAMove
 

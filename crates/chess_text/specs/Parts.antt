@@ -5,7 +5,7 @@ use Rattle.chess_base.specs.declared.man.Kind.{Kind}
 use Rattle.chess_base.specs.Letters.{white_letter}
 use Rattle.byte_devices.specs.Bytes.{byte}
 
--- a byte is a mark after a move's text: + (check), # (mate), ! and ? (annotations)
+-- a byte is a mark that may follow a move's text: + (check), # (mate), ! and ? (annotations)
 abbrev pub is_mark : ℕ → Bool
 is_mark c = (c == byte "+") || (c == byte "#") || (c == byte "!") || (c == byte "?")
 

@@ -30,8 +30,8 @@ tag_lines t s = tag_line (codes "Event") t.event ∷ tag_line (codes "Site") t.s
 
 -- ---- the tokens of the moves
 
--- the tokens of moves made from the position `p` on (section 8.2): the SAN of each, and before each move of White its
--- number, such as `12.`
+-- the tokens of moves from position `p` on (section 8.2): the SAN of each, and before each move of White its number,
+-- such as `12.`
 abbrev pub move_tokens : Setup → List Move → List (List ℕ)
 move_tokens p [] = []
 move_tokens p (m ∷ ms) =

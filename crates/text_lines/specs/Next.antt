@@ -5,7 +5,7 @@ use Rattle.std.specs.Io.KnownBytes.{Consumes, IsAtEnd}
 use Rattle.byte_devices.specs.Devices.{InputState, saturating_increment}
 use Rattle.text_lines.specs.Lines.{LineSeen, Held, nothing_held, lines_held}
 
--- these bytes without the last `len` of them, which the last read gave
+-- these bytes without the last `len`, which the last read gave
 abbrev pub before_piece : ℕ → List ℕ → List ℕ
 before_piece len bytes = take (length bytes - len) bytes
 
@@ -105,7 +105,7 @@ NextLine n r r' held held' result =
     (given : List ℕ) × Consumes r.known_bytes r'.known_bytes given × Waits n r r' held given
     × Got n r r' held held' given result
 
--- the line, if the flag is true; otherwise `None`
+-- the line if true, otherwise `None`
 abbrev pub line_if : Bool → LineSeen → Option LineSeen
 line_if true line = Some line
 line_if false line = None
