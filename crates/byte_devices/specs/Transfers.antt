@@ -1,12 +1,12 @@
--- What a run (a call of a function such as `run_session`) reads from an input and writes to an output, by however many
--- calls, and how the devices' states before and after it agree with that.
+-- What a run (a call, as of `run_session`) reads from an input and writes to an output, and how the devices' states
+-- before and after it agree with that.
 use Rattle.std.specs.Prelude.{◌≡◌, ℕ, ◌-◌, Bool, true, false, if◌then◌else◌, List, [], ◌++◌, length, take}
 use Rattle.std.specs.Io.KnownBytes.{Appends, Consumes, IsAtEnd}
 use Rattle.byte_devices.specs.Devices.{InputState, OutputState, saturating_increment, saturating_add, Begins}
 
 -- what came from an input in a run
 pub record FromInput : Type 0 where
-  -- all bytes that were read
+  -- all bytes read
   pub text : List ℕ
   -- `text` without the bytes that the last successful read gave: `e4` after reads of `e4` and `\nd`, and all of `text`
   -- if that read reported the end
@@ -20,11 +20,11 @@ pub record FromInput : Type 0 where
 
 -- what went to an output in a run
 pub record ToOutput : Type 0 where
-  -- the bytes that were written and flushed
+  -- the bytes written and flushed
   pub flushed : List ℕ
-  -- the bytes that were written after those, and not flushed
+  -- the bytes written after those, not flushed
   pub left : List ℕ
-  -- whether a flush succeeded, even one with no bytes to flush
+  -- whether a flush succeeded, even of no bytes
   pub any_flush : Bool
   -- whether a write or a flush failed after all these bytes
   pub failed : Bool
@@ -58,8 +58,7 @@ abbrev pub RanWithWaits : (FromInput → ToOutput → Type 0) → Devices → De
 RanWithWaits P d d' =
     (i : FromInput) × (o : ToOutput) × InputGave d.input d'.input i × OutputTook d.output d'.output o × P i o
 
--- a run without a wait in which nothing came took the devices from the first states to the second, and the claim `P`
--- holds of what came from the input and what went to the output
+-- as `RanWithWaits`, but without a wait in which nothing came
 abbrev pub Ran : (FromInput → ToOutput → Type 0) → Devices → Devices → Type 0
 Ran P = RanWithWaits (λ i o. (i.silences ≡ 0) × P i o)
 
@@ -71,25 +70,24 @@ IsWhole i = (i.ended ≡ true) × (i.failed ≡ false)
 
 -- ---- what went to an output
 
--- nothing went to an output: no byte was written, no flush succeeded, and nothing failed
+-- no byte was written, no flush succeeded, and nothing failed
 abbrev pub nothing : ToOutput
 nothing = record { flushed = []; left = []; any_flush = false; failed = false }
 
--- all of this text was written and flushed, even if it is empty, and nothing failed
+-- this text, maybe empty, was written and flushed, and nothing failed
 abbrev pub all_of : List ℕ → ToOutput
 all_of text = record { flushed = text; left = []; any_flush = true; failed = false }
 
--- all of this text was written and flushed, and nothing failed. `flushes`: whether a flush succeeded; without one the
--- text must be empty
+-- this text was written and flushed, and nothing failed. `flushes`: whether a flush succeeded; without one the text
+-- must be empty
 abbrev pub all_flushed : Bool → List ℕ → ToOutput
 all_flushed flushes text = record { flushed = text; left = []; any_flush = flushes; failed = false }
 
--- all of this text was written, no flush succeeded, and nothing failed
+-- this text was written, no flush succeeded, and nothing failed
 abbrev pub all_unflushed : List ℕ → ToOutput
 all_unflushed text = record { flushed = []; left = text; any_flush = false; failed = false }
 
--- `o` is what `before` says, and then a prefix of `text`, which was written but not flushed; then a write or a flush
--- failed
+-- `o` is `before`, then a prefix of `text`, written but not flushed; then a write or a flush failed
 abbrev pub BreaksOffIn : ToOutput → List ℕ → ToOutput → Type 0
 BreaksOffIn before text o =
     (start : List ℕ) × Begins start text × (o ≡ record before { left = before.left ++ start; failed = true })

@@ -50,11 +50,11 @@ verdict start ms = let p = position_after start ms in
     else if nat_le 150 p.halfmove then Some SeventyFiveMoves
     else None
 
--- a result as it is written, such as `1-0 {White mates}`; with an empty comment `1-0 {}`
+-- a result as text: `1-0 {White mates}`; with an empty comment `1-0 {}`
 unfoldable pub result_text : Declared → List ℕ
 result_text d = outcome_text d.outcome ++ (codes " {" ++ (d.comment ++ codes "}"))
 
--- the result that a verdict gives, with its comment
+-- a verdict's result, with its comment
 abbrev pub verdict_result : Verdict → Declared
 verdict_result WhiteMates = record { outcome = WhiteWins; comment = codes "White mates" }
 verdict_result BlackMates = record { outcome = BlackWins; comment = codes "Black mates" }
@@ -64,8 +64,8 @@ verdict_result FivefoldRepetition = record { outcome = Draw; comment = codes "Fi
 verdict_result SeventyFiveMoves = record { outcome = Draw; comment = codes "75-move rule" }
 
 -- which draws the player on move may claim after the moves ms from `start`, even if the game is over: by threefold
--- repetition (9.2.2), and by 50 moves of each side without a pawn move or capture (9.3.2), by the halfmove clock, which
--- continues from that of `start`. Claims with a move yet to be made (9.2.1, 9.3.1) are not included
+-- repetition (9.2.2), and by 50 moves of each side without a pawn move or capture (9.3.2), by the halfmove clock as in
+-- `verdict`. Claims with a move yet to be made (9.2.1, 9.3.1) are not included
 abbrev pub claims : Setup → List Move → Claims
 claims start ms = record {
   threefold = nat_le 3 (repetition_count start ms);

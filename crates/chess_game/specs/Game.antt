@@ -18,14 +18,13 @@ use Rattle.chess_game.specs.declared.game.PlayRefusal.TheVariants.{Over, TooLong
 use Rattle.chess_game.specs.declared.game.NoMove.{NoMove}
 use Rattle.chess_game.specs.declared.game.BoardSaysOtherwise.{BoardSaysOtherwise}
 
--- the state of a game: its start, its current moves (those not taken back), and the declared result, if any, as after a
--- resignation
+-- a game's start, its current moves (those not taken back), and the declared result, if any, as after a resignation
 pub record State : Type 0 where
   pub start : Setup
   pub moves : List Move
   pub declared : Option Declared
 
--- a game, as contracts see it: the most half-moves that it may have, and its state
+-- a game: the most half-moves that it may have, and its state
 pub record Seen : Type 0 where
   pub limit : ℕ
   pub state : State
@@ -34,7 +33,7 @@ pub record Seen : Type 0 where
 abbrev pub current : State → Setup
 current s = position_after s.start s.moves
 
--- why the board ends the game, such as mate or fivefold repetition, if it does; a declared result doesn't matter
+-- why the board ends the game, if it does; a declared result doesn't matter
 abbrev pub verdict_now : State → Option Verdict
 verdict_now s = verdict s.start s.moves
 
@@ -42,28 +41,28 @@ verdict_now s = verdict s.start s.moves
 abbrev pub is_over : State → Bool
 is_over s = is_some (verdict_now s) || is_some s.declared
 
--- the game's outcome: the verdict's, or else the declared result's, or else `Unfinished`
+-- the outcome: the verdict's, else the declared result's, else `Unfinished`
 abbrev pub outcome_now : State → Outcome
 outcome_now s =
     option_map_or (λ d. d.outcome) (option_or (option_map verdict_result (verdict_now s)) s.declared) Unfinished
 
--- a game from this start, with no moves and nothing declared
+-- a game from this start: no moves, nothing declared
 abbrev pub from_start : Setup → State
 from_start start = record { start = start; moves = []; declared = None }
 
--- the game's state s after one more move, m
+-- the state s after one more move, m
 abbrev pub played : State → Move → State
 played s m = record s { moves = s.moves ++ m ∷ [] }
 
--- the game's state s without its last n moves (without any if it has fewer) and without a declared result
+-- the state s without its last n moves (without any if it has fewer) and without a declared result
 abbrev pub taken_back : State → ℕ → State
 taken_back s n = record s { moves = take (length s.moves - n) s.moves; declared = None }
 
--- the game g with the state s instead of its own
+-- the game g with the state s
 abbrev pub with_state : Seen → State → Seen
 with_state g s = record g { state = s }
 
--- a game as it opens, at the initial position, for at most `limit` half-moves
+-- a new game at the initial position, for at most `limit` half-moves
 abbrev pub opened : ℕ → Seen
 opened limit = record { limit = limit; state = from_start initial_setup }
 
@@ -71,20 +70,20 @@ opened limit = record { limit = limit; state = from_start initial_setup }
 abbrev pub is_full : Seen → Bool
 is_full g = nat_le g.limit (length g.state.moves)
 
--- why no move may be played in the game, if none may: it is over, or else it has as many half-moves as its limit allows
+-- why no move may be played in the game, if so: it is over, or else full
 abbrev pub refusal_now : Seen → Option PlayRefusal
 refusal_now g = if is_over g.state then Some Over else if is_full g then Some TooLong else None
 
--- why move m may not be played in the game, if so; the first reason of: it is over, it is full, m is illegal
+-- why move m may not be played, if so: the game is over, or else full, or else m is illegal
 abbrev pub play_refusal : Seen → Move → Option PlayRefusal
 play_refusal g m = option_or (refusal_now g) (if is_legal (current g.state) m then None else Some Illegal)
 
--- what a call returns: the reason to refuse it as an error, or `Ok` if there is none
+-- what a call returns: the reason to refuse it as an error, otherwise `Ok`
 abbrev pub unless_refused : {E : Type 0} → Option E → Result (Unit {0}) E
 unless_refused None = Ok tt
 unless_refused (Some e) = Err e
 
--- the game g after a call to play move m: with m, or unchanged if there is a reason to refuse it (the last argument)
+-- the game g after a call to play move m: unchanged if there is a reason to refuse it (the last argument)
 abbrev pub after_play : Seen → Move → Option PlayRefusal → Seen
 after_play g m None = with_state g (played g.state m)
 after_play g m (Some e) = g
@@ -101,11 +100,11 @@ last_move ms = by_end (slice_get ms (length ms - 1))
 abbrev pub after_take_back : Seen → Seen
 after_take_back g = if nat_le 1 (length g.state.moves) then with_state g (taken_back g.state 1) else g
 
--- there is a verdict, such as mate, and its outcome is not o
+-- there is a verdict, and its outcome is not o
 abbrev pub contradicts_verdict : Option Verdict → Outcome → Bool
 contradicts_verdict verdict o = option_map_or (λ v. not (same_outcome (verdict_result v).outcome o)) verdict false
 
--- the game g after a call to declare the result d: with d declared, or unchanged if a verdict has another outcome
+-- the game g after a call to declare the result d: unchanged if a verdict has another outcome
 abbrev pub after_declare : Seen → Declared → Seen
 after_declare g d = if contradicts_verdict (verdict_now g.state) d.outcome then g
     else with_state g (record g.state { declared = Some d })

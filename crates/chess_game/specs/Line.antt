@@ -14,7 +14,7 @@ abbrev pub position_after : Setup → List Move → Setup
 position_after start [] = start
 position_after start (m ∷ ms) = position_after (after start m) ms
 
--- from this start on, each of the moves is legal where it is made
+-- from this start, each move is legal where it is made
 abbrev pub IsLine : Setup → List Move → Type 0
 IsLine start [] = Unit {0}
 IsLine start (m ∷ ms) = IsTrue (is_legal start m) × IsLine (after start m) ms

@@ -43,6 +43,6 @@ unfoldable pub is_same_position : Setup → Setup → Bool
 is_same_position p q = same_colour p.side q.side && same_men p.men q.men && same_rights p.rights q.rights
     && same_square (legal_en_passant_square p) (legal_en_passant_square q)
 
--- how often the position after the moves ms from `start` has occurred in this game: 1 for a new position
+-- how often the position after the moves ms from `start` has occurred: 1 for a new one
 unfoldable pub repetition_count : Setup → List Move → ℕ
 repetition_count start ms = count_by (λ p. is_same_position p (position_after start ms)) (positions_of start ms)

@@ -46,7 +46,7 @@ described p m =
 abbrev pub start_texts : ℕ → List (List ℕ)
 start_texts from = [] ∷ file_text (file from) ∷ rank_text (rank from) ∷ square_text from ∷ []
 
--- what may be written just before the end square: nothing, and for a capture also `x`
+-- what may be written before the end square: nothing, for a capture also `x`
 abbrev pub capture_texts : Bool → List (List ℕ)
 capture_texts captures = [] ∷ list_if captures (codes "x" ∷ [])
 
@@ -56,12 +56,12 @@ abbrev pub promotion_texts : List (List ℕ) → Option Kind → List (List ℕ)
 promotion_texts signs None = [] ∷ []
 promotion_texts signs (Some k) = signs · (kind_text k ∷ small_letter_text k ∷ [])
 
--- the texts of the described move d by its two squares: g1f3, e7e8q, e7e8Q, castling as e1g1, or in Chess960, where the
--- end square is the rook's, e1h1
+-- the texts of move d by its two squares: g1f3, e7e8q, e7e8Q, castling as e1g1, or in Chess960, where the end square is
+-- the rook's, e1h1
 abbrev pub texts_by_squares : Described → List (List ℕ)
 texts_by_squares d = (square_text d.from ∷ []) · (square_text d.to ∷ []) · promotion_texts ([] ∷ []) d.promotion
 
--- the texts of the described move d by its piece's letter: Nf3, Ng1f3, Nxf3; none for a pawn's move or castling
+-- the texts of move d by its piece's letter: Nf3, Ng1f3, Nxf3; none for a pawn's move or castling
 abbrev pub texts_by_letter : Described → List (List ℕ)
 texts_by_letter d = if same_kind d.man Pawn || is_some d.castles then []
     else (kind_text d.man ∷ []) · start_texts d.from · capture_texts d.captures · (square_text d.to ∷ [])
@@ -73,8 +73,8 @@ abbrev pub pawn_starts : Described → List (List ℕ)
 pawn_starts d = list_if (file d.from == file d.to) ([] ∷ [])
     ++ (file_text (file d.from) ∷ square_text d.from ∷ []) · capture_texts d.captures
 
--- the texts of the described move d as a pawn's, such as e4 and exd5, with a promotion e8Q, e8=q and e7e8=Q; none if
--- another piece makes it
+-- the texts of move d as a pawn's, such as e4 and exd5, with a promotion e8Q, e8=q and e7e8=Q; none if another piece
+-- makes it
 abbrev pub texts_of_pawn : Described → List (List ℕ)
 texts_of_pawn d = list_if (same_kind Pawn d.man)
     (pawn_starts d · (square_text d.to ∷ []) · promotion_texts ([] ∷ codes "=" ∷ []) d.promotion)
@@ -83,14 +83,13 @@ texts_of_pawn d = list_if (same_kind Pawn d.man)
 abbrev pub castling_texts : CastlingSide → List (List ℕ)
 castling_texts = by_side (codes "O-O" ∷ codes "0-0" ∷ []) (codes "O-O-O" ∷ codes "0-0-0" ∷ [])
 
--- the text, without its marks (+ # ! ?), denotes the described move d: as castling, by its two squares, by its piece's
--- letter, or as a pawn's
+-- the text, without its marks, denotes move d: as castling, by its two squares, by its piece's letter, or as a pawn's
 unfoldable pub denotes_described : List ℕ → Described → Bool
 denotes_described text d = list_any (bytes_eq (unmarked text))
     (option_map_or castling_texts d.castles [] ++ (texts_by_squares d ++ (texts_by_letter d ++ texts_of_pawn d)))
 
--- all descriptions of moves, possible or not: each kind of piece, start square, end square, promotion or none, capture
--- or not, and castling to a side or none
+-- all descriptions of moves, possible or not: each kind of piece, start, end, promotion or none, capture or not,
+-- castling or none
 unfoldable pub all_described : List Described
 all_described = flat_map (λ man. flat_map (λ m. flat_map (λ takes. map (λ castles.
     record { man = man; from = m.from; to = m.to; promotion = m.promotion; captures = takes; castles = castles })
@@ -107,14 +106,14 @@ denotes p text m = option_map_or (denotes_described text) (described p m) false
 
 -- ---- reading
 
--- the reading by the legal moves that a text denotes: a single move as that, several as `Ambiguous`, none as `NoSuch`
+-- the reading of a text that denotes these legal moves: one as itself, several as `Ambiguous`, none as `NoSuch`
 abbrev pub one_of : List Move → Reading
 one_of [] = reads.NoSuch
 one_of (m ∷ []) = reads.Move m
 one_of (m ∷ n ∷ ms) = reads.Ambiguous
 
--- what the text is read as in position p: `NotAMove` if it has no move's shape; otherwise the legal move that it
--- denotes, `Ambiguous` if it denotes several, `NoSuch` if none
+-- what the text is read as in position p: `NotAMove` if it has no move's shape; otherwise `one_of` the legal moves that
+-- it denotes
 unfoldable pub reading : Setup → List ℕ → Reading
 reading p text = if shape text then one_of (filter (λ m. denotes p text m) (moves p)) else reads.NotAMove
 

@@ -5,15 +5,15 @@ use Rattle.chess_base.specs.declared.man.Kind.{Kind}
 use Rattle.chess_base.specs.Letters.{white_letter}
 use Rattle.byte_devices.specs.Bytes.{byte}
 
--- a byte is one of the marks that may follow a move's text: + (check), # (mate), ! and ? (annotations)
+-- a byte is a mark that may follow a move's text: + (check), # (mate), ! and ? (annotations)
 abbrev pub is_mark : ℕ → Bool
 is_mark c = (c == byte "+") || (c == byte "#") || (c == byte "!") || (c == byte "?")
 
--- a text without the marks (+ # ! ?) at its end, if any: `Qh4` for `Qh4#!`
+-- a text without the marks at its end: `Qh4` for `Qh4#!`
 unfoldable pub unmarked : List ℕ → List ℕ
 unmarked text = take (length text - suffix_len is_mark text) text
 
--- the capital letter of a kind of piece, as text: N for a knight, P for a pawn
+-- the capital letter of a kind of piece: N for a knight, P for a pawn
 abbrev pub kind_text : Kind → List ℕ
 kind_text k = white_letter k ∷ []
 

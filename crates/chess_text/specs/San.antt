@@ -26,9 +26,9 @@ use Rattle.chess_text.specs.Moves.{described}
 abbrev pub castling_text : CastlingSide → List ℕ
 castling_text = by_side (codes "O-O") (codes "O-O-O")
 
--- the start squares of the rivals of the described move d (8.2.3.4): the moves of `ms` (for SAN all legal ones of
--- position p) to d's end square, of a piece of d's kind, from another square. For a knight's b1d2 it is f3, if a knight
--- there can go to d2 too
+-- the start squares of the rivals of move d (8.2.3.4): the moves of `ms` (for SAN all legal ones of position p) to d's
+-- end square, of a piece of d's kind, from another square. For a knight's b1d2 it is f3, if a knight there can go to d2
+-- too
 unfoldable pub rival_starts : Setup → List Move → Described → List ℕ
 rival_starts p ms d = map (λ m. m.from) (filter (λ m. (m.to == d.to) && not (m.from == d.from)
     && option_map_or (λ e. same_kind e.man d.man) (described p m) false) ms)
@@ -42,9 +42,9 @@ start_text from (rival ∷ rivals) =
     else if not (list_any (λ s. rank s == rank from) (rival ∷ rivals)) then rank_text (rank from)
     else square_text from
 
--- the SAN, without `+` or `#`, of the described move d, not castling: for a pawn's capture its file, for another piece
--- its letter and what distinguishes it from the start squares `rivals`; then `x` for a capture, the end square, and for
--- a promotion `=` and a letter: exd5, Nbd2, e8=Q
+-- the SAN, without `+` or `#`, of move d, not castling: for a pawn's capture its file, for another piece its letter and
+-- what distinguishes it from the start squares `rivals`; then `x` for a capture, the end square, and for a promotion
+-- `=` and a letter: exd5, Nbd2, e8=Q
 abbrev pub piece_text : List ℕ → Described → List ℕ
 piece_text rivals d =
     (if same_kind d.man Pawn then list_if d.captures (file_text (file d.from))
@@ -56,7 +56,7 @@ piece_text rivals d =
 unfoldable pub check_mark : Setup → List ℕ
 check_mark p = list_if (is_in_check p.men p.side) (if length (moves p) == 0 then codes "#" else codes "+")
 
--- the SAN of legal move m in position p, with `+` or `#` at its end for check or mate: Nf3, exd5, Qh4#
+-- the SAN of legal move m in position p, with `+` or `#` for check or mate: Nf3, exd5, Qh4#
 unfoldable pub san : Setup → Move → List ℕ
 san p m = option_map_or (λ d. option_map_or castling_text d.castles (piece_text (rival_starts p (moves p) d) d)
     ++ check_mark (after p m)) (described p m) []

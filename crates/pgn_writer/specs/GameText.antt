@@ -16,9 +16,9 @@ use Rattle.pgn_writer.specs.Written.{tag_line, ended, lines_of}
 
 -- ---- tags
 
--- the lines of the tags of the game `s`; `t` has what the game itself doesn't, such as the players. First the seven
--- that each game has (section 8.1.1); then, sorted by name, FEN and SetUp (section 9.7), but not for normal chess from
--- the initial position; Termination; and for Chess960 Variant
+-- the tag lines of the game `s`; `t` has what `s` doesn't, such as the players. First the seven of each game (section
+-- 8.1.1); then, sorted by name, FEN and SetUp (section 9.7), but not for normal chess from the initial position;
+-- Termination; and for Chess960 Variant
 abbrev pub tag_lines : Tags → State → List (List ℕ)
 tag_lines t s = tag_line (codes "Event") t.event ∷ tag_line (codes "Site") t.site ∷ tag_line (codes "Date") t.date
     ∷ tag_line (codes "Round") t.round ∷ tag_line (codes "White") t.white ∷ tag_line (codes "Black") t.black
@@ -30,8 +30,8 @@ tag_lines t s = tag_line (codes "Event") t.event ∷ tag_line (codes "Site") t.s
 
 -- ---- the tokens of the moves
 
--- the tokens of moves made from the position `p` on (section 8.2): the SAN of each, and before each move of White its
--- number, such as `12.`
+-- the tokens of moves from position `p` on (section 8.2): the SAN of each, and before each move of White its number,
+-- such as `12.`
 abbrev pub move_tokens : Setup → List Move → List (List ℕ)
 move_tokens p [] = []
 move_tokens p (m ∷ ms) =
@@ -46,7 +46,7 @@ game_tokens s = list_if (same_colour s.start.side Black && not (length s.moves =
 
 -- ---- the whole text
 
--- the text of the game `s` as it is written: its tags (`tag_lines`), an empty line, the moves and the outcome, an empty
--- line; each line, even an empty one, after `prefix` (`# ` in a session, nothing in a match)
+-- the text of the game `s`: its tags, an empty line, the moves and the outcome, an empty line; each line, even an empty
+-- one, after `prefix` (`# ` in a session, nothing in a match)
 unfoldable pub pgn : List ℕ → Tags → State → List ℕ
 pgn prefix t s = ended prefix (tag_lines t s ++ [] ∷ lines_of (game_tokens s) ++ [] ∷ [])

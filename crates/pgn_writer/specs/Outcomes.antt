@@ -5,6 +5,6 @@ use Rattle.chess_game.specs.Results.{outcome_text}
 use Rattle.chess_game.specs.declared.results.Outcome.{Outcome}
 use Rattle.chess_game.specs.declared.results.Outcome.TheVariants.{WhiteWins, BlackWins, Draw, Unfinished}
 
--- the outcome that is written `1-0`, `0-1`, `1/2-1/2` or `*`; `None` for any other text
+-- the outcome written `1-0`, `0-1`, `1/2-1/2` or `*`; `None` for any other text
 abbrev pub outcome_of : List ℕ → Option Outcome
 outcome_of word = find (λ o. bytes_eq (outcome_text o) word) (WhiteWins ∷ BlackWins ∷ Draw ∷ Unfinished ∷ [])

@@ -11,8 +11,8 @@ use Rattle.pgn_writer.specs.Written.{ended}
 abbrev pub line_text : List (List ℕ) → List ℕ
 line_text tokens = join_with_byte space tokens
 
--- these lines of tokens are as full as they can be: no line is empty or has more than 79 characters, and none could
--- also have taken the first token of the next
+-- these lines of tokens are as full as they can be: none is empty or has more than 79 characters, or could also have
+-- taken the next one's first token
 pub record AreFullLines (lines : List (List (List ℕ))) : Type 0 where
   pub some : AllByRecursion (λ line. 0 < length line) lines
   pub short : AllByRecursion (λ line. length (line_text line) ≤ 79) lines
@@ -20,8 +20,8 @@ pub record AreFullLines (lines : List (List (List ℕ))) : Type 0 where
   pub full : (before after : List (List (List ℕ))) (line rest : List (List ℕ)) (token : List ℕ)
       → lines ≡ before ++ line ∷ (token ∷ rest) ∷ after → 79 < length (line_text (line ++ token ∷ []))
 
--- the text is that of the game `s` with these tags: the tags' lines, an empty line, the game's tokens in lines as full
--- as they can be, an empty line; each line with `prefix` before it and `\n` after it
+-- the text is that of the game `s` with these tags: their lines, an empty line, the tokens in lines as full as they can
+-- be, an empty line; each line with `prefix` before it and `\n` after it
 pub record IsPgn (prefix : List ℕ) (t : Tags) (s : State) (text : List ℕ) : Type 0 where
   -- the moves' lines, each as its tokens
   pub lines : List (List (List ℕ))

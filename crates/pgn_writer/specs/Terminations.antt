@@ -19,13 +19,12 @@ termination_text RulesInfraction = codes "rules infraction"
 termination_text TimeForfeit = codes "time forfeit"
 termination_text Unterminated = codes "unterminated"
 
--- the value that a text of the tag Termination names, in capital or small letters; `None` for any other text
+-- the value that a text names, in capital or small letters; `None` for any other text
 unfoldable pub termination_named : List ℕ → Option Termination
 termination_named text = find (λ t. str_eq_ignore_ascii_case text (termination_text t))
     (Abandoned ∷ Adjudication ∷ Death ∷ Emergency ∷ Normal ∷ RulesInfraction ∷ TimeForfeit ∷ Unterminated ∷ [])
 
--- the value of the tag Termination for a game that ended in this way: `unterminated` if the outcome is `*`, otherwise
--- the way's name
+-- the tag Termination of a game that ended so: `unterminated` if the outcome is `*`, otherwise the way's name
 abbrev pub termination_of : HowEnded → Outcome → Termination
 termination_of ended Unfinished = Unterminated
 termination_of how.Normal _ = Normal

@@ -5,7 +5,7 @@ use Rattle.std.specs.Io.KnownBytes.{Consumes, IsAtEnd}
 use Rattle.byte_devices.specs.Devices.{InputState, saturating_increment}
 use Rattle.text_lines.specs.Lines.{LineSeen, Held, nothing_held, lines_held}
 
--- these bytes without the last `len` of them, which the last read gave
+-- these bytes without the last `len`, which the last read gave
 abbrev pub before_piece : ℕ → List ℕ → List ℕ
 before_piece len bytes = take (length bytes - len) bytes
 
@@ -16,8 +16,8 @@ Waits n r r' held given =
     ((given ≡ []) × (r'.last_len ≡ r.last_len))
     ⊎ ((r'.last_len ≤ length given) × (lines_held n false held (before_piece r'.last_len given) ≡ []))
 
--- a measure of what can still come from the input `r` and the bytes `held`, which each line and each wait in which
--- nothing came lowers; one read gives at most 1,024 bytes
+-- a measure of what can still come from the input and `held`, lowered by each line and each wait in which nothing came;
+-- one read gives at most 1,024 bytes
 abbrev pub work : InputState → Held → ℕ
 work r held = r.pieces_left * 1025 + length held.coming
 
@@ -38,11 +38,11 @@ pub record GotLine (n : ℕ) (r r' : InputState) (held held' : Held) (given : Li
 -- `line` was returned, which the end of the stream ended, not `\n`: it is all that was held and then read (`given`).
 -- The arguments are as in `GotLine`
 pub record GotLast (n : ℕ) (r r' : InputState) (held held' : Held) (given : List ℕ) (line : LineSeen) : Type 0 where
-  -- what was held and read has no `\n`, so without the end it is no line
+  -- it has no `\n`, so without the end it is no line
   pub whole : lines_held n false held given ≡ []
   -- with the end it is this one line
   pub lines : lines_held n true held given ≡ line ∷ []
-  -- no byte is held any more
+  -- no byte is held
   pub rest : held' ≡ nothing_held
   -- no known byte is left to read
   pub at_end : IsAtEnd r'.known_bytes
@@ -67,7 +67,6 @@ pub record GotNone (n : ℕ) (r r' : InputState) (held held' : Held) (given : Li
 -- a read failed: what was held and then read (`given`) has no whole line, and all of it is kept. The arguments are as
 -- in `GotLine`
 pub record GotFault (n : ℕ) (r r' : InputState) (held held' : Held) (given : List ℕ) : Type 0 where
-  -- there is no whole line
   pub whole : lines_held n false held given ≡ []
   -- nothing is lost: whatever comes next (`rest`), the lines are the same
   pub lines : (at_end : Bool) (rest : List ℕ)
@@ -77,10 +76,9 @@ pub record GotFault (n : ℕ) (r r' : InputState) (held held' : Held) (given : L
   pub ends : r'.end_count ≡ r.end_count
   pub silences : r'.silence_count ≡ r.silence_count
 
--- no whole line had come when the call's time was up: what was held and then read (`given`) has none, and all of it is
--- kept. The arguments are as in `GotLine`
+-- when the call's time was up, what was held and then read (`given`) had no whole line; all of it is kept. The
+-- arguments are as in `GotLine`
 pub record GotSilence (n : ℕ) (r r' : InputState) (held held' : Held) (given : List ℕ) : Type 0 where
-  -- there is no whole line
   pub whole : lines_held n false held given ≡ []
   -- nothing is lost: whatever comes next (`rest`), the lines are the same
   pub lines : (at_end : Bool) (rest : List ℕ)
@@ -93,7 +91,7 @@ pub record GotSilence (n : ℕ) (r r' : InputState) (held held' : Held) (given :
   pub falls : work r' held' < work r held
 
 -- what a call for the next line returned after it read `given`: a line, `None` at the end, or a fault. The other
--- arguments are as in `NextLine`
+-- arguments are as in `GotLine`
 abbrev pub Got : {E : Type 0} → ℕ → InputState → InputState → Held → Held → List ℕ → Result (Option LineSeen) E → Type 0
 Got n r r' held held' given (Ok (Some line)) =
     MatchBool line.ended (GotLine n r r' held held' given line) (GotLast n r r' held held' given line)
@@ -101,27 +99,25 @@ Got n r r' held held' given (Ok None) = GotNone n r r' held held' given
 Got n r r' held held' given (Err e) = GotFault n r r' held held' given
 
 -- a call for the next line: it reads only while no whole line is held, and `result` is the next line (too long if of
--- more than `n` bytes), `None` at the end, or a fault. `r` and `r'` are the input before and after, `held` and `held'`
--- the bytes read but not returned
+-- more than `n` bytes), `None` at the end, or a fault. The other arguments are as in `GotLine`
 abbrev pub NextLine : {E : Type 0} → ℕ → InputState → InputState → Held → Held → Result (Option LineSeen) E → Type 0
 NextLine n r r' held held' result =
     (given : List ℕ) × Consumes r.known_bytes r'.known_bytes given × Waits n r r' held given
     × Got n r r' held held' given result
 
--- the line, if the flag is true; otherwise `None`
+-- the line if true, otherwise `None`
 abbrev pub line_if : Bool → LineSeen → Option LineSeen
 line_if true line = Some line
 line_if false line = None
 
--- the result of a call that reads the next line into `line`, as an option: the line if the call returned true,
--- otherwise `None`
+-- the result of a call that reads the next line into `line`, as an option: `line` for true, `None` for false
 abbrev pub line_read : {E : Type 0} → Result Bool E → LineSeen → Result (Option LineSeen) E
 line_read (Ok some) line = Ok (line_if some line)
 line_read (Err e) line = Err e
 
 -- a call for the next line that waits only for so long. `Ok (Some true)`: it is `line`. `Ok (Some false)`: none is left
 -- at the input's end. `Ok None`: no whole line had come by then. `Err`: a read failed. The other arguments are as in
--- `NextLine`
+-- `GotLine`
 abbrev pub NextLineUntil : {E : Type 0} → ℕ → InputState → InputState → Held → Held → Result (Option Bool) E
     → LineSeen → Type 0
 NextLineUntil {E = E} n r r' held held' (Ok (Some some)) line =

@@ -5,20 +5,20 @@ use Rattle.std.specs.Str.Parse.{digits_value}
 use Rattle.byte_devices.specs.Bytes.{is_blank, is_digit}
 use Rattle.text_lines.specs.Lines.{without_front_blanks}
 
--- the first word of a text: its bytes before the first space or tab; empty if the text begins with one
+-- a text's first word: its bytes before the first space or tab, maybe none
 abbrev pub word_of : List ℕ → List ℕ
 word_of [] = []
 word_of (c ∷ cs) = if is_blank c then [] else c ∷ word_of cs
 
--- what follows the first word of a text and the spaces and tabs after that: of `usermove e4` it is `e4`
+-- what follows a text's first word and the spaces and tabs after it: `e4` in `usermove e4`
 unfoldable pub argument_of : List ℕ → List ℕ
 argument_of text = without_front_blanks (drop (length (word_of text)) text)
 
--- the number that a text of 1 to `most` decimal digits denotes, leading zeros or not; `None` for any other text
+-- the number that 1 to `most` decimal digits denote, leading zeros or not; `None` for any other text
 abbrev pub short_number : ℕ → List ℕ → Option ℕ
 short_number most text = if nat_lt 0 (length text) && nat_le (length text) most
     && list_all is_digit text then Some (digits_value 10 text) else None
 
--- the number that a text of 1 to 9 decimal digits denotes, such as the `7` of `ping 7`; `None` for any other text
+-- `short_number` of at most 9 digits, such as the `7` of `ping 7`
 unfoldable pub command_number : List ℕ → Option ℕ
 command_number text = short_number 9 text
