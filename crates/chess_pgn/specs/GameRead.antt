@@ -1,6 +1,6 @@
 -- What is read of a game's text (PGN standard of 1994, sections 7 to 9; which words are taken is this project's own):
--- the tags give the start, then each move's word denotes a move in the position reached by then, and the first token
--- that can't be taken is the fault. Each token is paired with how many bytes of the text are left at it (`left`).
+-- the tags give the start, then each move's word denotes a move in the position reached, and the first token that can't
+-- be taken is the fault. Each token is paired with how many bytes of the text are left at it (`left`).
 use Rattle.std.specs.Prelude.{◌≡◌, ℕ, ◌+◌, ◌-◌, nat_lt, Bool, ◌||◌, if◌then◌else◌, List, [], ◌∷◌, length, drop, map, codes, slice_get, Option, Some, None, is_some, Result, Ok, Err, option_and_then}
 use Rattle.std.specs.List.{list_all, list_any, filter_map, last_or}
 use Rattle.std.specs.Option.{option_map_or, unwrap_or}
@@ -35,52 +35,51 @@ use Rattle.chess_pgn.specs.Words.{word_gives}
 
 -- ---- what is read in the end
 
--- what is read of a game's text. `state`: the game as far as it was read; its start, if a tag is at fault; the initial
--- position, if there is no game. `answer`: the game's end, `None` if the text has no more games, or the first fault
+-- `state`: the game as far as it was read; its start, if a tag is at fault; the initial position, if there is no game.
+-- `answer`: the game's end, `None` if the text has no more games, or the first fault
 pub record GameRead : Type 0 where
   pub state : State
   pub answer : Result (Option PgnEnd) PgnFault
 
--- what a game's termination marker declares (section 8.2.6): the outcome `o` that it names, with an empty comment;
--- `None` if `o` is `*`, or if the board has a verdict (`is_decided`), whose outcome is then the game's
+-- what a game's termination marker declares (section 8.2.6): its outcome `o`, with an empty comment; `None` if that is
+-- `*`, or if the board has a verdict (`is_decided`), whose outcome is then the game's
 abbrev pub declared_after : Bool → Outcome → Option Declared
 declared_after is_decided o =
     if is_decided || same_outcome o Unfinished then None else Some (record { outcome = o; comment = [] })
 
--- the game `s` was read up to a fault of this kind at the offset `at` of the text
+-- the game `s` was read up to a fault of this kind at the offset `at`
 abbrev pub failed : State → PgnFaultKind → ℕ → GameRead
 failed s kind at = record { state = s; answer = Err (record { kind = kind; offset = at }) }
 
 -- ---- the end by the board
 
--- a verdict, but `None` for the *draws of 2014*, which the Laws of Chess have had only since then: fivefold repetition
--- (9.6.1) and 75 moves (9.6.2)
+-- a verdict, but `None` for the *draws of 2014*, in the Laws of Chess only since then: fivefold repetition (9.6.1) and
+-- 75 moves (9.6.2)
 abbrev pub not_of_2014 : Verdict → Option Verdict
 not_of_2014 FivefoldRepetition = None
 not_of_2014 SeventyFiveMoves = None
 not_of_2014 v = Some v
 
--- the verdict that ends the game `s` for its reader, so that no move may follow; `None` if none does. `draws`: whether
--- the draws of 2014 end a game
+-- the verdict that ends the game `s` for its reader: no move may follow. `draws`: whether the draws of 2014 end a game
 abbrev pub ending : Bool → State → Option Verdict
 ending draws s = if draws then verdict_now s else option_and_then not_of_2014 (verdict_now s)
 
--- the fault of a further move of the game `s`: `AfterEnd` if a verdict has ended it, or else `TooLong` if it has
--- `limit` half-moves; `None` if a move may come. `draws`: whether fivefold repetition and 75 moves end it
+-- the fault of a further move of the game `s`: `AfterEnd` if a verdict has ended it, or `TooLong` if it has `limit`
+-- half-moves; `None` if a move may come. `draws`: whether the draws of 2014 end it
 abbrev pub closed_by : Bool → ℕ → State → Option PgnFaultKind
 closed_by draws limit s = if is_some (ending draws s) then Some AfterEnd
     else if nat_lt (length s.moves) limit then None else Some TooLong
 
 -- ---- after the tags
 
--- what is read of the game `s`, whose tags and first moves were read, from the tokens after them. `draws`: whether
--- fivefold repetition and 75 moves end it; `limit`: its most half-moves; `total`: the text's length, so a token is at
--- the offset `total - left`; `cause`: what the tag Termination names
+-- what is read of the game `s`, whose tags and first moves were read, from the tokens after them. `draws`: whether the
+-- draws of 2014 end it; `limit`: its most half-moves; `total`: the text's length, so a token is at the offset
+-- `total - left`; `cause`: what the tag Termination names
 abbrev pub moves_read : Bool → ℕ → ℕ → Option Termination → State → List (ℕ × Token) → GameRead
 moves_read draws limit total cause s [] = failed s NoResult total
 moves_read draws limit total cause s ((left, Skip) ∷ ts) = moves_read draws limit total cause s ts
--- an outcome such as `1-0` ends the game after its last byte. A number and marks such as `!?` are passed over; any
--- other word is taken as a move
+-- an outcome such as `1-0` ends the game after its last byte. Numbers and marks such as `!?` are passed over; any other
+-- word is taken as a move
 moves_read draws limit total cause s ((left, Word word) ∷ ts) = option_map_or (λ o. record {
   state = record s { declared = declared_after (is_some (verdict_now s)) o };
   answer = Ok (Some (record { outcome = o; termination = cause; offset = total - left + length word }));
@@ -96,41 +95,40 @@ moves_read draws limit total cause s ((left, _) ∷ ts) = failed s NoResult (tot
 
 -- ---- the tags
 
--- the position that a tag FEN denotes in the variant `v`, or its fault, at the byte after the tag's first quote. `tag`:
--- the bytes between its quotes, and how many of the text's `total` bytes are left there
+-- the position that a tag FEN, as `named_tag` gives it, denotes in the variant `v`, or its fault, at the byte after the
+-- tag's first quote. `total`: the text's length
 abbrev pub fen_read : ℕ → Variant → List ℕ × ℕ → Result Setup PgnFault
 fen_read total v tag = result_map_both (λ start. start)
     (λ fault. record { kind = BadFen fault; offset = total - tag.1 }) (fen_reading_as v tag.0)
 
 -- ---- the variant
 
--- the variant that the text of a tag Variant names, in capital or small letters; `None` for any other text
+-- the variant that a tag Variant's text names, in capital or small letters; `None` for any other text
 abbrev pub known_variant : List ℕ → Option Variant
 known_variant text = let is_any = list_any (λ name. str_eq_ignore_ascii_case text name) in
     if is_any (codes "fischerandom" ∷ codes "fischerrandom" ∷ codes "chess960" ∷ []) then Some Fischerandom
     else if is_any (codes "normal" ∷ codes "standard" ∷ codes "chess" ∷ codes "classical" ∷ codes "from position" ∷ [])
     then Some Normal else None
 
--- the variant that the last tag Variant of these tokens names; normal chess if its text is no known name, such as
--- `Atomic`, or without such a tag
+-- the variant that the last tag Variant names; normal chess if that is no known name, such as `Atomic`, or without such
+-- a tag
 abbrev pub tagged_variant : List (ℕ × Token) → Variant
 tagged_variant tags = option_map_or (λ t. unwrap_or (known_variant t.0) Normal) (last_tag (codes "Variant") tags) Normal
 
 -- ---- the game
 
 -- what is read of the game `s`, which is at its start, from the tokens after its tag section `tags`: a bad tag at their
--- front is the fault; otherwise they are its moves. `draws`: whether fivefold repetition and 75 moves end it; `limit`:
--- its most half-moves; `total`: the text's length. The last tag Termination counts, even if it names no value of the
--- standard
+-- front is the fault, otherwise they are its moves. `draws`, `limit` and `total` are as in `moves_read`. The last tag
+-- Termination counts, even if it names no value of the standard
 abbrev pub read_after_tags : Bool → ℕ → ℕ → State → List (ℕ × Token) → List (ℕ × Token) → GameRead
 read_after_tags draws limit total s tags ((to_end, Bad_tag) ∷ rest) = failed s BadTag (total - to_end)
 read_after_tags draws limit total s tags rest = moves_read draws limit total
     (option_and_then (λ tag. termination_named tag.0) (last_tag (codes "Termination") tags)) s rest
 
--- what is read of the game at the front of these tokens, in a text of `total` bytes. `draws`: whether fivefold
--- repetition and 75 moves end it; `limit`: its most half-moves. There is no game if no token says anything of one. The
--- last tag Variant gives the variant, and the last FEN the start, otherwise the variant's initial position. The first
--- FEN that denotes no position is the fault, and the FENs before it give the start
+-- what is read of the game at the front of these tokens. `draws`, `limit` and `total` are as in `moves_read`. There is
+-- no game if no token says anything of one. The last tag Variant gives the variant, and the last FEN the start,
+-- otherwise the variant's initial position. The first FEN that denotes no position is the fault, and the FENs before it
+-- give the start
 abbrev pub read_of_split : Bool → ℕ → ℕ → List (ℕ × Token) → GameRead
 read_of_split draws limit total tokens = let tags = tag_section tokens in let v = tagged_variant tags in
     let fens = map (fen_read total v) (filter_map (λ t. named_tag (codes "FEN") t.1) tags) in
@@ -145,8 +143,8 @@ unfoldable pub pgn_read : Bool → ℕ → List ℕ → ℕ → GameRead
 pgn_read draws limit text at =
     read_of_split draws limit (length text) (tokens_from text (after_byte_order_mark text at))
 
--- what `pgn_read` gives, defined without `tokens_from`: `r` is what is read of a split of the text into tokens. There
--- is exactly one such `r`
+-- what `pgn_read` gives, defined without `tokens_from`: `r` is what is read of a split of the text. There is exactly
+-- one such `r`
 pub record IsRead (draws : Bool) (limit : ℕ) (text : List ℕ) (at : ℕ) (r : GameRead) : Type 0 where
   pub tokens : List (ℕ × Token)
   pub split : IsSplit text (after_byte_order_mark text at) tokens

@@ -5,8 +5,7 @@ use Rattle.chess_pgn.specs.declared.past_draws.ReadGame.{ReadGame}
 use Rattle.chess_pgn.specs.declared.read.PgnFault.{PgnFault}
 use Rattle.chess_pgn.specs.GameRead.{GameRead, ending}
 
--- the games `g` and `s` are at the same position, and the same verdict ends both, if any. `draws`: whether the draws of
--- 2014 end a game
+-- the games `g` and `s` are at the same position, and the same verdict ends both, if any. `draws` is as in `ending`
 pub record Stands (draws : Bool) (g s : State) : Type 0 where
   pub position : current g ≡ current s
   pub ends : ending draws g ≡ ending draws s

@@ -5,7 +5,7 @@ use Rattle.pgn_tokens.specs.Tokens.{Token}
 use Rattle.chess_pgn.specs.GameRead.{known_variant}
 
 -- if the last tag Variant of a game with these tokens names no known variant, as `atomic`: the offset of the text
--- between its quotes, in a text of `total` bytes; `None` if it names a known one, or without such a tag
+-- between its quotes, in a text of `total` bytes; otherwise `None`
 abbrev pub unknown_variant_in : ℕ → List (ℕ × Token) → Option ℕ
 unknown_variant_in total ts = option_and_then (λ t. if is_some (known_variant t.0) then None else Some (total - t.1))
     (last_tag (codes "Variant") (tag_section ts))

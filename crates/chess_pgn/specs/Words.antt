@@ -1,4 +1,4 @@
--- What a word of a game's text gives if it is taken as a move.
+-- What a word gives if taken as a move.
 use Rattle.std.specs.Prelude.{Option}
 use Rattle.std.specs.Option.{option_map_or, unwrap_or}
 use Rattle.chess_base.specs.declared.man.Move.{Move}

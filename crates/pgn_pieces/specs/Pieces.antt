@@ -12,18 +12,18 @@ use Rattle.pgn_pieces.specs.declared.pieces.PieceFault.TheVariants.{ReadFailed, 
 
 -- ---- the lines of a text
 
--- the lines of a text, each with the `\n` or `\r` that ends it, if one does. The `\n` of `\r\n` is a line of its own,
--- which counts as empty: `a\r\nb` has the lines `a\r`, `\n` and `b`
+-- a text's lines, each with the `\n` or `\r` that ends it, if any. The `\n` of `\r\n` is a line of its own, which
+-- counts as empty: `a\r\nb` has the lines `a\r`, `\n` and `b`
 abbrev pub lines_of : List ℕ → List (List ℕ)
 lines_of [] = []
 lines_of (c ∷ cs) = if breaks_line c then (c ∷ []) ∷ lines_of cs else onto_first c (lines_of cs)
 
--- a text without the bytes at its beginning that pass the test
+-- a text after the bytes at its front that pass the test
 abbrev pub drop_while : (ℕ → Bool) → List ℕ → List ℕ
 drop_while test text = drop (prefix_len test text) text
 
--- the front of a line, which decides its kind: its first 256 bytes, without a byte order mark (EF BB BF) and then
--- without spaces and tabs at their beginning
+-- a line's front, which decides its kind: its first 256 bytes, without a byte order mark (EF BB BF) and then without
+-- spaces and tabs at their beginning
 abbrev pub front_of : List ℕ → List ℕ
 front_of line = let first = take 256 line in drop_while is_blank (drop (after_byte_order_mark first 0) first)
 
@@ -31,11 +31,11 @@ front_of line = let first = take 256 line in drop_while is_blank (drop (after_by
 abbrev pub tag_name : List ℕ → List ℕ
 tag_name front = take_while is_name_byte (drop 1 front)
 
--- what comes in a line's front after the name and any spaces and tabs: `"x"]` in `[Event "x"]`
+-- a line's front after the name and any spaces and tabs: `"x"]` in `[Event "x"]`
 abbrev pub after_name : List ℕ → List ℕ
 after_name front = drop_while is_blank (drop (length (tag_name front)) (drop 1 front))
 
--- whether a text, such as a line's front, begins as a tag does: `[`, a name, any spaces and tabs, and `"`
+-- whether a text begins as a tag does: `[`, a name, any spaces and tabs, and `"`
 abbrev pub begins_tag : List ℕ → Bool
 begins_tag front = bytes_eq (take 1 front) (codes "[") && nat_lt 0 (length (tag_name front))
     && bytes_eq (take 1 (after_name front)) (codes "\"")
@@ -48,66 +48,63 @@ is_tag_line line = begins_tag (front_of line)
 abbrev pub is_event_line : List ℕ → Bool
 is_event_line line = is_tag_line line && bytes_eq (tag_name (front_of line)) (codes "Event")
 
--- whether a line counts as empty: its first byte is `%`, or its front begins with `;`, or has nothing but white space
+-- whether a line counts as empty: it begins with `%`, or its front begins with `;` or has nothing but white space
 abbrev pub is_empty_line : List ℕ → Bool
 is_empty_line line = bytes_eq (take 1 line) (codes "%") || bytes_eq (take 1 (front_of line)) (codes ";")
     || list_all (λ c. is_blank c || (c == 13) || (c == 10)) (front_of line)
 
--- a text from the first quote on that no backslash keeps from closing a string: of `a\"b"]` it is `"]`; empty if there
--- is none. `kept`: the byte before the text is such a backslash
+-- a text from the first quote on that no backslash keeps from closing a string: `"]` of `a\"b"]`; empty without one.
+-- `kept`: the byte before the text is such a backslash
 abbrev pub from_quote : Bool → List ℕ → List ℕ
 from_quote kept [] = []
 from_quote kept (c ∷ rest) = if not kept && c == byte "\"" then c ∷ rest else from_quote (not kept && c == byte "\\") rest
 
--- what comes after the string of the tag with which a text begins, and any spaces and tabs: `] e4` in `[a "b" ] e4`;
--- empty if the string isn't closed
+-- a text after the string of the tag at its front, and any spaces and tabs: `] e4` in `[a "b" ] e4`; empty if the
+-- string isn't closed
 abbrev pub after_string : List ℕ → List ℕ
 after_string text = drop_while is_blank (drop 1 (from_quote false (drop 1 (after_name text))))
 
--- what comes after the tag, comment (`{x}`), glyph (`$1`), dot or mark (`!` or `?`) with which a text begins, and any
--- spaces and tabs: `e4` in `[a "b"] e4`. `None` if it begins with none of these, or the tag or the comment isn't closed
+-- a text after the tag, comment (`{x}`), glyph (`$1`), dot or mark (`!` or `?`) at its front, and any spaces and tabs:
+-- `e4` in `[a "b"] e4`. `None` if it begins with none of these, or the tag or comment isn't closed
 abbrev pub after_part : List ℕ → Option (List ℕ)
 after_part text = option_map (drop_while is_blank) (if begins_tag text then after_byte (byte "]") (after_string text)
     else (if bytes_eq (take 1 text) (codes "{") then after_byte (byte "}") (drop_while (λ c. not (c == byte "}")) text)
     else (if bytes_eq (take 1 text) (codes "$") then Some (drop_while is_digit (drop 1 text))
     else (if list_any (λ c. list_any (λ k. c == k) (codes ".!?")) (take 1 text) then Some (drop 1 text) else None))))
 
--- what comes after the tags, comments, glyphs, dots and marks with which a text begins (`after_part`); the first
--- argument is the most that are passed over
+-- a text after the parts (as of `after_part`) at its front; the first argument is the most that are passed over
 unfoldable pub after_parts : ℕ → List ℕ → List ℕ
 after_parts zero text = text
 after_parts (suc more) text = option_map_or (after_parts more) (after_part text) text
 
--- whether a text ends within the tag with which it begins, which more bytes may close: in the name, in the string, or
--- in the spaces and tabs after one of these
+-- whether a text ends within the tag at its front, which more bytes may close: in the name, in the string, or in the
+-- spaces and tabs after either
 abbrev pub ends_in_tag : List ℕ → Bool
 ends_in_tag text = bytes_eq (take 1 text) (codes "[")
     && ((length (after_name text) == 0) || begins_tag text && (length (after_string text) == 0))
 
--- whether a tag line has more than tags, by what comes after its tags, comments, glyphs, dots and marks: a byte that
--- neither ends the line nor begins a comment, such as a move's. `ended`: the line's end was seen; if not, a tag in
--- which what was seen ends doesn't count
+-- whether a tag line has more than tags, by what comes after its parts (`after_parts`): a byte that neither ends the
+-- line nor begins a comment, such as a move's. `ended`: the line's end was seen; if not, a tag in which what was seen
+-- ends doesn't count
 abbrev pub has_more : Bool → List ℕ → Bool
 has_more ended rest = list_any (λ c. not (list_any (λ k. c == k) (codes "\r\n{;"))) (take 1 rest)
     && (ended || not (ends_in_tag rest))
 
--- whether a line counts as one of moves: one that is neither a tag line nor empty (also one inside a `{` comment, and
--- `[ Event "x" ]`); or a tag line with more than tags: `[White "a"] {x} 1. e4`, or `[White "a`. A front has at most 256
--- tags and the like
+-- whether a line counts as one of moves: neither a tag line nor empty (also inside a `{` comment, and `[ Event "x" ]`);
+-- or a tag line with more than tags: `[White "a"] {x} 1. e4`, or `[White "a`. A front has at most 256 parts
 abbrev pub is_moves_line : List ℕ → Bool
 is_moves_line line = let front = front_of line in
     if is_tag_line line then has_more (list_any breaks_line front) (after_parts 256 front) else not (is_empty_line line)
 
 -- ---- the pieces of a text
 
--- whether a line begins a new piece, where `piece` are the lines of the last piece before it: a tag line does if
--- `piece` has a line of moves, an Event line also if `piece` has an Event line; no other line does
+-- whether a line begins a new piece after one with the lines `piece`: a tag line does if `piece` has a line of moves,
+-- an Event line also if `piece` has an Event line
 abbrev pub begins_piece : List (List ℕ) → List ℕ → Bool
 begins_piece piece line = is_tag_line line
     && (list_any is_moves_line piece || (is_event_line line && list_any is_event_line piece))
 
--- these pieces (each the list of its lines, the last piece first) with one line more, which begins a piece if it is the
--- first line or if `begins_piece` holds; otherwise it is added to the last piece
+-- these pieces (lists of lines, the last piece first) with one line more, which begins a piece or is added to the last
 abbrev pub with_line : List (List (List ℕ)) → List ℕ → List (List (List ℕ))
 with_line [] line = (line ∷ []) ∷ []
 with_line (last ∷ before) line =
@@ -117,15 +114,15 @@ with_line (last ∷ before) line =
 abbrev pub cut : List ℕ → List (List ℕ)
 cut text = reverse (map concat (fold with_line [] (lines_of text)))
 
--- the pieces that are known of an input that has given this text: all if it has `ended`; otherwise all but the last,
--- which may continue
+-- the pieces that are known of an input that gave this text: all if it has `ended`; otherwise all but the last, which
+-- may continue
 abbrev pub known_pieces : Bool → List ℕ → List (List ℕ)
 known_pieces ended text = let all = cut text in if ended then all else take (length all - 1) all
 
 -- ---- what was read of an input
 
--- between the states `r` and `r'` of the input just this text was read, and no failed read and no silence was counted.
--- `ended`: the input's end was reached, and reported by one read
+-- from the input's state `r` to `r'` just this text was read, and no failed read and no silence was counted. `ended`:
+-- the input's end was reached, and reported by one read
 pub record HasRead (ended : Bool) (r r' : InputState) (text : List ℕ) : Type 0 where
   pub bytes : Consumes r.known_bytes r'.known_bytes text
   pub failures : r'.failure_count ≡ r.failure_count
@@ -133,16 +130,14 @@ pub record HasRead (ended : Bool) (r r' : InputState) (text : List ℕ) : Type 0
   pub silences : r'.silence_count ≡ r.silence_count
   pub at_end : ended ≡ true → IsAtEnd r'.known_bytes
 
--- between the states `r` and `r'` of the input this text was read, and then one read failed; no end and no silence was
--- counted
+-- from the input's state `r` to `r'` this text was read, then one read failed; no end and no silence was counted
 pub record GaveThenFailed (r r' : InputState) (text : List ℕ) : Type 0 where
   pub bytes : Consumes r.known_bytes r'.known_bytes text
   pub failures : r'.failure_count ≡ saturating_increment r.failure_count
   pub ends : r'.end_count ≡ r.end_count
   pub silences : r'.silence_count ≡ r.silence_count
 
--- this fault may be why nothing was read after this text, between the input's states `r` and `r'`; its end was not
--- reported
+-- from the input's state `r` to `r'`, this fault may be why nothing was read after this text; no end was reported
 abbrev pub IsCause : InputState → InputState → List ℕ → PieceFault → Type 0
 IsCause r r' text ReadFailed = GaveThenFailed r r' text
 -- memory ran out, which the input doesn't show

@@ -1,13 +1,12 @@
--- Where a byte of a text is: its line and its column, both counted from 1. A column counts bytes; offsets begin at 0.
+-- The line and column of a byte of a text, counted from 1. A column counts bytes; offsets begin at 0.
 use Rattle.std.specs.Prelude.{ℕ, ◌+◌, ◌==◌, Bool, ◌||◌, not, List, take}
 use Rattle.std.specs.List.{count_by, suffix_len}
 
--- whether a byte ends a line of a collection that is cut into pieces: `\n`, or `\r`, which alone ends the lines of some
--- old files
+-- whether a byte ends a line of a collection to be cut: `\n`, or `\r`, which alone ends the lines of some old files
 abbrev pub breaks_line : ℕ → Bool
 breaks_line c = (c == 10) || (c == 13)
 
--- how many lines end in a text, as lines are numbered: how often it has `\n`
+-- how many numbered lines end in a text: how often it has `\n`
 abbrev pub line_ends : List ℕ → ℕ
 line_ends text = count_by (λ c. c == 10) text
 
@@ -15,7 +14,6 @@ line_ends text = count_by (λ c. c == 10) text
 abbrev pub line_of : List ℕ → ℕ → ℕ
 line_of text offset = count_by (λ c. c == 10) (take offset text) + 1
 
--- the column of the byte at this offset of a text, counted from the `\n` or `\r` before it, or from the text's
--- beginning
+-- the column of the byte at this offset of a text, counted from the last `\n` or `\r`, or from the text's beginning
 abbrev pub column_of : List ℕ → ℕ → ℕ
 column_of text offset = suffix_len (λ c. not (breaks_line c)) (take offset text) + 1

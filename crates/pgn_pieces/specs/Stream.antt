@@ -12,7 +12,7 @@ pub record State : Type 0 where
   pub offset : ℕ
   -- its bytes so far; if it is too long, only some bytes with the same length, first 40 bytes and number of line ends
   pub part : List ℕ
-  -- the bytes that were read after these
+  -- the bytes read after these
   pub coming : List ℕ
   pub ended : Bool
 
@@ -20,7 +20,7 @@ pub record State : Type 0 where
 abbrev pub unread : State
 unread = record { offset = 0; part = []; coming = []; ended = false }
 
--- the state once the current piece of `s` has ended: the next one has no bytes so far
+-- the state after the current piece of `s`: the next one has no bytes so far
 abbrev pub past_piece : State → State
 past_piece s = record { offset = s.offset + length s.part; part = []; coming = s.coming; ended = s.ended }
 
@@ -29,19 +29,19 @@ pub record Piece : Type 0 where
   pub offset : ℕ
   pub bytes : List ℕ
 
--- the pieces with these bytes, one after another in the input; the first begins at this offset
+-- the pieces with these bytes, one after another in the input from this offset on
 abbrev pub with_offsets : ℕ → List (List ℕ) → List Piece
 with_offsets offset [] = []
 with_offsets offset (bytes ∷ rest) =
     record { offset = offset; bytes = bytes } ∷ with_offsets (offset + length bytes) rest
 
--- the known pieces of a text that begins at this offset of the input. `ended`: the input ends with the text; if not,
--- the last piece may go on and is left out
+-- the known pieces of a text at this offset of the input. `ended`: the input ends with the text; if not, the last piece
+-- may continue and is left out
 unfoldable pub pieces : Bool → ℕ → List ℕ → List Piece
 pieces ended offset text = with_offsets offset (known_pieces ended text)
 
--- what a caller sees of a piece: the offsets in the input of its first byte and of the one after its last, its first 40
--- bytes, how many lines end in it, and its bytes
+-- what a caller sees of a piece: its first offset in the input and the one after its last, its first 40 bytes, how many
+-- lines end in it, and its bytes
 pub record PieceSeen : Type 0 where
   pub offset : ℕ
   pub end : ℕ
@@ -50,7 +50,7 @@ pub record PieceSeen : Type 0 where
   -- `None` if it has more than 16,777,216
   pub bytes : Option (List ℕ)
 
--- what a caller sees of the piece with these bytes, which begins at this offset of the input
+-- what a caller sees of the piece with these bytes at this offset of the input
 abbrev pub piece_at : ℕ → List ℕ → PieceSeen
 piece_at offset bytes = record {
   offset = offset;
@@ -60,12 +60,11 @@ piece_at offset bytes = record {
   bytes = if nat_le (length bytes) PIECE_LEN then Some bytes else None;
 }
 
--- what a caller sees of the pieces of a text that begins at this offset of the input. `ended`: the input ends with the
--- text; if not, the last piece is left out
+-- what a caller sees of the `pieces` of a text at this offset of the input
 abbrev pub pieces_seen : Bool → ℕ → List ℕ → List PieceSeen
 pieces_seen ended offset text = map (λ (piece : Piece). piece_at piece.offset piece.bytes) (pieces ended offset text)
 
--- what a caller sees of the current piece of the state `s`, with the bytes that it has so far
+-- what a caller sees of the current piece of `s`, with its bytes so far
 abbrev pub current : State → PieceSeen
 current s = piece_at s.offset s.part
 
@@ -74,27 +73,27 @@ current s = piece_at s.offset s.part
 abbrev pub pieces_after_part : Bool → ℕ → List ℕ → List ℕ → List PieceSeen
 pieces_after_part ended offset part text = pieces_seen ended offset (part ++ text)
 
--- the pieces still to come in the state `s`, the current one first, if the bytes `rest` follow those that were read.
--- `ended`: the input ends after them; if not, the last piece is left out
+-- the pieces still to come in the state `s`, the current one first, if `rest` follows what was read. `ended`: the input
+-- ends after it
 abbrev pub pieces_held : Bool → State → List ℕ → List PieceSeen
 pieces_held ended s rest = pieces_after_part ended s.offset s.part (s.coming ++ rest)
 
--- the input may still give the bytes `rest`, and end after them if `ended` says so. If it has ended already (the first
--- argument), it gives no bytes and stays at its end
+-- the input may still give `rest`, and end after it if `ended`. If it has ended already (the first argument), it gives
+-- no bytes and stays at its end
 abbrev pub MayFollow : Bool → Bool → List ℕ → Type 0
 MayFollow false ended rest = Unit {0}
 MayFollow true ended rest = (ended ≡ true) × (rest ≡ [])
 
--- `s` is the state of cutting an input once just this text of it was read, between the input's states `r` and `r'`; all
--- bytes of the text are accounted for in `s`
+-- `s` is the state once just this text was read, between the input's states `r` and `r'`, and accounts for all its
+-- bytes
 pub record IsStateOf (s : State) (r r' : InputState) (text : List ℕ) : Type 0 where
   pub read : HasRead s.ended r r' text
   pub all : s.offset + (length s.part + length s.coming) ≡ length text
 
--- a call for the next piece, which takes the state `s` to `s'`, after this text was read; it may read `more`. `r` is
--- the input's state before the text was read, `r'` the one after the call. `Ok true`: `s'` has the next piece, and the
--- pieces still to come before the call are this one and then those still to come, however the input continues. `Ok
--- false`: the input has ended, and no piece is left. A fault: what was read contains the end of no further piece
+-- a call for the next piece, after this text was read, takes the state `s` to `s'`; it may read `more`. `r`: the
+-- input's state before the text was read; `r'`: that after the call. `Ok true`: `s'` has the next piece, and the pieces
+-- still to come before the call are this one and then those still to come, however the input continues. `Ok false`: the
+-- input has ended, and no piece is left. A fault: what was read has the end of no further piece
 abbrev pub Next : State → State → InputState → InputState → List ℕ → Result Bool PieceFault → Type 0
 Next s s' r r' text (Ok true) = (more : List ℕ) × IsStateOf s' r r' (text ++ more)
     × (s.ended ≡ true → (s'.ended ≡ true) × (more ≡ []))

@@ -1,4 +1,4 @@
--- The tags of a game, in the order of its text.
+-- A game's tags, in order.
 use Rattle.std.specs.Prelude.{ℕ, ◌-◌, List, Option, Some, None}
 use Rattle.std.specs.List.{filter_map}
 use Rattle.pgn_tokens.specs.declared.tag_list.PgnTag.{PgnTag}
@@ -10,7 +10,7 @@ pub record TagPair : Type 0 where
   pub name : List ℕ
   -- the bytes between its quotes as they are
   pub text : List ℕ
-  -- the offset in the whole text of the first of these bytes
+  -- the first byte's offset in the whole text
   pub offset : ℕ
 
 -- the tag that a token is, in a text of `total` bytes; `None` for any other token
@@ -18,7 +18,7 @@ abbrev pub tag_pair : ℕ → Token → Option TagPair
 tag_pair total (Tag name text to_end) = Some (record { name = name; text = text; offset = total - to_end })
 tag_pair total _ = None
 
--- the tags of the game with these tokens, in order, in a text of `total` bytes: those of its tag section
+-- in order, the tags in the tag section of a game with these tokens, in a text of `total` bytes
 abbrev pub game_tags_of : ℕ → List (ℕ × Token) → List TagPair
 game_tags_of total tokens = filter_map (λ t. tag_pair total t.1) (tag_section tokens)
 

@@ -1,4 +1,4 @@
--- Which words of a game's text are marks (PGN standard of 1994, section 8.2.3.8).
+-- Which words are marks (PGN standard of 1994, section 8.2.3.8).
 use Rattle.std.specs.Prelude.{ℕ, Bool, not, ◌&&◌, ◌||◌, List, length, ◌==◌}
 use Rattle.std.specs.List.{list_all}
 use Rattle.byte_devices.specs.Bytes.{byte}

@@ -1,6 +1,6 @@
--- How a game's text is split into tokens (PGN standard of 1994, sections 5 to 8.2). This project's own: the bytes of a
--- word; that `$` may have no digits; that a `%` line is skipped also in a tag and in a variation; that a string may
--- have tabs and more than 255 bytes, and a backslash in it may keep any byte.
+-- How a game's text is split into tokens (PGN standard of 1994, sections 5 to 8.2). This project's own: a word's bytes;
+-- `$` without digits; `%` lines in tags and variations; in a string, tabs, more than 255 bytes, and a backslash before
+-- any byte.
 use Rattle.std.specs.Prelude.{◌≡◌, ℕ, ◌+◌, ◌-◌, ◌<◌, ◌≤◌, Bool, true, false, not, ◌&&◌, ◌||◌, List, [], ◌∷◌, ◌++◌, length, drop, codes, ◌==◌}
 use Rattle.std.specs.List.{list_all, list_any}
 use Rattle.byte_devices.specs.Bytes.{is_digit, byte, new_line, is_name_byte}
@@ -12,61 +12,58 @@ use Rattle.pgn_tokens.specs.Tokens.{Token, Skip, Tag, Word, Bad_tag, Unclosed_co
 abbrev pub lacks : ℕ → List ℕ → Bool
 lacks b text = list_all (λ c. not (c == b)) text
 
--- whether all from the byte c to the end of its line is skipped: c is `;` (section 5), or a `%` that begins the line
--- (section 6)
+-- whether a line is skipped from the byte c on: c is `;` (section 5), or a `%` that begins the line (section 6)
 abbrev pub skips_line : Bool → ℕ → Bool
 skips_line line_begins c = line_begins && c == byte "%" || c == byte ";"
 
 -- ---- variations (section 8.2.5)
 
--- the text may be between a variation's `(` and its `)`, as in `4. Ng5 d5 (4... Bc5)`: the parts below, one after
--- another, or none. `b`: whether its first byte begins a line, as after `\n`, and not after `(`, `)` or `}`
+-- the text may be between a variation's `(` and `)`, as in `4. Ng5 d5 (4... Bc5)`: nothing, or a part below and then
+-- `more`. `b`: whether the text's first byte begins a line, as after `\n`, and not after `(`, `)` or `}`
 pub data IsInside : Bool → List ℕ → Type 0 where
   nothing : {b : Bool} → IsInside b []
-  -- a `%` line or `;` comment, with its `\n`, and then more
+  -- a `%` line or `;` comment with its `\n`
   line : {b : Bool} {c : ℕ} (text : List ℕ) {more : List ℕ} → skips_line b c ≡ true → lacks new_line text ≡ true
       → IsInside true more → IsInside b (c ∷ text ++ new_line ∷ more)
-  -- a `{` comment, and then more
+  -- a `{` comment
   comment : {b : Bool} (text : List ℕ) {more : List ℕ} → lacks (byte "}") text ≡ true → IsInside false more
       → IsInside b (byte "{" ∷ text ++ byte "}" ∷ more)
-  -- a variation, and then more
+  -- a variation
   variation : {b : Bool} {inner more : List ℕ} → IsInside false inner → IsInside false more
       → IsInside b (byte "(" ∷ inner ++ byte ")" ∷ more)
-  -- any byte that begins none of these and is no `)`, and then more
+  -- any byte that begins none of these and is no `)`
   other : {b : Bool} {c : ℕ} {more : List ℕ} → skips_line b c ≡ false → list_any (λ k. c == k) (codes "{()") ≡ false
       → IsInside (c == new_line) more → IsInside b (c ∷ more)
 
 -- ---- tags (section 8.1), as `[Event "a"]`: an opening (`[Event "`), the string (`a`), and a closing (`"]`)
 
--- the text may be between two parts of a tag: white space and `%` lines, or nothing. `b`: whether its first byte begins
--- a line, where `%` begins a `%` line
+-- the text may be between two parts of a tag: white space and `%` lines, or nothing. `b`: its first byte begins a line
 pub data IsGap : Bool → List ℕ → Type 0 where
   nothing : {b : Bool} → IsGap b []
-  -- white space, and then more
+  -- white space, then more
   blank : {b : Bool} {c : ℕ} {more : List ℕ} → is_white_space c ≡ true → IsGap (c == new_line) more → IsGap b (c ∷ more)
-  -- a `%` line with its `\n`, and then more
+  -- a `%` line with its `\n`, then more
   line : (text : List ℕ) {more : List ℕ} → lacks new_line text ≡ true → IsGap true more
       → IsGap true (byte "%" ∷ text ++ new_line ∷ more)
 
--- the text is the opening of a tag with this name, such as `[Event "`: `[`, a gap, the name (letters, digits and `_`),
--- a gap, a quote. A gap (`IsGap`) may be empty; its front begins no line (`false`)
+-- the text opens a tag with this name, as `[Event "` does: `[`, a gap, the name (letters, digits and `_`), a gap, a
+-- quote. A gap (`IsGap`) may be empty and begins no line (`false`)
 pub data OpensTag (name : List ℕ) : List ℕ → Type 0 where
   opens : {before after : List ℕ} → IsGap false before → 0 < length name → list_all is_name_byte name ≡ true
       → IsGap false after → OpensTag name (byte "[" ∷ (before ++ (name ++ (after ++ codes "\""))))
 
--- the text may be between a string's quotes (section 7), as `a\"b`: bytes other than quotes, backslashes and `\n`, and
--- pairs of a backslash and the byte that it keeps from ending the string, not `\n`
+-- the text may be between a string's quotes (section 7), as `a\"b`, where a backslash keeps the next byte from ending
+-- the string
 pub data IsString : List ℕ → Type 0 where
   nothing : IsString []
-  -- a backslash and the byte that it keeps
+  -- a backslash and the byte that it keeps, not `\n`
   kept : {c : ℕ} {more : List ℕ} → (c == new_line) ≡ false → IsString more → IsString (byte "\\" ∷ c ∷ more)
   -- any byte but backslashes, quotes and `\n`
   char : {c : ℕ} {more : List ℕ} → list_any (λ k. c == k) (codes "\\\"\n") ≡ false → IsString more → IsString (c ∷ more)
 
 -- ---- tokens
 
--- the text as a whole is this token. `b`: whether its first byte begins a line; `left`: how many bytes of the game's
--- text come after it
+-- the whole text is this token. `b`: its first byte begins a line; `left`: how many bytes of the game's text follow it
 pub data IsToken (b : Bool) (left : ℕ) : List ℕ → Token → Type 0 where
   blank : {c : ℕ} → (is_white_space c || c == byte ".") ≡ true → IsToken b left (c ∷ []) Skip
   -- a `%` line or `;` comment, without its `\n`
@@ -75,7 +72,7 @@ pub data IsToken (b : Bool) (left : ℕ) : List ℕ → Token → Type 0 where
   -- a numeric annotation glyph: `$` and digits, maybe none
   glyph : {digits : List ℕ} → list_all is_digit digits ≡ true → IsToken b left (byte "$" ∷ digits) Skip
   variation : {inner : List ℕ} → IsInside false inner → IsToken b left (byte "(" ∷ inner ++ byte ")" ∷ []) Skip
-  -- a tag: an opening, a string, a closing (a quote, a gap and `]`). Its `to_end` counts the bytes from the string on
+  -- an opening, a string, a closing. The tag's `to_end` counts the bytes from the string on
   tag : {name opening string gap closing : List ℕ} → OpensTag name opening → IsString string → IsGap false gap
       → closing ≡ byte "\"" ∷ (gap ++ codes "]")
       → IsToken b left (opening ++ (string ++ closing)) (Tag name string (length (string ++ closing) + left))
@@ -83,19 +80,19 @@ pub data IsToken (b : Bool) (left : ℕ) : List ℕ → Token → Type 0 where
   -- a word, in PGN a symbol
   word : {text : List ℕ} → 0 < length text → list_all is_word_byte text ≡ true → IsToken b left text (Word text)
 
--- the text has `front` at the offset `at`, and `front` is the token `t`
+-- at the offset `at` the text has `front`, which is the token `t`
 abbrev pub IsTokenAt : List ℕ → ℕ → List ℕ → Token → Type 0
 IsTokenAt text at front t =
     (rest : List ℕ) × (drop at text ≡ front ++ rest) × IsToken (begins_line text at) (length rest) front t
 
 -- ---- what can't be read
 
--- the text, which begins right after a variation's `(`, has a comment that isn't closed; the number counts the bytes
--- from its `{` to the text's end, 2 in `d4 {a`. Before the comment are only whole parts (`IsInside`) and `(`s
+-- the text after a variation's `(` has an unclosed comment; the number counts the bytes from its `{` to the text's end,
+-- 2 in `d4 {a`. Before it are only whole parts (`IsInside`) and `(`s
 pub data HasOpenComment : List ℕ → ℕ → Type 0 where
   here : {parts : List ℕ} (text : List ℕ) → IsInside false parts → lacks (byte "}") text ≡ true
       → HasOpenComment (parts ++ byte "{" ∷ text) (length (byte "{" ∷ text))
-  -- a variation, after whole parts, in which the comment is
+  -- the comment is in a variation after whole parts
   deeper : {parts inner : List ℕ} {to_end : ℕ} → IsInside false parts → HasOpenComment inner to_end
       → HasOpenComment (parts ++ byte "(" ∷ inner) to_end
 
@@ -112,11 +109,11 @@ pub data IsFaultOf : List ℕ → Token → Type 0 where
 
 -- ---- the split
 
--- the text from the offset `at` on is split into these tokens from left to right, each paired with the number of bytes
--- left where it begins: `e4 *` from 0 on into `(4, Word e4)`, `(2, Skip)`, `(1, Word *)`
+-- the text is split from the offset `at` on into these tokens, each paired with how many bytes are left at it: `e4 *`
+-- from 0 on into `(4, Word e4)`, `(2, Skip)`, `(1, Word *)`
 pub data IsSplit (text : List ℕ) : ℕ → List (ℕ × Token) → Type 0 where
   ended : {at : ℕ} → drop at text ≡ [] → IsSplit text at []
-  -- the longest token there, and then the tokens after it
+  -- the longest token there, then the tokens after it
   token : {at : ℕ} {front : List ℕ} {t : Token} {tokens : List (ℕ × Token)} → IsTokenAt text at front t
       → ((other : List ℕ) (u : Token) → IsTokenAt text at other u → length other ≤ length front)
       → IsSplit text (at + length front) tokens → IsSplit text at ((length text - at, t) ∷ tokens)

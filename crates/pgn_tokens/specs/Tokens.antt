@@ -1,5 +1,5 @@
--- The tokens of a game's text (PGN standard of 1994, sections 5 to 7 and 8.2). This project's own is what Split names,
--- and that the bytes EF BB BF at offset 0 are skipped.
+-- The tokens of a game's text (PGN standard of 1994, sections 5 to 7 and 8.2). This project's own: what Split names,
+-- and that EF BB BF at offset 0 is skipped.
 use Rattle.std.specs.Prelude.{ℕ, zero, suc, ◌-◌, Bool, false, not, ◌&&◌, ◌||◌, List, [], ◌∷◌, ◌++◌, length, take, drop, slice_index, Option, Some, None, codes, ◌==◌, if◌then◌else◌, option_and_then}
 use Rattle.byte_devices.specs.Bytes.{is_digit, byte, carriage_return, new_line, space, tab, is_name_byte, after_byte}
 use Rattle.std.specs.List.{list_all, list_any, join_with_byte, prefix_len, position_or_len, take_while}
@@ -7,12 +7,12 @@ use Rattle.std.specs.Option.{option_map, option_map_or, unwrap_or}
 use Rattle.std.specs.Str.{bytes_eq}
 use Rattle.text_lines.specs.Lines.{parts}
 
--- a token of a PGN text (section 7). `to_end` counts the bytes from where its case says to the text's end
+-- a token (section 7). `to_end` counts the bytes from where its case says to the text's end
 pub data Token : Type 0 where
-  -- what is skipped: white space, a dot, a comment, a `%` line, a glyph such as `$1`, or a variation
+  -- white space, a dot, a comment, a `%` line, a glyph such as `$1`, or a variation
   Skip : Token
-  -- a tag: its name, the bytes between its quotes as they are, and `to_end` from after the first quote. As the last
-  -- bytes of a text `[Event "a"]` is `Tag Event a 3`
+  -- a name, the bytes between the quotes as they are, and `to_end` from after the first quote: `[Event "a"]` at a
+  -- text's end is `Tag Event a 3`
   Tag : (name : List ℕ) (text : List ℕ) (to_end : ℕ) → Token
   -- such as a move, a number or a result
   Word : (bytes : List ℕ) → Token
@@ -30,14 +30,14 @@ pub data Token : Type 0 where
 abbrev pub is_white_space : ℕ → Bool
 is_white_space c = c == space || (c == tab || (c == new_line || c == carriage_return))
 
--- whether a byte may be in a word (`Nf3+`, `O-O`, `1/2-1/2`): a byte of PGN's symbols (section 7), or `/`, `!` or `?`,
--- which this project adds
+-- whether a byte may be in a word (`Nf3+`, `O-O`, `1/2-1/2`): a byte of PGN's symbols (section 7), or this project's
+-- own `/`, `!` or `?`
 abbrev pub is_word_byte : ℕ → Bool
 is_word_byte c = is_name_byte c || list_any (λ b. c == b) (codes "+#=-/!?:")
 
 -- ---- what is skipped
 
--- the text from the end of its first line on: of `ab\ncd` it is `\ncd`; empty if no line ends
+-- the text from the end of its first line on: `\ncd` of `ab\ncd`; empty if no line ends
 abbrev pub line_end : List ℕ → List ℕ
 line_end text = drop (position_or_len (λ c. c == new_line) text) text
 
@@ -50,18 +50,17 @@ after_brace (c ∷ rest) = if c == byte "}" then Some rest else after_brace rest
 abbrev pub after_white_space : List ℕ → List ℕ
 after_white_space text = drop (prefix_len is_white_space text) text
 
--- whether a line in a *gap* (white space and `%` lines between the parts of a tag) is skipped whole: it begins with `%`
--- (section 6) or is white space alone
+-- whether a line in a *gap* (white space and `%` lines between a tag's parts) is skipped whole: a `%` line (section 6)
+-- or only white space
 abbrev pub is_gap_line : List ℕ → Bool
 is_gap_line line = bytes_eq (take 1 line) (codes "%") || list_all is_white_space line
 
--- the text of these lines (each without its `\n`) after the gap at its front: the lines that are skipped whole, and the
--- white space that follows them
+-- the text of these lines (each without its `\n`) after the lines at its front that are skipped whole, and white space
 unfoldable pub after_gap_lines : List (List ℕ) → List ℕ
 after_gap_lines lines = after_white_space (join_with_byte new_line (drop (prefix_len is_gap_line lines) lines))
 
--- the text after the gap at its front, white space and `%` lines. The text begins inside a line, as after a tag's `[`,
--- so a `%` at its front is left; if the rest of that line is white space, the gap goes on in the next lines
+-- the text after the gap at its front. The text begins inside a line, as after a tag's `[`, so a `%` at its front is
+-- left; if the rest of that line is white space, the gap continues in the next lines
 abbrev pub after_gap : List ℕ → List ℕ
 after_gap text =
     if list_all is_white_space (take_while (λ c. not (c == new_line)) text) then after_gap_lines (drop 1 (parts text))
@@ -69,14 +68,14 @@ after_gap text =
 
 -- ---- variations
 
--- the token of a variation and the text after it, from a text inside it; the third argument counts the variations open
--- there, 1 right after its `(`. `comment`: inside a comment or `%` line, the byte that ends it, and the token if no
--- such byte comes; `line_begins`: the text's first byte begins a line
+-- a variation's token and the text after it, from a text inside it. The third argument: how many variations are open
+-- there, 1 after its `(`. `comment`: in a comment or `%` line, the byte that ends it, and the token if none comes;
+-- `line_begins`: the text's first byte begins a line
 abbrev pub variation_at : Option (ℕ × Token) → Bool → ℕ → List ℕ → Token × List ℕ
 -- the variation's `)` was read
 variation_at comment line_begins zero text = (Skip, text)
 variation_at comment line_begins (suc depth) [] = (option_map_or (λ skipped. skipped.1) comment Unclosed_variation, [])
--- a byte of a comment or of a `%` line
+-- a byte of a comment or `%` line
 variation_at (Some comment) line_begins (suc depth) (c ∷ rest) =
     variation_at (if c == comment.0 then None else Some comment) (c == new_line) (suc depth) rest
 variation_at None line_begins (suc depth) (c ∷ rest) =
@@ -90,12 +89,12 @@ variation_at None line_begins (suc depth) (c ∷ rest) =
 
 -- ---- tags
 
--- a string that was found (its bytes, and the text after it), with `front` before its bytes; `None` if none was found
+-- a string (its bytes, and the text after it) with `front` before its bytes; `None` if none was found
 abbrev pub onto : List ℕ → Option (List ℕ × List ℕ) → Option (List ℕ × List ℕ)
 onto front string = option_map (λ found. (front ++ found.0, found.1)) string
 
--- a tag's string, from the text after its opening quote: its bytes, and the text after its closing quote. `None` if the
--- line or the text ends first. A backslash keeps the next byte from ending it: `a\"b"]` gives `a\"b` and `]`
+-- from the text after a string's opening quote: its bytes, and the text after its closing quote; `None` if the line or
+-- text ends first. A backslash keeps the next byte from ending it: `a\"b"]` gives `a\"b` and `]`
 abbrev pub string_at : List ℕ → Option (List ℕ × List ℕ)
 string_at [] = None
 string_at (c ∷ []) = if c == byte "\"" then Some ([], []) else None
@@ -105,11 +104,11 @@ string_at (c ∷ d ∷ rest) =
     else (if c == byte "\\" then (if d == new_line then None else onto (c ∷ d ∷ []) (string_at rest))
     else onto (c ∷ []) (string_at (d ∷ rest))))
 
--- the text after the gap at its front (`after_gap`) and then the byte `b`; `None` if another byte comes there
+-- the text after the gap at its front and then the byte `b`; `None` if another byte comes there
 abbrev pub after_next : ℕ → List ℕ → Option (List ℕ)
 after_next b text = after_byte b (after_gap text)
 
--- the tag's name at the text's front, letters, digits and `_`, and the text after it; `None` if there is no name
+-- a tag's name at the text's front, of letters, digits and `_`, and the text after it; `None` without a name
 abbrev pub name_at : List ℕ → Option (List ℕ × List ℕ)
 name_at text = let name = take_while is_name_byte text in
     if length name == 0 then None else Some (name, drop (length name) text)
@@ -119,8 +118,7 @@ infixl 10 ◌>>=◌
 abbrev pub ◌>>=◌ : {A B : Type 0} → Option A → (A → Option B) → Option B
 o >>= f = option_and_then f o
 
--- a tag, from the text after its `[`, and the text after its `]`: a name, a string in quotes and `]`, perhaps with a
--- gap before each; `None` if this is no tag
+-- from the text after `[`: a tag, maybe with gaps between its parts, and the text after its `]`; `None` if it is no tag
 abbrev pub tag_at : List ℕ → Option (Token × List ℕ)
 tag_at text = do
   name ← name_at (after_gap text)
@@ -131,13 +129,13 @@ tag_at text = do
 
 -- ---- tokens
 
--- the token of a `{` comment and the text after it. `after`: the text after its `}`, if it has one; `to_end`: how many
--- bytes come from its `{` on
+-- a `{` comment's token and the text after it. `after`: that after its `}`, if any; `to_end`: how many bytes come from
+-- its `{` on
 abbrev pub comment_at : ℕ → Option (List ℕ) → Token × List ℕ
 comment_at to_end after = option_map_or (λ rest. (Skip, rest)) after (Unclosed_comment to_end, [])
 
--- the first token of the text `c ∷ rest`, and the text after it, empty after a token that can't be read. `line_begins`:
--- `c` begins a line
+-- the first token of `c ∷ rest`, and the text after it, empty after one that can't be read. `line_begins`: `c` begins a
+-- line
 unfoldable pub token_at : Bool → ℕ → List ℕ → Token × List ℕ
 token_at line_begins c rest =
     if line_begins && c == byte "%" then (Skip, line_end rest)
@@ -152,9 +150,9 @@ token_at line_begins c rest =
     then (Word (take_while is_word_byte (c ∷ rest)), drop (prefix_len is_word_byte (c ∷ rest)) (c ∷ rest))
     else (Bad, [])))))))))
 
--- the tokens of a text in order, each paired with the number of bytes left where it begins; one that can't be read is
--- the last. `line_begins`: the text's first byte begins a line, as after the token `\n`; no other token ends with `\n`.
--- `most` is a bound that is never reached (see `tokens_from`)
+-- a text's tokens in order, each paired with how many bytes are left at it; one that can't be read is the last.
+-- `line_begins`: the text's first byte begins a line, as after the token `\n`; no other token ends with `\n`. `most`: a
+-- bound that is never reached (see `tokens_from`)
 unfoldable pub tokens_of : ℕ → Bool → List ℕ → List (ℕ × Token)
 tokens_of zero line_begins text = []
 tokens_of (suc most) line_begins [] = []
@@ -163,11 +161,11 @@ tokens_of (suc most) line_begins (c ∷ rest) =
 
 -- ---- a text from an offset on
 
--- whether a line of the text begins at this offset: at 0, and after `\n`; so not after a byte order mark or a `\r`
+-- whether a line of the text begins at this offset: at 0 and after `\n`, not after a byte order mark or `\r`
 abbrev pub begins_line : List ℕ → ℕ → Bool
 begins_line text offset = (offset == 0) || (slice_index text (offset - 1) == new_line)
 
--- the tokens of a text from an offset on, each paired with the number of bytes left where it begins. A token takes at
--- least a byte, so no text has more tokens than bytes
+-- a text's tokens from an offset on, each paired with how many bytes are left at it. A token takes at least a byte, so
+-- no text has more tokens than bytes
 unfoldable pub tokens_from : List ℕ → ℕ → List (ℕ × Token)
 tokens_from text offset = tokens_of (length text) (begins_line text offset) (drop offset text)

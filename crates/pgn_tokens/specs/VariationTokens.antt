@@ -1,4 +1,4 @@
--- Which tokens of a text are variations (PGN standard of 1994, section 8.2.5).
+-- Which tokens are variations (PGN standard of 1994, section 8.2.5).
 use Rattle.std.specs.Prelude.{ℕ, ◌-◌, Bool, false, List, length, slice_index, ◌==◌}
 use Rattle.std.specs.List.{list_any}
 use Rattle.byte_devices.specs.Bytes.{byte}
