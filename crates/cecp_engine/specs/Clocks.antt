@@ -4,7 +4,7 @@ use Rattle.chess_base.specs.declared.man.Colour.{Colour}
 use Rattle.chess_base.specs.declared.man.Colour.TheVariants.{White, Black}
 use Rattle.cecp_engine.specs.Levels.{LevelSeen, allotted}
 
--- a side's clock: its time control, how many moves the side made, and the milliseconds that they took
+-- a side's clock: its time control, how many moves the side made, and the milliseconds they took
 pub record SideSeen : Type 0 where
   pub level : LevelSeen
   pub moves : ℕ
@@ -15,7 +15,7 @@ pub record ClocksSeen : Type 0 where
   pub white : SideSeen
   pub black : SideSeen
 
--- the clock of a side with this time control, before the side's first move
+-- a side's clock with this time control, before its first move
 abbrev pub new_side : LevelSeen → SideSeen
 new_side level = record { level = level; moves = 0; used = 0 }
 
@@ -37,7 +37,7 @@ remaining clocks c =
 abbrev pub side_charged : SideSeen → ℕ → SideSeen
 side_charged s used = record s { moves = s.moves + 1; used = s.used + used }
 
--- the clocks after this side made one more move, which took `used` milliseconds
+-- the clocks after one more move of this side, which took `used` milliseconds
 abbrev pub charged : ClocksSeen → Colour → ℕ → ClocksSeen
 charged clocks White used = record clocks { white = side_charged clocks.white used }
 charged clocks Black used = record clocks { black = side_charged clocks.black used }

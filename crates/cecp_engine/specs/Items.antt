@@ -1,5 +1,5 @@
--- The items of a `feature` line (CECP, version 2: section 9), and what an engine says by them. `x ← o` in a `do` is
--- `let x = o?` in Rust.
+-- The items of a `feature` line (CECP, version 2: section 9), and what they say. `x ← o` in a `do` is `let x = o?` in
+-- Rust.
 use Rattle.std.specs.Prelude.{ℕ, zero, suc, ◌+◌, ◌==◌, ◌&&◌, ◌||◌, nat_lt, Bool, true, false, not, if◌then◌else◌, List, [], ◌∷◌, length, take, drop, codes, Option, None, Some}
 use Rattle.std.specs.List.{fold, list_all, list_any, slice_split, take_while}
 use Rattle.std.specs.Option.{option_map_or}
@@ -10,34 +10,33 @@ use Rattle.text_lines.specs.Lines.{without_front_blanks}
 
 -- ---- one item, `NAME=VALUE`
 
--- VALUE in an item `NAME=VALUE`: a text between double quotes, or digits without quotes
+-- VALUE in an item `NAME=VALUE`: a text in double quotes, or digits without quotes
 pub record Value : Type 0 where
   pub quoted : Bool
   -- the text without the quotes
   pub text : List ℕ
 
--- an item of a `feature` line, `NAME=VALUE`
+-- an item, `NAME=VALUE`
 pub record Item : Type 0 where
   pub name : List ℕ
   pub value : Value
 
--- of a text after a value's opening quote: the value, up to the next quote, maybe empty, and the text after that;
--- `None` if no quote follows
+-- of a text after an opening quote: the value, up to the next quote, and the text after that; `None` if no quote
+-- follows
 abbrev pub quoted_value : List ℕ → Option (Value × List ℕ)
 quoted_value text = let inside = take_while (λ b. not (b == byte "\"")) text in
     if nat_lt (length inside) (length text)
     then Some (record { quoted = true; text = inside }, drop (length inside + 1) text) else None
 
--- the value that a text begins with, a text in double quotes or digits, and the text after it; `None` if there is
--- neither
+-- the value that a text begins with, and the text after it; `None` if it begins with none
 abbrev pub value_of : List ℕ → Option (Value × List ℕ)
 value_of [] = None
 value_of (c ∷ cs) = let digits = take_while is_digit (c ∷ cs) in if c == byte "\"" then quoted_value cs
     else if is_digit c then Some (record { quoted = false; text = digits }, drop (length digits) (c ∷ cs)) else None
 
 -- the item that a text begins with, such as `ping=1` or `myname="Sjeng"`, and the text after it and any spaces and
--- tabs. An item is a name of at least one letter, digit or `_`, then `=` and a value, and after it a space, a tab or
--- the end. `None` if the text begins with no item
+-- tabs; `None` if it begins with none. An item is a name of at least one letter, digit or `_`, then `=` and a value,
+-- then a space, a tab or the end
 unfoldable pub item_of : List ℕ → Option (Item × List ℕ)
 item_of text = let name = take_while is_name_byte text in let rest = drop (length name) text in
     if length name == 0 || not (bytes_eq (take 1 rest) (codes "=")) then None else do
@@ -47,7 +46,7 @@ item_of text = let name = take_while is_name_byte text in let rest = drop (lengt
 
 -- ---- the items of a line
 
--- whether a value is the digit 1, without quotes
+-- whether a value is 1, without quotes
 abbrev pub is_one : Value → Bool
 is_one v = not v.quoted && bytes_eq v.text (codes "1")
 
@@ -61,19 +60,19 @@ first_items zero text = []
 first_items (suc n) text =
     option_map_or (λ p. if ends_handshake p.0 then p.0 ∷ [] else p.0 ∷ first_items n p.1) (item_of text) []
 
--- the items of a `feature` line, from its text after `feature`, up to and with `done=1`, or up to a malformed one.
--- There are no more items than bytes, so none is cut off
+-- the items of the text after `feature`, up to and with `done=1`, or up to a malformed one. There are no more items
+-- than bytes, so none is cut off
 unfoldable pub items_of : List ℕ → List Item
 items_of text = first_items (length text) text
 
 -- ---- what an engine says by its items
 
--- `f` of the value of the last of these items that has this name; `default` if none has it
+-- `f` of the value of the last item that has this name; `default` if none has it
 abbrev pub last_said : {A : Type 0} → (Value → A) → A → List ℕ → List Item → A
 last_said f default name items = fold (λ before i. if bytes_eq i.name name then f i.value else before) default items
 
--- whether an engine that sent these items has the feature `name` on: the last item of that name has the value 1,
--- without quotes. With no such item only `time` and `draw` are on, as CECP says of what a match asks for
+-- whether an engine that sent these items has the feature `name` on: the last item of that name is 1, without quotes.
+-- With no such item only `time` and `draw` are on, as CECP says of what a match asks for
 unfoldable pub takes : List ℕ → List Item → Bool
 takes name items = last_said is_one (bytes_eq name (codes "time") || bytes_eq name (codes "draw")) name items
 

@@ -24,7 +24,7 @@ seen Rejection = kinds.Rejects
 seen (Pong n) = kinds.Answers n
 seen Other = kinds.SaysElse
 
--- the value of an item (`NAME=VALUE`) that the code's value stands for: of the same form, with the same bytes
+-- what the code's value of an item (`NAME=VALUE`) stands for
 abbrev pub value_seen : Value → items.Value
 value_seen (Digits text) = record { quoted = false; text = text.now }
 value_seen (Quoted text) = record { quoted = true; text = text.now }
@@ -33,7 +33,7 @@ value_seen (Quoted text) = record { quoted = true; text = text.now }
 abbrev pub item_seen : Item → items.Item
 item_seen i = record { name = i.name.now; value = value_seen i.value }
 
--- the item, and the text after it, that the code's function `next_item` returned; `None` if it returned none
+-- the item, and the text after it, that the code's `next_item` returned; `None` if it returned none
 abbrev pub item_read : Option (Item × Bor (List ℕ)) → Option (items.Item × List ℕ)
 item_read None = None
 item_read (Some p) = Some (item_seen p.0, p.1.now)

@@ -30,7 +30,7 @@ use Rattle.stub_engine.specs.Stub.{stub_response, waiting}
 use Rattle.chess_arbiter.specs.declared.fault.ProgramFault.TheVariants.{InvalidArguments}
 use Rattle.chess_game.specs.declared.game.TheConstants.{MOST_MOVES}
 
--- the exit status after something that may fail: 1 if the result is an error, otherwise 0
+-- a result's exit status: 1 for an error, otherwise 0
 abbrev pub status_of : {A E : Type 0} → Result A E → ℕ
 status_of result = if is_ok result then 0 else 1
 
@@ -39,8 +39,8 @@ abbrev pub fault_status : ProgramFault → ℕ
 fault_status InvalidArguments = 2
 fault_status _ = 1
 
--- the server `respond` began in the state `s` and answered the lines of the input on the output (`Served`), which took
--- the devices from `d` to `d'`. The exit status is 1 if a read, a write or a flush failed, otherwise 0
+-- the server `respond` began in the state `s` and answered the input's lines on the output (`Served`), which took the
+-- devices from `d` to `d'`. The exit status is 1 if a read, a write or a flush failed, otherwise 0
 abbrev pub Serves : {S : Type 0} → Server S → S → Devices → Devices → ℕ → Type 0
 Serves {S} respond s d d' status =
     (result : Result End Fault) × (s' : S) × Ran (Served respond s s' result) d d' × (status ≡ status_of result)
@@ -50,31 +50,31 @@ abbrev pub verify_status : Result Verified VerifyFault → ℕ
 verify_status (Ok EachGame) = 0
 verify_status _ = 1
 
--- some text (which is not said) was written to the output, which went from the state `w` to `w'`. With the exit status
--- 0 all of it was written and flushed. With 1 a write or a flush failed after a beginning of it, maybe nothing or all;
--- or the output is as before, as when memory ran out
+-- some text (which is not said) was written to the output, which went from `w` to `w'`. With the exit status 0 all of
+-- it was written and flushed. With 1 a write or a flush failed after a beginning of it, maybe nothing or all; or the
+-- output is as before, as when memory ran out
 abbrev pub WritesHelp : OutputState → OutputState → ℕ → Type 0
 WritesHelp w w' status = ((status ≡ 0) × (text : List ℕ) × OutputTook w w' (all_of text))
     ⊎ ((status ≡ 1) × ((w' ≡ w) ⊎ ((text : List ℕ) × (o : ToOutput) × OutputTook w w' o × BreaksOffIn nothing text o)))
 
--- what is done with arguments for which there is no plan, by the fault that says why: the output goes from `w` to `w'`,
--- and `status` is the exit status. What is written to the error output is not said
+-- what is done with arguments that give no plan, by the fault that says why: the output goes from `w` to `w'`, and
+-- `status` is the exit status. What is written to the error output is not said
 abbrev pub ReportsArguments : WordsFault → OutputState → OutputState → ℕ → Type 0
--- an error of `clap`, the parser of arguments: a request for help or for the version counts as one
+-- an error of `clap`, the parser of arguments; a request for help or the version counts as one
 ReportsArguments (faults.Words e) w w' status =
     (((kind_of e ≡ DisplayHelp) ⊎ (kind_of e ≡ DisplayVersion)) × WritesHelp w w' status)
     ⊎ ((kind_of e ≢ DisplayHelp) × (kind_of e ≢ DisplayVersion) × (w' ≡ w) × (status ≡ 2))
 ReportsArguments faults.NoMemory w w' status = (w' ≡ w) × (status ≡ 1)
--- an invalid level, FEN or date of a match, or an invalid kind to ignore
+-- an invalid level, FEN or date of a match, or kind to ignore
 ReportsArguments _ w w' status = (w' ≡ w) × (status ≡ 2)
 
--- this text was written to a log's output, even if the log was broken; the log went from the state `l` to `l'`, and is
--- broken just if it was. `failed` is whether a write or a flush of the text failed
+-- this text was written to a log's output, even if the log was broken; the log went from `l` to `l'`, and is broken
+-- just if it was. `failed` is whether a write or a flush of the text failed
 abbrev pub Reports : List ℕ → LogSeen → LogSeen → Type 0
 Reports text l l' = (l'.broken ≡ l.broken)
     × ((failed : Bool) × Logged (record l { broken = false }) (record l' { broken = failed }) text)
 
--- what contracts see of the program's input, output and error output
+-- the program's input, output and error output
 pub record Surroundings : Type 0 where
   -- input and output
   pub devices : Devices
@@ -85,15 +85,14 @@ pub record Surroundings : Type 0 where
 -- surroundings before and after, `steps` the steps at its host, which starts engines and has the clock, `status` its
 -- exit status. What happens to the error output is said only for a match
 abbrev pub Does : Result Plan WordsFault → Surroundings → Surroundings → List HostStep → ℕ → Type 0
--- a session ran, from the initial position of normal chess, with the tags of a game of which nothing is known and at
--- most 20,000 half-moves. Or nothing was read or written, as when memory ran out
+-- a session ran, with the tags of a game of which nothing is known and at most 20,000 half-moves. Or nothing was read
+-- or written, as when memory ran out
 Does (Ok Session) s s' steps status = (steps ≡ []) × (Serves session_response (opened_session default_tags MOST_MOVES)
     s.devices s'.devices status ⊎ ((s'.devices ≡ s.devices) × (status ≡ 1)))
 -- the input's games were verified, with `--keep-going` piece by piece, otherwise as one text, up to its first fault
 Does (Ok (Verify keep_going options)) s s' steps status = (steps ≡ [])
     × ((result : Result Verified VerifyFault) × (status ≡ verify_status result)
     × Ran ((cond keep_going VerifiesCollection Verifies) options result) s.devices s'.devices)
--- a stub engine ran on input and output
 Does (Ok (Stub arguments)) s s' steps status =
     (steps ≡ []) × Serves stub_response (waiting arguments.items) s.devices s'.devices status
 -- the games of a match were played, written and logged (`PlaysGamesWith`); then a fault, if any, was reported on the
@@ -102,12 +101,10 @@ Does (Ok (Match plan)) s s' steps status = (s'.devices.input ≡ s.devices.input
     × ((result : Result (Unit {0}) GamesFault) × (logged : LogSeen) × PlaysGamesWith plan result steps
     (record { output = s.devices.output; log = s.errors }) (record { output = s'.devices.output; log = logged })
     × (status ≡ status_of result) × Reports (report_of result) logged s'.errors)
--- there is no plan
 Does (Err fault) s s' steps status = (steps ≡ [])
     × (s'.devices.input ≡ s.devices.input) × ReportsArguments fault s.devices.output s'.devices.output status
 
--- the program ran with these arguments: by a right reading of them (`IsReading`), a plan or a fault, it did what `Does`
--- says
+-- the program ran with these arguments: by a right reading (`IsReading`), a plan or a fault, it did what `Does` says
 abbrev pub RanProgram : List Text → Surroundings → Surroundings → List HostStep → ℕ → Type 0
 RanProgram arguments s s' steps status =
     (read : Result Plan WordsFault) × IsReading arguments read × Does read s s' steps status

@@ -1,4 +1,4 @@
--- Results that are declared, and what `showstate` shows of a game. `x ← o` in a `do` is `let x = o?` in Rust.
+-- Declared results, and what `showstate` writes. `x ← o` in a `do` is `let x = o?` in Rust.
 use Rattle.std.specs.Prelude.{ℕ, ◌-◌, ◌==◌, ◌&&◌, nat_le, if◌then◌else◌, List, [], ◌++◌, length, take, drop, slice_index_or, codes, decimal, Option, None, Some}
 use Rattle.std.specs.Option.{option_map_or}
 use Rattle.byte_devices.specs.Bytes.{byte}
@@ -13,7 +13,7 @@ use Rattle.text_lines.specs.Words.{word_of, argument_of}
 use Rattle.chess_base.specs.Options.{◌>>=◌}
 
 -- the comment in `text`, which follows the outcome, as in `result 1-0 {White resigns}`: all between a `{` at its start
--- and a `}` at its end, other braces too; empty if `text` is empty; `None` for any other text
+-- and a `}` at its end, other braces too; empty if `text` is empty; otherwise `None`
 unfoldable pub result_comment : List ℕ → Option (List ℕ)
 result_comment text = if length text == 0 then Some []
     else if nat_le 2 (length text) && (slice_index_or text 0 0 == byte "{")
@@ -21,8 +21,8 @@ result_comment text = if length text == 0 then Some []
     else None
 
 -- the result that `argument`, what follows `result` in a line, declares: an outcome (`1-0`, `0-1`, `1/2-1/2` or `*`),
--- and after it nothing or a comment in braces, cut to 60 bytes, with `?` for each brace in it and each byte that is no
--- printable ASCII (`cut_comment`); `None` for any other text
+-- then nothing or a comment in braces, cut to 60 bytes, with `?` for each brace in it and each byte that is no
+-- printable ASCII (`cut_comment`); otherwise `None`
 unfoldable pub read_result : List ℕ → Option Declared
 read_result argument = do
   outcome ← outcome_of (word_of argument)
@@ -34,8 +34,7 @@ abbrev pub claims_text : Claims → List ℕ
 claims_text c = if c.threefold then (if c.fifty_moves then codes "threefold+50" else codes "threefold")
     else (if c.fifty_moves then codes "50" else codes "none")
 
--- what `showstate` writes after `# state ply`, as in `0 rep 1 clock 0 claims none verdict none declared none`:
--- half-moves, occurrences of the current position, halfmove clock, and so on
+-- what `showstate` writes after `# state ply`, as in `0 rep 1 clock 0 claims none verdict none declared none`
 unfoldable pub state_text : State → List ℕ
 state_text s = decimal (length s.moves)
     ++ (codes " rep " ++ (decimal (repetition_count s.start s.moves)

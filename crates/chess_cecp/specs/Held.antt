@@ -5,14 +5,13 @@ use Rattle.chess_game.specs.Game as game
 use Rattle.chess_game.specs.Game.{State, from_start}
 use Rattle.pgn_writer.specs.declared.tags.Tags.{Tags}
 
--- a session as contracts see it: the tags for `showpgn`, the most half-moves that its game may have, and its game's
--- state
+-- a session: the tags for `showpgn`, the most half-moves that its game may have, and its game's state
 pub record SessionSeen : Type 0 where
   pub tags : Tags
   pub limit : ℕ
   pub state : State
 
--- the game of a session: its limit of half-moves and its state
+-- a session's game, with its limit of half-moves
 abbrev pub game_held : SessionSeen → game.Seen
 game_held s = record { limit = s.limit; state = s.state }
 

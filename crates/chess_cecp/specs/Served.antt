@@ -1,5 +1,5 @@
--- What a server of lines, such as a session, reads and writes, for each of its four ways to end: by a line such as
--- `quit`, by the input's end, by a failed read, by a failed write or flush.
+-- What a server of lines, such as a session, reads and writes, by how it ends: with a line such as `quit`, the input's
+-- end, a failed read, or a failed write or flush.
 use Rattle.std.specs.Prelude.{◌≡◌, ◌≤◌, ℕ, nat_lt, Bool, true, false, List, length, take, slice_get, Some, Result, Ok, Err}
 use Rattle.byte_devices.specs.Transfers.{FromInput, ToOutput, IsWhole, all_flushed, BreaksOffIn}
 use Rattle.text_lines.specs.Lines.{LineSeen, stream_lines}
@@ -10,8 +10,8 @@ use Rattle.chess_cecp.specs.declared.run.Fault.{Fault}
 use Rattle.chess_cecp.specs.declared.run.Fault.TheVariants.{Read, Write}
 use Rattle.chess_cecp.specs.declared.session.TheConstants.{COMMAND_LEN}
 
--- the lines in what was read (`i`). Bytes after the last `\n` are a line only if the input's end was reported. A line
--- of more than `COMMAND_LEN` (1,024) bytes is too long
+-- the lines in what was read (`i`). Bytes after the last `\n` are one only if the input's end was reported. One of more
+-- than `COMMAND_LEN` (1,024) bytes is too long
 abbrev pub lines_read : FromInput → List LineSeen
 lines_read i = stream_lines COMMAND_LEN i.ended i.text
 
@@ -20,29 +20,28 @@ lines_read i = stream_lines COMMAND_LEN i.ended i.text
 abbrev pub lines_before_last_read : FromInput → List LineSeen
 lines_before_last_read i = stream_lines COMMAND_LEN false i.early
 
--- the server `respond` answered the lines that were read (`i`): all if it ends with none (`ends` is false), otherwise
--- those up to the first with which it ends. Just their answers were written and flushed (`o`), and no write or flush
--- failed; a flush succeeded just if a line was read. `s` and `s'` are the states before and after
+-- the server `respond` answered the lines read (`i`): all if it ends with none (`ends` is false), otherwise those up to
+-- the first with which it ends. Just their answers were written and flushed (`o`), and no write or flush failed; a
+-- flush succeeded just if a line was read. `s` and `s'` are the states before and after
 abbrev pub AnswersAll : {S : Type 0} → Server S → S → S → Bool → FromInput → ToOutput → Type 0
 AnswersAll respond s s' ends i o = let due = responses respond s (lines_read i) in
     (o ≡ all_flushed (nat_lt 0 (length (lines_read i))) due.text) × (s' ≡ due.state) × (due.ends ≡ ends)
 
--- the server `respond` answered the lines `before`, with none of which it ends, and flushed their answers (without such
+-- the server `respond` answered the lines `before`, ends with none of them, and flushed their answers (without such
 -- lines no flush succeeded). In the answer to `line` a write or a flush failed: nothing, a beginning or all of it was
--- written, and not flushed. `o` is what was written; `s` is the state at first, `s'` that after `line`
+-- written, and not flushed. `o` is what was written, `s` the first state, `s'` that after `line`
 abbrev pub BreaksOffAt : {S : Type 0} → Server S → S → S → List LineSeen → LineSeen → ToOutput → Type 0
 BreaksOffAt respond s s' before line o = let due = responses respond s before in let last = respond due.state line in
     (due.ends ≡ false) × BreaksOffIn (all_flushed (nat_lt 0 (length before)) due.text) last.text o × (s' ≡ last.state)
 
--- what the server `respond` reads (`i`) and writes (`o`), by the result of the run, which leads from its state `s` to
--- `s'`
+-- what the server `respond` reads (`i`) and writes (`o`) from the state `s` to `s'`, by the result of the run
 abbrev pub Served : {S : Type 0} → Server S → S → S → Result End Fault → FromInput → ToOutput → Type 0
--- no read failed, and the server answered all lines up to one with which it ends, which the last read completed
+-- no read failed; the server answered all lines up to one with which it ends, which the last read completed
 Served respond s s' (Ok Quit) i o = (i.failed ≡ false) × AnswersAll respond s s' true i o
     × ((responses respond s (lines_before_last_read i)).ends ≡ false)
--- the input was read to its end, and no read failed; the server answered all lines, and ends with none
+-- the input was read to its end, and no read failed; the server answered all lines
 Served respond s s' (Ok InputEnded) i o = IsWhole i × AnswersAll respond s s' false i o
--- a read failed before the input's end; the server answered all complete lines, and ends with none
+-- a read failed before the input's end; the server answered all complete lines
 Served respond s s' (Err Read) i o = (i.ended ≡ false) × (i.failed ≡ true) × AnswersAll respond s s' false i o
 -- a write or a flush failed in the answer to `line`, which the last read completed, after `n` others; no read failed
 Served respond s s' (Err Write) i o =

@@ -33,46 +33,43 @@ use Rattle.chess_game.specs.declared.results.Outcome.TheVariants.{Draw}
 use Rattle.chess_cecp.specs.declared.command.Command.{Command}
 use Rattle.chess_cecp.specs.declared.command.Command.TheVariants.{New, SetBoard, UserMove, BareMove, Undo, Remove, Declare, Claim, Ping, Protover, Variant, Go, ShowFen, ShowMoves, ShowState, ShowPgn, Quit, Silent, BadNumber, Unknown}
 
--- the answer is the line of `front` and `text`, such as `Illegal move: e5`, and the game `s` does not change
+-- answers with the line of `front` and `text`, such as `Illegal move: e5`; the game `s` does not change
 abbrev pub answers : State → List ℕ → List ℕ → Response State
 answers s front text = says s (front ++ (text ++ new_line ∷ []))
 
--- the game becomes `s`, and the answer is the line of the board's verdict, if there is one, such as `1-0 {White mates}`
+-- the game becomes `s`; the answer is the line of the board's verdict, if any, such as `1-0 {White mates}`
 abbrev pub becomes_judged : State → Response State
 becomes_judged s = says s (option_map_or (λ v. result_text (verdict_result v) ++ new_line ∷ []) (verdict_now s) [])
 
--- what `showmoves` writes after `# moves`: the number of these moves of the position `p`, and the moves, as in
--- `20 b1a3 b1c3 ..`
+-- what `showmoves` writes after `# moves` for these moves of the position `p`, as in `20 b1a3 b1c3 ..`
 unfoldable pub moves_text : Setup → List Move → List ℕ
 moves_text p ms = decimal (length ms) ++ flat_map (λ m. space ∷ shown_move p m) ms
 
 -- the answer to `setboard` in the game `s`, by how its FEN was read
 abbrev pub setboard_row : State → Result Setup FenFault → Response State
 setboard_row s (Ok start) = becomes_judged (from_start start)
--- the FEN is refused with the name of its fault, as in `tellusererror Illegal position (kings)`
+-- refused with the fault's name, as in `tellusererror Illegal position (kings)`
 setboard_row s (Err fault) = answers s (codes "tellusererror Illegal position (") (fen_fault_name fault ++ codes ")")
 
--- the line that answers `protover 2` and each later version
+-- the answer to `protover 2` and each later version
 unfoldable pub features_line : List ℕ
 features_line =
     codes "feature ping=1 setboard=1 playother=0 san=0 usermove=1 time=1 draw=1 sigint=0 sigterm=0 reuse=1 analyze=0 colors=0 debug=1 myname=\"CECP arbiter\" variants=\"normal,fischerandom\" done=1\n"
 
--- the answer to a move's text, by what it denotes in the current position: one legal move is played, any other text is
--- refused
+-- the answer to a move's text, by what it denotes in the current position
 abbrev pub reading_row : State → List ℕ → Reading → Response State
 reading_row s text (reads.Move m) = becomes_judged (played s m)
 reading_row s text reads.Ambiguous = answers s (codes "Error (ambiguous move): ") text
 reading_row s text _ = answers s (codes "Illegal move: ") text
 
--- the answer to a move's text, such as `e4`: refused if the game is over or has `limit` half-moves; otherwise by what
--- it denotes
+-- the answer to a move's text, such as `e4`, in a game of at most `limit` half-moves
 abbrev pub move_row : ℕ → State → List ℕ → Response State
 move_row limit s text = if is_over s then answers s (codes "Illegal move (game over): ") text
     else if nat_le limit (length s.moves) then answers s (codes "Error (game too long): ") text
     else reading_row s text (reading (current s) text)
 
 -- the answer to the command `name`, `undo` (`n` is 1) or `remove` (`n` is 2): the last `n` half-moves are taken back,
--- and a declared result is cleared; refused if there are fewer
+-- and a declared result is cleared
 abbrev pub take_back_row : ℕ → List ℕ → State → Response State
 take_back_row n name s = if nat_le n (length s.moves) then becomes (taken_back s n)
     else answers s (codes "Error (command not legal now): ") name
@@ -80,25 +77,24 @@ take_back_row n name s = if nat_le n (length s.moves) then becomes (taken_back s
 -- the answer to `result` in the game `s`, by the result that its argument declares; `text` is the whole line
 abbrev pub result_row : State → List ℕ → Option Declared → Response State
 result_row s text None = answers s (codes "Error (bad result): ") text
--- `d` is declared, in place of any earlier result, unless the board has a verdict with another outcome
+-- `d` replaces any earlier result, unless the board has a verdict with another outcome
 result_row s text (Some d) =
     if contradicts_verdict (verdict_now s) d.outcome then answers s (codes "Error (the board says otherwise): ") text
     else becomes (record s { declared = Some d })
 
--- the result `d` is declared in the game `s`, and the answer is its line, such as `1/2-1/2 {50-move rule}`
+-- declares the result `d` in the game `s`, and answers with its line, such as `1/2-1/2 {50-move rule}`
 abbrev pub declares : State → Declared → Response State
 declares s d = says (record s { declared = Some d }) (result_text d ++ new_line ∷ [])
 
--- the answer to `claim`: a draw that can be claimed (Laws, articles 9.2.2 and 9.3.2) is declared; refused if there is
--- none or the game is over
+-- the answer to `claim`: a draw that can be claimed (Laws, articles 9.2.2 and 9.3.2) is declared, unless the game is
+-- over
 abbrev pub claim_row : State → Response State
 claim_row s = if is_over s then answers s (codes "Error (command not legal now): ") (codes "claim")
     else option_map_or (λ claim. declares s (record { outcome = Draw; comment = claim_comment claim }))
     (draw_claim (claims s.start s.moves)) (answers s (codes "Error (no claim): ") (codes "claim"))
 
--- the answer to `variant`, by its argument (`text` is the whole line): `fischerandom` starts a game of Chess960 at the
--- initial position of normal chess; `normal` starts one of normal chess if `s` is of Chess960, and otherwise changes
--- nothing
+-- the answer to `variant` (`text` is the whole line): `fischerandom` starts a game of Chess960 at the initial position
+-- of normal chess; `normal` starts one of normal chess if `s` is of Chess960, otherwise changes nothing
 abbrev pub variant_row : State → List ℕ → List ℕ → Response State
 variant_row s text argument =
     if bytes_eq argument (codes "fischerandom") then becomes (from_start (initial_setup_of Fischerandom))
@@ -118,7 +114,7 @@ row tags limit s text argument Remove = take_back_row 2 (codes "remove") s
 row tags limit s text argument Declare = result_row s text (read_result argument)
 row tags limit s text argument Claim = claim_row s
 row tags limit s text argument (Ping n) = answers s (codes "pong ") (decimal n)
--- `protover 1` has no answer: version 1 has no features
+-- version 1 has no features
 row tags limit s text argument (Protover n) = if nat_lt n 2 then becomes s else says s features_line
 row tags limit s text argument Variant = variant_row s text argument
 row tags limit s text argument Go = answers s (codes "Error (the arbiter plays no side): ") (codes "go")
@@ -131,15 +127,14 @@ row tags limit s text argument Silent = becomes s
 row tags limit s text argument BadNumber = answers s (codes "Error (bad number): ") text
 row tags limit s text argument Unknown = answers s (codes "Error (unknown command): ") text
 
--- how the session `seen` responds to a line: one that is too long is refused with its first bytes, any other goes by
--- the table of commands
+-- how the session `seen` responds to a line; one that is too long is refused with its first bytes
 unfoldable pub session_response : SessionSeen → LineSeen → Response SessionSeen
 session_response seen line =
     let r = if line.too_long then answers seen.state (codes "Error (line too long): ") line.text
     else row seen.tags seen.limit seen.state line.text (argument_of line.text) (command_of line.text) in
     record { text = r.text; state = record seen { state = r.state }; ends = r.ends }
 
--- the text begins as a refusal does: with `Error`, `Illegal move` or `tellusererror`
+-- the text begins as a refusal does
 abbrev pub IsRefusal : List ℕ → Type 0
 IsRefusal text = Begins (codes "Error") text
     ⊎ (Begins (codes "Illegal move") text ⊎ Begins (codes "tellusererror") text)

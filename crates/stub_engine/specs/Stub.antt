@@ -1,4 +1,4 @@
--- A stub: an engine that plays the arguments that it is given.
+-- A stub: an engine that plays its arguments.
 use Rattle.std.specs.Prelude.{Bool, true, false, if◌then◌else◌, ◌&&◌, List, [], ◌∷◌, ◌++◌, drop, flat_map, take_while, codes, decimal, ℕ, Option, Some, None, is_some, unwrap_or}
 use Rattle.std.specs.List.{prefix_len}
 use Rattle.byte_devices.specs.Bytes.{new_line}
@@ -11,11 +11,11 @@ use Rattle.chess_cecp.specs.Serving.{Response, says, becomes}
 use Rattle.chess_cecp.specs.declared.command.Command.{Command}
 use Rattle.chess_cecp.specs.declared.command.Command.TheVariants.{New, Ping, Protover, Go, Quit}
 
--- the arguments of a stub; each is a reference to a text
+-- a stub's arguments, each a reference to a text
 abbrev pub Arguments : Type 0
 Arguments = List (Bor (List ℕ))
 
--- the state of a stub: the arguments not yet used, and whether it plays a side (from `go` on, up to `force` or `new`)
+-- a stub's state: the arguments not yet used, and whether it plays a side (from `go` on, up to `force` or `new`)
 pub record StubState : Type 0 where
   pub arguments : Arguments
   pub plays : Bool
@@ -30,7 +30,7 @@ playing arguments = record { arguments = arguments; plays = true }
 
 -- ---- a turn
 
--- the line for the argument `offer` or `claim` (of a draw), sent after a move; `None` for any other
+-- the line for the argument `offer` or `claim` (of a draw), sent after a move
 abbrev pub remark : List ℕ → Option (List ℕ)
 remark argument = if bytes_eq argument (codes "offer") then Some (codes "offer draw\n")
     else if bytes_eq argument (codes "claim") then Some (codes "1/2-1/2 {Draw by repetition}\n")
@@ -40,7 +40,7 @@ remark argument = if bytes_eq argument (codes "offer") then Some (codes "offer d
 abbrev pub is_remark : Bor (List ℕ) → Bool
 is_remark argument = is_some (remark argument.now)
 
--- the lines that the stub sends for the `offer`s and `claim`s that these arguments begin with
+-- the lines for the `offer`s and `claim`s that these arguments begin with
 unfoldable pub remarks : Arguments → List ℕ
 remarks arguments = flat_map (λ argument. unwrap_or (remark argument.now) []) (take_while is_remark arguments)
 
@@ -48,16 +48,15 @@ remarks arguments = flat_map (λ argument. unwrap_or (remark argument.now) []) (
 unfoldable pub after_remarks : Arguments → Arguments
 after_remarks arguments = drop (prefix_len is_remark arguments) arguments
 
--- the line that the stub sends for an argument that is played: `resign`, or as in `move e2e4`
+-- the line for an argument that is played: `resign`, or as in `move e2e4`
 abbrev pub played_text : List ℕ → List ℕ
 played_text argument = (if bytes_eq argument (codes "resign") then [] else codes "move ") ++ (argument ++ new_line ∷ [])
 
--- a stub's turn, with these arguments left: what it sends, and its state after it
+-- a stub's turn, with these arguments left
 abbrev pub turn : Arguments → Response StubState
--- without arguments it resigns
 turn [] = says (playing []) (codes "resign\n")
--- `end` ends it in the middle of a line. Any other first argument is played, even `offer` (as `move offer`), with the
--- remarks right after it
+-- `end` ends it in the middle of a line. Any other argument is played, even `offer` (as `move offer`), with the remarks
+-- right after it
 turn (argument ∷ arguments) =
     if bytes_eq argument.now (codes "end") then record (says (playing arguments) (codes "mov")) { ends = true }
     else says (playing (after_remarks arguments)) (played_text argument.now ++ remarks arguments)
@@ -68,12 +67,12 @@ turn (argument ∷ arguments) =
 unfoldable pub stub_row : StubState → List ℕ → Command → Response StubState
 stub_row s text (Protover n) = says s (codes "feature ping=1 setboard=1 usermove=1 myname=\"stub\" done=1\n")
 stub_row s text (Ping n) = says s (codes "pong " ++ (decimal n ++ new_line ∷ []))
--- after `new` it plays no side until `go`, and goes on with the arguments left
+-- after `new` it plays no side until `go`, and keeps the arguments left
 stub_row s text New = becomes (waiting s.arguments)
 stub_row s text Go = turn s.arguments
 stub_row s text Quit = record (becomes s) { ends = true }
--- any other line, by its first word: at `usermove`, whatever follows, it takes its turn if it plays a side; after
--- `force` it plays none until `go`; all else is ignored, even a bare move
+-- at `usermove`, whatever follows, it takes its turn if it plays a side; after `force` it plays none until `go`; all
+-- else is ignored, even a bare move
 stub_row s text _ =
     if bytes_eq (word_of text) (codes "usermove") && s.plays then turn s.arguments
     else becomes (if bytes_eq (word_of text) (codes "force") then waiting s.arguments else s)
