@@ -12,28 +12,27 @@ use Rattle.chess_match.specs.declared.reason.Reason.{Reason}
 
 -- ---- what was read
 
--- the text of the line that this act read from the engine of the side `S` (`None`: it was too long), as a list of one;
--- otherwise empty
+-- the text (`None`: too long) of the line that this act read from the engine of the side `S`, if any
 abbrev pub line_read : Colour → Act → List (Option (List ℕ))
 line_read S (Happens (Line side text moment)) = list_if (same_colour side S) (text ∷ [])
 line_read S _ = []
 
--- whether this act read the end of the output of the engine of the side `S`
+-- whether this act read the end of the output of `S`'s engine
 abbrev pub is_end_of : Colour → Act → Bool
 is_end_of S (Happens (OutputEnds side)) = same_colour side S
 is_end_of S _ = false
 
--- whether this act is a failed read from the engine of the side `S`
+-- whether this act is a failed read from `S`'s engine
 abbrev pub is_failed_read_of : Colour → Act → Bool
 is_failed_read_of S (Happens (FailsToRead side)) = same_colour side S
 is_failed_read_of S _ = false
 
--- whether this act is a look for a line of the engine of the side `S` that found none yet
+-- whether this act is a look for a line of `S`'s engine that found none yet
 abbrev pub is_silence_of : Colour → Act → Bool
 is_silence_of S (Happens (Silent side moment)) = same_colour side S
 is_silence_of S _ = false
 
--- whether by this act a look for a line of the side `S` found none yet, as a list of one; empty if it is no such look
+-- whether by this act a look for a line of `S`'s engine found none yet; empty if it is no such look
 abbrev pub look : Colour → Act → List Bool
 look S (Happens (Silent side moment)) = list_if (same_colour side S) (true ∷ [])
 look S (Happens (Line side text moment)) = list_if (same_colour side S) (false ∷ [])
@@ -41,7 +40,7 @@ look S (Happens (OutputEnds side)) = list_if (same_colour side S) (false ∷ [])
 look S (Happens (FailsToRead side)) = list_if (same_colour side S) (false ∷ [])
 look S _ = []
 
--- the moment that the clock showed in this act, as a list of one; empty if it was not read
+-- the moment that the clock showed in this act, if it was read
 abbrev pub moment_shown : Act → List ℕ
 moment_shown (Happens (Line side text moment)) = moment ∷ []
 moment_shown (Happens (Opened side moment)) = moment ∷ []
@@ -55,7 +54,7 @@ abbrev pub lines_to : Colour → Act → List SentLine
 lines_to S (Sends block) = list_if (same_colour block.to S) block.lines
 lines_to S _ = []
 
--- the lines of the block for the side `S` that this act failed to send, as a list of one; otherwise empty
+-- the lines of the block that this act failed to send to the side `S`, if any
 abbrev pub broken_block : Colour → Act → List (List SentLine)
 broken_block S (SendFails block) = list_if (same_colour block.to S) (block.lines ∷ [])
 broken_block S _ = []

@@ -1,5 +1,5 @@
--- What each event of a match does: the match after it, and the lines that each side is then sent. A definition named
--- `.._row` is the effect of a line or a silence, or of one kind of them.
+-- What each event does: the match after it, and the lines that each side is then sent. `.._row` is the effect of a line
+-- or a silence, or of one kind of them.
 use Rattle.std.specs.Prelude.{ℕ, ◌+◌, ◌-◌, ◌/◌, ◌==◌, ◌&&◌, nat_le, nat_lt, Bool, true, false, not, if◌then◌else◌, List, [], ◌∷◌, ◌++◌, length, codes, sum, Option, None, Some, is_some, option_map, unwrap_or, map}
 use Rattle.std.specs.List.{list_any}
 use Rattle.std.specs.Option.{option_map_or, option_or}
@@ -35,15 +35,15 @@ use Rattle.chess_text.specs.Moves.{reading}
 
 -- what a match waits for
 pub data Phase : Type 0 where
-  -- the lines of that side's handshake, up to the one with `done=1`
+  -- that side's handshake, up to the line with `done=1`
   Handshake : (side : Colour) → Phase
   -- that side's `pong 1`, which ends its setup
   Setup : (side : Colour) → Phase
-  -- the moment at which that side's turn begins, once the lines that open it are sent
+  -- the moment when that side's turn begins, once the lines that open it are sent
   Opening : (side : Colour) → Phase
-  -- that side's move; its turn began at the moment `opened`, in milliseconds by the clock
+  -- that side's move; its turn began at `opened`, in milliseconds by the clock
   BeforeMove : (side : Colour) → (opened : ℕ) → Phase
-  -- that side's `pong` after its move; the other side is not yet sent the move
+  -- that side's `pong` after its move, which the other side is not yet sent
   AfterMove : (side : Colour) → Phase
   -- nothing: the match has ended
   Over : (reason : Reason) → Phase
@@ -51,17 +51,17 @@ pub data Phase : Type 0 where
 -- the state of a match
 pub record Match : Type 0 where
   pub phase : Phase
-  -- what is known of the engine of each side
+  -- what is known of each side's engine
   pub seat : Colour → Seat
   -- the moves so far
   pub played : List Move
-  -- how many lines came in this handshake so far, or were ignored in this setup or turn; meaningless at the end
+  -- how many lines came in this handshake, or were ignored in this setup or turn; meaningless at the end
   pub count : ℕ
   -- the moment from which the time for a reply runs: that of the last line that counted (`feature` in a handshake,
-  -- `pong 1` in a setup, any before a move); before any counted, that of the first silence; `None` before both
+  -- `pong 1` in a setup, any before a move); before any, that of the first silence; `None` before both
   pub since : Option ℕ
 
--- what an event does: the match after it, and the lines that each side is then sent (`to`)
+-- the match after an event, and the lines that each side is then sent (`to`)
 pub record Effect : Type 0 where
   pub after : Match
   pub to : Colour → List SentLine
@@ -72,48 +72,48 @@ pub record Effect : Type 0 where
 abbrev pub clock : Rules → Match → Colour → ℕ
 clock r m S = allotted (r.level S) (length (m.seat S).used) - sum (m.seat S).used
 
--- the number of the `ping` that the side `S` is sent after its latest move: n + 1 after its n-th; 1 in its setup
+-- the number of the `ping` sent to the side `S` after its latest move: n + 1 after its n-th; 1 in its setup
 abbrev pub ping_number : Match → Colour → ℕ
 ping_number m S = length (m.seat S).used + 1
 
--- the first thing that an engine with these items lacks for the match: `ping=1`; `setboard=1`, if a FEN is to be sent;
--- in Chess960 `fischerandom` in its item `variants`, if it sent one. `None` if it lacks nothing
+-- what an engine with these items lacks first, if anything: `ping=1`; `setboard=1`, if a FEN is to be sent; in Chess960
+-- `fischerandom` in its item `variants`, if it sent one
 abbrev pub missing : Rules → List Item → Option MatchFault
 missing r items = if not (takes (codes "ping") items) then Some NoPing
     else if is_some (start_fen r.start) && not (takes (codes "setboard") items) then Some NoSetboard
     else if is_fischerandom r.start.variant && not (plays_fischerandom items) then Some NoVariant
     else None
 
--- the draw `claim`, if draws end a match without being claimed (`Automatic`); otherwise `None`
+-- the draw `claim`, if draws end a match without being claimed
 abbrev pub if_automatic : Draws → Option DrawClaim → Option DrawClaim
 if_automatic Automatic claim = claim
 if_automatic _ claim = None
 
--- why the position after the moves `ms` ends a match: the board's verdict; otherwise, if draws are automatic, a draw by
--- threefold repetition or 50 moves. `None` if it ends nothing
+-- why the position after the moves `ms` ends a match, if it does: the board's verdict; otherwise, if draws are
+-- automatic, a draw by threefold repetition or 50 moves
 abbrev pub over_by_position : Rules → List Move → Option Reason
 over_by_position r ms = option_or (option_map (λ v. Decided v) (verdict r.start ms))
     (option_map (λ claim. Claimed claim) (if_automatic r.draws (draw_claim (claims r.start ms))))
 
--- whether the side `S` is not yet sent the last move: the other side made it, and has yet to send `pong`
+-- whether the side `S` is not yet sent the last move: the other side, which made it, owes `pong`
 abbrev pub is_owed_move : Phase → Colour → Bool
 is_owed_move (AfterMove side) S = same_colour (other side) S
 is_owed_move _ S = false
 
 -- ---- lines
 
--- the lines that begin the handshake of an engine
+-- the lines that begin a handshake
 abbrev pub handshake_lines : List SentLine
 handshake_lines = Says (codes "xboard") ∷ Says (codes "protover 2") ∷ []
 
--- the line that sends the side `S` the last move, by its engine's features `usermove` and `san`: `e2e4`,
--- `usermove e2e4`, `e4` or `usermove e4`
+-- the line that sends the side `S` the last move, by its features `usermove` and `san`: `e2e4`, `usermove e2e4`, `e4`
+-- or `usermove e4`
 abbrev pub move_line : Rules → Match → Colour → SentLine
 move_line r m S = MoveSent (takes (codes "usermove") (m.seat S).items)
     (text_of_last (takes (codes "san") (m.seat S).items) r.start m.played)
 
--- the lines that open a turn of the side `S`: in its first turn the last move, if there is one, the clocks and `go`;
--- later the clocks and the last move. The clocks (centiseconds, rounded down) are left out if `time` is off
+-- the lines that open a turn of the side `S`: in its first turn the last move, if any, the clocks and `go`; later the
+-- clocks and the last move. The clocks (centiseconds, rounded down) are omitted if `time` is off
 abbrev pub opening : Rules → Match → Colour → List SentLine
 opening r m S = let last = list_if (nat_lt 0 (length m.played)) (move_line r m S ∷ []) in
     let times = Time (clock r m S / 10) ∷ Otim (clock r m (other S) / 10) ∷ [] in
@@ -126,17 +126,17 @@ opening r m S = let last = list_if (nat_lt 0 (length m.played)) (move_line r m S
 abbrev pub sends_nothing : Match → Effect
 sends_nothing m = record { after = m; to = λ S. [] }
 
--- the match becomes `m`, and only the engine of this side is sent these lines
+-- the match becomes `m`, and only this side is sent these lines
 abbrev pub sends_to : Colour → List SentLine → Match → Effect
 sends_to side lines m = record { after = m; to = λ S. list_if (same_colour side S) lines }
 
--- the match `m`, with `change` applied to what is known of the engine of the side `S`
+-- the match `m`, with `change` applied to the seat of the side `S`
 abbrev pub with_seat : Colour → (Seat → Seat) → Match → Match
 with_seat S change m = record m { seat = λ side. if same_colour side S then change (m.seat side) else m.seat side }
 
--- the match `m` ends for this reason. Each side is sent the last move, if it is owed; the result, such as
--- `result 1-0 {Black resigns}`, by the board's verdict, if there is one; and `quit`. A side to which a failed write
--- ended the match is sent nothing
+-- the match `m` ends for this reason. Each side is sent the last move, if owed; the result, such as
+-- `result 1-0 {Black resigns}`, by the board's verdict, if any; and `quit`; but nothing, if a failed write to it ended
+-- the match
 abbrev pub ends : Rules → Reason → Match → Effect
 ends r reason m = record {
   after = record m { phase = Over reason };
@@ -150,8 +150,8 @@ abbrev pub ignores : Rules → Colour → Match → Effect
 ignores r S m = if nat_le 10000 (m.count + 1) then ends r (Faulted S Flood) m
     else sends_nothing (record m { count = m.count + 1 })
 
--- the turn of the side `S` is opened by the lines of `opening`. The phase is `Opening` until the clock is read, once
--- these are sent; from that moment the time of the turn runs
+-- the side `S` is sent its `opening`. The phase is `Opening` until the clock is read, once these lines are sent; from
+-- that moment the turn's time runs
 abbrev pub begins_turn : Rules → Colour → Match → Effect
 begins_turn r S m = sends_to S (opening r m S) (record m { phase = Opening S; count = 0 })
 
@@ -162,32 +162,30 @@ unless_over r m otherwise = option_map_or (λ reason. ends r reason m) (over_by_
 -- ---- a line in a turn
 
 -- `offer draw` of the side `S`: if an offer of the other side is open, the draw is agreed; if one of `S` is, the line
--- is ignored; otherwise the offer is open from now on, and the other side is sent `draw`, unless its engine has this
--- feature off
+-- is ignored; otherwise it opens one, and the other side is sent `draw`, unless it has this feature off
 abbrev pub offer_row : Rules → Colour → Match → Effect
 offer_row r S m = if (m.seat (other S)).offers then ends r Agreed m
     else if (m.seat S).offers then ignores r S m
     else sends_to (other S) (list_if (takes (codes "draw") (m.seat (other S)).items) (Says (codes "draw") ∷ []))
     (with_seat S (λ s. record s { offers = true }) m)
 
--- what a line of this kind of the side `S` does in its turn, before or after its move. For a `move`, and for a `pong`
--- after the move, see `before_move` and `line_row`
+-- what a line of this kind of the side `S` does in its turn, before or after its move; for `move`, and for `pong` after
+-- the move, see `before_move` and `line_row`
 abbrev pub turn_row : Rules → Colour → LineKind → Match → Effect
 turn_row r S Resigns m = ends r (over_by.Resigns S) m
 turn_row r S OffersDraw m = offer_row r S m
--- `1/2-1/2`: a draw, if one may be claimed; otherwise an offer of a draw
+-- `1/2-1/2`: a draw, if one may be claimed; otherwise an offer
 turn_row r S ClaimsDraw m =
     option_map_or (λ claim. ends r (Claimed claim) m) (draw_claim (claims r.start m.played)) (offer_row r S m)
--- `1-0` or `0-1`: `S` loses, by a false claim if it names itself the winner (a mate needs no claim), otherwise by
--- resigning
+-- `1-0` or `0-1`: `S` loses, by a false claim if it names itself (a mate needs no claim), otherwise by resigning
 turn_row r S (ClaimsWin winner) m = ends r (if same_colour winner S then ClaimsFalsely S else over_by.Resigns S) m
--- `Illegal move`: `S` loses, since the move that it was sent is legal; ignored if the other side has made none
+-- `Illegal move`: `S` loses, as the move it was sent is legal; ignored if the other side has made none
 turn_row r S Rejects m =
     if nat_lt 0 (length (m.seat (other S)).used) then ends r (RejectsLegalMove S) m else ignores r S m
 turn_row r S _ m = ignores r S m
 
 -- the match `m` after this move of the side `S`, which took `used` milliseconds: an open offer of the other side
--- lapses, and the `pong` of `S` is awaited
+-- lapses, and `pong` of `S` is awaited
 abbrev pub moved : Colour → Move → ℕ → Match → Match
 moved S move used m =
     with_seat (other S) (λ s. record s { offers = false }) (with_seat S (λ s. record s { used = s.used ++ used ∷ [] })
@@ -201,16 +199,16 @@ move_row r S used (reads.Move move) m =
 -- no legal move, or more than one: `S` loses
 move_row r S used _ m = ends r (MovesIllegally S) m
 
--- what a line of this kind of the side `S` does before its move, `used` milliseconds after its turn began, if its flag
--- has not fallen
+-- what a line of this kind of the side `S` does before its move, `used` milliseconds into its turn, if its flag has not
+-- fallen
 abbrev pub before_move : Rules → Colour → ℕ → LineKind → Match → Effect
--- `move M`: the match ends if the game has as many half-moves as the limit allows, whatever M is
+-- `move M`: the match ends if the game has reached its limit of half-moves, whatever M is
 before_move r S used (Moves text) m = if nat_le r.limit (length m.played) then ends r GameTooLong m
     else move_row r S used (reading (position_after r.start m.played) text) m
 before_move r S used kind m = turn_row r S kind m
 
--- the flag of the side `S` has fallen: it loses, but if the other side has only its king, the game is drawn. The
--- further draws on time of article 6.9 of the Laws of Chess 2023 are not judged
+-- the flag of the side `S` has fallen: it loses, but draws if the other side has only its king. Further draws on time
+-- of article 6.9 of the Laws of Chess 2023 are not judged
 abbrev pub flag_row : Rules → Colour → Match → Effect
 flag_row r S m = let bare = has_bare_king (other S) (position_after r.start m.played).men in
     ends r (if bare then ForfeitsToBareKing else Forfeits S) m
@@ -221,9 +219,8 @@ flag_row r S m = let bare = has_bare_king (other S) (position_after r.start m.pl
 abbrev pub awaited_since : ℕ → Match → Match
 awaited_since moment m = record m { since = Some moment }
 
--- what a silence of the side `S` at this moment does, if `S` owes a reply other than a move. If it has owed it for more
--- than `r.patience.reply`, the match ends by this fault; otherwise the time for the reply runs from now on, unless it
--- runs already
+-- what a silence at this moment does, if the side `S` owes a reply other than a move. If it has owed it for more than
+-- `r.patience.reply`, the match ends by this fault; otherwise the reply's time runs from now on, unless it runs already
 abbrev pub reply_row : Rules → Colour → MatchFault → ℕ → Match → Effect
 reply_row r S fault moment m = let since = unwrap_or m.since moment in
     if option_map_or (λ limit. nat_lt limit (moment - since)) r.patience.reply false then ends r (Faulted S fault) m
@@ -237,34 +234,34 @@ silence_row r (Setup side) S moment m = reply_row r S NoAnswer moment m
 silence_row r (BeforeMove side opened) S moment m =
     if nat_lt (clock r m S) (moment - opened) then flag_row r S m else sends_nothing m
 silence_row r (AfterMove side) S moment m = reply_row r S NoAnswer moment m
--- in other phases no line is awaited
+-- other phases await no line
 silence_row r _ _ _ m = sends_nothing m
 
 -- ---- a line before the game
 
--- what follows once both handshakes are done; the options are what White's engine lacks, and what Black's lacks
+-- what follows both handshakes; the options are what White's engine lacks, and what Black's lacks
 abbrev pub judged : Rules → Option MatchFault → Option MatchFault → Match → Effect
 judged r (Some fault) _ m = ends r (Faulted White fault) (record m { count = 0 })
 judged r None (Some fault) m = ends r (Faulted Black fault) (record m { count = 0 })
 -- neither lacks anything: White's setup begins
 judged r None None m = sends_to White (setup_lines r White) (record m { phase = Setup White; count = 0 })
 
--- what follows when this side's handshake is done: after White's comes Black's, and then both engines are `judged`
+-- what follows this side's handshake: after White's comes Black's, then both engines are `judged`
 abbrev pub handshake_done : Rules → Colour → Match → Effect
 handshake_done r White m = sends_to Black handshake_lines (record m { phase = Handshake Black; count = 0 })
 handshake_done r Black m = judged r (missing r (m.seat White).items) (missing r (m.seat Black).items) m
 
--- the answers to these items, whatever their values: `accepted ping`, if the arbiter knows the feature (`is_known`),
--- otherwise `rejected` and its name
+-- the answers to these items, whatever their values, such as `accepted ping`; `rejected`, if the arbiter doesn't know
+-- the feature
 abbrev pub answers_to : List Item → List SentLine
 answers_to items = map (λ i. Says ((if is_known i.name then codes "accepted " else codes "rejected ") ++ i.name)) items
 
--- the effect `e`, but the engine of this side is first sent the answers to these items
+-- the effect `e`, but this side is first sent the answers to these items
 abbrev pub with_answers : Colour → List Item → Effect → Effect
 with_answers side items e = record e { to = λ S. list_if (same_colour side S) (answers_to items) ++ e.to S }
 
 -- what a line of the side `S` does in its handshake. Its `items`, none if it is no `feature` line, are answered and
--- added to those known of `S`. `done=1` ends the handshake; the 1,000th line, of any kind, without it ends the match
+-- added to those of `S`. `done=1` ends the handshake; the 1,000th line, of any kind, without it ends the match
 abbrev pub handshake_row : Rules → Colour → List Item → Match → Effect
 handshake_row r S items m = let m' = with_seat S (λ s. record s { items = s.items ++ items }) m in
     with_answers S items
@@ -272,16 +269,15 @@ handshake_row r S items m = let m' = with_seat S (λ s. record s { items = s.ite
     else if nat_le 1000 (m.count + 1) then ends r (Faulted S NoDone) m'
     else sends_nothing (record m' { count = m.count + 1 }))
 
--- what follows this side's setup: after White's comes Black's, and then the first turn, unless the position at the
--- start ends the match
+-- what follows this side's setup: after White's comes Black's, then the first turn, unless the start ends the match
 abbrev pub setup_done : Rules → Colour → Match → Effect
 setup_done r White m = sends_to Black (setup_lines r Black) (record m { phase = Setup Black; count = 0 })
 setup_done r Black m = unless_over r m (begins_turn r r.start.side m)
 
 -- ---- one event
 
--- what a line of this kind does in this phase; it was sent by the side `S` that the phase waits for, and came at
--- `moment`. A line that counts (see `since` in `Match`) moves `since` to `moment`, unless the flag has fallen
+-- what a line of this kind does in this phase; it came at `moment` from the side `S` that the phase waits for. If it
+-- counts (see `since` in `Match`), `since` becomes `moment`, unless the flag has fallen
 abbrev pub line_row : Rules → Phase → LineKind → ℕ → Match → Effect
 line_row r (Handshake S) (Features text) moment m = handshake_row r S (items_of text) (awaited_since moment m)
 line_row r (Handshake S) kind _ m = handshake_row r S [] m
@@ -289,30 +285,30 @@ line_row r (Handshake S) kind _ m = handshake_row r S [] m
 line_row r (Setup S) (Answers n) moment m =
     if n == 1 then setup_done r S (awaited_since moment m) else ignores r S m
 line_row r (Setup S) kind _ m = ignores r S m
--- before a move: if `S` used more time than it had left, its flag has fallen, whatever the line says
+-- before a move: if `S` used more than it had left, its flag has fallen, whatever the line says
 line_row r (BeforeMove S opened) kind moment m =
     if nat_lt (clock r m S) (moment - opened) then flag_row r S m
     else before_move r S (moment - opened) kind (awaited_since moment m)
 -- after a move, before its `pong`: with another `move`, whatever it says, `S` loses
 line_row r (AfterMove S) (Moves text) _ m = ends r (MovesOutOfTurn S) m
--- `pong N`: with the number of the latest `ping` it gives the other side its turn, otherwise it is ignored
+-- `pong N`: with the latest `ping`'s number it gives the other side its turn, otherwise it is ignored
 line_row r (AfterMove S) (Answers n) _ m = if n == ping_number m S then begins_turn r (other S) m else ignores r S m
 line_row r (AfterMove S) kind _ m = turn_row r S kind m
--- in other phases no line is awaited
+-- other phases await no line
 line_row r _ _ _ m = sends_nothing m
 
 -- what an event does to the match `m`
 abbrev pub effect : Rules → Match → Event → Effect
--- a line; one that was too long is of the kind `SaysElse`
+-- a line that was too long is of the kind `SaysElse`
 effect r m (Line S text moment) = line_row r m.phase (option_map_or kind_of text SaysElse) moment m
 effect r m (Silent S moment) = silence_row r m.phase S moment m
--- the lines that open a turn were sent: from this moment on its time runs
+-- the lines that open a turn were sent: from this moment its time runs
 effect r m (Opened S moment) = sends_nothing (record m { phase = BeforeMove S moment })
 effect r m (OutputEnds S) = ends r (Faulted S Ended) m
 effect r m (FailsToRead S) = ends r (Faulted S Read) m
 effect r m (FailsToWrite S) = ends r (Faulted S Write) m
 
--- what a match begins with: White is sent the lines of its handshake; nothing is known of either engine
+-- how a match begins: White is sent `handshake_lines`; nothing is known of either engine
 abbrev pub beginning : Effect
 beginning = sends_to White handshake_lines (record {
   phase = Handshake White;

@@ -3,25 +3,24 @@ use Rattle.std.specs.Prelude.{ℕ, Bool, List, Option}
 use Rattle.chess_base.specs.declared.man.Colour.{Colour}
 use Rattle.cecp_engine.specs.Items.{Item}
 
--- what happens in a match between two engines. `moment` is what the clock showed right after it, in milliseconds
--- counted from any beginning
+-- what happens in a match. `moment` is what the clock showed right after it, in milliseconds from any beginning
 pub data Event : Type 0 where
-  -- a line of that side's engine was read: this text, or `None` if the line was too long
+  -- a line of that side's engine was read (`None`: it was too long)
   Line : (side : Colour) → (text : Option (List ℕ)) → (moment : ℕ) → Event
-  -- the lines that open that side's turn were all sent; its time runs from `moment` on
+  -- the lines that open that side's turn were all sent; its time runs from `moment`
   Opened : (side : Colour) → (moment : ℕ) → Event
-  -- a look for a line of that side's engine found none, or one that is only begun
+  -- a look for a line of that side's engine found none, or one only begun
   Silent : (side : Colour) → (moment : ℕ) → Event
   OutputEnds : (side : Colour) → Event
   FailsToRead : (side : Colour) → Event
-  -- a write or a flush to that side's engine failed
+  -- a write or flush to that side's engine failed
   FailsToWrite : (side : Colour) → Event
 
--- what is known of the engine of one side
+-- what is known of one side's engine
 pub record Seat : Type 0 where
-  -- the items of the `feature` lines of its handshake, such as `ping=1`, in order
+  -- the items of its handshake's `feature` lines, such as `ping=1`, in order
   pub items : List Item
   -- the milliseconds that each of its moves took, in order
   pub used : List ℕ
-  -- whether its offer of a draw is open: made, and not lapsed by a move of the other side
+  -- whether its draw offer is open: made, and not lapsed by a move of the other side
   pub offers : Bool

@@ -1,20 +1,19 @@
--- What a witness of a match is given: events, and the bytes that engines are sent.
+-- What a witness of a match, such as the log, is given: events, and bytes sent to engines.
 use Rattle.std.specs.Prelude.{ℕ, List, ◌++◌}
 use Rattle.chess_base.specs.declared.man.Colour.{Colour}
 use Rattle.chess_match.specs.Events.{Event}
 
--- a note that a witness of a match, such as the log, is given
+-- a note that a witness is given
 pub data Note : Type 0 where
   Happened : (event : Event) → Note
-  -- that side's engine is sent these bytes: those of a whole block, even if sending it then fails
+  -- that side's engine is sent these bytes of a whole block, even if sending it then fails
   Gives : (side : Colour) → (text : List ℕ) → Note
 
--- what contracts see of a witness: the claim, for a text and notes, that it may have held this text at first and been
--- given just these notes since. Each kind of witness has its own
+-- what contracts see of a witness: that it may have held this text at first, and been given just these notes since.
+-- Each kind of witness has its own
 abbrev pub Noted : Type 1
 Noted = List ℕ → List Note → Type 0
 
--- from its state `old` to `new` a witness was given the notes `more`, in order, after those that it was given up to
--- `old`
+-- from its state `old` to `new` a witness was given the notes `more`, in order, after those up to `old`
 pub record WasNoted (old new : Noted) (more : List Note) : Type 0 where
   pub extends : (before : List ℕ) (notes : List Note) → old before notes → new before (notes ++ more)

@@ -1,4 +1,4 @@
--- How the end of a match is reported: outcome, comment, fault, and the kind of end.
+-- How a match's end is reported: outcome, comment, fault, and kind of end.
 use Rattle.std.specs.Prelude.{ℕ, Bool, false, List, [], ◌∷◌, ◌++◌, codes, Option, None, Some, find, option_map}
 use Rattle.chess_base.specs.declared.man.Colour.{Colour}
 use Rattle.chess_base.specs.declared.man.Colour.TheVariants.{White, Black}
@@ -16,7 +16,7 @@ use Rattle.chess_match.specs.declared.reason.MatchFault.TheVariants.{Ended, Read
 use Rattle.chess_match.specs.declared.reason.Reason.{Reason}
 use Rattle.chess_match.specs.declared.reason.Reason.TheVariants.{Decided, Claimed, Agreed, Resigns, MovesIllegally, MovesOutOfTurn, ClaimsFalsely, RejectsLegalMove, Forfeits, ForfeitsToBareKing, GameTooLong, Faulted}
 
--- a side's name in comments, `White` or `Black`
+-- a side's name in comments
 abbrev pub colour_name : Colour → List ℕ
 colour_name c = by_colour (codes "White") (codes "Black") c
 
@@ -24,7 +24,7 @@ colour_name c = by_colour (codes "White") (codes "Black") c
 abbrev pub win_of : Colour → Outcome
 win_of c = by_colour WhiteWins BlackWins c
 
--- what the comment says of this fault after the side's name, as in `White has no ping`
+-- the comment on this fault after the side's name, as in `White has no ping`
 abbrev pub fault_comment : MatchFault → List ℕ
 fault_comment Ended = codes " ended its output"
 fault_comment Read = codes " can not be read"
@@ -37,9 +37,9 @@ fault_comment NoVariant = codes " has no fischerandom"
 fault_comment NoHandshake = codes " sent no done=1 (a UCI engine needs polyglot)"
 fault_comment NoAnswer = codes " did not answer"
 
--- how a match that ended for this reason is reported: its outcome; its comment, without braces; and how it ended, for
--- the tag Termination, which is `unterminated` for the outcome `*`, whatever the third part is. `c` is the side that
--- loses, but in `Faulted` the one whose engine or device failed
+-- how a match that ended for this reason is reported: outcome; comment, without braces; and how it ended, for the tag
+-- Termination, which is always `unterminated` for the outcome `*`. `c` is the side that loses, but in `Faulted` the one
+-- whose engine or device failed
 abbrev pub reported : Reason → Outcome × List ℕ × HowEnded
 reported (Decided v) = ((verdict_result v).outcome, (verdict_result v).comment, Normal)
 reported (Claimed claim) = (Draw, claim_comment claim, Normal)
@@ -58,36 +58,36 @@ reported (Faulted c f) = (Unfinished, colour_name c ++ fault_comment f, Normal)
 abbrev pub outcome_by_reason : Reason → Outcome
 outcome_by_reason reason = (reported reason).0
 
--- the comment on the end of a match, such as `Black resigns`
+-- the comment on a match's end, such as `Black resigns`
 abbrev pub comment_of : Reason → List ℕ
 comment_of reason = (reported reason).1
 
--- the result of a match that ended for this reason: its outcome and comment
+-- the outcome and comment of a match that ended for this reason
 abbrev pub result_of : Reason → Declared
 result_of reason = record { outcome = (reported reason).0; comment = comment_of reason }
 
--- how a match that ended for this reason came to its end, for the tag Termination (PGN standard, section 9.8.1)
+-- how a match that ended for this reason did so, for the tag Termination (PGN standard, section 9.8.1)
 abbrev pub ended_by : Reason → HowEnded
 ended_by reason = (reported reason).2
 
--- the reason that is reported of a match that ended for `reason`: `Decided` with the board's verdict, if there is one,
--- even where a fault ended the match; otherwise `reason`
+-- the reason reported of a match that ended for `reason`: the board's verdict, if any, even where a fault ended the
+-- match; otherwise `reason`
 abbrev pub reported_reason : Option Verdict → Reason → Reason
 reported_reason (Some v) _ = Decided v
 reported_reason None reason = reason
 
--- the side and the fault that are reported of a match that ended for this reason: those of `Faulted`; otherwise `Write`
--- and the first side, White before Black, to which writing the last lines failed (`failed`); `None` without one
+-- the side and fault reported of a match that ended for this reason: those of `Faulted`; otherwise `Write` and the
+-- first side, White before Black, to which writing the last lines failed (`failed`), if any
 abbrev pub reported_fault : Reason → (Colour → Bool) → Option (Colour × MatchFault)
 reported_fault (Faulted c f) failed = Some (c, f)
 reported_fault _ failed = option_map (λ side. (side, Write)) (find failed (White ∷ Black ∷ []))
 
--- the result that is declared in the game when the match ends for this reason; `None` if the board has a verdict
+-- the result declared in the game when the match ends for this reason, unless the board has a verdict
 abbrev pub declared_at : Option Verdict → Reason → Option Declared
 declared_at (Some v) reason = None
 declared_at None reason = Some (result_of reason)
 
--- whether this reason is that writing to the side `S` failed
+-- whether this reason is a failed write to the side `S`
 abbrev pub is_write_fault_of : Reason → Colour → Bool
 is_write_fault_of (Faulted c Write) S = same_colour c S
 is_write_fault_of _ S = false

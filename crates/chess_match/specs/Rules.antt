@@ -16,32 +16,32 @@ use Rattle.chess_match.specs.declared.patience.Patience.{Patience}
 
 -- what is fixed when a match begins
 pub record Rules : Type 0 where
-  -- the position at the start of its game, and with it the variant: normal chess or Chess960
+  -- the game's starting position and variant: normal chess or Chess960
   pub start : Setup
   -- the time control of each side
   pub level : Colour → LevelSeen
-  -- how long its engines are waited for
+  -- how long engines are waited for
   pub patience : Patience
-  -- whether draws by threefold repetition and by 50 moves must be claimed
+  -- whether draws by threefold repetition and 50 moves must be claimed
   pub draws : Draws
   -- the most half-moves that can be played
   pub limit : ℕ
 
--- the rules of a match from this start, with these time controls, patience, draws and limit of half-moves
+-- the rules with these fields
 abbrev pub rules_of : Setup → (Colour → LevelSeen) → Patience → Draws → ℕ → Rules
 rules_of start level patience draws limit =
     record { start = start; level = level; patience = patience; draws = draws; limit = limit }
 
--- the FEN that engines are sent by `setboard`; `None` for the initial position of normal chess, which `new` sets up
+-- the FEN sent by `setboard`; `None` for the initial position of normal chess, which `new` sets up
 unfoldable pub start_fen : Setup → Option (List ℕ)
 start_fen start = if is_initial start && not (is_fischerandom start.variant) then None else Some (fen start)
 
--- the text of the last of the moves `played` from `start`; empty if there is none. In SAN if `as_san`, such as `Nf3`;
--- otherwise by its squares (`g1f3`), or as `O-O` or `O-O-O` for castling of Chess960
+-- the last of the moves `played` from `start`, or empty without moves: in SAN if `as_san`, such as `Nf3`; otherwise by
+-- its squares (`g1f3`), or as `O-O` or `O-O-O` for castling of Chess960
 abbrev pub text_of_last : Bool → Setup → List Move → List ℕ
 text_of_last as_san start played = let before = position_after start (take (length played - 1) played) in
     option_map_or (λ move. if as_san then san before move else shown_move before move) (last_or None played) []
 
--- whether the side `c` has no piece but its king
+-- whether the side `c` has only its king
 unfoldable pub has_bare_king : Colour → Men → Bool
 has_bare_king c men = list_all (λ man. not (is_of c man) || is_man c King man) men
