@@ -1,5 +1,5 @@
--- The games of a match: who plays which colour, how each is reported, and the score. A match is here all games of a
--- plan between two engines; in chess_match it is one game.
+-- The games of a match: who plays which colour, reports and score. A match is here all games of a plan between two
+-- engines; in chess_match it is one game.
 use Rattle.std.specs.Prelude.{◌≡◌, ◌⊎◌, ℕ, ◌+◌, ◌<◌, ◌≤◌, ◌%◌, ◌==◌, nat_lt, Bool, false, if◌then◌else◌, List, [], ◌∷◌, ◌++◌, length, count_by, flat_map, codes, decimal, Option, None, Some, Result, Ok, Err}
 use Rattle.std.specs.Option.{option_to_list}
 use Rattle.std.specs.List.{AllByRecursion, enumerate_from}
@@ -34,20 +34,19 @@ use Rattle.match_runner.specs.declared.fault.GamesFault.TheVariants.{WriteFailed
 use Rattle.pgn_writer.specs.declared.tags.Tags.{Tags}
 use Rattle.chess_game.specs.declared.game.TheConstants.{MOST_MOVES}
 
--- the side that the engine of `--white` has in the game of this number: White in odd games, Black in even ones
+-- the side of `--white`'s engine in the game of this number: White in odd games, Black in even ones
 abbrev pub first_side : ℕ → Colour
 first_side number = if number % 2 == 1 then White else Black
 
--- the command of the engine that has the side `side` in the game of this number
+-- the command of this side's engine in the game of this number
 abbrev pub engine_command : GamesPlan → ℕ → Colour → List ℕ
 engine_command plan number side = if same_colour side (first_side number) then plan.white.now else plan.black.now
 
--- the time control of the engine that has the side `side` in the game of this number
+-- the time control of this side's engine in the game of this number
 abbrev pub engine_level : GamesPlan → ℕ → Colour → LevelSeen
 engine_level plan number side = if same_colour side (first_side number) then plan.white_level else plan.black_level
 
--- what the game of this number begins from: the plan's start, patience and draws, and each side with its engine's time
--- control
+-- what the game of this number begins from: the plan's start, patience and draws, and each side's time control
 abbrev pub setup_of : GamesPlan → ℕ → Setup
 setup_of plan number = record {
   start = plan.start;
@@ -56,13 +55,13 @@ setup_of plan number = record {
   draws = plan.draws;
 }
 
--- an engine's name in the tag White or Black: `name`, which it gave itself by the feature `myname`, or its command if
--- `name` is empty; cut to 60 bytes, with `?` for each that is not printable ASCII
+-- an engine's name in the tag White or Black: the name from its feature `myname`, or its command if that is empty; cut
+-- to 60 bytes, with `?` for each that is not printable ASCII
 abbrev pub player_name : List ℕ → List ℕ → List ℕ
 player_name name command = cut_tag (if length name == 0 then command else name)
 
--- the PGN tags of the game of this number, which ended as `end` says; `cut_tag` cuts to 60 bytes. `pgn` adds the tags
--- that depend on the start and the outcome, such as FEN and Result
+-- the PGN tags of the game of this number; `cut_tag` cuts to 60 bytes. `pgn` adds the tags that depend on start and
+-- outcome, such as FEN and Result
 abbrev pub tags_of : GamesPlan → ℕ → MatchEnd → Tags
 tags_of plan number end = record default_tags {
   event = codes "CECP match";
@@ -75,15 +74,14 @@ tags_of plan number end = record default_tags {
 
 -- ---- what is reported
 
--- the fault of a match in words, such as `can not start ./engine` or `game 3: White has no ping`
+-- a match's fault in words, such as `can not start ./engine` or `game 3: White has no ping`
 abbrev pub fault_text : GamesFault → List ℕ
 fault_text WriteFailed = codes "write failed"
 fault_text NoMemory = codes "no memory"
 fault_text (CanNotStart command) = codes "can not start " ++ command.now
 fault_text (Game number text) = codes "game " ++ decimal number ++ codes ": " ++ text.now
 
--- what is reported of a match with this result: nothing for `Ok`, otherwise a line such as
--- `arbiter: game 3: White has no ping`
+-- what is reported of a match: nothing for `Ok`, otherwise a line such as `arbiter: game 3: White has no ping`
 abbrev pub report_of : Result (Unit {0}) GamesFault → List ℕ
 report_of (Ok _) = []
 report_of (Err fault) = codes "arbiter: " ++ fault_text fault ++ new_line ∷ []
@@ -92,15 +90,15 @@ report_of (Err fault) = codes "arbiter: " ++ fault_text fault ++ new_line ∷ []
 
 -- a game that was played
 pub record GameRecord : Type 0 where
-  -- before it was played: the engines' pipes, the clock's readings to come, and a game of which only the limit counts
+  -- before it: the engines' pipes, the clock's readings to come, and a game of which only the limit counts
   pub before : World
-  -- the same after it was played, with this game's start, moves and result
+  -- the same after it, with this game's start, moves and result
   pub after : World
   -- how it ended
   pub end : MatchEnd
-  -- what the log is made from: each event, and the bytes of each block for an engine, even if it could not be sent
+  -- what the log is made from: each event, and each block of bytes for an engine, even if it could not be sent
   pub notes : List Note
-  -- for each side, whether its engine was killed, as it had not ended in time after its input was closed
+  -- by side, whether its engine was killed, as it had not ended in time after its input was closed
   pub killed : ByColour Bool
 
 -- no engine was killed
@@ -108,84 +106,81 @@ abbrev pub none_killed : ByColour Bool
 none_killed = record { white = false; black = false }
 
 -- `played` was played as the plan says for the game of this number, with at most 20,000 half-moves; without a limit for
--- replies no engine was killed. Some acts `H` of the arbiter, whose notes are the record's, led from `before` to
--- `after` and ended as `end` says (`PlayedBy`). `steps_by` says which engines played
+-- replies no engine was killed. Some acts `H` of the arbiter, with the record's notes, led from `before` to `after` and
+-- ended as `end` says (`PlayedBy`). `steps_by` says which engines played
 abbrev pub IsOfPlan : GamesPlan → ℕ → GameRecord → Type 0
 IsOfPlan plan number played = (played.before.game.limit ≡ MOST_MOVES)
     × (plan.patience.reply ≡ None → played.killed ≡ none_killed)
     × ((H : List Act) × (reason : Reason) × (flat_map (notes_of reason) H ≡ played.notes)
     × PlayedBy H reason (setup_of plan number) played.end played.before played.after)
 
--- the PGN of the game `played`, which has this number. `pgn` puts its argument `[]`, so nothing, before each line
+-- the PGN of the game of this number. `pgn` puts its argument `[]`, so nothing, before each line
 abbrev pub game_text : GamesPlan → ℕ → GameRecord → List ℕ
 game_text plan number played = pgn [] (tags_of plan number played.end) played.after.game.state
 
--- the fault is that an engine with the command `first` or `second` could not be started, or that memory ran out
+-- an engine with the command `first` or `second` could not be started, or memory ran out
 abbrev pub IsStartFault : List ℕ → List ℕ → GamesFault → Type 0
 IsStartFault first second (CanNotStart command) = (command.now ≡ first) ⊎ (command.now ≡ second)
 IsStartFault first second fault = fault ≡ NoMemory
 
--- a game with these notes was logged, from the log's state `l` to `l'`; `first` is the side of the engine of `--white`.
--- With `None` nothing was logged
+-- a game with these notes was logged, from `l` to `l'`; `first` is the side of `--white`'s engine. `None`: not logged
 abbrev pub LogsGame : Option Colour → LogSeen → LogSeen → List Note → Type 0
 LogsGame None l l' notes = l' ≡ l
 LogsGame (Some first) l l' notes = Logged l l' (log_from first 0 notes)
 
 -- ---- the games
 
--- each of these games, numbered from 1, was played as the plan says, and no engine had a fault in it
+-- these games, numbered from 1, were played as the plan says, and no engine had a fault
 abbrev pub FaultlessGames : GamesPlan → List GameRecord → Type 0
 FaultlessGames plan games =
     AllByRecursion (λ g. IsOfPlan plan g.0 g.1 × (g.1.end.fault ≡ None)) (enumerate_from 1 games)
 
--- what `f` gives for each of these games, one after another, by its number, from 1 on, and its record
+-- what `f` gives for each game's number, from 1 on, and record, one after another
 abbrev pub game_by_game : {A : Type 0} → (ℕ → GameRecord → List A) → List GameRecord → List A
 game_by_game f games = flat_map (λ g. f g.0 g.1) (enumerate_from 1 games)
 
--- the PGN of these games, numbered from 1, one after another
+-- the PGN of these games, numbered from 1
 abbrev pub game_texts : GamesPlan → List GameRecord → List ℕ
 game_texts plan games = game_by_game (game_text plan) games
 
--- the line on the engine of this side that was killed after the game of this number, such as
+-- the line on a killed engine, by the game's number and its side, such as
 -- `arbiter: game 3: White did not exit, and was killed`
 abbrev pub killed_line : ℕ → Colour → List ℕ
 killed_line number side = codes "arbiter: game " ++ decimal number ++ codes ": " ++ colour_name side
     ++ codes " did not exit, and was killed" ++ new_line ∷ []
 
--- the lines on the engines that were killed after the game of this number, White's first
+-- the lines on the engines killed after the game of this number, White's first
 abbrev pub killed_lines : ℕ → ByColour Bool → List ℕ
 killed_lines number killed =
     list_if killed.white (killed_line number White) ++ list_if killed.black (killed_line number Black)
 
--- what is logged of the game `played`, which has this number: the lines of its notes, if the plan asks for a log, and
--- in any case a line for each engine that was killed
+-- what is logged of the game of this number: the lines of its notes, if the plan asks for a log, and in any case a line
+-- for each killed engine
 abbrev pub game_log : GamesPlan → ℕ → GameRecord → List ℕ
 game_log plan number played = list_if plan.log (log_from (first_side number) 0 played.notes)
     ++ killed_lines number played.killed
 
--- these games, numbered from 1, were logged as one text (`game_log`), from the log's state `l` to `l'`; a write may
--- have failed (`Logged`)
+-- these games, numbered from 1, were logged as one text, from `l` to `l'`; a write may have failed (`Logged`)
 abbrev pub LogsGames : GamesPlan → LogSeen → LogSeen → List GameRecord → Type 0
 LogsGames plan l l' games = Logged l l' (game_by_game (game_log plan) games)
 
--- how many of these games have the outcome that `wanted` gives for their number, from 1 on, such as the win of the
--- engine of `--white`: `1-0` in odd games, `0-1` in even ones
+-- how many of these games have the outcome that `wanted` gives for their number, from 1 on, such as a win of
+-- `--white`'s engine: `1-0` in odd games, `0-1` in even ones
 abbrev pub count_of : (ℕ → Outcome) → List GameRecord → ℕ
 count_of wanted games = count_by (λ g. same_outcome g.1.end.outcome (wanted g.0)) (enumerate_from 1 games)
 
--- the last line of a match of these games, such as `score first 1 second 0 drawn 2 unfinished 0`. The engine of
--- `--white` is the first
+-- a match's last line, such as `score first 1 second 0 drawn 2 unfinished 0`. `--white`'s engine is the first
 abbrev pub score_line : List GameRecord → List ℕ
 score_line games = codes "score first " ++ decimal (count_of (λ number. win_of (first_side number)) games)
     ++ codes " second " ++ decimal (count_of (λ number. win_of (other (first_side number))) games)
     ++ codes " drawn " ++ decimal (count_of (λ number. Draw) games)
     ++ codes " unfinished " ++ decimal (count_of (λ number. Unfinished) games) ++ new_line ∷ []
 
--- `games` are all games of a match by this plan: as many as planned, or those up to and with the first in which an
--- engine had a fault. The last argument is that fault (the game's number, the engine's side, the fault), or `None`
+-- `games` are all games of a match: as many as planned, or those up to and with the first in which an engine had a
+-- fault. The last argument is that fault (the game's number, the engine's side, the fault), or `None`
 abbrev pub AreAllGames : GamesPlan → List GameRecord → Option (ℕ × Colour × MatchFault) → Type 0
 AreAllGames plan games None = FaultlessGames plan games × (length games ≡ plan.games)
--- in the last game the engine of `side` had this fault; in those before it there was none
+-- in the last game the engine of `side` had this fault; before it there was none
 AreAllGames plan games (Some (number, side, fault)) =
     (before : List GameRecord) × (last : GameRecord) × (games ≡ before ++ last ∷ []) × FaultlessGames plan before
     × IsOfPlan plan number last × (last.end.fault ≡ Some (side, fault)) × (number ≡ length games) × (number ≤ plan.games)
@@ -196,14 +191,14 @@ AreAllGames plan games (Some (number, side, fault)) =
 abbrev pub games_flushed : GamesPlan → List GameRecord → ToOutput
 games_flushed plan games = all_flushed (nat_lt 0 (length games)) (game_texts plan games)
 
--- `o` is what a match by this plan writes to the output, by its result. The PGN of `games` was written and flushed;
--- `unwritten` (`None`: no game) was played after them, but could not be written
+-- `o` is what a match writes to the output, by its result. The PGN of `games` was written and flushed; `unwritten`
+-- (`None`: no game) was played after them, but could not be written
 abbrev pub WritesGames : GamesPlan → Result (Unit {0}) GamesFault → List GameRecord → Option GameRecord → ToOutput
     → Type 0
 -- all planned games were played without a fault, and the score was written
 WritesGames plan (Ok _) games None o =
     AreAllGames plan games None × (o ≡ all_of (game_texts plan games ++ score_line games))
--- in the last game, which has this number, an engine had the fault that `text` names; the score was written
+-- in the last game, of this number, an engine had the fault that `text` names; the score was written
 WritesGames plan (Err (Game number text)) games None o = (side : Colour) × (fault : MatchFault)
     × AreAllGames plan games (Some (number, side, fault)) × (text.now ≡ comment_of (Faulted side fault))
     × (o ≡ all_of (game_texts plan games ++ score_line games))
@@ -211,18 +206,17 @@ WritesGames plan (Err (Game number text)) games None o = (side : Colour) × (fau
 WritesGames plan (Err WriteFailed) games (Some unwritten) o =
     FaultlessGames plan games × (length games < plan.games) × IsOfPlan plan (length games + 1) unwritten
     × BreaksOffIn (games_flushed plan games) (game_text plan (length games + 1) unwritten) o
--- a write or flush failed in the score, after all games, the last of which may have a fault
+-- a write or flush failed in the score, after all games, the last maybe with a fault
 WritesGames plan (Err WriteFailed) games None o = (fault : Option (ℕ × Colour × MatchFault))
     × AreAllGames plan games fault × BreaksOffIn (games_flushed plan games) (score_line games) o
--- `CanNotStart` or `NoMemory`: the engines of the next game could not be started, and no score was written
+-- `CanNotStart` or `NoMemory`: the next game's engines could not be started, and no score was written
 WritesGames plan (Err fault) games None o = FaultlessGames plan games × (length games < plan.games)
     × IsStartFault plan.white.now plan.black.now fault × (o ≡ games_flushed plan games)
 -- no other result comes with an unwritten game
 WritesGames plan _ games (Some unwritten) o = ⊥
 
--- what playing a match does, by its result, to the output (from `w` to `w'`) and the log (from `l` to `l'`): `games`
--- were written, and all games logged, also `unwritten`, which could not be written, if there is one. Or memory ran out
--- first, and nothing was written or logged
+-- what a match does, by its result, to the output (`w` to `w'`) and the log (`l` to `l'`): `games` were written, and
+-- all games logged, also `unwritten`, if there is one. Or memory ran out first, and nothing was written or logged
 abbrev pub PlaysGames : GamesPlan → Result (Unit {0}) GamesFault → OutputState → OutputState → LogSeen → LogSeen
     → Type 0
 PlaysGames plan result w w' l l' =

@@ -13,14 +13,13 @@ use Rattle.match_runner.specs.declared.log.Log.{Log}
 
 -- ---- one line
 
--- how a log names the engine of the side `side`: `first : ` is the engine of `--white`, which has the side `first_side`
--- in this game
+-- a log's name of the engine of `side`: `first : ` is the engine of `--white`, which has the side `first_side`
 abbrev pub engine_name : Colour → Colour → List ℕ
 engine_name first_side side = if same_colour side first_side then codes "first : " else codes "second: "
 
--- a line of a log, such as `312 <first : move e2e4`: the moment `now` in milliseconds; `mark`, which is `<` if the
--- engine sent the text, `>` if it was sent it (even if that failed), `!` if the text says what happened; the engine's
--- name; and `text`, with `?` for each byte that is not printable ASCII
+-- a line such as `312 <first : move e2e4`: the moment `now` in milliseconds; `mark`, which is `<` if the engine sent
+-- the text, `>` if it was sent it (even if that failed), `!` if the text says what happened; the engine's name; and
+-- `text`, with `?` for each byte that is not printable ASCII
 abbrev pub log_line : ℕ → ℕ → List ℕ → List ℕ → List ℕ
 log_line now mark engine text = decimal now ++ (byte " " ∷ mark ∷ []) ++ engine ++ map shown_byte text ++ new_line ∷ []
 
@@ -31,8 +30,8 @@ abbrev pub lines_in : List ℕ → List (List ℕ)
 lines_in [] = []
 lines_in (b ∷ bs) = if b == new_line then [] ∷ lines_in bs else onto_first b (lines_in bs)
 
--- what the log has for a note: an event, or the bytes that an engine was given (`Gives`). `engine c` is the name of the
--- engine of the side `c`; `moment` is what the clock showed last before this note, or 0
+-- what is logged for a note: an event, or the bytes that an engine was given (`Gives`). `engine c` is the name of the
+-- engine of the side `c`; `moment` is what the clock showed last before it, or 0
 abbrev pub note_text : (Colour → List ℕ) → ℕ → Note → List ℕ
 note_text engine moment (Happened (Line c (Some text) now)) = log_line now (byte "<") (engine c) text
 note_text engine moment (Happened (Line c None now)) = log_line now (byte "!") (engine c) (codes "line too long")
@@ -43,15 +42,15 @@ note_text engine moment (Happened (FailsToRead c)) = log_line moment (byte "!") 
 note_text engine moment (Happened (FailsToWrite c)) = log_line moment (byte "!") (engine c) (codes "write failed")
 note_text engine moment (Gives c bytes) = flat_map (log_line moment (byte ">") (engine c)) (lines_in bytes)
 
--- what the clock showed last when this note was made; `moment` is what it showed last before
+-- what the clock showed last at this note; `moment` is what it showed last before
 abbrev pub moment_after : ℕ → Note → ℕ
 moment_after moment (Happened (Line c text now)) = now
 moment_after moment (Happened (Opened c now)) = now
 moment_after moment (Happened (Silent c now)) = now
 moment_after moment _ = moment
 
--- the log's lines for these notes, in a game in which the engine of `--white` has the side `first_side`. `moment` is
--- what the clock showed last before them, or 0 if it was not read yet
+-- the lines for these notes; `first_side` is the side of `--white`'s engine. `moment` is what the clock showed last
+-- before them, or 0
 abbrev pub log_from : Colour → ℕ → List Note → List ℕ
 log_from first_side moment [] = []
 log_from first_side moment (n ∷ notes) =
@@ -61,23 +60,23 @@ log_from first_side moment (n ∷ notes) =
 
 -- what contracts see of a log
 pub record LogSeen : Type 0 where
-  -- the output that it writes to
+  -- where it writes to
   pub output : OutputState
-  -- whether a write or a flush of the log failed; after that it writes nothing more
+  -- whether a write or flush failed; after that it writes nothing more
   pub broken : Bool
 
 -- what contracts see of a log whose output is in the state `o`
 abbrev pub log_seen : OutputState → Bool → LogSeen
 log_seen o broken = record { output = o; broken = broken }
 
--- what went to a log's output for `text`, by whether the log is broken then: if not, all of the text, flushed, or
--- nothing for an empty text; if so, a beginning of it, maybe nothing or all, before a write or a flush failed
+-- what went to a log's output for `text`, by whether the log is broken then: if not, all of it, flushed, or
+-- nothing if it is empty; if so, a beginning, maybe nothing or all, before a write or flush failed
 abbrev pub LogsText : Bool → List ℕ → ToOutput → Type 0
 LogsText false text o = o ≡ all_flushed (nat_lt 0 (length text)) text
 LogsText true text o = Begins (o.flushed ++ o.left) text × (o.failed ≡ true)
 
--- a log was given this text to write, and went from the state `l` to `l'`: it wrote the text, or broke while it did so
--- (`LogsText`). If it is broken in `l`, or the text is empty, nothing changes
+-- a log was given this text, and went from `l` to `l'`: it wrote the text, or broke while it did so (`LogsText`). If it
+-- is broken in `l`, or the text is empty, nothing changes
 abbrev pub Logged : LogSeen → LogSeen → List ℕ → Type 0
 Logged l l' text = (l.broken ≡ true → l' ≡ l) × (text ≡ [] → l' ≡ l)
     × (l.broken ≡ false → (o : ToOutput) × OutputTook l.output l'.output o × LogsText l'.broken text o)

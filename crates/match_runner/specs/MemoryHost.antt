@@ -1,8 +1,8 @@
 -- A host over memory: what its engines say, and what its clock shows, is given.
 --
--- `MayCome` says which steps may come at it. From these, the plan and the writes that fail follow the games of a match
--- (law `OnlyOneMatchOfARun` of chess_match_laws), if the plan sets no limit to waiting. Where it does, nothing here
--- says which looks for a line find none. Nor is it said when memory runs out.
+-- `MayCome` says which steps may come at it. From these, the plan and the writes that fail follow a match's games (law
+-- `OnlyOneMatchOfARun` of chess_match_laws), if the plan sets no limit to waiting; otherwise nothing here says which
+-- looks for a line find none. Nor is it said when memory runs out.
 use Rattle.std.specs.Prelude.{◌≡◌, ℕ, ◌-◌, ◌^◌, List, [], ◌∷◌, ◌++◌, Option, None, Some}
 use Rattle.std.specs.List.{count_by, find, flat_map, last_or, slice_get}
 use Rattle.std.specs.Option.{option_and_then, option_map, option_or}
@@ -17,24 +17,23 @@ use Rattle.match_runner.specs.declared.memory_host.MemoryHost.{MemoryHost}
 use Rattle.match_runner.specs.Games.{none_killed}
 use Rattle.match_runner.specs.GamesTable.{HostStep, OpensClock, Starts, StartFails, Finishes}
 
--- the moment that a clock shows at its reading n, from 0 on: these moments one after another, and then the last of them
--- again and again; `shown`, if there are none
+-- the moment of a clock's reading n, from 0 on: these moments one after another, then the last again and again;
+-- `shown`, if there are none
 abbrev pub moment_at : ℕ → List ℕ → ℕ → Option ℕ
 moment_at shown moments n = option_or (slice_get moments n) (last_or (Some shown) moments)
 
--- what the first of these engines that has this command says, if it was started `times` times before; `None` if none
--- has the command, or if nothing is given for this start
+-- what the first of these engines with this command says, after `times` earlier starts; `None` if none has the command,
+-- or nothing is given for this start
 abbrev pub text_of_start : List MemoryEngine → List ℕ → ℕ → Option (List ℕ)
 text_of_start engines command times =
     option_and_then (λ e. option_map (λ text. text.now) (slice_get e.outputs.now times))
     (find (λ e. bytes_eq e.command.now command) engines)
 
--- what the engine with this command says if it is started now, after those with the commands `earlier`
+-- what the engine with this command says if it is started after those with the commands `earlier`
 abbrev pub next_text : List MemoryEngine → List (List ℕ) → List ℕ → Option (List ℕ)
 next_text engines earlier command = text_of_start engines command (count_by (λ c. bytes_eq c command) earlier)
 
--- the pipes of an engine that was just started and will say just this text: `input` is what the arbiter reads of it,
--- `output` what the arbiter sends to it
+-- the pipes of an engine just started that will say just this text: the arbiter reads `input` and writes `output`
 abbrev pub fresh_pipes : List ℕ → Devices
 fresh_pipes text = record {
   input = record {
@@ -54,7 +53,7 @@ abbrev pub started_by : HostStep → List (List ℕ)
 started_by (Starts white black limit pipes) = white ∷ black ∷ []
 started_by _ = []
 
--- the commands of the engines that these steps started
+-- the same for these steps
 abbrev pub started_in : List HostStep → List (List ℕ)
 started_in steps = flat_map started_by steps
 
@@ -66,7 +65,7 @@ IsFaultOfStart white black (Some _) None (CanNotStart command) = command.now ≡
 IsFaultOfStart white black (Some _) (Some _) fault = fault ≡ NoMemory
 IsFaultOfStart white black _ _ _ = ⊥
 
--- this step may come next at a host with these engines and moments, after the engines with the commands `earlier` were
+-- this step may come next at a host with these engines and moments, after engines with the commands `earlier` were
 -- started
 abbrev pub IsNext : List MemoryEngine → List ℕ → List (List ℕ) → HostStep → Type 0
 IsNext engines moments earlier (OpensClock coming) = coming ≡ moment_at 0 moments
@@ -80,7 +79,7 @@ IsNext engines moments earlier (StartFails white black limit fault) =
 -- no engine has to be killed
 IsNext engines moments earlier (Finishes pipes limit killed) = killed ≡ none_killed
 
--- the commands of the engines that were started for these games
+-- the commands of the engines started for these games
 abbrev pub started_for : List MemoryGame → List (List ℕ)
 started_for games = flat_map (λ g. g.commands.white.now ∷ g.commands.black.now ∷ []) games
 
