@@ -15,8 +15,8 @@ abbrev pub Verifies : VerifyOptions → Result Verified VerifyFault → FromInpu
 Verifies options (Ok summary) i o = IsWhole i × (length i.text ≤ PIECE_LEN)
     × ((reports : List Placed) × AreReports false options.strict 0 i.text 0 reports
     × (o ≡ all_of (report_lines options i.text 1 reports)) × (summary ≡ verified (counts_of reports)))
--- all was read; then a write or the flush failed. A beginning of these lines was written, maybe nothing or all, and
--- nothing was flushed
+-- all was read; then a write or the flush failed. A beginning of these lines, maybe nothing or all, was written,
+-- nothing flushed
 Verifies options (Err WriteFailed) i o = IsWhole i × (length i.text ≤ PIECE_LEN)
     × ((reports : List Placed) × AreReports false options.strict 0 i.text 0 reports
     × BreaksOffIn nothing (report_lines options i.text 1 reports) o)
