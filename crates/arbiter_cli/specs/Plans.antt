@@ -49,7 +49,7 @@ number_of text = digits_value 10 (without_leading_plus text)
 
 -- ---- of `verify`
 
--- the names between the commas (byte 44) of the value of `--ignore`, such as `result,board`, empty ones too
+-- the names between the commas (byte 44) of `--ignore`, such as `result,board`, empty ones too
 abbrev pub ignored_in : Values → List Text
 ignored_in value = option_map_or (slice_split (λ b. b == 44)) (value (codes "ignore")) []
 

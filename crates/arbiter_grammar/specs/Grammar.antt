@@ -21,7 +21,7 @@ checked_rule name parser = record (option_rule name) { parser = Some parser }
 abbrev pub flag_rule : Text → Rule
 flag_rule name = record (new_rule name) { long = Some name; action = Some SetTrue }
 
--- references to the lists of the names that `--variant` and `--draws` take; lists and names may be anywhere in memory
+-- the names that `--variant` and `--draws` take, anywhere in memory
 pub record OptionNames : Type 0 where
   pub variants : Bor (List (Bor Text))
   pub draws : Bor (List (Bor Text))
@@ -43,7 +43,7 @@ verify_app = fold with_rule (new_app (codes "verify"))
     (map flag_rule (codes "keep-going" ∷ codes "quiet" ∷ codes "strict" ∷ codes "explain" ∷ codes "spans"
     ∷ codes "names" ∷ codes "variations" ∷ []) ++ option_rule (codes "ignore") ∷ [])
 
--- the subcommand `stub`, which takes any number of positional arguments; `clap` knows them as `words`
+-- the subcommand `stub`, with any number of positional arguments, `words` to `clap`
 abbrev pub stub_app : App
 stub_app =
     with_rule (new_app (codes "stub")) (record (new_rule (codes "words")) { action = Some Append; value_names = 1 })
