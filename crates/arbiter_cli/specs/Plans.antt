@@ -24,37 +24,36 @@ use Rattle.cecp_engine.specs.declared.level_fault.LevelFault.{LevelFault}
 
 -- ---- what arguments say
 
--- the values of options by their names, without `--`. A flag that was given has the value `true`; one that was not has
--- `false` or `None`
+-- the values of options by their names, without `--`. A flag given has the value `true`; one not given `false` or
+-- `None`
 abbrev pub Values : Type 0
 Values = Text → Option Text
 
--- what arguments say: the subcommand's name, the values of its options, and as `replies` the positional arguments of
--- `stub`
+-- what arguments say; `replies` are the positional arguments of `stub`
 pub record Said : Type 0 where
   pub command : Text
   pub value : Values
   pub replies : List Text
 
--- whether the option with this name was given with the value `text`
+-- whether this option was given with the value `text`
 abbrev pub has_value : Text → Text → Values → Bool
 has_value name text value = option_map_or (λ given. bytes_eq given text) (value name) false
 
--- whether the flag with this name, such as `quiet` for `--quiet`, was given
+-- whether this flag, such as `quiet` for `--quiet`, was given
 abbrev pub is_set : Text → Values → Bool
 is_set name value = has_value name (codes "true") value
 
--- the number that a value denotes in decimal, perhaps with a `+` in front
+-- the number that a value denotes in decimal, perhaps after a `+`
 abbrev pub number_of : Text → ℕ
 number_of text = digits_value 10 (without_leading_plus text)
 
 -- ---- of `verify`
 
--- the names between the commas (byte 44) of the value of `--ignore`, such as `result,board`, empty ones too
+-- the names between the commas (byte 44) of `--ignore`, such as `result,board`, empty ones too
 abbrev pub ignored_in : Values → List Text
 ignored_in value = option_map_or (slice_split (λ b. b == 44)) (value (codes "ignore")) []
 
--- whether `--ignore`, if it was given, names only kinds of fault that `verify` may ignore
+-- whether `--ignore`, if given, names only kinds of fault that it may
 abbrev pub ignores_kinds : Values → Bool
 ignores_kinds value = let kinds = codes "variant" ∷ codes "result" ∷ codes "board" ∷ codes "after-end" ∷ [] in
     list_all (λ name. list_any (bytes_eq name) kinds) (ignored_in value)
@@ -82,15 +81,14 @@ verify_options_of value = let is_strict = is_set (codes "strict") value in recor
 
 -- ---- of `match`
 
--- the position in which each game of a match starts: the one that `--fen` denotes, or without it the initial position
--- of normal chess, both in the variant that `--variant` asks for (Chess960 with `fischerandom`, otherwise normal
--- chess); or the FEN's fault
+-- the position in which each game of a match starts: that of `--fen`, or without it the initial position of normal
+-- chess, both in the variant of `--variant` (Chess960 with `fischerandom`, otherwise normal chess); or the FEN's fault
 abbrev pub start_asked : Values → Result Setup FenFault
 start_asked value = let v = if has_value (codes "variant") (codes "fischerandom") value then Fischerandom else Normal in
     option_map_or (fen_reading_as v) (value (codes "fen")) (Ok (initial_setup_of v))
 
--- the time controls of the engines of `--white` and `--black`: each its own, if it was given, otherwise the common one,
--- by default 40 moves in 5 minutes; or the first fault. The common one is read even if each engine has its own
+-- the time controls of the engines of `--white` and `--black`: each its own, if given, otherwise the common one, by
+-- default 40 moves in 5 minutes; or the first fault. The common one is read even if each engine has its own
 abbrev pub levels_asked : Values → Result (LevelSeen × LevelSeen) LevelFault
 levels_asked value = do
   level ← level_reading (unwrap_or (value (codes "level")) (codes "40 5 0"))
@@ -102,29 +100,27 @@ levels_asked value = do
 abbrev pub is_date : Text → Bool
 is_date text = nat_le (length text) 60 && list_all (λ b. nat_le 32 b && nat_le b 126) text
 
--- the time controls of a match's engines (first that of `--white`), its games' start, and their date; or the first
--- fault of these
+-- the time controls of a match's engines (first that of `--white`), its games' start and date; or their first fault
 abbrev pub levels_start_and_date : Values → Result ((LevelSeen × LevelSeen) × Setup × Text) WordsFault
 levels_start_and_date value = let date = unwrap_or (value (codes "date")) (codes "????.??.??") in do
   levels ← result_map_both (λ levels. levels) BadLevel (levels_asked value)
   start ← result_map_both (λ setup. setup) BadFen (start_asked value)
   if is_date date then Ok (levels, start, date) else Err BadDate
 
--- `plan` is the plan of a match with these options, each as given or by default; `--white` and `--black` have no
--- default
+-- the plan of a match with these options, each as given or by default; `--white` and `--black` have no default
 pub record IsMatchPlan (value : Values) (plan : GamesPlan) : Type 0 where
   pub white : value (codes "white") ≡ Some plan.white.now
   pub black : value (codes "black") ≡ Some plan.black.now
-  -- the time controls of both engines, the start of each game and the date
+  -- the time controls, the start and the date
   pub read : levels_start_and_date value ≡ Ok ((plan.white_level, plan.black_level), plan.start, plan.date.now)
   -- as many games as `--games` asks for, or 1
   pub games : plan.games ≡ option_map_or number_of (value (codes "games")) 1
   pub games_range : (1 ≤ plan.games) × (plan.games ≤ 1000)
   pub log : plan.log ≡ is_set (codes "log") value
   pub flag : plan.patience.flag ≡ is_set (codes "flag") value
-  -- the limit for replies, in milliseconds, but `--reply-timeout` is in seconds
+  -- in milliseconds, but `--reply-timeout` in seconds
   pub reply : plan.patience.reply ≡ option_map (λ text. number_of text * 1000) (value (codes "reply-timeout"))
-  -- `claimed`, the other name that `--draws` takes, is its default
+  -- `claimed`, the other name for `--draws`, is its default
   pub draws : plan.draws ≡ (if has_value (codes "draws") (codes "automatic") value then Automatic else Claimed)
 
 -- ---- plans
@@ -138,9 +134,8 @@ IsPlanOf said (Verify keep_going options) = (said.command ≡ codes "verify") ×
 IsPlanOf said (Stub arguments) = (said.command ≡ codes "stub") × (map (λ w. w.now) arguments.items ≡ said.replies)
 IsPlanOf said (Match plan) = (said.command ≡ codes "match") × IsMatchPlan said.value plan
 
--- the result of reading arguments is right. `said` is what they say; `kinds` are the kinds of fault, apart from out of
--- memory, that `clap`, the parser of arguments, may report for them (help and the version count as such), none if it
--- accepts them
+-- the result of reading arguments is right. `said`: what they say; `kinds`: the kinds of fault, but out of memory, that
+-- `clap`, the parser of arguments, may report for them (help and the version count as such), none if it accepts them
 abbrev pub IsReadAs : Kinds → Said → Result Plan WordsFault → Type 0
 -- the plan that they ask for
 IsReadAs kinds said (Ok plan) = (kinds ≡ []) × IsPlanOf said plan

@@ -9,26 +9,26 @@ use Rattle.clap.specs.declared.builder.value_parser.ValueParser.{ValueParser}
 use Rattle.clap.specs.declared.builder.value_parser.ValueParser.TheVariants.{Names, Unsigned}
 use Rattle.clap.specs.declared.builder.action.ArgAction.TheVariants.{Append, SetTrue}
 
--- the option `--NAME TEXT` with this name, which takes a text
+-- the option `--NAME TEXT`
 abbrev pub option_rule : Text → Rule
 option_rule name = record (new_rule name) { long = Some name; value_names = 1 }
 
--- the option `--NAME TEXT` with this name, which takes only a text that `parser` accepts
+-- the option `--NAME TEXT`, if `parser` accepts the text
 abbrev pub checked_rule : Text → ValueParser → Rule
 checked_rule name parser = record (option_rule name) { parser = Some parser }
 
--- the option `--NAME` with this name, which takes no text
+-- the option `--NAME`, without a text
 abbrev pub flag_rule : Text → Rule
 flag_rule name = record (new_rule name) { long = Some name; action = Some SetTrue }
 
--- references to the lists of the names that `--variant` and `--draws` take; lists and names may be anywhere in memory
+-- the names that `--variant` and `--draws` take, anywhere in memory
 pub record OptionNames : Type 0 where
   pub variants : Bor (List (Bor Text))
   pub draws : Bor (List (Bor Text))
   pub variants_are : map (λ n. n.now) variants.now ≡ codes "normal" ∷ codes "fischerandom" ∷ []
   pub draws_are : map (λ n. n.now) draws.now ≡ codes "claimed" ∷ codes "automatic" ∷ []
 
--- the subcommand `match` with its options. `Unsigned a b` takes the numbers from a to b, both included
+-- the subcommand `match`. `Unsigned a b` takes the numbers from a to b, both included
 abbrev pub match_app : OptionNames → App
 match_app names = fold with_rule (new_app (codes "match")) (
     record (option_rule (codes "white")) { required = true } ∷ record (option_rule (codes "black")) { required = true }
@@ -37,13 +37,13 @@ match_app names = fold with_rule (new_app (codes "match")) (
     ∷ checked_rule (codes "variant") (Names names.variants) ∷ checked_rule (codes "draws") (Names names.draws)
     ∷ flag_rule (codes "log") ∷ flag_rule (codes "flag") ∷ checked_rule (codes "reply-timeout") (Unsigned 1 999) ∷ [])
 
--- the subcommand `verify` with its flags, and `--ignore`
+-- the subcommand `verify`
 abbrev pub verify_app : App
 verify_app = fold with_rule (new_app (codes "verify"))
     (map flag_rule (codes "keep-going" ∷ codes "quiet" ∷ codes "strict" ∷ codes "explain" ∷ codes "spans"
     ∷ codes "names" ∷ codes "variations" ∷ []) ++ option_rule (codes "ignore") ∷ [])
 
--- the subcommand `stub`, which takes any number of positional arguments; `clap` knows them as `words`
+-- the subcommand `stub`, with any number of positional arguments, `words` to `clap`
 abbrev pub stub_app : App
 stub_app =
     with_rule (new_app (codes "stub")) (record (new_rule (codes "words")) { action = Some Append; value_names = 1 })
@@ -55,8 +55,8 @@ arbiter_app names = let a = new_app (codes "arbiter") in fold with_subcommand
     (record a { top = record a.top { has_version = true; no_binary_name = true; disable_help_subcommand = true } })
     ((new_app (codes "session")).top ∷ verify_app.top ∷ stub_app.top ∷ (match_app names).top ∷ [])
 
--- the result of parsing the arguments `words` is right: their subcommand and options if they have no fault, otherwise
--- an error of one of the kinds of fault that they have
+-- the result of parsing the arguments `words` is right: their subcommand and options, or an error of a kind of fault
+-- that they have
 abbrev pub IsParsedBy : OptionNames → List Text → Result ArgMatches Error → Type 0
 IsParsedBy names words (Ok m) = (fault_of (arbiter_app names) words ≡ [])
     × (subcommand_rows_of m ≡ subcommand_of (arbiter_app names) words)
@@ -75,15 +75,14 @@ abbrev pub NamesBoth : Text × List Row → Type 0
 NamesBoth p = p.0 ≡ codes "match" → (is_some (first_of (codes "white") p.1) ≡ true)
     × (is_some (first_of (codes "black") p.1) ≡ true)
 
--- if the option with this name was given, its value is a number from 1 to `most`; `rows` are the options as matched
+-- this option's value, if given, is a number from 1 to `most`; `rows` are the options as matched
 abbrev pub HasNumber : Text → ℕ → List Row → Type 0
 HasNumber name most rows = (t : Text) → first_of name rows ≡ Some t → is_unsigned_in 1 most t ≡ true
 
--- the numbers of games and of seconds, if they were given, are in their ranges; `rows` are the options as matched
+-- the numbers of games and of seconds, if given, are in range; `rows` are the options as matched
 abbrev pub HasNumbers : List Row → Type 0
 HasNumbers rows = HasNumber (codes "games") 1000 rows × HasNumber (codes "reply-timeout") 999 rows
 
--- `p`, the name and the options of a subcommand as matched, has all that it needs: of `match` both engines, and valid
--- numbers where they are given
+-- `p`, the name and the options of a subcommand as matched, has all that it needs
 abbrev pub IsComplete : Text × List Row → Type 0
 IsComplete p = NamesBoth p × IsCommand p.0 × HasNumbers p.1

@@ -17,7 +17,7 @@ use Rattle.pgn_verifier.specs.WrongParts.{from_field, field_at, field_number, fe
 
 -- ---- the text at a fault
 
--- a word as an explanation shows it, with `?` for each byte that is not printable ASCII; `(end)` for an empty one
+-- a word as an explanation shows it: `?` for each byte that isn't printable ASCII; `(end)` for an empty word
 abbrev pub shown_word : List ℕ → List ℕ
 shown_word word = if length word == 0 then codes "(end)" else map shown_byte word
 
@@ -27,22 +27,22 @@ shown text = shown_word (take_while (λ c. not (is_white_space c)) (take 40 text
 
 -- ---- the part that is wrong
 
--- the part of a text that is wrong, by the kind of the fault: the offset at which it begins, and what is shown of it.
--- `at`: the fault's offset; `begin`: that of its game
+-- the wrong part of a text, by the fault's kind: its offset, and what is shown of it. `at`: the fault's offset;
+-- `begin`: its game's
 abbrev pub wrong_part : FaultKind → List ℕ → (begin at : ℕ) → ℕ × List ℕ
--- of a bad FEN it is a field, at most 80 bytes of it. The FEN ends at the next quote, even at one after a backslash
+-- of a bad FEN: a field, at most 80 bytes of it. The FEN ends at the next quote, even one after a backslash
 wrong_part (Pgn (BadFen fault)) text begin at =
     let all = take_while (λ c. not (c == byte "\"")) (drop at text) in let number = field_number fault all in
     (at + (length all - length (from_field number all)), shown_word (take 80 (field_at number all)))
--- of a missing result it is the game's first word, since the fault's byte is the next game's or the text's end
+-- of a missing result: the game's first word, since the fault's byte is the next game's or the text's end
 wrong_part (Pgn NoResult) text begin at = (begin, shown (drop begin text))
--- of any other fault it is the first word from the fault's byte on
+-- of any other fault: the first word from its byte on
 wrong_part _ text begin at = (at, shown (drop at text))
 
 -- ---- the reason
 
--- `reason` is the one given for a fault of this kind, `None` for none. `text`: all from the fault's byte on; `verdict`:
--- what ended the game where reading stopped, `None` for none
+-- the reason given for a fault of this kind, if any. `text`: all from the fault's byte on; `verdict`: what ended the
+-- game where reading stopped, if anything
 abbrev pub IsReason : FaultKind → List ℕ → Option Verdict → Option (List ℕ) → Type 0
 IsReason (Pgn BadTag) text verdict reason = IsTagReason text reason
 IsReason (Pgn (BadFen fault)) text verdict reason = reason ≡ Some (fen_reason fault)
@@ -55,8 +55,8 @@ IsReason (Pgn AfterEnd) text verdict reason = reason ≡ option_map (λ v. resul
 IsReason (InVariation BadToken) text verdict reason = reason ≡ Some (token_reason text)
 IsReason UnknownVariant text verdict reason =
     reason ≡ Some (codes "neither normal chess nor Chess960, by a name that is known")
--- the first word of the tag Result, which has `tag_len` bytes between its quotes, and the game's termination marker, as
--- in `Result 1-0, ended 0-1`
+-- the first word of the tag Result (`tag_len` bytes between its quotes) and the termination marker, as in `Result 1-0,
+-- ended 0-1`
 IsReason (ResultDiffers tag_len outcome) text verdict reason =
     reason ≡ Some (codes "Result " ++ (shown (take tag_len text) ++ (codes ", ended " ++ outcome_text outcome)))
 IsReason BoardSaysOtherwise text verdict reason = reason ≡ option_map (λ v. result_text (verdict_result v)) verdict
@@ -64,8 +64,7 @@ IsReason _ text verdict reason = reason ≡ None
 
 -- ---- the explanation
 
--- whether the explanation of a fault of this kind shows a position: not of a bad tag, a bad FEN or an unknown variant,
--- and not in a variation
+-- whether the explanation of a fault of this kind shows a position
 abbrev pub has_position : FaultKind → Bool
 has_position (Pgn BadTag) = false
 has_position (Pgn (BadFen fault)) = false
@@ -73,14 +72,14 @@ has_position (InVariation kind) = false
 has_position UnknownVariant = false
 has_position _ = true
 
--- what explains a fault besides the part that is wrong, each after ` | `: the FEN of the position in which reading
--- stopped, if its kind shows one, and the reason, if there is one. `s`: the game as far as it was read
+-- what explains a fault besides the wrong part, each after ` | `: the FEN of the position in which reading stopped, if
+-- its kind shows one, and the reason, if any. `s`: the game as far as it was read
 abbrev pub explanation : State → FaultKind → Option (List ℕ) → List ℕ
 explanation s kind reason = (if has_position kind then codes " | " ++ fen (current s) else [])
     ++ option_map_or (λ why. codes " | " ++ why) reason []
 
--- the line that explains a fault by this text, such as `# line 2 column 4 Ke3`. The line and the column are those of
--- the offset `begin` of `input`, which is all that was read
+-- the line that explains a fault by this text, such as `# line 2 column 4 Ke3`. Line and column are those of the offset
+-- `begin` of `input`, all that was read
 unfoldable pub explanation_line : List ℕ → ℕ → List ℕ → List ℕ
 explanation_line input begin text = codes "# line " ++ (decimal (line_of input begin) ++ (codes " column "
     ++ (decimal (column_of input begin) ++ (codes " " ++ (text ++ new_line ∷ [])))))

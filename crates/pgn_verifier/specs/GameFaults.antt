@@ -24,25 +24,25 @@ use Rattle.pgn_verifier.specs.declared.game_fault.GameFault.{GameFault}
 
 -- ---- at a game's end
 
--- the fault of a game whose last tag Result (`tag`; `None` without one) names no outcome, or another than its
--- termination marker (`end`), at the first byte between the tag's quotes; `None` if both agree or there is no such tag
+-- the fault of a game whose last tag Result (`tag`, if any) names no outcome, or another than its termination marker
+-- (`end`), at the first byte between the tag's quotes
 abbrev pub result_differs : Option ResultTag → PgnEnd → Option GameFault
 result_differs None end = None
 result_differs (Some tag) end = if option_eq same_outcome tag.outcome (Some end.outcome) then None
     else Some (record { kind = ResultDiffers tag.len end.outcome; offset = tag.offset })
 
 -- the fault of a game whose termination marker (`end`) isn't the outcome of the board's `verdict`, as `*` never is, at
--- the marker's first byte; `None` if both agree or there is no verdict
+-- the marker's first byte; `None` without a verdict
 abbrev pub board_says_otherwise : Option Verdict → PgnEnd → Option GameFault
 board_says_otherwise verdict end = if contradicts_verdict verdict end.outcome
     then Some (record { kind = BoardSaysOtherwise; offset = end.offset - length (outcome_text end.outcome) }) else None
 
 -- ---- a game
 
--- what is reported of a game, by how reading it ended (the last argument). `Ok None`: there is no game. `Err`: the
--- fault of reading. `Ok (Some end)`: its end, unless it has a fault that `strict` asks for. The first is reported of:
--- one in its variations (`variation end`); an unknown variant, named at the offset `unknown`; a marker that contradicts
--- the last tag Result (`tag`), or the board's `verdict`
+-- what is reported of a game, by how reading it ended (last argument). `Ok None`: no game. `Err`: the fault of reading.
+-- `Ok (Some end)`: its end, or the first fault that `strict` asks for of: one in its variations (`variation end`); an
+-- unknown variant, named at the offset `unknown`; a marker that contradicts the last tag Result (`tag`), or the board's
+-- `verdict`
 abbrev pub judged : Strictness → (PgnEnd → Option PgnFault) → Option ℕ → Option ResultTag → Option Verdict
     → Result (Option PgnEnd) PgnFault → Result (Option PgnEnd) GameFault
 judged strict variation unknown tag verdict (Ok None) = Ok None
@@ -54,9 +54,9 @@ judged strict variation unknown tag verdict (Ok (Some end)) = option_map_or Err
     (if strict.board then board_says_otherwise verdict end else None)))) (Ok (Some end))
 judged strict variation unknown tag verdict (Err fault) = Err (record { kind = Pgn fault.kind; offset = fault.offset })
 
--- `answer` is what is reported of the first game from the offset `at` of the text on (see `judged`). `s`: this game as
--- far as it was read, at most 20,000 half-moves (`MOST_MOVES`). `strict`: which faults are looked for, and whether
--- fivefold repetition and 75 moves end a game (`draws_of_2014`)
+-- `answer` is what is reported of the first game from the text's offset `at` on (`judged`). `s`: this game as far as it
+-- was read, at most 20,000 half-moves (`MOST_MOVES`). `strict`: which faults are looked for, and whether fivefold
+-- repetition and 75 moves end a game (`draws_of_2014`)
 pub record IsJudged (strict : Strictness) (text : List ℕ) (at : ℕ) (s : State)
     (answer : Result (Option PgnEnd) GameFault) : Type 0 where
   -- the text's tokens from `at` on

@@ -30,15 +30,15 @@ use Rattle.pgn_verifier.specs.declared.tally.Verified.TheVariants.{EachGame, Fau
 
 -- a report on a game, or on a piece that is too long
 pub data Report : Type 0 where
-  -- a game without a fault: how many half-moves it has, the outcome of its termination marker, and the value of its
-  -- last tag Termination (`None` if that is missing or not one of the standard's)
+  -- a game without a fault: its half-moves, the outcome of its termination marker, and the value of its last tag
+  -- Termination (`None` if missing or not one of the standard's)
   Game : (plies : ℕ) (outcome : Outcome) (termination : Option Termination) → Report
   -- a fault, at its offset in the input. `names`: the game's players, event and date, empty for a piece that is too
-  -- long; `wrong_at`, `part`: the input's offset of the part that is wrong, and what is shown of it; `why`: what else
-  -- explains the fault; `is_unread`: whether to say that from the fault's byte on the text isn't read
+  -- long; `wrong_at`, `part`: the wrong part's offset in the input, and what is shown of it; `why`: what else explains
+  -- the fault; `is_unread`: whether to say that from the fault's byte on the text isn't read
   Faulty : (fault : GameFault) (names : List ℕ) (wrong_at : ℕ) (part why : List ℕ) (is_unread : Bool) → Report
 
--- a report with its span: the part of the input from the byte at the offset `begin` on, before that at `end`
+-- a report with its span: the input from the offset `begin` on, before `end`
 pub record Placed : Type 0 where
   pub begin : ℕ
   pub end : ℕ
@@ -48,27 +48,26 @@ pub record Placed : Type 0 where
 abbrev pub spanning : (begin end : ℕ) → Report → Placed
 spanning begin end report = record { begin = begin; end = end; report = report }
 
--- the offset at which the next game from the offset `at` on begins: after a byte order mark (only if `at` is 0), and
--- then after white space
+-- where the next game from the offset `at` on begins: after a byte order mark (only if `at` is 0), then white space
 abbrev pub game_begin : List ℕ → ℕ → ℕ
 game_begin text at = let first = after_byte_order_mark text at in first + prefix_len is_white_space (drop first text)
 
--- the value of a game's last tag with this name as a line shows it: its first 40 bytes, with `?` for each that is not
--- printable ASCII; `?` alone if there is no such tag
+-- the value of a game's last tag with this name as a line shows it: its first 40 bytes, `?` for each that isn't
+-- printable ASCII; `?` alone without such a tag
 abbrev pub shown_tag : List (ℕ × Token) → List ℕ → List ℕ
 shown_tag tokens name =
     option_map_or (λ tag. map shown_byte (take 40 tag.0)) (last_tag name (tag_section tokens)) (codes "?")
 
--- what names the game with these tokens in a line, by its last tags of these names: ` | White - Black, Event Date`
+-- what names a game in a line, by its last tags of these names: ` | White - Black, Event Date`
 abbrev pub names_of : List (ℕ × Token) → List ℕ
 names_of tokens = codes " | " ++ (shown_tag tokens (codes "White") ++ (codes " - " ++ (shown_tag tokens (codes "Black")
     ++ (codes ", " ++ (shown_tag tokens (codes "Event") ++ (codes " " ++ shown_tag tokens (codes "Date")))))))
 
 -- ---- the reports on the games of a text
 
--- these are the reports on the games of `text` from an offset on (the number before the reports). The text begins at
--- the offset `start` of the input; reports have offsets in the input. `strict`: which faults are looked for; `goes_on`:
--- whether the text is read on after a fault
+-- the reports on the games of `text` from an offset on (the number). The text begins at the input's offset `start`;
+-- reports have offsets in the input. `strict`: which faults are looked for; `goes_on`: whether the text is read on
+-- after a fault
 pub data AreReports (goes_on : Bool) (strict : Strictness) (start : ℕ) (text : List ℕ) : ℕ → List Placed → Type 0 where
   -- no game comes from `at` on
   none_left : {at : ℕ} {s : State} → IsJudged strict text at s (Ok None) → AreReports goes_on strict start text at []
@@ -77,10 +76,10 @@ pub data AreReports (goes_on : Bool) (strict : Strictness) (start : ℕ) (text :
       → AreReports goes_on strict start text end.offset reports
       → AreReports goes_on strict start text at (spanning (start + game_begin text at) (start + end.offset)
       (Game (length s.moves) end.outcome end.termination) ∷ reports)
-  -- the next game has a fault: `part` is the part that is wrong, `reason` why, and `next` where the game ends (`None`
-  -- if not `goes_on`, or if no end is found). The game's span goes to there, or with `None` to the text's end, and
-  -- reading goes on there. If `goes_on`, but no end is found, the report says that from the fault's byte on, if there
-  -- is one, the text isn't read
+  -- the next game has a fault: `part` is the wrong part, `reason` why, `next` where the game ends (`None` if not
+  -- `goes_on`, or no end is found). Its span ends there, or with `None` at the text's end, and reading goes on there.
+  -- If `goes_on`, but no end is found, the report says that from the fault's byte on, if there is one, the text isn't
+  -- read
   next_fault : {at : ℕ} {s : State} {fault : GameFault} {reports : List Placed} (part : ℕ × List ℕ)
       (reason : Option (List ℕ)) (next : Option ℕ) (game : IsJudged strict text at s (Err fault))
       → part ≡ wrong_part fault.kind text (game_begin text at) fault.offset
@@ -94,9 +93,8 @@ pub data AreReports (goes_on : Bool) (strict : Strictness) (start : ℕ) (text :
 
 -- ---- the reports on the games of pieces
 
--- these are the reports on a piece that begins at this offset of the input, read as a text of its own, also after
--- faults (`true`). If it has more than 16,777,216 bytes (`PIECE_LEN`), its only report is a fault at its first byte: it
--- is too long and isn't read
+-- the reports on a piece that begins at this offset of the input, read as a text of its own, also after faults
+-- (`true`). One of more than 16,777,216 bytes (`PIECE_LEN`) isn't read: its only report is a fault at its first byte
 abbrev pub AreReportsIn : Strictness → ℕ → List ℕ → List Placed → Type 0
 AreReportsIn strict offset piece reports =
     MatchBool (nat_le (length piece) PIECE_LEN) (AreReports true strict offset piece 0 reports)
@@ -105,7 +103,7 @@ AreReportsIn strict offset piece reports =
 
 -- ---- their lines
 
--- the line of the report with this number and text, such as `game 2: illegal move at byte 39`
+-- a report's line, such as `game 2: illegal move at byte 39`
 unfoldable pub report_line : ℕ → List ℕ → List ℕ
 report_line number text = codes "game " ++ (decimal number ++ (codes ": " ++ (text ++ new_line ∷ [])))
 
@@ -115,16 +113,16 @@ abbrev pub span_text : VerifyOptions → Placed → List ℕ
 span_text options p =
     if options.spans then codes ", bytes " ++ (decimal p.begin ++ (codes " to " ++ decimal p.end)) else []
 
--- what is written of `placed`, whose report is also the last argument, so that its cases can be distinguished. `input`:
--- all that was read; `number`: the report's number
+-- what is written of `placed`, whose report is also the last argument. `input`: all that was read; `number`: the
+-- report's number
 abbrev pub written_line : VerifyOptions → List ℕ → ℕ → Placed → Report → List ℕ
 -- a game's line, such as `game 3: 4 half-moves, 0-1, time forfeit`, unless `options.quiet` leaves it out
 written_line options input number placed (Game plies outcome termination) =
     if options.quiet then [] else report_line number (decimal plies ++ (codes " half-moves, " ++ (outcome_text outcome
     ++ (option_map_or (λ t. codes ", " ++ termination_text t) termination [] ++ span_text options placed))))
 -- a fault's line, such as `game 2: illegal move at byte 39`, with the span and, if `options.names`, what names the
--- game. If `options.explain`, a line follows that explains the fault, and may end with the bytes that aren't read, such
--- as ` | bytes 151 to 606 not read`: from the byte 151 on, before 606
+-- game. If `options.explain`, a line follows that explains it, and may end with the bytes not read, such as ` | bytes
+-- 151 to 606 not read`: from the byte 151 on, before 606
 written_line options input number placed (Faulty fault names wrong_at part why is_unread) =
     report_line number (fault_name fault.kind ++ (codes " at byte " ++ (decimal fault.offset
     ++ (span_text options placed ++ (if options.names then names else [])))))
@@ -132,8 +130,8 @@ written_line options input number placed (Faulty fault names wrong_at part why i
     then codes " | bytes " ++ (decimal fault.offset ++ (codes " to " ++ (decimal placed.end ++ codes " not read")))
     else []))) else [])
 
--- the lines of these reports, numbered from `number` on; one that `options.quiet` leaves out has a number too. `input`:
--- all that was read
+-- the lines of these reports, numbered from `number` on, also those that `options.quiet` leaves out. `input`: all that
+-- was read
 abbrev pub report_lines : VerifyOptions → List ℕ → ℕ → List Placed → List ℕ
 report_lines options input number [] = []
 report_lines options input number (placed ∷ rest) =
@@ -146,7 +144,7 @@ abbrev pub is_game : Report → Bool
 is_game (Game plies outcome termination) = true
 is_game (Faulty fault names wrong_at part why is_unread) = false
 
--- how many half-moves a report counts, 0 for a fault
+-- a report's half-moves, 0 for a fault
 abbrev pub plies_of : Report → ℕ
 plies_of (Game plies outcome termination) = plies
 plies_of (Faulty fault names wrong_at part why is_unread) = 0

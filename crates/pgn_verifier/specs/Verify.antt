@@ -15,16 +15,15 @@ abbrev pub Verifies : VerifyOptions → Result Verified VerifyFault → FromInpu
 Verifies options (Ok summary) i o = IsWhole i × (length i.text ≤ PIECE_LEN)
     × ((reports : List Placed) × AreReports false options.strict 0 i.text 0 reports
     × (o ≡ all_of (report_lines options i.text 1 reports)) × (summary ≡ verified (counts_of reports)))
--- all was read; then a write or the flush failed. A beginning of these lines was written, maybe nothing or all, and
--- nothing was flushed
+-- all was read; then a write or the flush failed. A beginning of these lines, maybe nothing or all, was written,
+-- nothing flushed
 Verifies options (Err WriteFailed) i o = IsWhole i × (length i.text ≤ PIECE_LEN)
     × ((reports : List Placed) × AreReports false options.strict 0 i.text 0 reports
     × BreaksOffIn nothing (report_lines options i.text 1 reports) o)
--- a read failed before the input's end, and nothing was written
+-- a read failed before the input's end; nothing was written
 Verifies options (Err ReadFailed) i o = (i.ended ≡ false) × (i.failed ≡ true) × (o ≡ nothing)
--- memory ran out before the input's end, or at the end of one that isn't too long; no read failed, and nothing was
--- written
+-- memory ran out before the input's end, or at the end of one that isn't too long; no read failed, nothing was written
 Verifies options (Err NoMemory) i o = (i.failed ≡ false) × (i.ended ≡ true → length i.text ≤ PIECE_LEN) × (o ≡ nothing)
--- more than `PIECE_LEN` bytes were read, without the input's end; no read failed, and nothing was written
+-- more than `PIECE_LEN` bytes were read, without the input's end; no read failed, nothing was written
 Verifies options (Err InputTooLong) i o =
     (i.failed ≡ false) × (i.ended ≡ false) × (PIECE_LEN < length i.text) × (o ≡ nothing)

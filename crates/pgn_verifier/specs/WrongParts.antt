@@ -14,19 +14,19 @@ use Rattle.pgn_pieces.specs.Pieces.{drop_while}
 
 -- ---- the fields of a FEN
 
--- a FEN from its field with this number on, 0 for the first; empty without such a field. One or more spaces separate
--- fields. From field 4 of `8/8 w - - 0 1` on it is `0 1`
+-- a FEN from this field on, 0 for the first; empty without it. One or more spaces separate fields. From field 4 of `8/8
+-- w - - 0 1` on it is `0 1`
 unfoldable pub from_field : ℕ → List ℕ → List ℕ
 from_field zero fen = drop_while (λ c. c == space) fen
 from_field (suc number) fen = from_field number (drop_while (λ c. not (c == space)) (drop_while (λ c. c == space) fen))
 
--- the field of a FEN with this number; empty without such a field
+-- this field of a FEN; empty without it
 abbrev pub field_at : ℕ → List ℕ → List ℕ
 field_at number fen = take_while (λ c. not (c == space)) (from_field number fen)
 
--- the number of the field that is shown for this fault of a FEN, 0 for the first. Of the counters it is the halfmove
--- clock, or if that is a number of 1 to 6 digits, the fullmove number. For a fault of no single field, such as two
--- kings, it is the first
+-- the number of the field shown for this fault of a FEN, 0 for the first. Of the counters it is the halfmove clock, or
+-- if that is a number of 1 to 6 digits, the fullmove number. For a fault of no single field, such as two kings, it is
+-- the first
 abbrev pub field_number : FenFault → List ℕ → ℕ
 field_number Side fen = 1
 field_number Castling fen = 2
@@ -56,8 +56,8 @@ HasOpening text rest = (name opening : List ℕ) × OpensTag name opening × (te
 abbrev pub HasString : List ℕ → Type 0
 HasString text = (string rest : List ℕ) × IsString string × (text ≡ string ++ byte "\"" ∷ rest)
 
--- the second argument is the reason for a bad tag: the first part that is missing of a name, a quote after it, a quote
--- that ends the value, and `]`. `text`: all from the tag's `[` on, where no tag can be read
+-- the second argument is the reason for a bad tag: the first part missing of a name, a quote after it, a quote that
+-- ends the value, and `]`. `text`: all from the tag's `[` on, where no tag can be read
 pub data IsTagReason (text : List ℕ) : Option (List ℕ) → Type 0 where
   no_name : (HasName text → ⊥) → IsTagReason text (Some (codes "no name"))
   no_value : HasName text → ((rest : List ℕ) → HasOpening text rest → ⊥) → IsTagReason text (Some (codes "no value"))
