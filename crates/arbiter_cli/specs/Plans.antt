@@ -53,7 +53,7 @@ number_of text = digits_value 10 (without_leading_plus text)
 abbrev pub ignored_in : Values → List Text
 ignored_in value = option_map_or (slice_split (λ b. b == 44)) (value (codes "ignore")) []
 
--- whether `--ignore`, if given, names only kinds of fault that it may
+-- whether `--ignore`, if given, names only kinds of fault that it may ignore
 abbrev pub ignores_kinds : Values → Bool
 ignores_kinds value = let kinds = codes "variant" ∷ codes "result" ∷ codes "board" ∷ codes "after-end" ∷ [] in
     list_all (λ name. list_any (bytes_eq name) kinds) (ignored_in value)
@@ -134,7 +134,7 @@ IsPlanOf said (Verify keep_going options) = (said.command ≡ codes "verify") ×
 IsPlanOf said (Stub arguments) = (said.command ≡ codes "stub") × (map (λ w. w.now) arguments.items ≡ said.replies)
 IsPlanOf said (Match plan) = (said.command ≡ codes "match") × IsMatchPlan said.value plan
 
--- the result of reading arguments is right. `said`: what they say; `kinds`: the kinds of fault, but out of memory, that
+-- the result of reading arguments is right. `said`: what they say; `kinds`: the kinds of fault, except out of memory, that
 -- `clap`, the parser of arguments, may report for them (help and the version count as such), none if it accepts them
 abbrev pub IsReadAs : Kinds → Said → Result Plan WordsFault → Type 0
 -- the plan that they ask for

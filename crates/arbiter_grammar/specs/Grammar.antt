@@ -13,7 +13,7 @@ use Rattle.clap.specs.declared.builder.action.ArgAction.TheVariants.{Append, Set
 abbrev pub option_rule : Text → Rule
 option_rule name = record (new_rule name) { long = Some name; value_names = 1 }
 
--- the option `--NAME TEXT`, if `parser` accepts the text
+-- the option `--NAME TEXT`, whose text `parser` accepts
 abbrev pub checked_rule : Text → ValueParser → Rule
 checked_rule name parser = record (option_rule name) { parser = Some parser }
 

@@ -325,7 +325,7 @@ fn check_no_start(rt: &impl Abort, host: &HostRuntime, white: &str, black: &str,
     check_early_end(rt, host, &arguments, errors, 1);
 }
 
-// White's command names no program, then Black's, and then Black's is blank.
+// White's command names no program, then Black's, and then Black's is all spaces.
 #[test]
 fn engines_that_can_not_start(rt: HostRuntime) -> Result<(), Fail> {
     let stub = stub(&rt, "e2e4")?;

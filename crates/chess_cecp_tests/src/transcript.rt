@@ -1,4 +1,4 @@
-//! Reads a session as it looks in a terminal, and says for each place in its input or output what was done by then.
+//! Reads a session as it looks in a terminal, and says for each point in its input or output what was done by then.
 
 use chess_cecp::{End, Fault};
 use std::alloc::{AllocError, Global};

@@ -219,7 +219,7 @@ fn changed_positions_are_judged(rt: HostRuntime) {
 // Below are texts in other forms than those that are written, and texts with each fault, and of several the
 // first.
 
-// Texts that are read though their positions are written otherwise: with more blanks, other digits, rights in another
+// Texts that are read though their positions are written otherwise: with more spaces, other digits, rights in another
 // order, zeros before a counter, 0 as the number of the move, or no counters.
 const SPELLINGS: &[(&[u8], Wanted)] = &[
     (
@@ -396,7 +396,7 @@ fn faults_of_positions_are_named(rt: HostRuntime) {
     check_all(&rt, Variant::Normal, POSITIONS);
 }
 
-// Texts of 10,000 bytes, all blanks or all digits, have too few fields.
+// Texts of 10,000 bytes, all spaces or all digits, have too few fields.
 #[test]
 fn long_texts_are_refused(rt: HostRuntime) {
     check(

@@ -55,8 +55,8 @@ IsReason (Pgn AfterEnd) text verdict reason = reason ≡ option_map (λ v. resul
 IsReason (InVariation BadToken) text verdict reason = reason ≡ Some (token_reason text)
 IsReason UnknownVariant text verdict reason =
     reason ≡ Some (codes "neither normal chess nor Chess960, by a name that is known")
--- the first word of the tag Result (`tag_len` bytes between its quotes) and the termination marker, as in `Result 1-0,
--- ended 0-1`
+-- the first word of the tag Result (`tag_len` bytes between its quotes) and the termination marker, as in
+-- `Result 1-0, ended 0-1`
 IsReason (ResultDiffers tag_len outcome) text verdict reason =
     reason ≡ Some (codes "Result " ++ (shown (take tag_len text) ++ (codes ", ended " ++ outcome_text outcome)))
 IsReason BoardSaysOtherwise text verdict reason = reason ≡ option_map (λ v. result_text (verdict_result v)) verdict

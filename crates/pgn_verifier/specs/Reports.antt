@@ -121,8 +121,8 @@ written_line options input number placed (Game plies outcome termination) =
     if options.quiet then [] else report_line number (decimal plies ++ (codes " half-moves, " ++ (outcome_text outcome
     ++ (option_map_or (λ t. codes ", " ++ termination_text t) termination [] ++ span_text options placed))))
 -- a fault's line, such as `game 2: illegal move at byte 39`, with the span and, if `options.names`, what names the
--- game. If `options.explain`, a line follows that explains it, and may end with the bytes not read, such as ` | bytes
--- 151 to 606 not read`: from the byte 151 on, before 606
+-- game. If `options.explain`, a line follows that explains it, and may end with the bytes not read, such as
+-- ` | bytes 151 to 606 not read`: from the byte 151 on, before 606
 written_line options input number placed (Faulty fault names wrong_at part why is_unread) =
     report_line number (fault_name fault.kind ++ (codes " at byte " ++ (decimal fault.offset
     ++ (span_text options placed ++ (if options.names then names else [])))))

@@ -14,8 +14,8 @@ use Rattle.pgn_pieces.specs.Pieces.{drop_while}
 
 -- ---- the fields of a FEN
 
--- a FEN from this field on, 0 for the first; empty without it. One or more spaces separate fields. From field 4 of `8/8
--- w - - 0 1` on it is `0 1`
+-- a FEN from this field on, 0 for the first; empty without it. One or more spaces separate fields. From field 4 of
+-- `8/8 w - - 0 1` on it is `0 1`
 unfoldable pub from_field : ℕ → List ℕ → List ℕ
 from_field zero fen = drop_while (λ c. c == space) fen
 from_field (suc number) fen = from_field number (drop_while (λ c. not (c == space)) (drop_while (λ c. c == space) fen))
