@@ -26,7 +26,7 @@ choose() {
 
 # Lists the crates that the program needs, their folders, and the sources as they are.
 list() {
-    : >"$copies/crates.txt" && choose arbiter && [ -s "$copies/crates.txt" ] || return
+    (cd "$copies" && show) && : >"$copies/crates.txt" && choose arbiter && [ -s "$copies/crates.txt" ] || return
     sed 's,[: ].*,,; s,.*,crates/&/src\ncrates/&/specs\ncrates/&/proofs,' "$copies/crates.txt" >"$out/folders" || return
     # A source that is edited from here on will differ from this list, so the next start builds again.
     before=$(sources)
@@ -52,12 +52,31 @@ copy() {
     done
 }
 
-# Proves as many crates at a time as there are processors, with 1.5 GB of memory for each, but at most eight, since more
-# are hardly ever ready. At the end rt runs the program; what that prints goes to the log, too.
+# Hides the two crates above all others from `rt all check`, which proves each crate on one processor, and would prove
+# these alone.
+hide() {
+    local it
+    mkdir -p hidden && mv crates.txt hidden || return
+    grep -vE '^(chess_)?arbiter:' hidden/crates.txt >crates.txt
+    for it in crates/chess_arbiter crates/arbiter; do [ ! -d "$it" ] || mv "$it" hidden || return; done
+}
+
+# Shows what is hidden, also by a build that was ended, to `rt run`, which proves one crate after another, on several
+# processors each.
+show() { [ ! -d hidden ] || { mv hidden/crates.txt . && mv hidden/* crates && rmdir hidden; }; }
+
+# Proves as many crates at a time as there are processors, and on four or more also others, since not all are busy, with
+# 1.5 GB of memory for each, but at most eight, since more are hardly ever ready. At the end rt runs the program; what
+# that prints goes to the log, too.
 prove() {
     [[ $(</proc/meminfo) =~ MemAvailable:\ *([0-9]+) ]]
-    set -- "$(printf '%s\n' 8 "$(nproc)" $((BASH_REMATCH[1] / 1500000)) | sort -n | head -n 1)"
-    cd "$copies" && rt all check --jobs $(($1 > 0 ? $1 : 1)) && cd ./crates/arbiter && exec rt run -- --version
+    set -- "$(nproc)" $((BASH_REMATCH[1] / 1500000))
+    set -- "$(printf '%s\n' 8 $(($1 + $1 / 4)) "$2" | sort -n | head -n 1)"
+    cd "$copies" && hide || return
+    [ ! -s crates.txt ] || rt all check --jobs $(($1 > 0 ? $1 : 1))
+    set -- $?
+    show && [ "$1" -eq 0 ] || return $(($1 > 0 ? $1 : 1))
+    cd ./crates/arbiter && rt run -- --version && grep -oE '^(chess_)?arbiter:' ../../crates.txt | sed 's/^/== /'
 }
 
 # Shows how many crates of all are proved, and the minutes so far: on a terminal in one line, which is rewritten.
@@ -83,7 +102,7 @@ follow() {
 # argument is rt's status, or a reason in words; the second is not 0 if a part of the log could not be written.
 fail_by() {
     [ -f "$log" ] || fail "$copies was deleted meanwhile"
-    grep -avE ': (proved|ok)$|: modules loaded=|^(so far: |by-macro: |logic |logic=proved )' "$log" >&2
+    grep -avE ': (proved|ok)$|: modules loaded=|^(so far: |checked .* of [0-9]+$|by-macro: |logic |logic=proved )' "$log" >&2
     local free=$(($(df -k --output=avail "$copies" | tail -n 1)))
     [ "$2" -eq 0 ] && [ "$free" -ge 10000 ] && ! grep -aqE 'No space left|quota exceeded' "$log" ||
         fail "the disk is full ($free kB are left for $copies)"
@@ -101,8 +120,8 @@ fail_by() {
 build_in_copies() {
     copy 2>"$log" || fail_by "$no_copy" 0
     say "proving and building the program (README says how long the first build takes); the log is $log"
-    prove 2>&1 9<&- | tee "$log" | grep -a --line-buffered -e '^== ' -e '^rt: .*waiting' |
-        follow "$(grep -c '' "$copies/crates.txt")"
+    local crates=$(grep -c '' "$copies/crates.txt")
+    prove 2>&1 9<&- | tee "$log" | grep -a --line-buffered -e '^== ' -e '^rt: .*waiting' | follow "$crates"
     set -- "${PIPESTATUS[@]:0:2}"
     proved=$copies/crates/arbiter/out/arbiter
     [ "$1" -eq 0 ] && [ -x "$proved" ] || fail_by "$@"
