@@ -24,12 +24,13 @@ use Rattle.cecp_engine.specs.declared.level_fault.LevelFault.{LevelFault}
 
 -- ---- what arguments say
 
--- the values of options by their names, without `--`. A flag given has the value `true`; one not given `false` or
+-- the values of options by their names, without `--`. A flag that was given has the value `true`, otherwise `false` or
 -- `None`
 abbrev pub Values : Type 0
 Values = Text → Option Text
 
--- what arguments say; `replies` are the positional arguments of `stub`
+-- what arguments say: the subcommand (`session` if none is named), the options' values, and `replies`, the positional
+-- arguments of `stub`
 pub record Said : Type 0 where
   pub command : Text
   pub value : Values
@@ -67,7 +68,8 @@ abbrev pub verify_options_of : Values → VerifyOptions
 verify_options_of value = let is_strict = is_set (codes "strict") value in record {
   quiet = is_set (codes "quiet") value;
   strict = record {
-    -- fivefold repetition and 75 moves end a game (Laws of 2014), also without `--strict`
+    -- unless `after-end` is ignored, fivefold repetition and 75 moves end a game (Laws of 2014), even without
+    -- `--strict`
     draws_of_2014 = not (is_ignored (codes "after-end") value);
     variations = is_set (codes "variations") value;
     variant = is_strict && not (is_ignored (codes "variant") value);
@@ -120,7 +122,7 @@ pub record IsMatchPlan (value : Values) (plan : GamesPlan) : Type 0 where
   pub flag : plan.patience.flag ≡ is_set (codes "flag") value
   -- in milliseconds, but `--reply-timeout` in seconds
   pub reply : plan.patience.reply ≡ option_map (λ text. number_of text * 1000) (value (codes "reply-timeout"))
-  -- `claimed`, the other name for `--draws`, is its default
+  -- `claimed`, the other value of `--draws`, is the default
   pub draws : plan.draws ≡ (if has_value (codes "draws") (codes "automatic") value then Automatic else Claimed)
 
 -- ---- plans
@@ -157,9 +159,9 @@ abbrev pub said_by : OptionNames → List Text → Said
 said_by names arguments = let p = unwrap_or (subcommand_of (arbiter_app names) arguments) (codes "session", []) in
     record { command = p.0; value = λ name. first_of name p.1; replies = unwrap_or (all_of (codes "words") p.1) [] }
 
--- the result of reading these arguments, without the program's name, is right by the grammar of the command line;
--- `names` may be anywhere in memory. For plain arguments it is also said without the grammar (law
--- `plain_arguments_are_followed`)
+-- the result of reading these arguments, without the program's name, is right by the grammar of the command line.
+-- `names`: the names of `OptionNames`, of which only the place in memory is open. Law `plain_arguments_are_followed` says
+-- the same of plain arguments, without the grammar
 abbrev pub IsReading : List Text → Result Plan WordsFault → Type 0
 IsReading arguments result =
     (names : OptionNames) × IsReadAs (fault_of (arbiter_app names) arguments) (said_by names arguments) result

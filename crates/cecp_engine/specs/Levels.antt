@@ -39,7 +39,7 @@ base_of text = let colon = position_or_len (λ c. c == byte ":") text in do
   milliseconds ← if colon == length text then Some 0 else milliseconds_of 2 (drop (colon + 1) text)
   if nat_lt milliseconds 60000 then Some (60000 * minutes + milliseconds) else None
 
--- the time control with these parts, each `None` if its text denotes none; then the first such fault
+-- the time control of these parts, or the fault of the first that is `None`: its text denotes none
 abbrev pub level_with : Option ℕ → Option ℕ → Option ℕ → Result LevelSeen LevelFault
 level_with None base increment = Err Moves
 level_with (Some moves) None increment = Err Base
@@ -47,8 +47,8 @@ level_with (Some moves) (Some base) None = Err Increment
 level_with (Some moves) (Some base) (Some increment) =
     Ok (record { moves = moves; base = base; increment = increment })
 
--- the time control that three words denote, such as `40 5 0` or `0 0:10 0.1`: moves per session, base time, and
--- increment in seconds; otherwise the first fault
+-- the time control that three words denote, such as `40 5 0` or `0 0:10 0.1`: moves per session (1 to 3 digits), base
+-- time, and increment in seconds; otherwise the first fault, `Words` if they aren't three
 unfoldable pub level_reading : List ℕ → Result LevelSeen LevelFault
 level_reading text = let first = without_front_blanks text in let second = argument_of first in
     let third = argument_of second in
@@ -59,7 +59,7 @@ level_reading text = let first = without_front_blanks text in let second = argum
 abbrev pub level_of : List ℕ → Option LevelSeen
 level_of text = result_ok (level_reading text)
 
--- the reported name of a level's fault
+-- the short name of a level's fault
 abbrev pub level_fault_name : LevelFault → List ℕ
 level_fault_name Words = codes "words"
 level_fault_name Moves = codes "moves"

@@ -21,7 +21,7 @@ pub enum LevelFault {
 }
 
 impl LevelFault {
-    /// The fault's short name, such as `base`, by which it is reported.
+    /// The fault's short name, such as `base`.
     pub fn name(self) -> &'static str
         ensures { result.now ≡ level_fault_name self }
     {

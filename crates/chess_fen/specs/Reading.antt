@@ -31,8 +31,8 @@ side_of _ = None
 abbrev pub conditions_of : List ℕ → Setup → List (FenFault × Bool)
 conditions_of letters p = conditions_if (names_rights_well p.variant p.men letters) p
 
--- the sound position that a FEN's six fields denote; or the fault of the first field that denotes nothing, otherwise of
--- the first condition that fails
+-- the sound position that six fields denote as a FEN of variant v; or the first fault: `Fields` if they aren't six,
+-- then that of the first field that denotes nothing, then of the first condition that fails
 abbrev pub reading_in : Variant → List (List ℕ) → Result Setup FenFault
 reading_in v (placement ∷ side ∷ castling ∷ target ∷ halfmove ∷ fullmove ∷ []) = do
   pieces ← ok_or (placement_of placement) faults.Placement

@@ -17,7 +17,7 @@ use Rattle.chess_base.specs.Castling.{home_square, king_square, rook_file, right
 use Rattle.chess_base.specs.Letters.{letter_by}
 use Rattle.chess_fen.specs.Texts.{occurs, first_letter, names_file}
 
--- the four castling rights, in the order of `fen`
+-- the four castling rights, in the order KQkq
 abbrev pub all_rights : List (Colour × CastlingSide)
 all_rights = (White, KingSide) ∷ (White, QueenSide) ∷ (Black, KingSide) ∷ (Black, QueenSide) ∷ []
 

@@ -1,5 +1,6 @@
 -- The text of a `feature` line, without its first word, is no longer than the line (`features_short`), so that the
--- answers to its items have room.
+-- answers to its items have room. Of the tests for kinds of lines, one after another, only the one for `feature` gives
+-- such a text.
 use Rattle.std.proofs.Common.{◌≡◌, ℕ, ◌-◌, ◌≤◌, Bool, true, false, ◌&&◌, List, length, drop, take, length-drop, ap, Option, Some, None, arith, bytes_eq, if◌then◌else◌, codes}
 use Rattle.std.specs.Option.{option_map_or}
 use Rattle.chess_base.specs.declared.man.Colour.TheVariants.{White, Black}

@@ -32,7 +32,8 @@ abbrev pub is_silence_of : Colour → Act → Bool
 is_silence_of S (Happens (Silent side moment)) = same_colour side S
 is_silence_of S _ = false
 
--- whether by this act a look for a line of `S`'s engine found none yet; empty if it is no such look
+-- how this act ended a look for a line of `S`'s engine: `true` by a silence; `false` by a line, the output's end or a
+-- failed read; empty if it ended none
 abbrev pub look : Colour → Act → List Bool
 look S (Happens (Silent side moment)) = list_if (same_colour side S) (true ∷ [])
 look S (Happens (Line side text moment)) = list_if (same_colour side S) (false ∷ [])
@@ -40,7 +41,7 @@ look S (Happens (OutputEnds side)) = list_if (same_colour side S) (false ∷ [])
 look S (Happens (FailsToRead side)) = list_if (same_colour side S) (false ∷ [])
 look S _ = []
 
--- the moment that the clock showed in this act, if it was read
+-- the moment that the clock showed, if this act read it
 abbrev pub moment_shown : Act → List ℕ
 moment_shown (Happens (Line side text moment)) = moment ∷ []
 moment_shown (Happens (Opened side moment)) = moment ∷ []

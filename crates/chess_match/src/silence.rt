@@ -43,8 +43,9 @@ impl MatchState {
         self.since = Some(moment);
     }
 
-    // The first moment at which the time for a reply is over, if it may take at most `limit` milliseconds. It is 0 as
-    // long as the time doesn't run, so that until then no look for a line waits.
+    // The first moment at which the time for a reply is over, if it may take at most `limit` milliseconds. While the
+    // time doesn't run (`since` is `None`), it is 0: the next look for a line returns at once, and if it finds none,
+    // that silence starts the time (`owe_reply`).
     fn reply_ends(&self, limit: u64) -> u64
         ensures { result ≡ option_map_or (λ since. min (since + limit + 1) (2 ^ 64 - 1)) self.now.since 0 }
     {

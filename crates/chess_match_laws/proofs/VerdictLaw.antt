@@ -1,5 +1,6 @@
 -- A match that ended for a verdict has it on the board (Verdicts.judged_at_end of chess_match), and the reported
--- outcome is that of its game.
+-- outcome is that of its game: if the board has a verdict, both are the verdict's, and otherwise both are that of the
+-- reason for which the match ended.
 use Rattle.std.proofs.Common.{◌≡◌, ℕ, List, refl, ap, sym, ◌∙◌, subst, Option, None, Some}
 use Rattle.std.specs.Option.{option_map, option_map_or, option_or}
 use Rattle.chess_game.specs.{declared.verdicts.Verdict.Verdict, Ends.verdict, Ends.verdict_result, Game.Seen, Game.outcome_now, declared.results.Outcome.Outcome, declared.results.Outcome.TheVariants.Unfinished, declared.tags.HowEnded.HowEnded}
@@ -11,7 +12,8 @@ pub decided_by_the_board : DecidedByTheBoard
 decided_by_the_board r v H final g e =
     subst (λ (p : Phase). ByBoard r final.played p) e (judged_at_end r H final g).1
 
--- the outcome of a game with this verdict, in which what a match of this reason declares was declared
+-- the outcome of a game whose board has this verdict, after a match that ended for this reason: the verdict's, or
+-- without one that of what the match declared
 abbrev outcome_at : Option Verdict → Reason → Outcome
 outcome_at v reason =
     option_map_or (λ d. d.outcome) (option_or (option_map verdict_result v) (declared_at v reason)) Unfinished

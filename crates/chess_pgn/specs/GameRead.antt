@@ -1,6 +1,6 @@
--- What is read of a game's text (PGN standard of 1994, sections 7 to 9; which words are taken is this project's own):
--- the tags give the start, then each move's word denotes a move in the position reached, and the first token that can't
--- be taken is the fault. Each token is paired with how many bytes of the text are left at it (`left`).
+-- What is read of a game's text (PGN standard of 1994, sections 7 to 9; which words are taken as moves is this
+-- project's own): the tags give the start, then each move's word denotes a move in the position reached, and the first
+-- token that can't be taken is the fault. Each token is paired with how many bytes of the text are left at it (`left`).
 use Rattle.std.specs.Prelude.{◌≡◌, ℕ, ◌+◌, ◌-◌, nat_lt, Bool, ◌||◌, if◌then◌else◌, List, [], ◌∷◌, length, drop, map, codes, slice_get, Option, Some, None, is_some, Result, Ok, Err, option_and_then}
 use Rattle.std.specs.List.{list_all, list_any, filter_map, last_or}
 use Rattle.std.specs.Option.{option_map_or, unwrap_or}

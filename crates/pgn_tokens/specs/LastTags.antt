@@ -22,8 +22,8 @@ abbrev pub named_tag : List ℕ → Token → Option (List ℕ × ℕ)
 named_tag name (Tag other text to_end) = if bytes_eq other name then Some (text, to_end) else None
 named_tag name _ = None
 
--- a game's tag section, which has all its tags: the tokens before the first word that is not marks (such as a number, a
--- move or an outcome), and before the first that can't be read. A faulty tag FEN doesn't end it
+-- a game's tag section, which has all its tags: the tokens before the first that can't be read or is a word other than
+-- marks (such as a number, a move or an outcome). A faulty tag FEN doesn't end it
 abbrev pub tag_section : List (ℕ × Token) → List (ℕ × Token)
 tag_section tokens = take_while (λ t. may_precede_tags t.1) tokens
 

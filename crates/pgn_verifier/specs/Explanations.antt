@@ -21,14 +21,14 @@ use Rattle.pgn_verifier.specs.WrongParts.{from_field, field_at, field_number, fe
 abbrev pub shown_word : List ℕ → List ℕ
 shown_word word = if length word == 0 then codes "(end)" else map shown_byte word
 
--- what is shown of a text (`shown_word`): its bytes before the first white space, at most 40
+-- a text's bytes before its first white space, at most 40, as `shown_word` shows them
 abbrev pub shown : List ℕ → List ℕ
 shown text = shown_word (take_while (λ c. not (is_white_space c)) (take 40 text))
 
 -- ---- the part that is wrong
 
--- the wrong part of a text, by the fault's kind: its offset, and what is shown of it. `at`: the fault's offset;
--- `begin`: its game's
+-- the wrong part of a text, by the fault's kind: its offset, and what is shown of it. `at` and `begin`: the offsets of
+-- the fault and of its game
 abbrev pub wrong_part : FaultKind → List ℕ → (begin at : ℕ) → ℕ × List ℕ
 -- of a bad FEN: a field, at most 80 bytes of it. The FEN ends at the next quote, even one after a backslash
 wrong_part (Pgn (BadFen fault)) text begin at =
@@ -47,7 +47,7 @@ abbrev pub IsReason : FaultKind → List ℕ → Option Verdict → Option (List
 IsReason (Pgn BadTag) text verdict reason = IsTagReason text reason
 IsReason (Pgn (BadFen fault)) text verdict reason = reason ≡ Some (fen_reason fault)
 IsReason (Pgn BadToken) text verdict reason = reason ≡ Some (token_reason text)
--- the word `0-0`, which may be meant as a result
+-- the word `0-0` is castling, but may be meant as a result
 IsReason (Pgn IllegalMove) text verdict reason = reason ≡ (if bytes_eq (take_while is_word_byte text) (codes "0-0")
     then Some (codes "castling, and no result of PGN") else None)
 -- the verdict that ended the game, such as `0-1 {Black mates}`

@@ -70,8 +70,8 @@ pub fn first_moves_are_these()
 /// A law: the contract says it, and the function does nothing. The scholar's mate and the fool's mate are legal games,
 /// which White and Black win by mate (FIDE Laws of Chess 2023, articles 3 and 5.1.1).
 ///
-/// It refuses definitions with one of these mistakes: a mate that is won by the other side, and one that the king or
-/// another piece could still escape.
+/// It refuses definitions with one of these mistakes: mate is won by the mated side, and moves are legal (such as one
+/// that leaves the king in check) by which that side could escape from one of these two mates.
 pub fn known_games_end()
     ensures { KnownGamesEnd }
 {}

@@ -1,4 +1,5 @@
--- Parts of the definitions at the top of specs/ by names of their own, for contracts of private functions and proofs.
+-- Parts of the definitions at the top of specs/ by names of their own, for contracts of private functions and proofs;
+-- and a number for each kind of piece, by which chess_bits indexes its sets.
 use Rattle.std.specs.Prelude.{ℕ, ◌+◌, ◌==◌, nat_le, Bool, true, false, not, ◌&&◌, ◌||◌, List, [], Option, Some, None, is_none, if◌then◌else◌, option_and_then}
 use Rattle.std.specs.Option.{option_map_or}
 use Rattle.chess_base.specs.declared.man.Colour.{Colour}
@@ -14,7 +15,7 @@ use Rattle.chess_base.specs.ByColour.{by_colour}
 use Rattle.chess_base.specs.Men.{Men, man_at, is_man, other, forward, first_rank}
 use Rattle.chess_base.specs.Castling.{is_to_side}
 
--- a number of its own for each kind of piece
+-- the index of a kind of piece among the sets of chess_bits
 abbrev pub kind_number : Kind → ℕ
 kind_number King = 0
 kind_number Queen = 1
