@@ -160,8 +160,8 @@ said_by names arguments = let p = unwrap_or (subcommand_of (arbiter_app names) a
     record { command = p.0; value = λ name. first_of name p.1; replies = unwrap_or (all_of (codes "words") p.1) [] }
 
 -- the result of reading these arguments, without the program's name, is right by the grammar of the command line.
--- `names`: the names of `OptionNames`, of which only the place in memory is open. Law `plain_arguments_are_followed` says
--- the same of plain arguments, without the grammar
+-- `names`: the names of `OptionNames`, of which only the place in memory is open. The law
+-- `plain_arguments_are_followed` says the same of plain arguments, without the grammar
 abbrev pub IsReading : List Text → Result Plan WordsFault → Type 0
 IsReading arguments result =
     (names : OptionNames) × IsReadAs (fault_of (arbiter_app names) arguments) (said_by names arguments) result
