@@ -23,7 +23,8 @@ abbrev pub promotion_fits : Bool → Option Kind → Bool
 promotion_fits last None = not last
 promotion_fits last (Some k) = not (same_kind k King) && not (same_kind k Pawn) && last
 
--- a pawn of the side on move goes two squares straight ahead from its home rank (e2e4), whatever is on its way (3.7.2)
+-- a pawn of the side on move goes two squares straight ahead from its home rank (e2e4), whatever is on these squares
+-- (3.7.2)
 unfoldable pub is_double_advance : Setup → Move → Bool
 is_double_advance p m = is_man p.side Pawn (man_at p.men m.from) && (rank m.from == pawn_rank p.side)
     && (m.to == forward p.side (forward p.side m.from))

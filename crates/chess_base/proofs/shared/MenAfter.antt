@@ -1,4 +1,5 @@
--- For boards: the steps of a move, and those back, leave on each square what the definitions have there.
+-- For boards: the steps of a move, and those back, leave on each square what the definitions have there: shown square
+-- by square, for castling and for other moves apart.
 use Rattle.std.proofs.Common.{◌≡◌, ℕ, ◌<◌, inl, inr, length, ◌==◌, Bool, ◌||◌, Option, Some, None, ◌≢◌, true, false, refl, sym, ap, ◌∙◌, arith, if◌then◌else◌}
 use Rattle.std.proofs.lemmas.Bool.{cases_eq, eq-eqb, ne_eqb}
 use Rattle.std.specs.Option.{option_map_or}

@@ -1,4 +1,4 @@
--- For readers of positions: a setup is sound exactly if it has no fault.
+-- For readers of positions: a setup is sound exactly if it has no fault, condition by condition.
 use Rattle.std.proofs.Common.{◌≡◌, Bool, true, false, not, ◌&&◌, cond, ◌∷◌, ◌++◌, take, drop, Option, Some, None, length, refl}
 use Rattle.std.proofs.lemmas.Bool.{and_parts}
 use Rattle.chess_base.specs.{declared.man.Colour.TheVariants.White, declared.man.Colour.TheVariants.Black, declared.setup.Setup.Setup, declared.fen_fault.FenFault.FenFault, Men.other, Attacks.is_in_check, shared.Parts.counters_fit}
