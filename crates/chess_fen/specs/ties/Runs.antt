@@ -1,4 +1,4 @@
--- What a byte of a rank's text stands for, as code keeps it, and placements read byte by byte.
+-- What a byte of a rank's text denotes, as code keeps it, and placements read byte by byte.
 use Rattle.std.specs.Prelude.{◌≡◌, ℕ, zero, suc, ◌+◌, ◌-◌, ◌*◌, ◌==◌, nat_le, Bool, true, false, List, [], ◌∷◌, ◌++◌, length, take, drop, replicate, Option, Some, None, if◌then◌else◌, option_and_then}
 use Rattle.std.specs.List.{position_or_len, before_first}
 use Rattle.chess_base.specs.declared.man.Man.{Man}
@@ -35,7 +35,7 @@ placing left row above (c ∷ cs) =
 abbrev pub from_space : List ℕ → List ℕ
 from_space text = drop (position_or_len (λ b. b == space) text) text
 
--- a whole rank, of the squares `row`, is at the front of a text, and `rest` follows it: reading goes on from there
+-- a whole rank, of the squares `row`, is at the front of a text, and `rest` follows it: reading continues from there
 pub record RankIsRead (text : List ℕ) (row : List (Option Man)) (rest : List ℕ) : Type 0 where
   pub on : (left : ℕ) → (above : List (Option Man)) → placing left [] above text ≡ placing left row above rest
   pub back : from_space text ≡ from_space rest
@@ -64,7 +64,8 @@ abbrev pub NoSlashIsRead : List ℕ → Type 0
 NoSlashIsRead text = (lower : ℕ) → (row above : List (Option Man)) → length row ≡ 8
     → placing (suc lower) row above text ≡ None
 
--- after the last rank: the placement ends where the text begins (`true`), or goes on and so denotes no board (`false`)
+-- after the last rank: the placement ends where the text begins (`true`), or continues, and so denotes no board
+-- (`false`)
 abbrev pub Ends : Bool → List ℕ → Type 0
 Ends true text = ((row above : List (Option Man)) → length row ≡ 8 → placing 0 row above text ≡ Some (row ++ above))
     × (from_space text ≡ text)
