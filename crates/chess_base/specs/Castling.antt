@@ -84,7 +84,7 @@ right_is_sound p c w = option_map_or (are_placed_for_castling p.variant p.men c 
 -- ---- which moves are castling
 
 -- the squares of move m name colour c's castling on side w with the rook on square `rook`: in normal chess from the
--- king's initial square to where it ends (e1g1), in Chess960 from any square on the rook's rank to the rook's (e1h1)
+-- king's initial square to where it ends (e1g1), in Chess960 from any square on the rook's rank to the rook (e1h1)
 abbrev pub names_castling_with : Variant → Colour → Move → CastlingSide → ℕ → Bool
 names_castling_with Normal c m w rook = (m.from == home_square c king_home_file)
     && (m.to == home_square c (castled_king_file w))
