@@ -1,4 +1,5 @@
--- Where a colour has one king, the attacks on his square decide whether it is in check.
+-- Where a colour has one king, the attacks on his square decide whether it is in check: no other square has a king of
+-- this colour.
 use Rattle.std.proofs.Common.{◌≡◌, ℕ, ◌<◌, ◌-◌, length, true, false, ◌&&◌, sym, ap, ◌∙◌, arith}
 use Rattle.chess_base.specs.{declared.man.Colour.Colour, declared.man.Colour.TheVariants.White, declared.man.Colour.TheVariants.Black, declared.man.Kind.TheVariants.King, Attacks.is_attacked, Attacks.is_in_check, Sound.has_one_king, ties.Lines.square_from_side}
 use Rattle.chess_base.specs.Men.{Men, man_at, is_man, other}

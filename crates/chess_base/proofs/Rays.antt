@@ -25,14 +25,14 @@ not_near : (a b x : ℕ) → is_between a b x ≡ true
 unfolding is_between is_between_on_file is_between_on_rank is_between_on_diagonal
 not_near a b x e = grind (arith, nat_tests, e)
 
--- nor are they a knight's way apart: on a file, a rank or a diagonal
+-- squares that have one between them on a file are no knight's way apart
 no_knight_on_file : (a b x : ℕ) → is_between_on_file a b x ≡ true
     → (((abs_diff (file a) (file b) == 1) && (abs_diff (rank a) (rank b) == 2))
     || ((abs_diff (file a) (file b) == 2) && (abs_diff (rank a) (rank b) == 1))) ≡ false
 unfolding is_between_on_file
 no_knight_on_file a b x e = grind (arith, nat_tests, e)
 
--- the same on a rank
+-- nor are those that have one between them on a rank
 no_knight_on_rank : (a b x : ℕ) → is_between_on_rank a b x ≡ true
     → (((abs_diff (file a) (file b) == 1) && (abs_diff (rank a) (rank b) == 2))
     || ((abs_diff (file a) (file b) == 2) && (abs_diff (rank a) (rank b) == 1))) ≡ false
@@ -48,7 +48,7 @@ alike f h g r t q e1 e2 i1 i2 = grind (arith, nat_tests, i1, i2)
 no_knight_alike : (n m : ℕ) → n ≡ m → (((n == 1) && (m == 2)) || ((n == 2) && (m == 1))) ≡ false
 no_knight_alike n m e = grind (arith, nat_tests)
 
--- and on a diagonal
+-- nor are those that have one between them on a diagonal
 no_knight_on_diagonal : (a b x : ℕ) → is_between_on_diagonal a b x ≡ true
     → (((abs_diff (file a) (file b) == 1) && (abs_diff (rank a) (rank b) == 2))
     || ((abs_diff (file a) (file b) == 2) && (abs_diff (rank a) (rank b) == 1))) ≡ false

@@ -18,7 +18,7 @@ use Rattle.chess_base.specs.ByColour.{by_colour}
 use Rattle.chess_base.specs.Men.{Men, man_at, is_man, other, first_rank}
 use Rattle.chess_base.specs.Attacks.{is_attacked}
 
--- the given side's of two values, the king side's and the queen side's
+-- of two values, the king side's and the queen side's, the one of the given side
 abbrev pub by_side : {A : Type 0} → A → A → CastlingSide → A
 by_side king_side queen_side KingSide = king_side
 by_side king_side queen_side QueenSide = queen_side
@@ -84,20 +84,20 @@ right_is_sound p c w = option_map_or (are_placed_for_castling p.variant p.men c 
 -- ---- which moves are castling
 
 -- the squares of move m name colour c's castling on side w with the rook on square `rook`: in normal chess from the
--- king's initial square to where it ends (e1g1), in Chess960 along the rook's rank to the rook (e1h1)
+-- king's initial square to where it ends (e1g1), in Chess960 from any square on the rook's rank to the rook (e1h1)
 abbrev pub names_castling_with : Variant → Colour → Move → CastlingSide → ℕ → Bool
 names_castling_with Normal c m w rook = (m.from == home_square c king_home_file)
     && (m.to == home_square c (castled_king_file w))
 names_castling_with Fischerandom c m w rook = (rank m.from == rank rook) && (m.to == rook)
 
--- move m is written as castling to side w, legal or not: the mover's king makes it, the mover has this right, and m's
--- squares name this castling
+-- move m is written as castling to side w, legal or not: the king of the side on move makes it, that side has this
+-- right, and m's squares name this castling
 unfoldable pub is_castling_to : Setup → Move → CastlingSide → Bool
 is_castling_to p m w = is_man p.side King (man_at p.men m.from)
     && option_map_or (names_castling_with p.variant p.side m w) (right_of p.rights p.side w) false
 
--- the side to which move m is written as castling, legal or not, if any; king side if both fit (in Chess960, and in no
--- sound position)
+-- the side to which move m is written as castling, legal or not, if any; the king side if both fit (possible in
+-- Chess960, but in no sound position)
 unfoldable pub castling : Setup → Move → Option CastlingSide
 castling p m = find (is_castling_to p m) (KingSide ∷ QueenSide ∷ [])
 

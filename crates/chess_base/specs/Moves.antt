@@ -17,13 +17,14 @@ use Rattle.chess_base.specs.Men.{Men, man_at, is_of, is_man, same_colour, same_k
 use Rattle.chess_base.specs.Attacks.{attacks, is_in_check}
 use Rattle.chess_base.specs.Castling.{right_of, rights_by, castle_of, castling_rook_to, castles, mover_end}
 
--- a pawn's move names a promotion, to a queen, rook, bishop or knight, just if it ends on the last rank (`last`)
+-- a pawn's move names a promotion, to a queen, rook, bishop or knight, exactly if it ends on the last rank (`last`)
 -- (3.7.3.3)
 abbrev pub promotion_fits : Bool → Option Kind → Bool
 promotion_fits last None = not last
 promotion_fits last (Some k) = not (same_kind k King) && not (same_kind k Pawn) && last
 
--- a pawn of the side on move goes two squares straight ahead from its home rank (e2e4), whatever is on them (3.7.2)
+-- a pawn of the side on move goes two squares straight ahead from its home rank (e2e4), whatever is on these squares
+-- (3.7.2)
 unfoldable pub is_double_advance : Setup → Move → Bool
 is_double_advance p m = is_man p.side Pawn (man_at p.men m.from) && (rank m.from == pawn_rank p.side)
     && (m.to == forward p.side (forward p.side m.from))
@@ -41,7 +42,7 @@ pawn_advances p m = is_none (man_at p.men m.to)
 unfoldable pub pawn_captures : Setup → Move → Bool
 pawn_captures p m = attacks p.men m.from m.to && (is_of (other p.side) (man_at p.men m.to) || is_at p.target m.to)
 
--- a pawn advances or captures, and names a promotion just if it ends on the last rank (3.7)
+-- a pawn advances or captures, and names a promotion exactly if it ends on the last rank (3.7)
 unfoldable pub pawn_moves : Setup → Move → Bool
 pawn_moves p m =
     promotion_fits (rank m.to == first_rank (other p.side)) m.promotion && (pawn_advances p m || pawn_captures p m)
@@ -51,7 +52,7 @@ pawn_moves p m =
 unfoldable pub man_moves : Setup → Move → Bool
 man_moves p m = is_none m.promotion && attacks p.men m.from m.to && not (is_of p.side (man_at p.men m.to))
 
--- what is on move m's start square (the last argument) is a piece of the side on move that can make m
+-- the last argument, what is on move m's start square, is a piece of the side on move that can make m
 abbrev pub moves_as : Setup → Move → Option Man → Bool
 moves_as p m None = false
 moves_as p m (Some x) = same_colour p.side x.colour
@@ -73,7 +74,7 @@ captured_square p m = if is_en_passant p m then Some (forward (other p.side) m.t
     else if is_of (other p.side) (man_at p.men m.to) then Some m.to
     else None
 
--- what is on square s after castling k, as which m is written. Legal castling names no promotion
+-- what is on square s after move m, which is castling k. If this is legal, m.promotion is `None`
 abbrev pub after_castling : Setup → Move → Castle → ℕ → Option Man
 after_castling p m k s = if s == k.king_to then arriving_man (man_at p.men m.from) m.promotion
     else if s == k.rook_to then Some (record { colour = p.side; kind = Rook })

@@ -1,5 +1,5 @@
--- What changes on the board when a move is made or taken back: first the mover and perhaps a second piece leave, then
--- perhaps a second piece and the mover arrive, since in Chess960 a castling king and rook may change places.
+-- What changes on the board when a move is made or taken back: first the mover and perhaps a second piece leave, and
+-- only then perhaps a second piece and the mover arrive, since in Chess960 a castling king and rook may change places.
 use Rattle.std.specs.Prelude.{ℕ, ◌==◌, ◌||◌, Option, None, if◌then◌else◌, map}
 use Rattle.chess_base.specs.declared.man.Man.{Man}
 use Rattle.chess_base.specs.declared.steps.Steps.{Steps}

@@ -202,8 +202,8 @@ pub(crate) fn names_castling(
     }
 }
 
-// Whether the move is castling to this side: the side on move has the right, and its king makes that move. Whether
-// anything prevents it is asked by `castles`.
+// Whether the move is castling to this side: the side on move has the right, its king moves, and the move's squares are
+// those of this castling (`names_castling`). Whether anything prevents the castling is asked by `castles`.
 #[tactic(auto, unfolding(crate::specs::Castling::is_castling_to))]
 fn is_castling_to(setup: &Setup, m: &Move, castling_side: CastlingSide) -> bool
     ensures { result ≡ is_castling_to setup.now m.now castling_side }
@@ -234,8 +234,8 @@ pub fn castling(setup: &Setup, m: &Move) -> Option<CastlingSide>
 }
 
 /// Where the king and the rook start and end when this colour castles to this side with the king on `king` and the rook
-/// on `rook`: for White's king side, from `e1` and `h1`, they end on `g1` and `f1`. Whether they are there is not
-/// looked at.
+/// on `rook`: for White's king side, from `e1` and `h1`, they end on `g1` and `f1`. Whether king and rook are there is
+/// not asked.
 pub fn castle_from(
     colour: Colour,
     castling_side: CastlingSide,

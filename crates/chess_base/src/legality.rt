@@ -1,5 +1,4 @@
-//! The rules of chess: which moves are legal. Those of castling, of pawns, and what a move leaves
-//! have files of their own.
+//! The rules of chess: which moves are legal. Castling, pawns, and what a move leaves have files of their own.
 
 ghost use Rattle.std.specs.Prelude.{◌≡◌, Bool};
 ghost use Rattle.chess_base.specs.Men.{man_at, first_rank};

@@ -88,13 +88,13 @@ from_one_rise a =
     (λ b. triples_rise a b promotions promotions_rise)
     (λ b c m n l e f. ByEnd (rw (e.0, f.0) refl) (rw (e.1, f.1) l)) 64 (λ s. s) (λ i j l. l)
 
--- they all start at this square
+-- all moves in the list of a start square a start from a
 starts : (a : ℕ) → All (λ m. m.from ≡ a) (flat_map (λ b. map (move_of a b) promotions) squares)
 unfolding squares
 starts a = all-over (λ m. m.from ≡ a) (λ b. map (move_of a b) promotions) 64 (λ s. s)
     (λ b. All-map (λ m. m.from ≡ a) (move_of a b) promotions (λ k d h. refl))
 
--- all moves, legal or not, rise by start square, and then as above
+-- all moves, legal or not, rise by start square, then by end square, then by promotion
 all_triples_rise : AllPairs ComesBefore all_moves
 unfolding all_moves squares
 all_triples_rise =

@@ -82,7 +82,8 @@ legal_kept : (p : Setup) → p.variant ≡ Normal → (m : Move) → is_legal p 
 unfolding is_legal normal_is_legal
 legal_kept p e m = rw (pattern_kept p e m, after_kept p e m) refl
 
--- a right given as its rook's square is sound by the one rule if it is by the other
+-- a right (its rook's square, or none) is sound in normal chess by the definition for both variants exactly if it is by
+-- the one for normal chess alone
 stands_by : (men : Men) (c : Colour) (w : CastlingSide) (o : Option ℕ)
     → right_is_sound_at Normal men c w o ≡ normal_right_is_sound_at men c w o
 stands_by men c w None = refl

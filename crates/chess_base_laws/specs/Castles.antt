@@ -12,6 +12,6 @@ pub record CastlesByName (p : Setup) (m : Move) : Type 0 where
   pub side : castling p m ≡ castling_named p m
   pub squares : castle_of p m ≡ option_and_then (castling_on p) (castling_named p m)
 
--- in each sound position each move castles on the side that its squares name, if any
+-- in each sound position each move castles on the side that its squares name, if any, with the squares of that castling
 abbrev pub CastlingIsNamed : Type 0
 CastlingIsNamed = (p : Setup) → (m : Move) → IsSound p → CastlesByName p m

@@ -77,8 +77,8 @@ normal_after p m = record {
 unfoldable pub normal_is_legal : Setup → Move → Bool
 normal_is_legal p m = normal_has_pattern p m && not (is_in_check (normal_after p m).men p.side)
 
--- on position p of normal chess the rules for both variants agree with these: on which castling rights are sound, which
--- moves are legal, and the position after a move
+-- on position p of normal chess the rules for both variants agree with those of this file: on which castling rights are
+-- sound, which moves are legal, and the position after a move
 pub record NormalIsKept (p : Setup) : Type 0 where
   -- which castling rights are sound
   pub stands : (c : Colour) (w : CastlingSide)

@@ -31,14 +31,15 @@ pub fn moves_go_in_steps()
 /// A law: the contract says it, and the function does nothing. In a sound position, `castling` and `castle_of` take a
 /// move as castling exactly if the side on move has the right to castle on one side, and the move goes from its king's
 /// square to the one that names this castling: in normal chess the king's end square, in Chess960 the square of the
-/// right's rook. Whether the way is empty and not attacked is not asked.
+/// right's rook. The side and the four squares are those of this castling. Whether the way is empty and not attacked is
+/// not asked.
 pub fn castling_is_named()
     ensures { CastlingIsNamed }
 {}
 
 /// A law: the contract says it, and the function does nothing. On positions of normal chess the rules, which are
 /// defined for both variants together, agree with those defined for normal chess alone: on which castling rights are
-/// sound, which moves are legal, and the position after each.
+/// sound, which moves are legal, and the position after each move, legal or not.
 pub fn normal_is_kept()
     ensures { (p : Setup) → p.variant ≡ Normal → NormalIsKept p }
 {}

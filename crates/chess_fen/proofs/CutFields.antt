@@ -9,7 +9,7 @@ pub place_le : {A : Type 0} (p : A → Bool) (xs : List A) → position_or_len p
 place_le p [] = omega arith
 place_le p (x ∷ xs) = grind (arith, place_le p xs)
 
--- where `position` finds no element that passes, the list's length stands for its index
+-- where `position` finds no element that passes, the list's length is taken as its index
 pub place_or_len : {A : Type 0} (p : A → Bool) (xs : List A)
     → unwrap_or (position p xs) (length xs) ≡ position_or_len p xs
 place_or_len p xs = elim (cases_lt (position_or_len p xs) (length xs)) [

@@ -36,7 +36,7 @@ found (m ∷ men) c man e = grind (arith, nat_tests, e, found men c man)
 
 -- ---- a byte
 
--- a byte that is read as squares stands for them: a piece's letter, or a digit from 1 to 8 (49 to 56)
+-- a byte that is read as squares denotes them: a piece's letter, or a digit from 1 to 8 (49 to 56)
 pub denoted_squares : (c : ℕ) (squares : List (Option Man)) → squares_of c ≡ Some squares → StandsFor c squares
 denoted_squares c squares e = by_test (leb 49 c && leb c 56) refl e
   where
@@ -54,7 +54,7 @@ denoted_squares c squares e = by_test (leb 49 c && leb c 56) refl e
         inr (c - 48, omega arith, omega arith, omega arith, cc)
     by_test false t e = by_man (man_with_letter c) refl e
 
--- a byte that stands for squares is read as these
+-- a byte that denotes squares is read as these
 pub squares-denoted : (c : ℕ) (squares : List (Option Man)) → StandsFor c squares → squares_of c ≡ Some squares
 squares-denoted c squares (inl m) = ap squares_of m.1 ∙ squares-letter m.0 ∙ ap Some (sym m.2)
 squares-denoted c squares (inr d) = squares-digit c (omega (arith, d.1, d.3)) (omega (arith, d.2, d.3))

@@ -13,7 +13,7 @@ use Rattle.chess_fen.specs.RightNames.{right_letter}
 use Rattle.chess_fen.specs.Writing.{fen_rank, placement_text, side_text, rights_text, target_text, fen}
 use Rattle.chess_fen.proofs.Joined.{IsPlain, Plain, all_append, each_weaker, Plain-join}
 
--- a byte from k on is plain if it is between the quote (34) and the backslash (92), or between this and 128
+-- a byte from k on is plain if it is between the quote (34) and the backslash (92), or between the backslash and 128
 low : (k b : ℕ) → k ≤ b → 34 < b → b < 92 → IsPlain k b
 low k b least over under = (least, omega arith, (λ e. omega (arith, e)), (λ e. omega (arith, e)))
 

@@ -1,5 +1,5 @@
--- Only the initial position of normal chess has its FEN: no FEN of Chess960 is this one, and read in normal chess it
--- gives that position.
+-- Only the initial position of normal chess has its FEN: a FEN of Chess960 never has the castling field KQkq
+-- (other_letters), and in normal chess reading this FEN gives that position (only).
 use Rattle.std.proofs.Common.{◌≡◌, ℕ, ◌+◌, ◌%◌, true, [], ◌∷◌, ◌++◌, get_or, Option, Some, None, refl, sym, ap, ◌∙◌, arith, ◌↔◌, Ok}
 use Rattle.std.proofs.lemmas.Slice.Eq.{bytes_eq-Decides}
 use Rattle.chess_base.specs.{declared.man.CastlingSide.TheVariants.KingSide, declared.man.CastlingSide.TheVariants.QueenSide, declared.man.Colour.TheVariants.White, declared.man.Colour.TheVariants.Black, declared.man.Variant.Variant, declared.man.Variant.TheVariants.Normal, declared.man.Variant.TheVariants.Fischerandom, declared.setup.Setup.Setup, Initial.initial_setup, Initial.initial_setup_of, Sound.IsSound}

@@ -1,5 +1,5 @@
 -- Reading a placement byte by byte, up to the first space, gives the board that the definition reads of the text before
--- that space.
+-- that space. Shown by the text's first byte: a space ends the text, a slash a rank, and another byte adds its squares.
 use Rattle.std.proofs.Common.{◌≡◌, ℕ, zero, suc, ◌+◌, ◌-◌, ◌*◌, ◌<◌, ◌≤◌, Bool, true, false, cond, eqb, List, [], ◌∷◌, ◌++◌, length, map, get_or, take, drop, Option, Some, None, refl, sym, ap, ◌∙◌, ◌≢◌, append_assoc, append-nil, arith, length-append, option_map, replicate, option_and_then}
 use Rattle.std.specs.List.{slice_split, onto_first, position_or_len, before_first}
 use Rattle.std.proofs.{lemmas.Bool.Decides.nat_tests, lemmas.List.Splits.length-slice_split}
@@ -15,11 +15,11 @@ no_board = None
 
 -- ---- after a rank
 
--- each byte that stands for squares stands for at least one
+-- each byte that denotes squares denotes at least one
 some_squares : (c : ℕ) (s : List (Option Man)) → squares_of c ≡ Some s → 0 < length s
 some_squares c s is = grind (arith, nat_tests, is, length-replicate (c - 48) no_man)
 
--- after eight squares of a rank, a byte that stands for more squares makes the text denote no board
+-- after eight squares of a rank, a byte that denotes more squares makes the text denote no board
 full : (left : ℕ) (row above : List (Option Man)) (c : ℕ) (cs : List ℕ) → length row ≡ 8
     → option_and_then (λ s. placing left (row ++ s) above cs) (squares_of c) ≡ None
 full left row above c cs eight = by_squares (squares_of c) refl

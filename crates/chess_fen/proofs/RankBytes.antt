@@ -13,22 +13,22 @@ no_man = None
 
 -- ---- a byte
 
--- a digit from 1 to 8 stands for so many empty squares
+-- a digit from 1 to 8 denotes as many empty squares
 pub squares-digit : (c : ℕ) → 49 ≤ c → c ≤ 56 → squares_of c ≡ Some (replicate (c - 48) None)
 squares-digit c low high = grind (arith, nat_tests)
 
--- a rank that has not eight squares isn't the last, and none follows it
+-- where a rank hasn't eight squares, the text can't end the placement
 not_last : (left : ℕ) (row above : List (Option Man)) → eqb (length row) 8 ≡ false → last_rank left row above ≡ None
 not_last zero row above e = rw e refl
 not_last (suc left) row above e = refl
 
--- at a slash nothing is read if the test b fails, which asks whether the rank has eight squares
+-- where a rank hasn't eight squares (the test b fails), a slash denotes no board
 not_lower : (left : ℕ) (b : Bool) (f : ℕ → Option (List (Option Man))) → b ≡ false
     → at_lower left (λ lower. cond b (f lower) None) ≡ None
 not_lower zero b f e = refl
 not_lower (suc left) b f e = rw e refl
 
--- nothing comes of a byte if nothing comes of it as a space, as a slash, and as squares
+-- a byte denotes no board if it denotes none as a space, as a slash, and as squares
 pub all_none : (a b : Bool) (x y z : Option (List (Option Man))) → x ≡ None → y ≡ None → z ≡ None
     → cond a x (cond b y z) ≡ None
 all_none a b x y z ex ey ez = grind (arith, ex, ey, ez)
@@ -60,11 +60,11 @@ placing_over left row above (c ∷ cs) h =
     by_squares None more = refl
     by_squares (Some s) more = more s
 
--- a byte that stands for squares is another than one that stands for none
+-- a byte that denotes squares is not one that denotes none
 another : (c k : ℕ) (s : List (Option Man)) → squares_of k ≡ None → squares_of c ≡ Some s → eqb c k ≡ false
 another c k s none is = grind (arith, nat_tests, none, is)
 
--- a byte that stands for squares adds them to the rank's
+-- a byte that denotes squares adds them to the rank's
 pub goes_on : (left : ℕ) (row above : List (Option Man)) (c : ℕ) (cs : List ℕ) (s : List (Option Man))
     → squares_of c ≡ Some s → placing left row above (c ∷ cs) ≡ placing left (row ++ s) above cs
 goes_on left row above c cs s is =
@@ -169,7 +169,7 @@ whole text row file i r so_far h at some is =
       eight = eight;
     }
 
--- if the next byte brings the rank to more than eight squares (so it does if it stands for none, as a run of 9), no
+-- if the next byte brings the rank to more than eight squares (so does a byte that denotes none, as a run of 9), no
 -- rank is read
 pub overfull : (text : List ℕ) (row : List (Option Man)) (file i : ℕ) (r : Run) → RowSoFar text row file i
     → i < length text → squares_of (get_or text i 0) ≡ squares_in r → 0 < r.squares → 8 < file + r.squares

@@ -15,12 +15,13 @@ use Rattle.chess_fen.specs.Reading.{◌>>=◌, side_of, fen_reading_as}
 use Rattle.chess_fen.specs.ties.Reader.{nowhere, outer_rook, named_square, one_or_nowhere, right_by_letters, setup_by, setup_in}
 use Rattle.chess_fen.proofs.Steps.{steps_to, steps, denoted_by, unless_fault, if_fit, denoted_in, third, reading-steps}
 
--- the reader's right for a right as an option (`None`: named wrongly): then its rook is `nowhere`
+-- the reader's right, from a right as an option of an option (RooksNamed): where it is named wrongly (`None`), one with
+-- its rook on `nowhere`
 abbrev sentinel : Option (Option ℕ) → Option ℕ
 sentinel None = Some nowhere
 sentinel (Some right) = right
 
--- the square, or `nowhere` if there is none
+-- the square in `o`, or `nowhere` if it has none
 abbrev or_nowhere : Option ℕ → Option ℕ
 or_nowhere o = Some (unwrap_or o nowhere)
 

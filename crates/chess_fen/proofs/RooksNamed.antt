@@ -1,5 +1,6 @@
 -- What the letters of a castling field say of a right, as an option of an option: `None` for `Wrong`, `Some None` for
--- `Absent`. Proofs about rights use this form; here it is shown to say the same as `right_in`.
+-- `Absent`, `Some (Some s)` for `At s`. Proofs about rights use this form; here it is shown to say the same as
+-- `right_in`.
 use Rattle.std.proofs.Common.{◌≡◌, ℕ, Bool, true, false, ◌&&◌, List, [], ◌∷◌, map, Option, Some, None, if◌then◌else◌, refl, ap, ◌∙◌, is_some}
 use Rattle.std.specs.{Bool.then_some, List.filter, List.list_all, Option.option_flatten}
 use Rattle.chess_base.specs.{declared.man.CastlingSide.CastlingSide, declared.man.CastlingSide.TheVariants.KingSide, declared.man.CastlingSide.TheVariants.QueenSide, declared.man.Colour.Colour, declared.man.Colour.TheVariants.White, declared.man.Colour.TheVariants.Black, declared.man.Rights.Rights, declared.man.Variant.Variant, declared.man.Variant.TheVariants.Normal, declared.man.Variant.TheVariants.Fischerandom, Castling.home_square, Castling.rook_file, Castling.rights_by, Men.Men}
@@ -15,12 +16,13 @@ option_by [] = Some None
 option_by (Some s ∷ []) = Some (Some s)
 option_by _ = None
 
--- the right on side w by the letters of a castling field: in normal chess there if its letter is
+-- the right on side w by the letters of a castling field. In normal chess it is there if its letter is, in Chess960 it
+-- is by the rooks that the letters give
 abbrev pub option_in : Variant → Men → List ℕ → Colour → CastlingSide → Option (Option ℕ)
 option_in Normal men letters c w = Some (then_some (occurs (side_letter c w) letters) (home_square c (rook_file w)))
 option_in Fischerandom men letters c w = option_by (map (rook_by men c w) (filter (names_right men c w) letters))
 
--- each of the four rights is named rightly, or absent
+-- each of the four rights is named rightly, or is absent: none is named wrongly
 abbrev pub options_are_well : Variant → Men → List ℕ → Bool
 options_are_well v men letters = list_all (λ r. is_some (option_in v men letters r.0 r.1)) all_rights
 

@@ -1,5 +1,5 @@
--- The table `RUNS` of what each byte of a rank stands for agrees with the definition `squares_of` at each of the 256
--- bytes. That each entry fits is computed (all_fit); that an entry which fits stands for the squares is proved
+-- The table `RUNS` of what each byte of a rank denotes agrees with the definition `squares_of` at each of the 256
+-- bytes. That each entry fits is computed (all_fit); that an entry which fits denotes the squares is proved
 -- (stands_by).
 use Rattle.std.proofs.Common.{◌≡◌, ℕ, zero, suc, ◌-◌, ◌<◌, ◌≤◌, Bool, true, false, cond, eqb, leb, ◌&&◌, List, [], ◌∷◌, get_or, Option, Some, None, refl, sym, ap, ◌∙◌, arith, option_map, is_none, replicate}
 use Rattle.std.proofs.lemmas.Bool.{and_parts, agree_below, agree_below_at, eqb-true}
@@ -15,7 +15,8 @@ no_squares = None
 abbrev nothing : Run
 nothing = record { first = None; squares = 0 }
 
--- whether the byte b stands for so many squares, the first of them with this piece
+-- whether the byte b denotes this number of squares, the first of them with this piece; a number from 9 on means that b
+-- denotes none
 abbrev fits_by : Option Man → ℕ → ℕ → Bool
 fits_by None squares b =
     cond (leb 49 b && leb b 56) (eqb squares (b - 48)) (leb 9 squares && is_none (man_with_letter b))
@@ -40,7 +41,7 @@ first_of : (n : ℕ) → 0 < n → replicate n no_man ≡ None ∷ replicate (n 
 first_of zero h = absurd (omega (arith, h))
 first_of (suc n) h = ap (λ k. no_man ∷ replicate k no_man) (less n)
 
--- a byte that fits stands for the squares
+-- the squares of an entry that fits are those that the byte denotes
 stands_by : (first : Option Man) (squares b : ℕ) → fits_by first squares b ≡ true
     → (squares_of b ≡ squares_in (record { first = first; squares = squares })) × (0 < squares)
 stands_by (Some m) squares b h =

@@ -69,6 +69,6 @@ abbrev pub DenotesFenAs : Variant → List ℕ → Setup → Type 0
 DenotesFenAs v text p = (castling : List ℕ) × DenotesText v text castling p
     × IsTrue (names_rights_well p.variant p.men castling)
 
--- the text denotes position p as a FEN of normal chess
+-- the text denotes position p, sound or not, as a FEN of normal chess
 abbrev pub DenotesFen : List ℕ → Setup → Type 0
 DenotesFen text p = DenotesFenAs Normal text p

@@ -27,7 +27,7 @@ abbrev pub DenotesSomeTarget : List ℕ → Type 0
 DenotesSomeTarget text = (target : Option ℕ) × DenotesTarget text target
 
 -- the field that the fault is about denotes nothing, and each field before it something. The first four fields are a,
--- b, c and d; `more` are the two counters, if any. False for a fault about no field
+-- b, c and d; `more` are the two counters, if any. False for a fault about no field, such as `Kings`
 abbrev pub IsFieldFault : Variant → List ℕ → List ℕ → List ℕ → List ℕ → List (List ℕ) → FenFault → Type 0
 IsFieldFault v a b c d more Placement = (men : Men) → DenotesPlacement a men → ⊥
 IsFieldFault v a b c d more Side = DenotesSomeMen a × ((colour : Colour) → b ≢ side_text colour)

@@ -27,7 +27,7 @@ abbrev pub all_there : {A : Type 0} → List (Option A) → Option (List A)
 all_there [] = Some []
 all_there (o ∷ os) = option_and_then (λ x. option_map (λ xs. x ∷ xs) (all_there os)) o
 
--- the eight squares that a rank's text denotes, from file a to h, as "4P3"; `None` if it denotes no eight
+-- the eight squares that a rank's text denotes, from file a to h, as "4P3"; `None` if it denotes none, or not eight
 abbrev pub rank_of : List ℕ → Option (List (Option Man))
 rank_of text = option_and_then (λ row. if length row == 8 then Some row else None)
     (option_map (λ parts. flat_map (λ squares. squares) parts) (all_there (map squares_of text)))

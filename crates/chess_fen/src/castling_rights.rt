@@ -135,8 +135,8 @@ fn edge_file(castling_side: CastlingSide, left: u8) -> u8
     }
 }
 
-// A square off the first ranks (a4), given as the rook's square of a right that is named wrongly. No right can have its
-// rook there, so the text is refused.
+// A square off the first ranks (a4), given as the rook's square of a right that is named wrongly. A right with its rook
+// there is unsound, so the text is refused.
 fn nowhere() -> Square
     ensures { result ≡ nowhere }
 {
@@ -173,8 +173,8 @@ fn is_towards(castling_side: CastlingSide, king: Option<Square>, s: Square) -> b
 }
 
 // Chess960: the rook's square by which this letter names the colour's right on that side; `None` if it names another
-// right. `K`, `Q`, `k` and `q` name the outermost rook, a file's letter names that file, if it is on that side of the
-// king, whose square is `king`.
+// right. `K`, `Q`, `k` and `q` name the outermost rook, the letter of a file names the square on that file of the first
+// rank, if it is on that side of the king, who is on the square `king`.
 fn named_square(
     men: &[Option<Man>; 64],
     king: &Option<Square>,

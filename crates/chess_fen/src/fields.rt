@@ -30,8 +30,8 @@ pub(crate) fn skip_spaces(text: &[u8]) -> &[u8]
     text.split_at(start).1
 }
 
-// Splits a text before its first space: what is before it, and what begins with it. Without a space the second part is
-// empty. `skip_spaces` cuts before the first byte that is no space, and leaves out what is before it.
+// Splits a text before its first space: what is before that space, and what is from it on. Without a space the second
+// part is empty. (`skip_spaces` cuts before the first byte that is no space, and returns only what is from there on.)
 #[tactic(auto, using(crate::proofs::CutFields::place_or_len, crate::proofs::CutFields::place_le))]
 fn split_before_space(text: &[u8]) -> (&[u8], &[u8])
     ensures front { result.0.now ≡ before_first (λ b. b == space) text.now }
@@ -64,8 +64,8 @@ pub(crate) struct Fields<'a> {
     pub fullmove: &'a [u8],
 }
 
-// Cuts what is after a FEN's first field into its fields, of which three or five are between spaces: without the
-// counters these are 0 and 1. `None` for any other number of fields.
+// Cuts the text after a FEN's first field into the other fields, three or five. If there are three, the counters are
+// left out, and are 0 and 1. `None` for any other number of fields.
 pub(crate) fn read_fields(text: &[u8]) -> Option<Fields<'_>>
     ensures { FieldsAre result (fields_of text.now) }
 {

@@ -16,8 +16,8 @@ fn has_fen_of(position: &Position, other: &Position) -> bool
 }
 
 /// Whether a position is the initial position of normal chess, `Position::initial`. The FENs are compared: no two
-/// positions of normal chess have the same, and no position of Chess960 has this one, since a FEN of Chess960 has other
-/// letters of rights.
+/// positions of normal chess have the same, and no position of Chess960 has this one, since a FEN of Chess960 names
+/// rights by files, never by `KQkq`.
 pub fn is_initial(start: &Position) -> bool
     ensures value { result ≡ is_initial start.now }
     ensures exact { IsTrue result ↔ start.now ≡ initial_setup }

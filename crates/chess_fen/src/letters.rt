@@ -1,4 +1,4 @@
-//! What each byte of a rank's text stands for.
+//! What each byte of a rank's text denotes.
 
 ghost use Rattle.std.specs.Prelude.{◌≡◌, ◌<◌};
 ghost use Rattle.chess_fen.specs.Texts.{squares_of};
@@ -6,14 +6,15 @@ ghost use Rattle.chess_fen.specs.ties.Runs.{squares_in};
 
 use chess_base::{Colour, Kind, Man};
 
-/// What a byte of a rank's text stands for: so many squares side by side, of which only the first may hold a piece.
+/// What a byte of a rank's text denotes: this number of squares (`squares`) side by side, the first with the content
+/// `first`, the others empty.
 #[derive(Clone, Copy)]
 pub(crate) struct Run {
     pub first: Option<Man>,
     pub squares: u8,
 }
 
-// So many empty squares. These are macros, since a constant's value can't call a function.
+// A run of this many empty squares. This and `piece` are macros, since a constant's value can't call a function.
 macro_rules! empty {
     ($squares:literal) => {
         Run {
@@ -23,7 +24,7 @@ macro_rules! empty {
     };
 }
 
-// A square with a piece of this colour and kind.
+// The run of one square, with a piece of this colour and kind.
 macro_rules! piece {
     ($colour:ident, $kind:ident) => {
         Run {
@@ -80,16 +81,16 @@ const BLACK_QUEEN: Run = piece!(Black, Queen);
 
 const BLACK_KING: Run = piece!(Black, King);
 
-// A list of such runs, without commas, so that it is laid out as a table.
+// A list of runs, written without commas so that it is laid out as a table.
 macro_rules! runs {
     ($($run:ident)*) => {
         [$($run),*]
     };
 }
 
-// What each of the 256 bytes stands for in a rank's text, 8 in a line: `1` is the byte 0x31, `B` 0x42, `b` 0x62. A
-// `match` of the same, or `Man::from_letter`, took a sixth more instructions for a FEN: here each byte of its longest
-// field costs one look-up, for pieces and empty squares alike.
+// What each of the 256 bytes denotes in a rank's text, 8 in a line: `1` is the byte 0x31, `B` 0x42, `b` 0x62. A `match`
+// of the same, or `Man::from_letter`, took a sixth more instructions for a FEN: here each byte of its longest field
+// costs one look-up, for pieces and empty squares alike.
 static RUNS: [Run; 256] = runs! {
     NO_RUN NO_RUN NO_RUN NO_RUN NO_RUN NO_RUN NO_RUN NO_RUN
     NO_RUN NO_RUN NO_RUN NO_RUN NO_RUN NO_RUN NO_RUN NO_RUN
@@ -125,7 +126,7 @@ static RUNS: [Run; 256] = runs! {
     NO_RUN NO_RUN NO_RUN NO_RUN NO_RUN NO_RUN NO_RUN NO_RUN
 };
 
-// What a byte of a rank's text stands for. Inlined, since it is one look into the table.
+// What a byte of a rank's text denotes. Inlined, since it is one look into the table.
 #[inline(always)]
 pub(crate) fn run_of(byte: u8) -> Run
     ensures squares { squares_of byte ≡ squares_in result }

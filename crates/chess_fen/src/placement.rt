@@ -9,8 +9,8 @@ ghost use Rattle.chess_fen.specs.ties.Runs.{NoRankIsRead, RankIsPlaced, SlashIsR
 use crate::rank::read_rank;
 use chess_base::Man;
 
-// Reads the eight squares of a rank into their place on the board, which is still empty up to them; `rank` is 0 for
-// rank 1. Returns the text after them; `None` if no eight squares are at the front of the text.
+// Reads the eight squares of a rank into their place on the board, on which these squares and all before them are still
+// empty; `rank` is 0 for rank 1. Returns the text after them; `None` if no eight squares are at the front of the text.
 fn place_rank<'t>(text: &'t [u8], men: &mut [Option<Man>; 64], rank: usize) -> Option<&'t [u8]>
     requires in_board { rank < 8 }
     requires empty { take (8 * rank + 8) men.old ≡ replicate (8 * rank + 8) None }

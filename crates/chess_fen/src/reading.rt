@@ -125,9 +125,9 @@ pub fn read_fen_as(variant: Variant, text: &[u8]) -> Result<Position, FenFault>
     ensures found { IfOk result (λ p. DenotesFenAs variant text.now p × IsSound p) }
     // A sound position that the text denotes is read.
     ensures only { (p : Setup) → DenotesFenAs variant text.now p → IsSound p → result ≡ Ok p }
-    // What the fault says of the text, field by field.
+    // The fault that is returned is true of the text (specs/FenFaults).
     ensures fault { IfErr result (IsFaultAs variant text.now) }
-    // No other fault says so.
+    // A fault that is true of the text is the one returned.
     ensures refused { (f : FenFault) → IsFaultAs variant text.now f → result ≡ Err f }
 {
     denoted_position(variant, text)
@@ -141,9 +141,9 @@ pub fn read_fen(text: &[u8]) -> Result<Position, FenFault>
     ensures found { IfOk result (λ p. DenotesFen text.now p × IsSound p) }
     // A sound position that the text denotes is read.
     ensures only { (p : Setup) → DenotesFen text.now p → IsSound p → result ≡ Ok p }
-    // What the fault says of the text, field by field.
+    // The fault that is returned is true of the text (specs/FenFaults).
     ensures fault { IfErr result (IsFault text.now) }
-    // No other fault says so.
+    // A fault that is true of the text is the one returned.
     ensures refused { (f : FenFault) → IsFault text.now f → result ≡ Err f }
 {
     read_fen_as(Variant::Normal, text)

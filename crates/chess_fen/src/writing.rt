@@ -11,7 +11,7 @@ use arrayvec::ArrayVec;
 use chess_base::{CastlingSide, Colour, Man, Position, Rights, Square, Variant};
 use itoa::Buffer;
 
-/// The text of a FEN, of at most 95 bytes.
+/// The text of a FEN: at most 95 bytes, in a buffer of 100.
 pub type FenText = ArrayVec<u8, 100>;
 
 // Appends the digit for a run of `empty` empty squares; nothing for 0.

@@ -12,7 +12,7 @@ use Rattle.chess_fen.proofs.shared.Steps.{rights_as_options, wells_as_options, s
 use Rattle.chess_fen.proofs.shared.Variants.{reading_in_variant}
 use Rattle.chess_fen_laws.specs.Normal.{normal_rights_named, normal_setup_by, normal_setup_in, normal_rights_are_sound, normal_fault, normal_sound, normal_fen_reading}
 
--- rights of normal chess are sound by one definition if they are by the other
+-- rights of normal chess are sound by one definition exactly if they are by the other
 stand_kept : (p : Setup) → p.variant ≡ Normal → rights_are_sound p ≡ normal_rights_are_sound p
 unfolding rights_are_sound
 stand_kept p e =

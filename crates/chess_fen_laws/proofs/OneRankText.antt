@@ -37,7 +37,7 @@ apart_tail c (d ∷ cs) h = (and_parts (not (is_digit c && is_digit d)) (digits_
 
 -- ---- only one text
 
--- by induction over the bytes: a letter stands for its piece; a digit for a run, which is a whole one, since no digit
+-- by induction over the bytes: a letter denotes its piece; a digit for a run, which is a whole one, since no digit
 -- follows (`by_next`)
 only_text : (text : List ℕ) (parts : List (List (Option Man))) → AllZip StandsFor text parts → digits_apart text ≡ true
     → text ≡ row_text 0 (joined parts)

@@ -25,8 +25,8 @@ WrittenDenotesNoOther = (p q : Setup) → IsSound p → DenotesFenAs p.variant (
 abbrev pub WrittenIsReadBack : Type 0
 WrittenIsReadBack = (p : Setup) → IsSound p → fen_reading_as p.variant (fen p) ≡ Ok p
 
--- in Chess960, if a right of p is sound or not there: the letters of a castling field say just this of it (`right_in`)
--- exactly if they name it so (`RightIsNamed`)
+-- in Chess960, for a right of p that is sound or not there: the letters of a castling field are read (`right_in`) as
+-- this right with p's rook, or as no right, exactly if they name it so (`RightIsNamed`)
 abbrev pub RightsAreNamed : Type 0
 RightsAreNamed =
     (text : List ℕ) → (p : Setup) → (c : Colour) → (w : CastlingSide)

@@ -16,8 +16,8 @@ pub record IsOutermost (men : Men) (c : Colour) (w : CastlingSide) (s : ℕ) : T
   pub home : rank s ≡ first_rank c
   pub none_beyond : (t : ℕ) → rank t ≡ first_rank c → is_to_side w s t ≡ true → is_man c Rook (man_at men t) ≡ false
 
--- the letter names colour c's rook on square s for side w: by the side (K, Q, k or q) the outermost rook, or the rook
--- by its file
+-- the letter names colour c's rook on square s for side w: it is the side's letter (K, Q, k or q), and that rook is the
+-- outermost one; or it is the letter of the rook's file
 abbrev pub NamesRook : Men → Colour → CastlingSide → ℕ → ℕ → Type 0
 NamesRook men c w letter s = ((letter ≡ side_letter c w) × IsOutermost men c w s) ⊎ (letter ≡ first_letter c + file s)
 

@@ -20,7 +20,7 @@ ghost use Rattle.chess_fen_laws.specs.Normal.{normal_fen, normal_fen_reading};
 ghost use Rattle.chess_fen_laws.specs.RankTexts.{IsRankText};
 
 /// A law: the contract says it, and the function does nothing. The FEN that is written for a sound position denotes
-/// that position, denotes no other, and is read as that position.
+/// that position, is read as it, and denotes no other position, all in the position's variant.
 pub fn written_is_denoted()
     ensures denotes { WrittenIsDenoted }
     ensures no_other { WrittenDenotesNoOther }
@@ -43,14 +43,14 @@ pub fn rights_are_named()
 
 /// A law: the contract says it, and the function does nothing. For normal chess, FEN as defined for both variants
 /// agrees with FEN as defined for normal chess alone: each text is read as the same position or fault, and each
-/// position is written as the same text.
+/// position of normal chess is written as the same text.
 pub fn normal_is_kept()
     ensures read { (text : List ℕ) → fen_reading_as Normal text ≡ normal_fen_reading text }
     ensures written { (p : Setup) → p.variant ≡ Normal → fen p ≡ normal_fen p }
 {}
 
 /// A law: the contract says it, and the function does nothing. The text that is written for a rank denotes its squares
-/// and has no two digits side by side, and no other text does so.
+/// and has no two digits side by side, and no other text does both.
 pub fn a_rank_has_one_text()
     ensures written { (row : List (Option Man)) → length row ≡ 8 → IsRankText row (fen_rank row) }
     ensures no_other { (row : List (Option Man)) → (text : List ℕ) → IsRankText row text → text ≡ fen_rank row }
@@ -60,9 +60,10 @@ pub fn a_rank_has_one_text()
 /// read as; a rank's text; and how letters name rights of Chess960, where White's king is on c1 and White's rooks are
 /// on b1, f1 and h1, or Black's are on these files of rank 8.
 ///
-/// A definition that noticed a wrongly named right only for one colour, or only on one side, would contradict it.
+/// A definition that noticed wrongly named rights of one colour only, or on one side only, would contradict these
+/// clauses.
 pub fn fens_are_worked_out()
-    // The third field names no right, and no right wrongly.
+    // A text of six fields, in normal chess; its castling field is a dash.
     ensures fields { (fields_of (codes "4k3/8/8/8/8/8/4P3/4K3 b - - 5 39")
         ≡ codes "4k3/8/8/8/8/8/4P3/4K3" ∷ codes "b" ∷ codes "-" ∷ codes "-" ∷ codes "5" ∷ codes "39" ∷ [])
         × (fen_reading_as Normal (codes "4k3/8/8/8/8/8/4P3/4K3 b - - 5 39") ≡ Ok kings_and_pawn)
@@ -78,7 +79,7 @@ pub fn fens_are_worked_out()
     // Two letters name one right, or the letter names no rook: that is wrong.
     ensures two { right_in Fischerandom three_rooks (codes "FK") White KingSide ≡ Wrong }
     ensures no_rook { right_in Fischerandom three_rooks (codes "k") Black KingSide ≡ Wrong }
-    // So these letters name each right well, or one of them wrongly.
+    // All rights together: these letters name no right wrongly; each of the next three texts names one wrongly.
     ensures well { names_rights_well Fischerandom three_rooks (codes "FB") ≡ true }
     ensures wrongly { names_rights_well Fischerandom three_rooks (codes "FK") ≡ false }
     ensures queen_side_wrongly { names_rights_well Fischerandom three_rooks (codes "BQ") ≡ false }

@@ -13,7 +13,7 @@ some_by true false x y = refl
 some_by false true x y = refl
 some_by false false x y = refl
 
--- a move captures if an enemy piece is on its last square, or by en passant
+-- a move captures exactly if an enemy piece is on its last square, or by en passant
 pub captures_is : (p : Setup) (m : Move)
     → is_some (captured_square p m) ≡ (is_of (other p.side) (man_at p.men m.to) || is_en_passant p m)
 unfolding captured_square
@@ -24,7 +24,7 @@ captures_is p m =
 passing : (pawn enemy hits target : Bool) → (pawn || (enemy || ((pawn && hits) && target))) ≡ (pawn || enemy)
 passing pawn enemy hits target = grind arith
 
--- a move resets the clock if a pawn moves or an enemy piece is on its last square
+-- a move resets the clock exactly if a pawn moves or an enemy piece is on its last square
 pub resets_clock_is : (p : Setup) (m : Move)
     → resets_clock p m ≡ (is_man p.side Pawn (man_at p.men m.from) || is_of (other p.side) (man_at p.men m.to))
 unfolding resets_clock is_en_passant

@@ -11,7 +11,7 @@ castling_by true b w e = inl (cc, refl)
 castling_by false true w e = inr (cc, refl)
 castling_by false false w e = cc
 
--- what castling to a side says of the move
+-- the side to which a move castles passes the test `is_castling_to`
 pub says_from_castling : (p : Setup) (m : Move) (w : CastlingSide) → castling p m ≡ Some w → is_castling_to p m w ≡ true
 unfolding castling
 says_from_castling p m w e =
@@ -20,14 +20,14 @@ says_from_castling p m w e =
       | inr q ↦ rw q.0 q.1
     ]
 
--- the parts of what a castling says
+-- a move that castles is made by a king of the side on move, and its squares name that castling
 pub castling_says : (p : Setup) (m : Move) (w : CastlingSide) → is_castling_to p m w ≡ true
     → (is_man p.side King (man_at p.men m.from) ≡ true)
     × (names_castling p.variant p.side m w (right_of p.rights p.side w) ≡ true)
 unfolding is_castling_to
 castling_says p m w e = and_parts _ _ e
 
--- a castling that a right's square names needs that right
+-- squares name a castling only if its right is there
 right_named : (v : Variant) (c : Colour) (m : Move) (w : CastlingSide) (o : Option ℕ) → names_castling v c m w o ≡ true
     → (r : ℕ) × (o ≡ Some r)
 right_named v c m w None e = cc
@@ -71,7 +71,7 @@ rook_of_right : (v : Variant) (men : Men) (c : Colour) (w : CastlingSide) (s : �
 rook_of_right Normal men c w s h = (and_parts _ _ h).1
 rook_of_right Fischerandom men c w s h = (and_parts _ _ h).1
 
--- a right that is there is available
+-- a sound right that is there has its king and rook where castling begins
 pub placed_for_right : (v : Variant) (men : Men) (c : Colour) (w : CastlingSide) (o : Option ℕ) (e : ℕ)
     → right_is_sound_at v men c w o ≡ true → o ≡ Some e → are_placed_for_castling v men c w e ≡ true
 placed_for_right v men c w None e h at = cc

@@ -1,5 +1,5 @@
 -- For boards: a move castles on the side, and by the squares, that its start and end square name (`castling_named`).
--- From the king's square, where the right is sound, both tests ask for the same end square.
+-- `castling` and `castling_named` ask for the same end square where the right is sound and the king makes the move.
 use Rattle.std.proofs.Common.{◌≡◌, ◌≢◌, ℕ, inl, inr, Bool, true, false, ◌&&◌, Option, Some, None, refl, sym, ap, ◌∙◌, ◌==◌, length, option_and_then}
 use Rattle.std.specs.Option.{option_map, option_map_or}
 use Rattle.std.proofs.lemmas.Bool.{and_parts, and_left, cases_eq, eqb-true, eq-eqb, ne_eqb, false_from_ne_true}

@@ -7,7 +7,7 @@ pub chosen : {A : Type 0} (b : Bool) (o : Option A) (x : A) → cond b o None �
 chosen true o x e = (refl, e)
 chosen false o x e = absurd cc
 
--- an option that was mapped to a value has one
+-- an option whose image under f is a value has a value itself
 pub mapped : {A B : Type 0} (f : A → B) (o : Option A) (y : B) → option_map f o ≡ Some y
     → (x : A) × (o ≡ Some x) × (f x ≡ y)
 mapped f None y e = absurd cc

@@ -1,4 +1,5 @@
--- For proofs about lines: what lies between two of the squares of a line.
+-- For proofs about lines: what lies between two squares of a line, which rank and file decide in the definition, is the
+-- same by the squares' numbers; and their order makes no difference.
 use Rattle.std.proofs.Common.{◌≡◌, ℕ, ◌<◌, ◌*◌, ◌+◌, nat_lt, ◌-◌, inl, inr, Bool, true, false, ◌&&◌, ◌||◌, not, ◌==◌, is_none, refl, sym, ap, ◌∙◌, arith}
 use Rattle.std.proofs.{lemmas.Bool.Decides.nat_tests, lemmas.Bool.cases_order, lemmas.Bool.eqb-true}
 use Rattle.std.specs.Int.{abs_diff}

@@ -1,4 +1,5 @@
--- For boards: the steps of a move, and those back, leave on each square what the definitions have there.
+-- For boards: the steps of a move, and those back, leave on each square what the definitions have there: shown square
+-- by square, for castling and for other moves apart.
 use Rattle.std.proofs.Common.{◌≡◌, ℕ, ◌<◌, inl, inr, length, ◌==◌, Bool, ◌||◌, Option, Some, None, ◌≢◌, true, false, refl, sym, ap, ◌∙◌, arith, if◌then◌else◌}
 use Rattle.std.proofs.lemmas.Bool.{cases_eq, eq-eqb, ne_eqb}
 use Rattle.std.specs.Option.{option_map_or}
@@ -35,7 +36,7 @@ eqb_comm a b = elim (cases_eq a b) [
 or_flip : (a b : Bool) → (a || b) ≡ (b || a)
 or_flip a b = grind arith
 
--- off the end square, a capture empties a square beside the start square only if it is en passant
+-- on a square s other than m's end (`to`), a capture takes a piece only if it is en passant (`passes`)
 emptied : (passes enemy : Bool) (behind to s : ℕ) → (s == to) ≡ false
     → is_at (if passes then Some behind else None) s
     ≡ is_at (if passes then Some behind else if enemy then Some to else None) s
@@ -43,7 +44,7 @@ emptied true enemy behind to s n = refl
 emptied false true behind to s n = sym (eqb_comm to s ∙ n)
 emptied false false behind to s n = refl
 
--- a piece that goes from `from` to `to`: the square s after it is the same by either order of the tests, if `q` and `r`
+-- a piece that goes from `from` to `to`: what is then on s is the same by either order of the tests, if `q` and `r`
 -- agree on all other squares
 moved_by : (b : Bool) (to from s : ℕ) (x y : Option Man) (q r : Bool) → (to == s) ≡ b → (b ≡ false → q ≡ r)
     → (if to == s then x else if q || (from == s) then None else y)
@@ -67,7 +68,7 @@ moved p m s e =
     (is_at second s) (is_at taken s) refl
     (λ n. emptied passes (is_of (other p.side) (man_at p.men m.to)) behind m.to s (eqb_comm s m.to ∙ n)))
 
--- two pieces that arrive and two that leave: the square s is the same by either order of the tests
+-- two pieces that arrive and two that leave: what is then on s is the same by either order of the tests
 turned_round : (a b c d s : ℕ) (x y z : Option Man)
     → (if a == s then x else if b == s then y else if (c == s) || (d == s) then None else z)
     ≡ (if s == a then x else if s == b then y else if (s == d) || (s == c) then None else z)

@@ -1,4 +1,4 @@
--- For readers of positions: a setup is sound exactly if it has no fault.
+-- For readers of positions: a setup is sound exactly if it has no fault, condition by condition.
 use Rattle.std.proofs.Common.{◌≡◌, Bool, true, false, not, ◌&&◌, cond, ◌∷◌, ◌++◌, take, drop, Option, Some, None, length, refl}
 use Rattle.std.proofs.lemmas.Bool.{and_parts}
 use Rattle.chess_base.specs.{declared.man.Colour.TheVariants.White, declared.man.Colour.TheVariants.Black, declared.setup.Setup.Setup, declared.fen_fault.FenFault.FenFault, Men.other, Attacks.is_in_check, shared.Parts.counters_fit}
@@ -47,7 +47,8 @@ IsSound-from_no_fault p l e =
       fullmove_high = c2.1;
     }
 
--- that letters name rights well may be a condition of its own, right before the one that the rights are sound
+-- the first fault is the same if the condition that letters name rights well (`named`) is one of its own, right before
+-- the one that the rights are sound
 pub first_failing-conditions_if : (named : Bool) (p : Setup) → first_failing (conditions_if named p)
     ≡ first_failing (take 4 (conditions p) ++ ((Castling, named) ∷ drop 4 (conditions p)))
 first_failing-conditions_if true p = refl

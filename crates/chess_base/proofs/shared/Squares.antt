@@ -139,7 +139,7 @@ pub none_passes : (p q : ℕ → Bool) → ((k : ℕ) → k < 64 → p k ≡ tru
     → some_square (λ k. p k && q k) ≡ false
 none_passes p q h = some_square-none (λ k. p k && q k) (λ k low. guarded _ _ (h k low))
 
--- x, which passes p, decides whether one of them passes q
+-- x passes p, and if x fails q, so do all squares that pass p: then x decides whether some square passes both
 pub one_decides : (p q : ℕ → Bool) (x : ℕ) → x < 64 → p x ≡ true
     → ((k : ℕ) → k < 64 → p k ≡ true → q x ≡ false → q k ≡ false) → q x ≡ some_square (λ k. p k && q k)
 one_decides p q x h on rest =

@@ -1,11 +1,12 @@
--- For boards: the pieces after a move, as writes of single squares one after the other.
+-- For boards: the pieces after a move, as writes of single squares one after the other; shown for each square, by the
+-- last write to it.
 use Rattle.std.proofs.Common.{◌≡◌, ℕ, ◌<◌, inl, inr, List, length, get_or, set, Bool, false, true, ◌||◌, cond, Option, None, Some, arith, refl, sym, ◌∙◌, length-set, get_or-set_other, get_or-set_same, ext_get_or}
 use Rattle.std.proofs.lemmas.Bool.{cases_eq, eq-eqb, ne_eqb}
 use Rattle.chess_base.specs.{declared.man.Move.Move, declared.man.Kind.TheVariants.Rook, Men.Men, Men.man_at, declared.setup.Setup.Setup, declared.steps.Steps.Steps, Steps.men_stepped, Castling.mover_end, Castling.castling_rook_to, Squares.is_at}
 use Rattle.chess_base.specs.Moves.{arriving_man, second_square_emptied, steps_of, men_after}
 use Rattle.chess_base.proofs.shared.MenAfter.{men_after_by_steps, length-men_stepped, man_at-men_stepped}
 
--- the list after a write, if there is a place to write
+-- the list with v written at the index in the option o; unchanged if o is none
 abbrev pub write : {X : Type 0} → List X → Option ℕ → X → List X
 write xs None v = xs
 write xs (Some s) v = set xs s v

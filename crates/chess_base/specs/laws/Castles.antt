@@ -27,7 +27,8 @@ named_square Fischerandom k = k.rook_from
 abbrev pub is_castling_by : Variant → Move → Castle → Bool
 is_castling_by v m k = (k.king_from == m.from) && (named_square v k == m.to)
 
--- the side on which move m castles, by the squares of king and rook (`is_castling_by`); none if it is not castling
+-- the side on which move m castles, by the squares of king and rook (`is_castling_by`); the king side if both fit, none
+-- if neither does
 unfoldable pub castling_named : Setup → Move → Option CastlingSide
 castling_named p m =
     find (λ w. option_map_or (is_castling_by p.variant m) (castling_on p w) false) (KingSide ∷ QueenSide ∷ [])

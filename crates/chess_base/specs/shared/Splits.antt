@@ -1,4 +1,4 @@
--- Parts of the definitions as functions of the option that they look at: so a proof can go by its cases.
+-- Parts of the definitions as functions of the option that they look at: so a proof can take `None` and `Some` apart.
 use Rattle.std.specs.Prelude.{ℕ, Bool, true, false, Option}
 use Rattle.std.specs.Option.{option_map, option_map_or}
 use Rattle.chess_base.specs.declared.castling.Castle.{Castle}
@@ -13,7 +13,7 @@ use Rattle.chess_base.specs.Attacks.{could_capture}
 use Rattle.chess_base.specs.Castling.{are_placed_for_castling, names_castling_with, castle_from, castles}
 use Rattle.chess_base.specs.Moves.{man_moves}
 
--- the given piece (`o`), if it is one, on square a could capture on square b, whatever is on b
+-- the content `o` of square a, if it is a piece, could capture on square b, whatever is on b
 abbrev pub could_capture_as : Men → Option Man → ℕ → ℕ → Bool
 could_capture_as men o a b = option_map_or (λ x. could_capture men x.colour x.kind a b) o false
 

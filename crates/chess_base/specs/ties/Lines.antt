@@ -13,7 +13,7 @@ use Rattle.chess_base.specs.Attacks.{attacks, could_capture}
 use Rattle.chess_base.specs.shared.Parts.{is_rank_ahead}
 use Rattle.chess_base.specs.shared.Lines.{same_line}
 
--- how much the number rises from a square of such a line to the next one
+-- how much the number rises from one square of a line of this kind to the next: 8 on a file
 abbrev pub step_of : Line → ℕ
 step_of Rank = 1
 step_of File = 8

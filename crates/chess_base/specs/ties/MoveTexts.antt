@@ -12,8 +12,8 @@ use Rattle.chess_base.specs.MoveList.{move_of}
 abbrev pub promotion_with_letter : ℕ → Option Kind
 promotion_with_letter c = find (λ k. letter_by Black k == c) (Queen ∷ Rook ∷ Bishop ∷ Knight ∷ [])
 
--- the promotion that the text after the two squares denotes: none if it is empty, a kind by its small letter; none at
--- all (`None`) for any other text
+-- the promotion that the text after the two squares denotes: `Some None` if it is empty, a kind by its small letter;
+-- `None` for any other text
 abbrev pub promotion_of_text : List ℕ → Option (Option Kind)
 promotion_of_text [] = Some None
 promotion_of_text (c ∷ []) = option_map Some (promotion_with_letter c)

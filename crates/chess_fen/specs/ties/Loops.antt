@@ -12,8 +12,8 @@ use Rattle.byte_devices.specs.Bytes.{byte}
 use Rattle.chess_fen.specs.ties.Reader.{nowhere}
 use Rattle.chess_fen.specs.Writing.{fen_rank}
 
--- the next file in a search from the board's edge on that side, where k more files are left after it: file k from the
--- h-file, 7 - k from the a-file
+-- the next file in a search from the board's edge on that side, where k more files are left after it: k from the h-file
+-- on, 7 - k from the a-file on
 abbrev pub edge_file : CastlingSide → ℕ → ℕ
 edge_file KingSide k = k
 edge_file QueenSide k = 7 - k

@@ -1,5 +1,5 @@
--- How code reads the castling rights of a FEN, letter by letter. A right that is named wrongly is kept as one whose
--- rook is on a square where no rook can have it, so that the position is refused as unsound.
+-- How code reads the castling rights of a FEN, letter by letter. A right that is named wrongly is read as one with its
+-- rook on a4 (`nowhere`). No right with its rook there is sound, so the position is refused.
 use Rattle.std.specs.Prelude.{ℕ, max, codes, count_by, length, nat_lt, nat_le, ◌-◌, ◌==◌, Bool, ◌&&◌, List, [], ◌∷◌, map, find, Option, Some, None, Result, Ok, Err, unwrap_or, if◌then◌else◌}
 use Rattle.std.specs.Bool.{then_some}
 use Rattle.std.specs.List.{fold, list_all}
@@ -58,8 +58,8 @@ named_square men c w letter =
     else if names_file c letter && is_towards w (king_square men c) s then Some s
     else None
 
--- of the rook's squares that two letters name for one right: the one that is named, if only one is; none if none is;
--- `nowhere` if both are
+-- a right's rook by two letters, each of which names a square for it or none: the square if one does, none if neither
+-- does, `nowhere` if both do
 abbrev pub one_or_nowhere : Option ℕ → Option ℕ → Option ℕ
 one_or_nowhere None o = o
 one_or_nowhere (Some s) None = Some s
@@ -102,13 +102,13 @@ setup_with v men side castling target halfmove fullmove = do
     fullmove = max number 1;
   })
 
--- the position that the six fields of a FEN denote, or the fault of the first field that denotes nothing
+-- the position that the six fields of a FEN denote, sound or not, or the fault of the first field that denotes nothing
 abbrev pub setup_by : Variant → List ℕ → List ℕ → List ℕ → List ℕ → List ℕ → List ℕ → Result Setup FenFault
 setup_by v placement side castling target halfmove fullmove = do
   men ← ok_or (placement_of placement) faults.Placement
   setup_with v men side castling target halfmove fullmove
 
--- the position that a list of a FEN's fields denotes, of which there are six or four
+-- the position, sound or not, that six fields of a FEN denote, or four with the counters 0 and 1; or the fault
 abbrev pub setup_in : Variant → List (List ℕ) → Result Setup FenFault
 setup_in v (a ∷ b ∷ c ∷ d ∷ []) = setup_by v a b c d (codes "0") (codes "1")
 setup_in v (a ∷ b ∷ c ∷ d ∷ e ∷ f ∷ []) = setup_by v a b c d e f

@@ -1,4 +1,4 @@
--- What a byte of a rank's text stands for, as code keeps it, and placements read byte by byte.
+-- What a byte of a rank's text denotes, as code keeps it, and placements read byte by byte.
 use Rattle.std.specs.Prelude.{◌≡◌, ℕ, zero, suc, ◌+◌, ◌-◌, ◌*◌, ◌==◌, nat_le, Bool, true, false, List, [], ◌∷◌, ◌++◌, length, take, drop, replicate, Option, Some, None, if◌then◌else◌, option_and_then}
 use Rattle.std.specs.List.{position_or_len, before_first}
 use Rattle.chess_base.specs.declared.man.Man.{Man}
@@ -21,8 +21,8 @@ abbrev pub last_rank : ℕ → List (Option Man) → List (Option Man) → Optio
 last_rank zero row above = if length row == 8 then Some (row ++ above) else None
 last_rank (suc lower) row above = None
 
--- the squares that a placement denotes, from a1 on, read byte by byte up to the first space. Before this text were read
--- the squares `row` of a rank below which `left` ranks are left, and `above`, those of all ranks above it
+-- the squares that a placement denotes, from a1 on, read byte by byte up to the first space. Already read are `row`,
+-- the first squares of a rank with `left` ranks below it, and `above`, the squares of all ranks above it
 abbrev pub placing : ℕ → List (Option Man) → List (Option Man) → List ℕ → Option (List (Option Man))
 placing left row above [] = last_rank left row above
 placing left row above (c ∷ cs) =
@@ -35,7 +35,7 @@ placing left row above (c ∷ cs) =
 abbrev pub from_space : List ℕ → List ℕ
 from_space text = drop (position_or_len (λ b. b == space) text) text
 
--- from a text, a whole rank was read into `row`, up to the text `rest`
+-- a whole rank, of the squares `row`, is at the front of a text, and `rest` follows it: reading continues from there
 pub record RankIsRead (text : List ℕ) (row : List (Option Man)) (rest : List ℕ) : Type 0 where
   pub on : (left : ℕ) → (above : List (Option Man)) → placing left [] above text ≡ placing left row above rest
   pub back : from_space text ≡ from_space rest
@@ -45,26 +45,27 @@ pub record RankIsRead (text : List ℕ) (row : List (Option Man)) (rest : List �
 abbrev pub NoRankIsRead : List ℕ → Type 0
 NoRankIsRead text = (left : ℕ) → (above : List (Option Man)) → placing left [] above text ≡ None
 
--- from a text, the squares of a rank (0 for rank 1) were read up to the text `rest`, which made the squares `new` of
--- the board from `old`
+-- a whole rank (0 for rank 1) was read at the front of a text, up to `rest`, and put on the board: its squares `old`
+-- became `new`
 pub record RankIsPlaced (text : List ℕ) (rank : ℕ) (old new : List (Option Man)) (rest : List ℕ) : Type 0 where
   pub row : List (Option Man)
   pub read : RankIsRead text row rest
   pub above : drop (8 * rank) new ≡ row ++ drop (8 * rank + 8) old
   pub below : take (8 * rank) new ≡ take (8 * rank) old
 
--- a text goes on with a slash and then `rest`, so that the next rank begins there
+-- a text begins with a slash, and `rest` follows it: after a whole rank, the next rank begins there
 pub record SlashIsRead (text rest : List ℕ) : Type 0 where
   pub on : (lower : ℕ) → (row above : List (Option Man)) → length row ≡ 8
       → placing (suc lower) row above text ≡ placing lower [] (row ++ above) rest
   pub back : from_space text ≡ from_space rest
 
--- no other rank follows in a text
+-- a text doesn't begin with a slash: after a whole rank that is not the last, it denotes no board
 abbrev pub NoSlashIsRead : List ℕ → Type 0
 NoSlashIsRead text = (lower : ℕ) → (row above : List (Option Man)) → length row ≡ 8
     → placing (suc lower) row above text ≡ None
 
--- whether the placement ends where a text begins
+-- after the last rank: the placement ends where the text begins (`true`), or continues, and so denotes no board
+-- (`false`)
 abbrev pub Ends : Bool → List ℕ → Type 0
 Ends true text = ((row above : List (Option Man)) → length row ≡ 8 → placing 0 row above text ≡ Some (row ++ above))
     × (from_space text ≡ text)

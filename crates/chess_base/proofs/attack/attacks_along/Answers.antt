@@ -1,4 +1,4 @@
--- By what is on square a: nothing, or a piece that reaches b along the line or not (Reaches).
+-- By cases of what is on square a: no piece, or one that reaches b along the line, or one that doesn't (Reaches).
 use Rattle.std.proofs.Common.{arith, ◌≡◌, sym, Some, None}
 use Rattle.std.proofs.lemmas.Grind.{common_steps}
 use Rattle.chess_base.specs.Men.{man_at}

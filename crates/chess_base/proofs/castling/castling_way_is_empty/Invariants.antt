@@ -1,4 +1,4 @@
--- The loop's invariant: each square before `number` is empty, or need not be.
+-- The loop's invariant: each square before `number` is empty, or the castling doesn't need it empty.
 use Rattle.std.proofs.Common.{◌≡◌, ℕ, ◌<◌, true, not, ◌||◌, is_none}
 use Rattle.chess_base.specs.{Men.man_at, Castling.castling_needs_empty}
 use Rattle.chess_base.proofs.castling.castling_way_is_empty.Given as goal

@@ -1,4 +1,4 @@
--- The result is what the function of the definition reads. DenotedFen says that this is the sound position that the
+-- The result is what the definition `fen_reading_as` reads. DenotedFen says that this is the sound position that the
 -- text denotes, if there is one, and else the one fault that is true of the text.
 use Rattle.std.proofs.Common.{◌≡◌, Result, Ok, Err, List, ℕ, sym, ◌∙◌, IfOk, IfErr}
 use Rattle.chess_base.specs.{declared.man.Variant.Variant, declared.setup.Setup.Setup, Sound.IsSound, declared.fen_fault.FenFault.FenFault}
