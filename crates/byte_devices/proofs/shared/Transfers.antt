@@ -73,7 +73,7 @@ took_some w w' start h =
 
 -- ---- one after the other
 
--- if `x or y` fails, both fail
+-- if `x || y` is false, both are false
 neither : {P : Type 0} (x y : Bool) → (x || y) ≡ false → (x ≡ false → y ≡ false → P) → P
 neither true y e p = absurd cc
 neither false y e p = p refl e
