@@ -18,7 +18,7 @@ use std::io::{Error, ErrorKind, Read, Result, Write};
 pub struct GatedReader<'a> {
     /// The bytes that are still to be given.
     pub rest: &'a [u8],
-    /// How many reads failed since the gate was shut.
+    /// How many reads failed because the gate was shut.
     pub early: u64,
     /// Whether the gate is open.
     pub open: &'a Cell<bool>,

@@ -111,7 +111,7 @@ impl Write for PieceWriter {
         ensures bytes { WriteAppends (Some self.old.bytes.items) (Some self.new.bytes.items) result buf.now }
         ensures calls { self.new.calls ≡ saturating_increment self.old.calls }
         ensures fails { self.new.calls ≡ self.old.fails_at → IsErr result }
-        // Any other call fails only if `bytes` had to grow and memory ran out.
+        // Any other call fails only if `bytes` has no capacity left for what it takes.
         ensures only { OnErr result
             ((self.new.calls ≡ self.old.fails_at)
             ⊎ (vec_capacity self.old.bytes < vec_len self.old.bytes + min self.old.cut (length buf.now))) }

@@ -31,7 +31,8 @@ pub trait Board {
     ghost position: { Self → Setup };
 
     /// How the board hashes positions: its own choice, but fixed by the pieces, the side on move and the castling
-    /// rights alone. So the same positions (Laws of Chess 2023, article 9.2.3) have equal hashes; different ones may, too.
+    /// rights alone. So positions that are the same (Laws of Chess 2023, article 9.2.3) have equal hashes; different
+    /// ones may, too.
     ghost word_of: { Men → Colour → Rights → ℕ };
 
     /// Sets the board to the position `to`.

@@ -55,8 +55,8 @@ pub record IsEmpty (table : List ℕ) : Type 0 where
   pub buckets : length table ≡ BUCKETS
   pub none : (b : ℕ) → b < BUCKETS → get_or table b 0 ≡ 0
 
--- the entry of played move k, which is x, in the game from `start` by the played moves xs, describes the position that x
--- reached: `earlier` is the latest earlier position in its bucket (its number plus one, or 0 for none), and `count` says
+-- the entry of played move k, which is x, in the game from `start` by the played moves xs, is right for the position
+-- that x reached: `earlier` is the latest earlier position in its bucket (its number plus one, or 0 for none), `count`
 -- how many positions up to it, itself included, are the same
 pub record HasEntry (start : Hashed) (xs : List PlayedMove) (k : ℕ) (x : PlayedMove) : Type 0 where
   pub earlier : x.entry.earlier ≡ latest_below (is_in start xs (bucket x.reached)) (suc k)
