@@ -103,7 +103,8 @@ impl PackedMen {
         ensures each { (k : ℕ) → k < 64 → man_at men.new k ≡ put_at self.now set kind k (man_at men.old k) }
     {
         let mut left = set;
-        // A limit of 64 turns, more than the set needs: seeing it, the compiler can drop the loop if no piece is used.
+        // At most 64 turns, as many as a set can need: seeing this limit, the compiler can drop the loop if no piece
+        // is used.
         for _turn in 0..64u8 {
             let Some(square) = left.take_first() else {
                 return;
