@@ -124,7 +124,7 @@ pub put_more : (p : PackedMen) (kind : Kind) (c : Colour) (men : Men) (left rest
 put_more p kind c men left rest i s old all is here inside taken h =
     rw is (more_put p kind men left rest i s old all here inside taken h)
 
--- at the end all squares have theirs
+-- at the end each square of the set has its piece
 pub put_all : (p : PackedMen) (kind : Kind) (men : Men) (left : ℕ) (old : Men) (all : ℕ) → members left ≡ []
     → PutsOn p kind men left old all → (k : ℕ) → k < 64 → man_at men k ≡ put_at p all kind k (man_at old k)
 put_all p _ men left old all none h k low =

@@ -1,7 +1,7 @@
 -- How often the position `now` occurred before is found by a walk along the links of its bucket, from the latest
--- position back. It ends at the first that is the same, which keeps how many there were up to it (walk_found), or at the
--- end of the links (walk_ends), or where all others are too old to be the same (walk_stops): in these two cases `now` is
--- new. In the walk `at` is a position's number plus one; 0 is the end of the links.
+-- position back. It ends at the first that is the same, which keeps how many there were up to it (walk_found), or at
+-- the end of the links (walk_ends), or where all others are too old to be the same (walk_stops): in these two cases
+-- `now` is new. In the walk `at` is a position's number plus one; 0 is the end of the links.
 -- Last, the repetitions of the current position (rep_alone, rep_kept).
 use Rattle.std.proofs.Common.{◌≡◌, ◌∙◌, ℕ, suc, ◌+◌, ◌-◌, ◌%◌, ◌<◌, ◌≤◌, true, false, cond, List, [], ◌∷◌, length, get_or, count_by, refl, sym, ap, subst, arith, eq-eqb, eqb-true}
 use Rattle.std.proofs.{lemmas.List.nil_from_length, lemmas.List.Sums.sum_by-cons}
