@@ -1,4 +1,5 @@
-//! A reader and a writer over memory, for tests: each call gives or takes at most `cut` bytes, and one call fails.
+//! A reader and a writer over memory, for tests: each call gives or takes at most `cut` bytes, and one call may be
+//! chosen to fail.
 
 ghost use Rattle.std.specs.Prelude.{◌≡◌, [], ◌<◌, ◌+◌, ◌⊎◌, ◌↔◌, min, length, IsErr, IfOk, IfErr, OnErr, vec_len, vec_capacity};
 ghost use Rattle.std.specs.Io.{ReadsAtMost, WritesAtMost};
