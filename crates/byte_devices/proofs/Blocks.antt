@@ -12,7 +12,7 @@ use lib.{Count.count_trailing_zeros, Lanes.chunk, Lanes.mask_l, Lanes.top}
 abbrev pub is_any : ℕ → ℕ → ℕ → ℕ → Bool
 is_any a b c = λ x. x == a || (x == b || x == c)
 
--- so the first byte that is any of `a`, `a` and `a` is the first `a`
+-- the first byte that is any of `a`, `a` and `a` is the first `a`
 one_of_one : (b : Bool) → (b || (b || b)) ≡ b
 one_of_one true = refl
 one_of_one false = refl

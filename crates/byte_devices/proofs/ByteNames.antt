@@ -1,4 +1,5 @@
--- The table NAMES marks just the bytes of names: held against the definition at each of the 256 bytes, by computing.
+-- The table NAMES marks just the bytes of names: it is compared with the definition at each of the 256 bytes, by
+-- computing.
 use Rattle.std.proofs.Common.{◌≡◌, ℕ, ◌<◌, nat_eq, get_or, refl}
 use Rattle.byte_devices.specs.{declared.bytes.TheConstants.NAMES, Bytes.is_name_byte}
 use Rattle.byte_devices.proofs.shared.ByteTables.{agree_below, class_by_test}

@@ -1,5 +1,5 @@
--- What a run (a call, as of `run_session`) reads from an input and writes to an output, and how the devices' states
--- before and after it agree with that.
+-- What a run (one call of a function such as `run_session`) reads from an input and writes to an output, and how this
+-- changes the devices' states.
 use Rattle.std.specs.Prelude.{◌≡◌, ℕ, ◌-◌, Bool, true, false, if◌then◌else◌, List, [], ◌++◌, length, take}
 use Rattle.std.specs.Io.KnownBytes.{Appends, Consumes, IsAtEnd}
 use Rattle.byte_devices.specs.Devices.{InputState, OutputState, saturating_increment, saturating_add, Begins}
@@ -52,8 +52,8 @@ pub record OutputTook (w w' : OutputState) (o : ToOutput) : Type 0 where
   pub unflushed : w'.unflushed ≡ saturating_add (if o.any_flush then 0 else w.unflushed) (length o.left)
   pub failures : w'.failure_count ≡ (if o.failed then saturating_increment w.failure_count else w.failure_count)
 
--- a run took the devices from the states `d` to `d'`: the input gave some `i`, the output took some `o`, and the claim
--- `P i o` holds. There may have been waits in which nothing came
+-- a run took the devices from the states `d` to `d'`: for what the input gave (`i`) and what the output took (`o`) the
+-- claim `P i o` holds. There may have been waits in which nothing came
 abbrev pub RanWithWaits : (FromInput → ToOutput → Type 0) → Devices → Devices → Type 0
 RanWithWaits P d d' =
     (i : FromInput) × (o : ToOutput) × InputGave d.input d'.input i × OutputTook d.output d'.output o × P i o

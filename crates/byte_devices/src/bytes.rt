@@ -1,4 +1,5 @@
-//! Kinds of bytes, and a text split by one. What is called for each byte of a text is inlined.
+//! Kinds of bytes, and splitting a text by a kind of byte. Functions that are called for each byte of a text are
+//! inlined.
 
 ghost use Rattle.std.specs.Prelude.{◌≡◌, ℕ, Bool, ◌+◌, ◌<◌, ◌≤◌, length, drop, take_while};
 ghost use Rattle.std.specs.List.{prefix_len};
@@ -50,8 +51,8 @@ pub fn shown_byte(byte: u8) -> u8
     if byte < 32 || byte > 126 { b'?' } else { byte }
 }
 
-/// Splits a text after the bytes at its front that pass the test: before the first byte that doesn't, or at its end. In
-/// the contract `p` is a definition with which all answers of the test agree.
+/// Splits a text before its first byte that fails the test, or at its end if none fails. In the contract `p` is any
+/// function on bytes that always agrees with the test.
 #[inline(always)]
 pub fn split_while<F: Fn(u8) -> bool>(text: &[u8], test: F) -> (&[u8], &[u8])
     requires { F.IsAlwaysCallable test }

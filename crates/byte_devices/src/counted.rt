@@ -1,4 +1,4 @@
-//! An input or an output out of any reader or writer of std.
+//! `Counted`, which makes an `Input` of any reader of std and an `Output` of any writer.
 
 ghost use Rattle.std.specs.Prelude.{◌≡◌, ◌==◌, ◌-◌, ◌^◌, ◌<◌, [], false, not, nat_lt};
 ghost use Rattle.byte_devices.specs.Devices.{saturating_increment, WaitStep, TookThenFailed};
@@ -7,9 +7,9 @@ ghost use Rattle.byte_devices.specs.ties.Counting.{no_counts, one_failure_more, 
 use crate::traits::{Input, Output, ReadFault, WriteFault};
 use std::io::{self, Read, Write};
 
-// What is counted of a device's calls: calls that failed; reads that reported the end of the input; the length of what
-// the last read gave; pieces, which are the reads that succeeded, also at the end, and the waits in which nothing came;
-// these waits alone; and the bytes written since the last successful flush.
+// What is counted of a device's calls, in the order of the fields: calls that failed; reads that reported the end of
+// the input; how many bytes the last successful read gave; pieces, which are the reads that succeeded (also at the end)
+// and the waits in which nothing came; these waits alone; the bytes written since the last successful flush.
 #[derive(Drop)]
 pub(crate) struct Counts {
     failures: u64,
@@ -20,7 +20,7 @@ pub(crate) struct Counts {
     unflushed: u64,
 }
 
-// What is made of a device's answers.
+// Counting a device's answers.
 impl Counts {
     // The counts before the first call: all 0.
     fn new() -> Self
@@ -36,8 +36,8 @@ impl Counts {
         }
     }
 
-    // Whether 2^64 - 1 reads succeeded (`Ok(0)` counts too, and so does a wait in which nothing came), so that one more
-    // can't be counted. Every later read is then a failure.
+    // Whether 2^64 - 1 pieces were counted (reads that succeeded, also with `Ok(0)`, and waits in which nothing came),
+    // so that no more can be counted. Every later read is then a failure.
     fn is_spent(&self) -> bool
         ensures value { result ≡ (self.now.pieces == 2 ^ 64 - 1) }
         ensures room { result ≡ false → self.now.pieces < 2 ^ 64 - 1 }
@@ -115,10 +115,10 @@ impl Counts {
     }
 }
 
-/// Makes an `Input` of any reader of std, and an `Output` of any writer, and counts the calls. Each call is one call of
-/// the device with the same piece. Each `Err` is a failure, and so is a write that takes nothing of a piece that isn't
-/// empty. A count that has reached 2^64 - 1 stays there, and after as many pieces each read is a failure, with no call
-/// of the device.
+/// Makes an `Input` of any reader of std, and an `Output` of any writer, and counts the calls. Each call makes one call
+/// of the device, with the same bytes. Each `Err` is a failure, and so is a write of some bytes that takes none. A
+/// count that has reached 2^64 - 1 stays there; after 2^64 - 1 pieces (reads that succeeded, and waits in which nothing
+/// came) each read is a failure, without a call of the device.
 #[derive(Drop)]
 pub struct Counted<D> {
     device: D,
@@ -160,8 +160,8 @@ impl<R: Read> Counted<R> {
         &self.device
     }
 
-    /// Counts a wait in which nothing came, as a silence and as one of the 2^64 - 1 pieces. An input that wraps this
-    /// one, and waits by itself, calls it. Returns whether it was counted: not if no piece is left.
+    /// Counts a wait in which nothing came, as a silence and as one of the 2^64 - 1 pieces. It is for an input that
+    /// wraps this one and does the waiting. Returns whether the wait was counted: not if no piece is left.
     pub fn fall_silent(&mut self) -> bool
         ensures step { WaitStep (⟦<Counted<R> as Input>⟧.seen self.old) (⟦<Counted<R> as Input>⟧.seen self.new)
             (not result) }
@@ -193,7 +193,7 @@ impl<W: Write> Counted<W> {
         &self.device
     }
 
-    /// Counts a failed call without making one, as of a write that could not go on, and returns the fault.
+    /// Counts a failed call without calling the writer, as for a write that could not go on, and returns the fault.
     pub fn fail_write(&mut self) -> WriteFault
         ensures step { TookThenFailed (⟦<Counted<W> as Output>⟧.seen self.old) (⟦<Counted<W> as Output>⟧.seen self.new)
             [] }
@@ -232,7 +232,7 @@ impl<R: Read> Input for Counted<R> {
       silence_count = c.counts.silences;
     } };
 
-    // One `read` of the reader, counted. Once 2^64 - 1 pieces were read, it fails without a call of the reader.
+    // One `read` of the reader, counted. After 2^64 - 1 pieces it fails without a call of the reader.
     fn read(&mut self, buf: &mut [u8]) -> Result<usize, ReadFault> {
         if self.counts.is_spent() {
             self.counts.fail();

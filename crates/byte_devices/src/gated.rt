@@ -1,5 +1,5 @@
 //! A reader and a writer over memory that share a gate, for tests that a program flushes its answer before it reads
-//! more. No contract says whether the gate is open at a call, so tests show it.
+//! more. Contracts don't mention whether the gate is open.
 
 ghost use Rattle.std.specs.Prelude.{◌≡◌, [], ◌<◌, ◌≤◌, ◌==◌, ◌+◌, length, min, position, IsOk, IfOk, OnErr, IfSome, is_err, vec_len, vec_capacity, if◌then◌else◌};
 ghost use Rattle.std.specs.Io.{ReadsAtMost, WritesAtMost};
@@ -13,20 +13,20 @@ use std::io::{Error, ErrorKind, Read, Result, Write};
 
 /// A reader for tests that a program flushes its answer to a line before it reads the next one. Each read gives one
 /// line and shuts the gate, a write shuts it too, and a flush of the `GatedWriter` opens it. Where the gate is shut, a
-/// read fails and is counted in `early`: it came before the answer to the last line was passed on.
+/// read fails and is counted in `early`: it came before the answer to the last line was flushed.
 #[derive(Drop)]
 pub struct GatedReader<'a> {
     /// The bytes that are still to be given.
     pub rest: &'a [u8],
-    /// How often it was asked too early.
+    /// How many reads failed because the gate was shut.
     pub early: u64,
     /// Whether the gate is open.
     pub open: &'a Cell<bool>,
 }
 
 impl<'a> GatedReader<'a> {
-    /// A reader of `bytes`, which shares the gate `open` with a `GatedWriter`. For the first line to be read, `open` is
-    /// to be true at first.
+    /// A reader of `bytes`, which shares the gate `open` with a `GatedWriter`. The caller sets `open` to true at first,
+    /// otherwise the first read fails.
     pub fn new(bytes: &'a [u8], open: &'a Cell<bool>) -> Self
         ensures bytes { result.rest.now ≡ bytes.now }
         ensures early { result.early ≡ 0 }

@@ -1,4 +1,5 @@
-//! A reader and a writer over memory, for tests: they cut pieces as asked, fail at one call, and go on.
+//! A reader and a writer over memory, for tests: each call gives or takes at most `cut` bytes, and one call may be
+//! chosen to fail.
 
 ghost use Rattle.std.specs.Prelude.{◌≡◌, [], ◌<◌, ◌+◌, ◌⊎◌, ◌↔◌, min, length, IsErr, IfOk, IfErr, OnErr, vec_len, vec_capacity};
 ghost use Rattle.std.specs.Io.{ReadsAtMost, WritesAtMost};
@@ -111,7 +112,7 @@ impl Write for PieceWriter {
         ensures bytes { WriteAppends (Some self.old.bytes.items) (Some self.new.bytes.items) result buf.now }
         ensures calls { self.new.calls ≡ saturating_increment self.old.calls }
         ensures fails { self.new.calls ≡ self.old.fails_at → IsErr result }
-        // Another call fails only where more memory was needed.
+        // Any other call fails only if `bytes` has no capacity left for what it takes.
         ensures only { OnErr result
             ((self.new.calls ≡ self.old.fails_at)
             ⊎ (vec_capacity self.old.bytes < vec_len self.old.bytes + min self.old.cut (length buf.now))) }

@@ -1,4 +1,4 @@
-//! An input for tests of what a call does while nothing comes.
+//! An input that is silent for a while, for tests of what a caller does meanwhile.
 
 ghost use Rattle.std.specs.Prelude.{◌≡◌, ◌<◌, ◌≤◌, ◌-◌, ◌^◌, ◌==◌, ◌&&◌, length, not, nat_lt, if◌then◌else◌, IfOk, OnErr};
 ghost use Rattle.byte_devices.specs.Devices.{ReadStep, WaitStep};
@@ -7,8 +7,8 @@ use crate::counted::Counted;
 use crate::traits::{Input, ReadFault};
 use std::io::Read;
 
-/// An input for tests: it gives so many bytes, then so many waits find nothing, and then it goes on. A read that no
-/// wait came before gives what there is.
+/// An input for tests: it gives `bytes` bytes, then `silences` waits find nothing, and then it goes on. Reads don't
+/// wait: one that is called during the silence gives the bytes after it.
 #[derive(Drop)]
 pub struct SilentAfter<R> {
     /// The input that gives the bytes.
@@ -45,7 +45,7 @@ impl<R: Read> SilentAfter<R> {
 impl<R: Read> Input for SilentAfter<R> {
     ghost seen = { λ s. ⟦<Counted<R> as Input>⟧.seen s.input };
 
-    // Reads once from `input`; up to the silence it asks for no byte beyond it.
+    // Reads once from `input`; before the silence it asks for no byte that comes after it.
     fn read(&mut self, buf: &mut [u8]) -> Result<usize, ReadFault>
         requires { 0 < length buf.old }
         ensures step { ReadStep (⟦<Counted<R> as Input>⟧.seen self.old.input)

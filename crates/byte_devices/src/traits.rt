@@ -1,4 +1,4 @@
-//! Inputs, read in pieces, and outputs, with contracts; and whole texts written to an output.
+//! The traits of inputs (read in pieces) and of outputs, with contracts, and functions that write whole texts.
 
 ghost use Rattle.std.specs.Prelude.{◌<◌, length};
 ghost use Rattle.byte_devices.specs.Devices.{InputState, OutputState, ReadStep, WaitStep, WriteStep, FlushStep, Puts, Sends, joined};
@@ -24,8 +24,8 @@ pub trait Input {
         ensures { ReadStep (seen self.old) (seen self.new) result buf.new };
 
     /// Waits until a read would return at once, but not beyond the moment `until`, in milliseconds by the input's own
-    /// clock. Returns whether it would: with bytes, the end of the input, or a failure. An input that has no clock says
-    /// so at once, and then a read may take as long as it likes.
+    /// clock. Returns whether a read would: with bytes, the end of the input, or a failure. An input that has no clock
+    /// returns true at once, and then a read may take as long as it likes.
     fn wait(&mut self, _until: u64) -> bool
         ensures { WaitStep (seen self.old) (seen self.new) result }
     {

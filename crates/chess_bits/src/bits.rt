@@ -17,7 +17,7 @@ use std::marker::Model;
 
 /// A board that keeps bitboards along with the piece of each square: for each colour and kind, the set of the squares
 /// with such a piece. It borrows the tables of attacks, so any number of boards can share them. In contracts it is the
-/// `Setup` of its position. This is always sound, and the sets are always those of its pieces (`invariant`).
+/// `Setup` of its position. The position is always sound, and the sets are always those of its pieces (`invariant`).
 #[derive(Drop)]
 pub struct Bits<'t> {
     pub(crate) setup: Setup,

@@ -104,7 +104,7 @@ impl Bits<'_> {
     }
 
     // The end squares of the legal castlings of the king on `king`, none, one or two: in normal chess where the king
-    // arrives (White's c1 and g1), in Chess960 where its rook is (such as a1 and h1). `legal_or` with `false`: the move
+    // arrives (White's c1 and g1), in Chess960 where its rook is (such as a1 and h1). `legal_or .. false`: the move
     // is castling, and legal.
     pub(crate) fn castling_ends(&self, king: Square) -> SquareSet
         ensures { (k : ℕ) → k < 64

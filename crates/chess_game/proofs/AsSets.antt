@@ -162,7 +162,7 @@ not_some (suc n) f g h =
     ap (λ v. not (some_below n f || v)) (h n (omega arith)) ∙ not_either (some_below n f) (g n)
     ∙ ap (λ v. v && g n) (not_some n f g (λ k l. h k (omega arith)))
 
--- where they differ on no square they are the same
+-- pieces that differ on no square are the same
 pub same_where_none : (w : ℕ) (men others : Men)
     → ((k : ℕ) → k < 64 → contains w k ≡ not (same_man (man_at men k) (man_at others k)))
     → not (some_square (λ k. contains w k)) ≡ same_men men others

@@ -24,7 +24,7 @@ is_target p s t at there = rw (at, there) (at_itself t)
 target_rank : (p : Setup) (t : ℕ) → IsSound p → p.target ≡ Some t → rank t ≡ crossed_rank (other p.side)
 target_rank p t sound at = (at_target p t sound.target (is_target p t t at refl)).0
 
--- the rank of a target is no last rank: so a case that says it is gives anything
+-- the rank of a target is no last rank, so from the claim that it is anything follows
 not_last : (c : Colour) (t : ℕ) → rank t ≡ crossed_rank (other c) → (rank t == first_rank (other c)) ≡ true
     → (A : Type 0) → A
 not_last White t e h A = let last = eqb-true (rank t) 7 h in absurd (omega (arith, e, last))

@@ -76,7 +76,7 @@ same_alike p q r this that e =
     (λ i. same_colour p.side (b i) && same_men p.men (a i) && same_rights p.rights (c i)
     && same_square (legal_en_passant_square p) (d i))
 
--- so hashes that differ tell positions apart
+-- positions whose hashes differ are not the same
 pub hashes_differ : (f : Hashing) (x y : Hashed) → IsSound x.position → IsSound y.position → HasHash f x → HasHash f y
     → not (x.hash == y.hash) ≡ true → is_same_position x.position y.position ≡ false
 hashes_differ f x y this that has_hash other_has differ =

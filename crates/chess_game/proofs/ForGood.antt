@@ -40,7 +40,7 @@ same_reserve men others e =
     (each_square-at (λ s. same_man (man_at men s) (man_at others s)) e k h))
     ∙ sym (map_squares (λ s. weight s (man_at others s))))
 
--- a position whose pieces have more in reserve is another
+-- a position whose pieces have a greater reserve is not the same
 pub other_by_reserve : (p q : Setup) → reserve q.men < reserve p.men → is_same_position p q ≡ false
 unfolding is_same_position
 other_by_reserve p q h =
@@ -120,7 +120,7 @@ none_before grows falls start xs now m s known follows made k d h zeroed j befor
     ap (λ v. is_same_position v.position now.position) (sym (known_before start xs x j (omega (arith, h, before))))
     ∙ other_by_reserve (known_at start (xs ++ x ∷ []) j).position now.position end
 
--- if m itself did, the position after it is the same as none of the game's
+-- if m itself set the clock to 0, no position of the game is the same as the one after m
 pub none_is_same : ReserveNeverGrows → ReserveFallsForGood → (start : Hashed) (xs : List PlayedMove) (now : Hashed)
     (m : Move) (s : Saved) → IsKnown now → Follows start.position xs
     → WasMade (position_after start.position (moves_of xs)) m s now.position
@@ -131,7 +131,7 @@ none_is_same grows falls start xs now m s known follows made zeroed j h =
     none_before grows falls start xs now m s known follows made (length xs) x (omega arith)
     (ap (λ (v : PlayedMove). v.reached.position.halfmove) (get_or-append_seam xs x [] x) ∙ zeroed) j (omega (arith, h))
 
--- if played move k did, the position after m is the same as none before that move
+-- if played move k set the clock to 0, no position before that move is the same as the one after m
 pub none_is_same_before : ReserveNeverGrows → ReserveFallsForGood → (start : Hashed) (xs : List PlayedMove)
     (now : Hashed)
     (m : Move) (s : Saved) → IsKnown now → Follows start.position xs

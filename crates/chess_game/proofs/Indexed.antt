@@ -186,7 +186,7 @@ popped_index table start xs y b index is =
       entries = entries_fewer start xs y index.entries;
     }
 
--- ---- all forgotten
+-- ---- emptying the table
 
 -- a step of emptying the table: move x reached the last of the positions that are left; its link becomes the head
 pub heads_back : (table : List ℕ) (start : Hashed) (xs : List PlayedMove) (left : ℕ) (x : PlayedMove) (b : ℕ)

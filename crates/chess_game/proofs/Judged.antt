@@ -8,7 +8,7 @@ use Rattle.chess_game.specs.{Ends.verdict, Game.State, Game.last_move, Game.is_o
 last_or_below : (n k : ℕ) → k < n + 1 → (k ≡ n) ⊎ (k < n)
 last_or_below n k h = grind arith
 
--- no verdict before the end of ms, nor at it: then none before the end of ms and m
+-- if no verdict came before the end of the moves ms, nor at it, none came before the end of ms and then m
 more : (p : Setup) (ms : List Move) (m : Move) → ((k : ℕ) → k < length ms → verdict p (take k ms) ≡ None)
     → verdict p ms ≡ None
     → (k : ℕ) → k < length (ms ++ m ∷ []) → verdict p (take k (ms ++ m ∷ [])) ≡ None
@@ -30,7 +30,7 @@ unended_more p xs x unended none = record {
       (more p (moves_of xs) x.made unended.before none);
 }
 
--- no verdict before the end of ms and m: then none at ms or before
+-- if no verdict came before the end of the moves ms and then m, none came at the end of ms or before
 fewer : (p : Setup) (ms : List Move) (m : Move)
     → ((k : ℕ) → k < length (ms ++ m ∷ []) → verdict p (take k (ms ++ m ∷ [])) ≡ None) → (k : ℕ) → k < length ms + 1
     → verdict p (take k ms) ≡ None

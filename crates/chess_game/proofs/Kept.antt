@@ -126,8 +126,8 @@ made-last p (y ∷ ys) x f =
     subst (λ v. WasPlayed (position_after v (moves_of ys)) x (position_after v (moves_of (ys ++ x ∷ []))))
     f.0.left (made-last y.reached.position ys x f.2)
 
--- what taking back the last move needs: it was made in the position before it, which saved `s`, and gave the position q
--- where the board is
+-- what taking back the last move needs: it was made in the position before it, of which `s` was saved, and led to the
+-- position q, at which the board is
 pub taken : (p : Setup) (xs ys : List PlayedMove) (x : PlayedMove) (s : Saved) (before q : Setup) → Follows p xs
     → xs ≡ ys ++ x ∷ [] → q ≡ position_after p (moves_of xs) → before ≡ position_after p (moves_of ys)
     → s ≡ saved_with before x.captured → WasMade (position_after p (moves_of ys)) x.made s q
@@ -175,8 +175,8 @@ pub pushed : {A E : Type 0} (r : Result A E) (xs ys zs : List PlayedMove) → is
 pushed (Ok v) xs ys zs h e = e
 pushed (Err v) xs ys zs h e = cc
 
--- the list of all played moves after `x` was pushed after `xs`: what is before the last place, the move there, and the
--- list with another move there
+-- the list of all played moves after `x` was pushed after `xs`: what is before its last index, the move at that index,
+-- and the list with another move there
 pub record Last (xs : List PlayedMove) (x : PlayedMove) (all : List PlayedMove) (last : ℕ) : Type 0 where
   pub earlier : take last all ≡ xs
   pub latest : (d : PlayedMove) → get_or (drop last all) 0 d ≡ x
@@ -191,7 +191,7 @@ last_of xs x = record {
   written = λ y. set-append_seam xs x [] y;
 }
 
--- a push that did not fail put its played move at the last place
+-- a push that did not fail put its played move at the last index
 pub pushed_last : {A E : Type 0} (r : Result A E) (xs all : List PlayedMove) (x : PlayedMove) (n : ℕ) → is_err r ≡ false
     → all ≡ (if is_ok r then xs ++ x ∷ [] else xs) → n ≡ length all → Last xs x all (n - 1)
 pushed_last r xs all x n done is len =
@@ -200,7 +200,7 @@ pushed_last r xs all x n done is len =
     subst (λ (ys : List PlayedMove). Last xs x ys (n - 1)) (sym whole)
     (subst (Last xs x (xs ++ x ∷ [])) last (last_of xs x))
 
--- and with its entry put in there, it is the last of all
+-- once its entry is written into it there, the played move is still the last of all
 pub with_entry : (xs all : List PlayedMove) (x there : PlayedMove) (last : ℕ) (entry : Entry) → Last xs x all last
     → there ≡ get_or all last there
     → set all last (record there { entry = entry }) ≡ xs ++ record x { entry = entry } ∷ []
@@ -208,7 +208,7 @@ with_entry xs all x there last entry p found =
     p.written (record there { entry = entry })
     ∙ ap (λ (y : PlayedMove). xs ++ record y { entry = entry } ∷ []) (found ∙ p.there there)
 
--- the list split before its last place
+-- the list split before its last element
 pub record Split (xs : List PlayedMove) (x : PlayedMove) (front back : List PlayedMove) (d : PlayedMove) : Type 0 where
   pub earlier : front ≡ xs
   pub latest : get_or back 0 d ≡ x
@@ -231,7 +231,7 @@ shown_more limit p xs all x d g view is =
     (ap moves_of is ∙ map-append (λ (y : PlayedMove). y.made) xs (x ∷ []))
     ∙ ap (λ (v : Seen). with_state v (played v.state x.made)) view
 
--- a game that is not full has a place
+-- a game that is not full has memory for one more move
 pub room : (limit : ℕ) (p : Setup) (xs : List PlayedMove) (d : Option Declared) (g : Seen)
     → record { limit = limit; state = record { start = p; moves = moves_of xs; declared = d } } ≡ g
     → (full : Bool) → full ≡ is_full g → full ≡ false → length xs < limit

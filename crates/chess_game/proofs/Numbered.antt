@@ -14,7 +14,7 @@ known_place start [] k d h = absurd (omega arith)
 known_place start (x ∷ xs) zero d h = refl
 known_place start (x ∷ xs) (suc k) d h = known_place x.reached xs k d (omega arith)
 
--- one more played move leaves those before it
+-- one more played move changes none of the positions before it
 pub known_before : (start : Hashed) (xs : List PlayedMove) (y : PlayedMove) (k : ℕ) → k < suc (length xs)
     → known_at start (xs ++ y ∷ []) k ≡ known_at start xs k
 unfolding known_at
@@ -22,7 +22,7 @@ known_before start xs y zero h = refl
 known_before start [] y (suc k) h = absurd (omega arith)
 known_before start (x ∷ xs) y (suc k) h = known_before x.reached xs y k (omega arith)
 
--- and adds its own
+-- one more played move adds the position that it reached
 pub known_last : (start : Hashed) (xs : List PlayedMove) (y : PlayedMove)
     → known_at start (xs ++ y ∷ []) (suc (length xs)) ≡ y.reached
 unfolding known_at
@@ -41,7 +41,7 @@ pub hash_of_known : (f : Hashing) (start : Hashed) (xs : List PlayedMove) (k : �
     → HasHash f (known_at start xs k)
 hash_of_known f start xs k hashes = hash_is f start xs k hashes.start hashes.later
 
--- all are sound, where the last one is
+-- all positions are sound, if the last one is
 pub sound_is : (start : Hashed) (xs : List PlayedMove) (k : ℕ) → Follows start.position xs
     → IsSound (position_after start.position (moves_of xs)) → k < suc (length xs)
     → IsSound (known_at start xs k).position

@@ -48,7 +48,7 @@ of_colours wanted (Some x) = by_colour x.colour (same_kind wanted x.kind)
 pub not_none : (a : Bool) → not (not a) ≡ a
 not_none a = grind arith
 
--- a piece of the kind is there where the squares of the kind's pieces are some
+-- a piece of the kind is on the board exactly if the set of the squares of such pieces isn't empty
 pub some_of_kind : (p : Setup) (kind : Kind) (w : ℕ) → IsSound p
     → ((k : ℕ) → k < 64 → contains w k ≡ is_kind kind (man_at p.men k))
     → not (not (some_square (λ k. contains w k))) ≡ list_any (is_kind kind) p.men
@@ -57,7 +57,7 @@ some_of_kind p kind w sound is =
     ∙ sym (any_square (is_kind kind) p.men None sound.board
     ∙ some_square_same (λ k. is_kind kind (man_at p.men k)) (λ k. contains w k) (λ k l. sym (is k l)))
 
--- some pawn, rook or queen is there exactly if one of the three kinds is
+-- some pawn, rook or queen is on the board exactly if one of the three kinds is
 pub by_kinds : (men : Men) → list_any is_pawn_rook_or_queen men
     ≡ (list_any (is_kind Pawn) men || list_any (is_kind Rook) men || list_any (is_kind Queen) men)
 by_kinds men =

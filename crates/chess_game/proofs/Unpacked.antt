@@ -1,5 +1,5 @@
 -- Pieces put kind by kind on the squares of packed sets make the board that the sets say (kinds_put, men_all). In each
--- kind's loop more_put is the step (`PutsOn` is its invariant) and put_all the end.
+-- kind's loop put_more is the step (`PutsOn` is its invariant) and put_all the end.
 use mathlib.Core.Bool.{and-false}
 use Rattle.std.proofs.Common.{◌≡◌, ◌≢◌, ℕ, ◌<◌, ◌==◌, ◌⊎◌, inl, inr, Bool, true, false, ◌&&◌, if◌then◌else◌, refl, sym, ◌∙◌, ap, subst, arith, Option, Some, None, List, [], ◌∷◌, length, set, get_or-set_same, get_or-set_other, length-set, replicate}
 use Rattle.std.proofs.lemmas.Bool.{cases_Bool, cases_eq, eqb-true, ne_eqb}
@@ -124,7 +124,7 @@ pub put_more : (p : PackedMen) (kind : Kind) (c : Colour) (men : Men) (left rest
 put_more p kind c men left rest i s old all is here inside taken h =
     rw is (more_put p kind men left rest i s old all here inside taken h)
 
--- at the end all squares have theirs
+-- at the end each square of the set has its piece
 pub put_all : (p : PackedMen) (kind : Kind) (men : Men) (left : ℕ) (old : Men) (all : ℕ) → members left ≡ []
     → PutsOn p kind men left old all → (k : ℕ) → k < 64 → man_at men k ≡ put_at p all kind k (man_at old k)
 put_all p _ men left old all none h k low =

@@ -1,6 +1,7 @@
 -- How often the position `now` occurred before is found by a walk along the links of its bucket, from the latest
--- position back: it ends at the first that is the same, which keeps how many there were up to it (walk_found), or where
--- there is none (walk_ends, walk_stops). In the walk `at` is a position's number plus one; 0 is the end of the links.
+-- position back. It ends at the first that is the same, which keeps how many there were up to it (walk_found), or at
+-- the end of the links (walk_ends), or where all others are too old to be the same (walk_stops): in these two cases
+-- `now` is new. In the walk `at` is a position's number plus one; 0 is the end of the links.
 -- Last, the repetitions of the current position (rep_alone, rep_kept).
 use Rattle.std.proofs.Common.{◌≡◌, ◌∙◌, ℕ, suc, ◌+◌, ◌-◌, ◌%◌, ◌<◌, ◌≤◌, true, false, cond, List, [], ◌∷◌, length, get_or, count_by, refl, sym, ap, subst, arith, eq-eqb, eqb-true}
 use Rattle.std.proofs.{lemmas.List.nil_from_length, lemmas.List.Sums.sum_by-cons}
@@ -99,7 +100,7 @@ walk_goes_on start xs now at x s entries a some is other =
     (a.rest ∙ ap (count_below (is_same_at start xs now.position)) p.next
     ∙ count_fails (is_same_at start xs now.position) (suc (at - 2)) off)
 
--- a link is smaller than the place it is kept at: so `at` is the walk's measure
+-- the link at `at` is smaller than `at`: so `at` is the walk's measure
 pub walk_smaller : (start : Hashed) (xs : List PlayedMove) (now : Hashed) (at : ℕ) (x : PlayedMove)
     → HaveEntries start xs → IsAlong start xs now at → 1 < at → x ≡ get_or xs (at - 2) x → x.entry.earlier < at
 walk_smaller start xs now at x entries a some is =

@@ -97,7 +97,7 @@ impl<B: Board> Model for Game<B> {
         × IsIndexed g.index.heads.items g.start g.played_moves.items };
 }
 
-// The position that the played moves lead to from the start. Inlined for `Game::position_at`.
+// The position that the played moves lead to from the start. Inlined, so that `Game::position_at` is inlined whole.
 #[inline(always)]
 fn last_position<'g>(start: &'g Hashed, played_moves: &'g [PlayedMove]) -> &'g PackedPosition
     requires { Follows start.now.position played_moves.now }
@@ -110,8 +110,8 @@ fn last_position<'g>(start: &'g Hashed, played_moves: &'g [PlayedMove]) -> &'g P
     }
 }
 
-// How many positions of the game, from the start to the present one, are the same as the present one; `played_moves`
-// are its moves, and the last of them has that count.
+// How many positions of the game, from the start to the present one, are the same as the present one. `played_moves`
+// are the game's moves; the entry of the last one holds this count, and without moves it is 1.
 fn repetitions(played_moves: &[PlayedMove]) -> u32
     ensures { (start : Hashed) → Follows start.position played_moves.now → HaveEntries start played_moves.now
         → result ≡ repetition_count start.position (moves_of played_moves.now) }
@@ -123,8 +123,8 @@ fn repetitions(played_moves: &[PlayedMove]) -> u32
     }
 }
 
-// The verdict on a game whose present position has a legal move, so that neither mate nor stalemate has to be looked
-// for. The board is at that position, `played_moves` led to it.
+// The verdict on a game whose present position has a legal move, so that it is neither mate nor stalemate. The board is
+// at this position, and `played_moves` led to it.
 #[tactic(auto, unfolding(crate::specs::Ends::verdict))]
 #[inline(always)]
 fn verdict_of_moving<B: Board>(board: &B, played_moves: &[PlayedMove]) -> Option<Verdict>
@@ -160,8 +160,8 @@ fn verdict_on<B: Board>(board: &B, played_moves: &[PlayedMove]) -> Option<Verdic
 }
 
 impl<B: Board + Drop> Game<B> {
-    /// Opens a game of at most `limit` half-moves at the initial position, wherever the board was. All memory is
-    /// allocated here.
+    /// Opens a game of at most `limit` half-moves at the initial position, whatever position the board was at. All
+    /// memory is allocated here.
     ///
     /// # Errors
     /// If there is no memory; what was allocated is freed, and the board is dropped.
@@ -251,7 +251,8 @@ impl<B: Board> Game<B> {
         if self.played_moves.push(played_move).is_err() {
             unreachable!();
         }
-        // The entry is put in last, where the played move already is: a half-move then copies its position once less.
+        // The entry is written only now, into the played move in the list: so its position is copied once less than if
+        // the entry were computed before the push.
         let last = self.played_moves.len() - 1;
         let (earlier, latest) = self.played_moves.as_slice().split_at(last);
         let entry = self.index.push(&self.start, earlier, &latest[0].reached);
@@ -452,8 +453,8 @@ impl<B: Board> Game<B> {
 
     /// The same as `verdict`, but without its search for a legal move, for a caller that has one, `m`: so the game is
     /// neither mate nor stalemate. `m` is not played; only the contract names it, and a parameter can't be ghost.
-    // Looking for verdicts only where they are needed, and in this way if a move is known, was one of four changes that
-    // together took `verify` from 477 to 317 million instructions on 1.6 MB of games.
+    // Looking for a verdict only where it is needed, and by this function if a legal move is known, was one of four
+    // changes that together took `verify` from 477 to 317 million instructions on 1.6 MB of games.
     #[inline(always)]
     pub fn verdict_of_moving(&self, m: &Move) -> Option<Verdict>
         requires { IsTrue (is_legal (current self.now.state) m.now) }

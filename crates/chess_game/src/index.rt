@@ -1,8 +1,9 @@
 //! The index of a game's positions, which finds how often a position occurred with few comparisons.
 //!
 //! A position's hash puts it in one of 32,768 buckets. A bucket's head is the latest position in it. Each played move
-//! has an entry: a link to the latest earlier position in the bucket of its own, and the count of its own. Positions
-//! are numbered from 0, the start, on; a head or a link is a number plus one, or 0 where there is no such position.
+//! has an entry for the position that it reached: a link to the latest earlier position in the same bucket, and how
+//! often the position has occurred so far. Positions are numbered from 0, the start, on; a head or a link is a number
+//! plus one, or 0 where there is no such position.
 
 ghost use Rattle.std.specs.Prelude.{◌≡◌, ◌≤◌, ◌<◌, ◌+◌, ℕ, suc, false, [], ◌∷◌, ◌++◌, List, length, set, IfOk, cond};
 ghost use Rattle.chess_game.specs.declared.game.PlayedMove.{PlayedMove};
@@ -44,15 +45,16 @@ fn bucket(known: &Hashed) -> usize
 }
 
 // The number of the earliest position of the game that can be the same as `now`, the position after `played_moves` and
-// one move more: the one to which the last capture or pawn move led, since the pieces are never placed again as before
-// it. The halfmove clock says how many half-moves ago that was. If it points to no such move of the game, the result is
-// 0, the start.
+// one move more. It is the position to which the last capture or pawn move led: no placement of the pieces from before
+// such a move can come again. The halfmove clock says how many half-moves ago the move was. If the game has no such
+// move there, the result is 0, the start.
 fn oldest(played_moves: &[PlayedMove], now: &Hashed) -> usize
     requires { IsKnown now.now }
     ensures { (start : Hashed) → Follows start.position played_moves.now → IsNext start played_moves.now now.now
         → (k : ℕ) → k < result → is_same_at start played_moves.now now.now.position k ≡ false }
 {
-    // The prover wants this law: the reserve of the pieces falls with each capture and pawn move, and never grows.
+    // The prover wants this law: the reserve of the pieces (each counts 1, a pawn also its ranks to go) falls with each
+    // capture and pawn move, and never grows.
     reserve_never_grows();
     let ago = now.position.halfmove() as usize;
     if ago == 0 {
@@ -71,8 +73,8 @@ fn oldest(played_moves: &[PlayedMove], now: &Hashed) -> usize
 }
 
 // How many positions of the game are the same as `now`, the position after `played_moves` and one move more, itself
-// included: one more than the count of the latest earlier one that is the same, or 1 if none is. Links lead to it from
-// `head`, the latest position of the bucket (its number plus one).
+// included: one more than the count of the latest earlier position that is the same, or 1 if none is. That position is
+// looked for along the links of the bucket, from `head`, the bucket's latest position (its number plus one, or 0).
 fn count_same(head: u16, start: &Hashed, played_moves: &[PlayedMove], now: &Hashed) -> u32
     requires start { IsKnown start.now }
     requires now { IsKnown now.now }
@@ -128,8 +130,7 @@ impl Index {
         self.heads[bucket(start)] = 1;
     }
 
-    // Adds the position `reached` to its bucket, and returns its entry in the index. One move after `played_moves` led
-    // to it.
+    // Adds the position `reached`, to which one move after `played_moves` led, to its bucket, and returns its entry.
     pub(crate) fn push(
         &mut self,
         start: &Hashed,
@@ -176,8 +177,8 @@ impl Index {
         self.remove(played_move);
     }
 
-    // Removes all positions of the game from `start` by `played_moves`, one by one, so that this takes no longer for
-    // more buckets.
+    // Removes all positions of the game from `start` by `played_moves`, one by one: so the time that this takes depends
+    // on the game's length, not on the number of buckets.
     pub(crate) fn clear(&mut self, start: &Hashed, played_moves: &[PlayedMove])
         requires { IsIndexed self.old.heads.items start.now played_moves.now }
         ensures { IsEmpty self.new.heads.items }

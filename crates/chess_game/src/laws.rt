@@ -8,8 +8,8 @@ ghost use Rattle.chess_game.specs.Results.{same_outcome};
 ghost use Rattle.chess_game.specs.Same.{same_man, same_rights};
 ghost use Rattle.chess_game.specs.declared.results.Outcome.{Outcome};
 
-/// A law: the equalities of pieces, castling rights and outcomes that the definitions use are those that Rust derives
-/// (`==`), which definitions can't name. The contract says it, and the function does nothing.
+/// States a law and does nothing: the definitions' own equalities of pieces, castling rights and outcomes agree with
+/// `==` as Rust derives it, which definitions can't name.
 #[tactic(auto, unfolding(crate::specs::Same::same_rights))]
 pub fn equalities_are_derived()
     ensures men { (o r : Option Man) → option_eq ⟦<chess_base::Man as PartialEq>⟧.eq o r ≡ same_man o r }

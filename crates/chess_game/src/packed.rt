@@ -26,7 +26,7 @@ pub(crate) struct PackedMen {
     pawns: SquareSet,
 }
 
-// The squares of the board's pieces of this kind, of both colours; `white` has those of White's.
+// The squares of the board's pieces of this kind, of both colours, if `white` has those of White's.
 #[tactic(auto, using(crate::proofs::SomeKind::of_colours))]
 #[inline(always)]
 fn with_black<B: Board>(board: &B, kind: Kind, white: SquareSet) -> SquareSet
@@ -54,8 +54,8 @@ fn difference(these: SquareSet, those: SquareSet) -> SquareSet
 }
 
 impl PackedMen {
-    // The pieces of the board's position, as sets of squares. Each of White's is asked for once, since a plain board
-    // goes over its 64 squares each time.
+    // The pieces of the board's position, as sets of squares. The board is asked only once for each kind of White's
+    // pieces, since a plain board goes over its 64 squares each time.
     #[tactic(auto, using(crate::proofs::AsSets::white_kinds))]
     #[inline(always)]
     fn of<B: Board>(board: &B) -> Self
@@ -96,14 +96,15 @@ impl PackedMen {
     }
 
     // Puts a piece of this kind on each square of the set, in the colour that `colour_at` gives for that square.
-    // Inlined for `Game::start`, as `unpacked` is: the compiler drops it where no piece is used.
+    // Inlined, like `unpacked`, so that the compiler can drop it where a caller of `Game::start` uses no piece.
     #[inline(always)]
     fn put_kind(&self, men: &mut [Option<Man>; 64], set: SquareSet, kind: Kind)
         ensures length { length men.new ≡ 64 }
         ensures each { (k : ℕ) → k < 64 → man_at men.new k ≡ put_at self.now set kind k (man_at men.old k) }
     {
         let mut left = set;
-        // The compiler drops the loop for a caller that uses no piece, since it sees a limit of 64 turns.
+        // At most 64 turns, as many as a set can need: seeing this limit, the compiler can drop the loop if no piece
+        // is used.
         for _turn in 0..64u8 {
             let Some(square) = left.take_first() else {
                 return;
@@ -128,7 +129,7 @@ impl PackedMen {
         men
     }
 
-    // The squares whose content (a piece's kind and colour, or none) differs between these pieces and the other ones.
+    // The squares whose content (a piece's kind and colour, or none) differs from that in `other`.
     #[tactic(auto, using(crate::proofs::AsSets::differ_at))]
     fn differing(&self, other: &PackedMen) -> SquareSet
         requires this { ArePacked self.now (men_in self.now) }

@@ -1,4 +1,5 @@
-//! When positions are the same. `Hashed::on` and what it calls are inlined for the reason at the head of game.rt.
+//! When positions are the same. `Hashed::on` and what it calls are inlined for the loop in which chess_pgn plays the
+//! moves of a game.
 
 ghost use Rattle.std.specs.Prelude.{◌≡◌, cond, true, false, Some};
 ghost use Rattle.std.specs.List.{list_any};
@@ -21,8 +22,8 @@ pub(crate) struct Hashed {
 
 impl Hashed {
     // The board's present position, packed, with its hash and its legal en passant square (see
-    // `legal_en_passant_square`). It is packed last: so no packed position has to be kept while captures en passant are
-    // searched for, which is only done if there is a target.
+    // `legal_en_passant_square`). It is packed last: so no packed position has to be kept during the search for
+    // captures en passant (which is made only if there is a target).
     #[inline(always)]
     pub(crate) fn on<B: Board>(board: &B) -> Self
         ensures position { result.position ≡ B.position board.now }
@@ -38,8 +39,8 @@ impl Hashed {
         }
     }
 
-    // Whether the hashes of the two positions differ; if they do, the positions are not the same. Equal hashes show
-    // nothing.
+    // Whether the hashes of the two positions differ; if they do, the positions are not the same. If the hashes are
+    // equal, the positions may still differ.
     fn hash_differs(&self, other: &Hashed) -> bool
         requires { ShareHashing self.now other.now }
         ensures { result ≡ true → is_same_position self.now.position other.now.position ≡ false }
@@ -97,8 +98,9 @@ fn legal_en_passant_square<B: Board>(board: &B) -> Option<Square>
     }
 }
 
-// Whether some legal move captures en passant on `target`, the position's en passant target: a pawn of the side on move
-// goes there in no other way. Few positions have a target, so this is not inlined.
+// Whether some legal move captures en passant on `target`, the position's en passant target: that is, whether a pawn of
+// the side on move may legally go there, as it can do so only by such a capture. Few positions have a target, so this
+// is not inlined.
 #[inline(never)]
 fn is_captured_on<B: Board>(board: &B, target: Square) -> bool
     requires { (B.position board.now).target ≡ Some target }
@@ -109,8 +111,8 @@ fn is_captured_on<B: Board>(board: &B, target: Square) -> bool
     !board.legal_starts(Kind::Pawn, target).is_empty()
 }
 
-// Whether two optional squares are equal, the same square or both none: `==`, with a contract in the words of the
-// definitions.
+// Whether two optional squares are equal, the same square or both none. It is `==` with a contract that names the
+// definition `same_square`.
 fn same_square(this: Option<Square>, that: Option<Square>) -> bool
     ensures { result ≡ same_square this that }
 {

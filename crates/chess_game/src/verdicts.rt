@@ -1,4 +1,4 @@
-//! How a game ends by its position and by its line, and what may be claimed.
+//! Verdicts, by which a game ends on the board, through its position or its moves; and which draws may be claimed.
 
 ghost use Rattle.std.specs.Prelude.{◌≡◌, ◌≤◌, ◌<◌, Some, length, count_by};
 ghost use Rattle.std.specs.List.{list_any};

@@ -17,7 +17,7 @@ Fits o = (last : Bool) × (promotion_fits last o ≡ true)
 unpromoted : (o : Option Kind) → o ≡ None → Fits o
 unpromoted o e = (false, rw e refl)
 
--- what is no kind is none
+-- an option that holds no kind is `None`
 only_none : (o : Option Kind) → ((k : Kind) → o ≡ Some k → ⊥) → o ≡ None
 only_none None h = refl
 only_none (Some k) h = absurd (h k refl)
@@ -31,7 +31,7 @@ fits_by_kind p m (ManMoves n c e) =
 fits_by_kind p m (Castles w r c right e) =
     unpromoted m.promotion (castles_unpromoted p m (castle_from p.side w m.from r) e)
 
--- a test that the move passes finds one among the moves with its squares: the numbers are places in `promotions`
+-- a test that the move passes finds one among the moves with its squares: the numbers are indices in `promotions`
 any-promotion : (t : Move → Bool) (a b : ℕ) (o : Option Kind) → Fits o → t (move_of a b o) ≡ true
     → list_any t (map (move_of a b) promotions) ≡ true
 any-promotion t a b None h e = list_any_at t (map (move_of a b) promotions) 0 (move_of a b None) (omega arith) e

@@ -79,7 +79,7 @@ keys_on men s = square_keys s (man_at men s)
 unfoldable pub men_keys : Men → List ℕ
 men_keys men = flat_map (keys_on men) squares
 
--- the keys of the side on move
+-- the keys of the side on move: none for White
 abbrev pub side_keys : Colour → List ℕ
 side_keys White = []
 side_keys Black = side_key ∷ []

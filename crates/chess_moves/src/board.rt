@@ -31,7 +31,8 @@ pub trait Board {
     ghost position: { Self → Setup };
 
     /// How the board hashes positions: its own choice, but fixed by the pieces, the side on move and the castling
-    /// rights alone. So the same positions (Laws of Chess 2023, article 9.2.3) have equal hashes; others may have, too.
+    /// rights alone. So positions that are the same (Laws of Chess 2023, article 9.2.3) have equal hashes; different
+    /// ones may, too.
     ghost word_of: { Men → Colour → Rights → ℕ };
 
     /// Sets the board to the position `to`.
@@ -59,8 +60,8 @@ pub trait Board {
     fn legal_move_count(&self) -> usize
         ensures { result ≡ length (moves (position self.now)) };
 
-    /// Whether there is a legal move. Both boards stop at the first piece that has one (`Bits` also if a set of pawns
-    /// has one), which no clause says.
+    /// Whether there is a legal move. Both boards (`Plain`, and `Bits` of chess_bits) stop at the first piece that has
+    /// one, `Bits` also at a set of pawns that has one; no clause says so.
     fn has_legal_move(&self) -> bool
         ensures { result ≡ nat_lt 0 (length (moves (position self.now))) };
 

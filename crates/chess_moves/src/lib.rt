@@ -14,8 +14,8 @@
 //! }
 //! ```
 //!
-//! The test in the loop is for the prover: each move of the list is legal, but the loop forgets it. `legal_moves` lists
-//! the moves of a position without a board.
+//! The test in the loop is for the prover, which doesn't know in the loop that each move of the list is legal. The
+//! function `legal_moves` lists the moves of a position without a board.
 #![tactic(auto)]
 
 mod board;

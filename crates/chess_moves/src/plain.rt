@@ -1,4 +1,4 @@
-//! The plain board: the pieces by their squares.
+//! The plain board, which keeps what is on each of the 64 squares, and no sets.
 
 ghost use Rattle.std.specs.Prelude.{◌≡◌, ℕ, ◌<◌, ◌&&◌, None};
 ghost use Rattle.chess_base.specs.Initial.{initial_setup};

@@ -208,7 +208,7 @@ pub law_last : (n : ℕ) (piece : List ℕ) → HasNoEnd piece → 0 < length pi
 law_last n piece h some = ap (lines_from n true []) (sym (append-nil piece)) ∙ piece_on_part n true [] piece [] h
     ∙ last_left n piece some
 
--- before it they are none
+-- before the stream's end bytes without a `\n` are no line
 pub law_not_at_end : (n : ℕ) (piece : List ℕ) → HasNoEnd piece → lines_from n false [] piece ≡ []
 law_not_at_end n piece h = ap (lines_from n false []) (sym (append-nil piece)) ∙ piece_on_part n false [] piece [] h
     ∙ none_from n piece

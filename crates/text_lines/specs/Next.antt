@@ -9,21 +9,21 @@ use Rattle.text_lines.specs.Lines.{LineSeen, Held, nothing_held, lines_held}
 abbrev pub before_piece : ℕ → List ℕ → List ℕ
 before_piece len bytes = take (length bytes - len) bytes
 
--- the bytes `given` were read only as long as no whole line was held: nothing was read, or what was `held` and what was
--- read before the last read have no `\n`. `r` and `r'` are the input before and after
+-- no read was made once a whole line was held: either nothing was read, or `held` and then the bytes `given` without
+-- those of the last read have no `\n`. `r` and `r'` are the input before and after
 abbrev pub Waits : ℕ → InputState → InputState → Held → List ℕ → Type 0
 Waits n r r' held given =
     ((given ≡ []) × (r'.last_len ≡ r.last_len))
     ⊎ ((r'.last_len ≤ length given) × (lines_held n false held (before_piece r'.last_len given) ≡ []))
 
--- a measure of what can still come from the input and `held`, lowered by each line and each wait in which nothing came;
--- one read gives at most 1,024 bytes
+-- a number that falls with each line returned and each wait in which nothing came: 1,025 for each read or such wait
+-- that can still come (one read gives at most 1,024 bytes), and 1 for each byte held and not yet looked at
 abbrev pub work : InputState → Held → ℕ
 work r held = r.pieces_left * 1025 + length held.coming
 
 -- `line`, which `\n` ended, was returned: it is the first line (too long if of more than `n` bytes) of what was held
--- and then read (`given`), and the others follow it, however the stream continues. `r` and `r'` are the input before
--- and after, `held` and `held'` the bytes read but not returned
+-- and then read (`given`); the lines of `held'` follow it, however the stream continues. `r` and `r'` are the input
+-- before and after, `held` and `held'` the bytes read and not yet returned before and after
 pub record GotLine (n : ℕ) (r r' : InputState) (held held' : Held) (given : List ℕ) (line : LineSeen) : Type 0 where
   -- whatever comes next (`rest`), and whether the stream ends then (`at_end`) or not
   pub lines : (at_end : Bool) (rest : List ℕ)
@@ -32,7 +32,7 @@ pub record GotLine (n : ℕ) (r r' : InputState) (held held' : Held) (given : Li
   pub failures : r'.failure_count ≡ r.failure_count
   pub ends : r'.end_count ≡ r.end_count
   pub silences : r'.silence_count ≡ r.silence_count
-  -- what can still come gets less
+  -- so calls can't return lines for ever
   pub falls : work r' held' < work r held
 
 -- `line` was returned, which the end of the stream ended, not `\n`: it is all that was held and then read (`given`).
@@ -54,7 +54,7 @@ pub record GotLast (n : ℕ) (r r' : InputState) (held held' : Held) (given : Li
 -- the end of the stream was reported, and what was held and then read (`given`) gives no line. The arguments are as in
 -- `GotLine`
 pub record GotNone (n : ℕ) (r r' : InputState) (held held' : Held) (given : List ℕ) : Type 0 where
-  -- with the end or without
+  -- no line, even now that the stream has ended
   pub lines : (at_end : Bool) → lines_held n at_end held given ≡ []
   pub rest : held' ≡ nothing_held
   -- no known byte is left to read
@@ -115,9 +115,9 @@ abbrev pub line_read : {E : Type 0} → Result Bool E → LineSeen → Result (O
 line_read (Ok some) line = Ok (line_if some line)
 line_read (Err e) line = Err e
 
--- a call for the next line that waits only for so long. `Ok (Some true)`: it is `line`. `Ok (Some false)`: none is left
--- at the input's end. `Ok None`: no whole line had come by then. `Err`: a read failed. The other arguments are as in
--- `GotLine`
+-- a call for the next line that waits only for so long. `Ok (Some true)`: the next line is `line`. `Ok (Some false)`:
+-- the input ended, with no line left. `Ok None`: time was up before a whole line had come. `Err`: a read failed. The
+-- other arguments are as in `GotLine`
 abbrev pub NextLineUntil : {E : Type 0} → ℕ → InputState → InputState → Held → Held → Result (Option Bool) E
     → LineSeen → Type 0
 NextLineUntil {E = E} n r r' held held' (Ok (Some some)) line =

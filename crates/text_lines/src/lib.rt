@@ -11,7 +11,7 @@
 //! }
 //! ```
 //!
-//! Of the line `ping 7`, `word` is `ping` and `argument` is `7`, of which `read_number` makes 7.
+//! Of the line `ping 7`, `word` is `ping` and `argument` is the text `7`; `read_number` gives its value.
 #![tactic(auto)]
 
 mod laws;

@@ -59,7 +59,7 @@ impl<const N: usize> Line<N> {
         self.too_long
     }
 
-    /// Whether `\n` ended the line; otherwise the input's end did.
+    /// Whether `\n` ended the line; if not, the input's end did.
     pub fn is_ended(&self) -> bool
         ensures { result ≡ self.now.ended }
     {
@@ -133,7 +133,7 @@ impl<const N: usize> Part<N> {
     }
 
     // Adds these bytes, which `\n` follows, and ends the line with them: puts it into `line`, in place of what that
-    // held, and begins the next one. If no byte of the line had come before, they go there directly.
+    // held, and begins the next one. If no byte of the line had come before, they are put into `line` directly.
     fn finish_with(&mut self, bytes: &[u8], line: &mut Line<N>)
         ensures line { line.new ≡ line_of N true (self.old ++ bytes.now) }
         ensures empty { self.new ≡ [] }
@@ -156,8 +156,9 @@ fn beginning(text: &[u8]) -> &[u8]
     if text.len() > 64 { &text[..64] } else { text }
 }
 
-// Puts the text of a line of these bytes into `text`, in place of what that held: if it is too long its first 64 bytes,
-// otherwise all without one `\r` at the end and then without spaces and tabs at both ends.
+// Puts the text of a line of these bytes (the first N, if it is too long) into `text`, in place of what that held: of a
+// line that is too long the first 64 bytes, otherwise all without one `\r` at the end and then without spaces and tabs
+// at both ends.
 fn put_text<const N: usize>(bytes: &[u8], is_too_long: bool, text: &mut ArrayVec<u8, N>)
     requires { length bytes.now ≤ N }
     ensures long { is_too_long ≡ true → text.new.items ≡ take 64 bytes.now }
@@ -169,7 +170,7 @@ fn put_text<const N: usize>(bytes: &[u8], is_too_long: bool, text: &mut ArrayVec
         trim(bytes)
     };
     text.clear();
-    // No more is kept than the bytes given, which are at most N.
+    // `kept` is no longer than `bytes`, which are at most N.
     if text.try_extend_from_slice(kept).is_err() {
         unreachable!();
     }

@@ -1,4 +1,4 @@
-//! The words of a line, and a number as a word.
+//! The first word of a line, what follows it, and numbers written in digits.
 
 ghost use Rattle.std.specs.Prelude.{◌≡◌, ◌≤◌, length};
 ghost use Rattle.text_lines.specs.Words.{word_of, argument_of, command_number};

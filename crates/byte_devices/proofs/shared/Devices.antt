@@ -30,7 +30,7 @@ pub appends_none : (a : Option (List ℕ)) → Appends a a []
 appends_none None = tt
 appends_none (Some s) = sym (append-nil s)
 
--- bytes that were kept were not consumed
+-- if the known bytes were kept, none was consumed
 pub consumes_kept : (a b : Option (List ℕ)) → Keeps a b → Consumes a b []
 consumes_kept None b h = tt
 consumes_kept (Some s) None h = absurd h
@@ -44,7 +44,7 @@ min_more n j k top = grind (arith, common_steps)
 pub add_some : (n k : ℕ) → 0 < k → saturating_add n k ≡ min (n + k) (2 ^ 64 - 1)
 add_some n k h = let e : nat_eq k 0 ≡ false = grind arith in rw e refl
 
--- a count raised twice
+-- adding j and then k to a count is adding j + k to it
 add_twice : (n j k : ℕ) → saturating_add (saturating_add n j) k ≡ saturating_add n (j + k)
 add_twice n zero k = ap (saturating_add n) (omega arith)
 add_twice n (suc j) zero = ap (saturating_add n) (omega arith)
@@ -53,7 +53,7 @@ add_twice n (suc j) (suc k) =
     ∙ ap (λ c. min (c + suc k) (2 ^ 64 - 1)) (add_some n (suc j) (omega arith))
     ∙ min_more n (suc j) (suc k) (2 ^ 64 - 1) ∙ sym (add_some n (suc j + suc k) (omega arith))
 
--- one more, and then so many
+-- adding 1 and then k to a count is adding 1 + k to it
 pub add_one_more : (n k : ℕ) → saturating_add (saturating_increment n) k ≡ saturating_add n (1 + k)
 unfolding saturating_increment
 add_one_more n k = add_twice n 1 k
@@ -95,7 +95,7 @@ pub breaks_longer : (a b : OutputState) (x y : List ℕ) → CutShort a b x → 
 breaks_longer a b x y (start, (rest, is), k) =
     (start, (rest ++ y, sym (append_assoc start rest y) ∙ ap (λ v. v ++ y) is), k)
 
--- a text, and then another: what was written of both
+-- a text was taken, and then another was put: so both together were put
 pub puts_more : {A E : Type 0} (a b c : OutputState) (r : Result A E) (x y : List ℕ) → Took a b x → Puts b c r y
     → Puts a c r (x ++ y)
 puts_more a b c (Ok v) x y h k = took_more a b c x y h k
@@ -127,7 +127,7 @@ wrote_part a b c at text h k = (
       k,
 )
 
--- a text, and then a flush
+-- a text was taken, and then a flush succeeded: the text was sent
 pub sent_on : (a b c : OutputState) (x : List ℕ) → Took a b x → Sent b c [] → Sent a c x
 sent_on a b c x h k = record {
   bytes = rw (← append-nil x) (appends_more a.known_bytes b.known_bytes c.known_bytes x [] h.bytes k.bytes);
@@ -164,7 +164,7 @@ pub parts_more : {X : Type 0} (a b c : OutputState) (f : X → List ℕ) (xs : L
 parts_more a b c f xs i d h s t =
     rw (flat_more f xs i d h) (took_more a b c (flat_map f (take i xs)) (f (get_or xs i d)) s t)
 
--- one of them was cut short: so was the text of all
+-- the texts of the first `i` elements were taken, and then the next one's was cut short: so was the text of all
 pub parts_break : {X : Type 0} (a b c : OutputState) (f : X → List ℕ) (xs : List X) (i : ℕ) (d : X) → i < length xs
     → Took a b (flat_map f (take i xs)) → CutShort b c (f (get_or xs i d)) → CutShort a c (flat_map f xs)
 parts_break a b c f xs i d h s t =

@@ -73,12 +73,12 @@ took_some w w' start h =
 
 -- ---- one after the other
 
--- if `x or y` fails, both fail
+-- if `x || y` is false, both are false
 neither : {P : Type 0} (x y : Bool) → (x || y) ≡ false → (x ≡ false → y ≡ false → P) → P
 neither true y e p = absurd cc
 neither false y e p = p refl e
 
--- what is unflushed at last
+-- how many bytes are unflushed after two steps, each with a flush or without (x, y)
 left_at_last : (x y : Bool) (k l m n : ℕ) → l ≡ (if x then 0 else k)
     → m ≡ saturating_add (if y then 0 else l) n → m ≡ saturating_add (if x || y then 0 else k) n
 left_at_last true true k l m n e f = f
@@ -104,7 +104,7 @@ took_then a b c flushes x o h k = record {
 above_0 : (n : ℕ) → nat_lt 0 (suc n) ≡ true
 above_0 n = grind (arith, nat_tests)
 
--- whether there are items, of two lists
+-- one of two lists has an element exactly if both together have one
 some_of_both : {A : Type 0} (xs ys : List A)
     → (nat_lt 0 (length xs) || nat_lt 0 (length ys)) ≡ nat_lt 0 (length (xs ++ ys))
 some_of_both [] ys = refl
@@ -124,7 +124,7 @@ pub took_more : {A : Type 0} (a b c : OutputState) (items : List A) (x : List �
     → OutputTook a c (after_text (nat_lt 0 (length items)) x o)
 took_more a b c items x o h k = took_then a b c (nat_lt 0 (length items)) x o h k
 
--- texts for more items
+-- the text for some items was taken, and then the one for more items: so both, for all these items
 pub took_each : {A : Type 0} (a b c : OutputState) (items more : List A) (x y : List ℕ)
     → OutputTook a b (all_for items x) → OutputTook b c (all_for more y)
     → OutputTook a c (all_for (items ++ more) (x ++ y))

@@ -1,4 +1,4 @@
--- What `Counted` makes of its device's answers.
+-- How `Counted` counts its device's answers, and what it returns for them.
 use Rattle.std.specs.Prelude.{ℕ, ◌+◌, ◌==◌, ◌&&◌, nat_lt, if◌then◌else◌, Result, Ok, Err}
 use Rattle.byte_devices.specs.Devices.{saturating_increment, saturating_add}
 use Rattle.byte_devices.specs.declared.counted.Counts.{Counts}

@@ -55,9 +55,9 @@ pub record IsEmpty (table : List ℕ) : Type 0 where
   pub buckets : length table ≡ BUCKETS
   pub none : (b : ℕ) → b < BUCKETS → get_or table b 0 ≡ 0
 
--- the entry of played move k, which is x, in the game from `start` by the played moves xs: a link to the latest earlier
--- position in the bucket of the position that x reached, and how many positions up to that one, itself included, are
--- the same as it
+-- the entry of played move k, which is x, in the game from `start` by the played moves xs, is right for the position
+-- that x reached: `earlier` is the latest earlier position in its bucket (its number plus one, or 0 for none), `count`
+-- how many positions up to it, itself included, are the same
 pub record HasEntry (start : Hashed) (xs : List PlayedMove) (k : ℕ) (x : PlayedMove) : Type 0 where
   pub earlier : x.entry.earlier ≡ latest_below (is_in start xs (bucket x.reached)) (suc k)
   pub count : x.entry.count ≡ suc (count_below (is_same_at start xs x.reached.position) (suc k))
@@ -66,7 +66,7 @@ pub record HasEntry (start : Hashed) (xs : List PlayedMove) (k : ℕ) (x : Playe
 abbrev pub HaveEntries : Hashed → List PlayedMove → Type 0
 HaveEntries start xs = (k : ℕ) (d : PlayedMove) → k < length xs → HasEntry start xs k (get_or xs k d)
 
--- the table of heads and the entries of the played moves xs are the index of all positions in the game from `start`
+-- the table of heads and the entries of the played moves xs are right for all positions in the game from `start`
 pub record IsIndexed (table : List ℕ) (start : Hashed) (xs : List PlayedMove) : Type 0 where
   pub buckets : length table ≡ BUCKETS
   pub heads : HaveHeads table start xs (suc (length xs))

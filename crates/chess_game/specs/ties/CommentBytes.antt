@@ -1,4 +1,4 @@
--- A byte of a comment, as code replaces it.
+-- How the code replaces a byte of a comment.
 use Rattle.std.specs.Prelude.{ℕ, ◌==◌, ◌||◌, if◌then◌else◌}
 use Rattle.byte_devices.specs.Bytes.{byte, shown_byte}
 

@@ -1,4 +1,4 @@
--- Kinds of pieces, as code asks for them.
+-- Kinds of pieces that the code tests together.
 use Rattle.std.specs.Prelude.{Bool, ◌||◌, Option}
 use Rattle.chess_base.specs.declared.man.Kind.TheVariants.{Queen, Rook, Bishop, Knight, Pawn}
 use Rattle.chess_base.specs.declared.man.Man.{Man}

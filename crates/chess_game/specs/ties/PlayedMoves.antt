@@ -56,14 +56,14 @@ saved_with p captured = record {
 abbrev pub WasPlayed : Setup → PlayedMove → Setup → Type 0
 WasPlayed p x q = WasMade p x.made (saved_with p x.captured) q
 
--- from position p on, each played move was legal where it was made, and is kept with the piece that it captured and the
--- position that it reached
+-- from position p on, each played move was legal where it was made, and is kept with the piece that it captured, the
+-- position that it reached and the right en passant square of that
 abbrev pub Follows : Setup → List PlayedMove → Type 0
 Follows p [] = Unit {0}
 Follows p (x ∷ xs) = WasPlayed p x x.reached.position × IsKnown x.reached × Follows x.reached.position xs
 
--- what a game keeps is true: the played moves follow from the start, all hashes are by the board's definition f, and
--- the board is at the position after the last move
+-- what a game keeps is right: the start's en passant square, the played moves with the positions that they reached from
+-- the start, all hashes (by the board's definition f), and the board's position, which is the one after the last move
 pub record IsKept (f : Hashing) (start : Hashed) (played_moves : List PlayedMove) (board : Setup) : Type 0 where
   pub known : IsKnown start
   pub follows : Follows start.position played_moves

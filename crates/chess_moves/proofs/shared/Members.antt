@@ -72,7 +72,7 @@ members_first w v f h n rest =
     (filter_first (λ k. contains w k) (λ k. contains v k) f 64 0 (omega arith) (omega arith) n.here
     (λ k l. n.nearer k (lt-ltb _ _ l)) rest (omega arith))
 
--- what is left out gives nothing
+-- elements that give empty lists may be left out
 flat_map-filter : {B : Type 0} (f : ℕ → List B) (q : ℕ → Bool) (n a : ℕ)
     → ((k : ℕ) → k < a + n → q k ≡ false → f k ≡ [])
     → flat_map f (filter q (range_with_len a n)) ≡ flat_map f (range_with_len a n)

@@ -9,7 +9,7 @@ pub begins_below : (p : Setup) (m : Move) → is_legal p m ≡ true → m.from <
 unfolding is_legal is_pseudo_legal
 begins_below p m h = grind (arith, nat_tests, h)
 
--- all pieces of the kind
+-- the set of all pieces of the kind has the start of each legal move of the kind
 pub all_men : (p : Setup) (kind : Kind) (to w : ℕ) → ((k : ℕ) → k < 64 → contains w k ≡ is_man p.side kind (man_at p.men k))
     → HasOrigins p kind to w
 all_men p kind to w h = λ m legal man there. h m.from (begins_below p m legal) ∙ man

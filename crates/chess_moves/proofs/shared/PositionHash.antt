@@ -85,7 +85,7 @@ unfolding men_keys
 no_men_keys men none =
     rw by_range (no_lists (keys_on men) 64 0 (λ k l h. ap (λ v. square_keys k v) (none k (omega arith))))
 
--- x, y and z joined, the last two the other way round
+-- in an exclusive or of x, y and z the last two may change places
 turned : (x y z : ℕ) → bit_xor (bit_xor x y) z ≡ bit_xor (bit_xor x z) y
 turned x y z = xor_assoc x y z ∙ ap (λ v. bit_xor x v) (xor_comm y z) ∙ sym (xor_assoc x z y)
 

@@ -1,23 +1,23 @@
--- What is kept of a line that comes.
+-- What the reader of lines keeps of a line while its bytes come.
 use Rattle.std.specs.Prelude.{ℕ, Bool, true, false, List, [], ◌∷◌, ◌++◌, ◌≡◌, ◌<◌, ◌≤◌, length, Option, None, Some, Result, Ok, Err}
 use Rattle.byte_devices.specs.Devices.{InputState, GavePiece, FailedToRead}
 use Rattle.text_lines.specs.Lines.{LineSeen, Held, lines_from, lines_held}
 use Rattle.text_lines.specs.declared.lines.TheConstants.{PIECE_LEN}
 
--- the bytes that have come of a line, for the definitions: those that the code kept, and one more (0) for all that it
--- dropped, if the flag says that they were too many
+-- a stand-in for the bytes that have come of a line: those that the code kept, and, if it dropped some (`true`), one
+-- more byte, 0, for all of these; so a line that is too long has a stand-in that is too long
 abbrev pub kept_part : List ℕ → Bool → List ℕ
 kept_part bytes true = bytes ++ 0 ∷ []
 kept_part bytes false = bytes
 
--- whatever bytes follow, and whether the stream then ends or not, the lines are the same after `part` as after `part'`;
--- a line of more than `n` bytes is too long
+-- `part` and `part'`, two beginnings of a line, lead to the same lines, whatever bytes follow, and whether the stream
+-- then ends or not; a line of more than `n` bytes is too long
 abbrev pub SameLines : ℕ → List ℕ → List ℕ → Type 0
 SameLines n part part' = (at_end : Bool) (bytes : List ℕ)
     → lines_from n at_end part bytes ≡ lines_from n at_end part' bytes
 
--- what looking for a whole line in the bytes read but not returned (`held` before, `held'` after) found: that line, the
--- first of them; or `None`, and then all of them were looked at. Lines have at most `n` bytes
+-- what a look for a whole line in the bytes read and not yet returned (`held` before, `held'` after) found: the first
+-- line in them; or `None`, and then none of them is left to look at. Lines of more than `n` bytes are too long
 abbrev pub HeldLine : ℕ → Held → Held → Option LineSeen → Type 0
 HeldLine n held held' (Some line) =
     (line.ended ≡ true) × (length held'.coming < length held.coming)

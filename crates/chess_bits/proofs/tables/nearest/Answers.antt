@@ -1,4 +1,4 @@
--- The board's last square was added, so the set has one (with_end of Blockers).
+-- The board's last square was added, so the set isn't empty, and has a nearest square (with_end of Blockers).
 use Rattle.std.proofs.Common.{refl}
 use Rattle.chess_bits.proofs.Blockers.{with_end}
 use Rattle.chess_bits.proofs.tables.nearest.Goals as goal

@@ -1,4 +1,5 @@
--- What is counted of the wrapped writer's answer makes it a write of this output (Unflushed.counted_write).
+-- The bytes that the wrapped writer took are counted as unflushed, or its failure is counted, just as `WriteStep` asks
+-- (Unflushed.counted_write).
 use Rattle.byte_devices.proofs.Unflushed.{counted_write}
 use Rattle.byte_devices.proofs.counted.CountedOutput.write.Goals as goal
 

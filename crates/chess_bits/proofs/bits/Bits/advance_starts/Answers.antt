@@ -1,4 +1,5 @@
--- A pawn steps ahead onto an empty square, or from its home rank across one (none_onto, advances_are of PawnStarts).
+-- A pawn goes straight ahead onto an empty square only: one step, or two from its home rank if the square between is
+-- empty too (none_onto, advances_are of PawnStarts).
 use mathlib.Core.Bool.{not-not}
 use Rattle.std.proofs.Common.{◌≡◌, ◌<◌, ◌==◌, ◌||◌, false, true, not, is_none, sym, ap, subst, ◌∙◌}
 use Rattle.chess_base.specs.{Men.man_at, Squares.rank, Sound.no_pawn_on_end_ranks}

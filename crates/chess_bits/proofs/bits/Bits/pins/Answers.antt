@@ -1,5 +1,5 @@
--- Where nothing attacks the king it is not in check (attacked_is of Attackers); else each move of another piece meets
--- the first attack (check_met of Pins).
+-- If the set of the king's attackers is empty, it is not in check (attacked_is of Attackers). Otherwise each legal move
+-- of another piece ends on an evasion against the first attacker (check_met of Pins).
 use Rattle.std.proofs.Common.{◌≡◌, ◌<◌, ◌&&◌, ℕ, not, sym, ap, ◌∙◌}
 use Rattle.chess_base.specs.{Attacks.attacks, declared.man.Kind.TheVariants.King}
 use Rattle.chess_base.specs.Men.{man_at, is_of, is_man, other}

@@ -1,4 +1,5 @@
--- Cleared, the square is empty, as filling wants it (cleared), and of two writes the second stays (set_twice).
+-- After `clear` the square is empty, as `fill` requires (cleared), and of two writes to it the second one holds
+-- (set_twice).
 use Rattle.std.proofs.Common.{◌≡◌, ◌<◌, length, slice_set, None, ◌∙◌, subst, length-set}
 use Rattle.chess_bits.specs.ties.BoardSets.{IsSets}
 use Rattle.chess_bits.proofs.BoardSets.{set_twice, cleared}

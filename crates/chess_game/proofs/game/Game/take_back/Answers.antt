@@ -1,5 +1,6 @@
--- The last played move holds the position that its move left, so the board goes back to that one (taken of Kept). No
--- verdict came before the last move, so none before the one that is now the last (unended_fewer of Judged).
+-- The last move was made in the position that the played moves before it reached, and is kept with what it captured: so
+-- the board goes back to that position (taken of Kept). No verdict came before the last move, so none before the one
+-- that is now the last (unended_fewer of Judged).
 use Rattle.std.proofs.Common.{List, sym, ap, subst, ◌∙◌, arith}
 use Rattle.chess_game.specs.{Line.position_after, ties.Buckets.IsIndexed, ties.PlayedMoves.moves_of, ties.PlayedMoves.Follows, declared.game.PlayedMove.PlayedMove}
 use Rattle.chess_game.proofs.{Kept.taken, Kept.fewer, Kept.hashes_fewer, Judged.unended_fewer, Judged.last_is}
