@@ -1,5 +1,5 @@
-//! Laws of how a game ends. A caller learns one by calling its function, which does nothing. What a law refuses are
-//! wrong definitions: with one of them it can't be proved.
+//! Laws of how a game ends. A caller learns one by calling its function, which does nothing. That a law refuses a
+//! definition means: with this definition the law can't be proved.
 
 ghost use Rattle.rules_laws.specs.Endings.{ClocksCountQuietMoves, CountersStop, CountingEnds, InsufficientNeverMates, NoMoveEnds};
 
@@ -7,8 +7,8 @@ ghost use Rattle.rules_laws.specs.Endings.{ClocksCountQuietMoves, CountersStop, 
 /// check and no move is legal, and by stalemate exactly if it is not in check and no move is legal (FIDE Laws of Chess
 /// 2023, articles 5.1.1 and 5.2.1).
 ///
-/// It refuses definitions with one of these mistakes: a win by stalemate, a win of the side that is mated, and an end
-/// where some move is legal.
+/// It refuses definitions with one of these mistakes: a win by stalemate, a win of the side that is mated, and mate or
+/// stalemate where some move is legal.
 pub fn a_game_ends_where_no_move_is_legal()
     ensures { NoMoveEnds }
 {}
@@ -19,8 +19,9 @@ pub fn a_game_ends_where_no_move_is_legal()
 /// both ends come at once, the verdict is not the 75-move rule. All this is said by the game's positions and moves,
 /// without a count or a clock; only half-moves before the start are taken from its halfmove clock.
 ///
-/// It refuses definitions with one of these mistakes: the fourth time or the sixth, 149 half-moves or 151, a clock that
-/// goes on after some capture or pawn move, and the 75-move rule before fivefold repetition.
+/// It refuses definitions with one of these mistakes: a game ends at the fourth time or only at the sixth, after 149
+/// half-moves or only after 151; the clock goes on after some capture or pawn move; or the 75-move rule comes before
+/// fivefold repetition.
 pub fn repetitions_and_quiet_moves_end_a_game()
     ensures { CountingEnds }
 {}

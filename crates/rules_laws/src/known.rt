@@ -1,6 +1,6 @@
 //! Laws of lines, FENs and positions that chess players and programmers know, by computation. A caller learns one by
-//! calling its function, which does nothing. What a law refuses are wrong definitions: with one of them it can't be
-//! proved.
+//! calling its function, which does nothing. That a law refuses a definition means: with this definition the law
+//! can't be proved.
 
 ghost use Rattle.rules_laws.specs.KnownCounts.{CastlingIsKnown, EndingsAreJudged, MovesAreAsMany};
 ghost use Rattle.rules_laws.specs.KnownPositions.{FensAreRefused, LinesLeadToFens, PositionsAreTheSame, TheSameHaveTheSamePieces};
@@ -32,7 +32,7 @@ pub fn known_positions_are_the_same()
 
 /// A law: the contract says it, and the function does nothing. Six known positions, three of them of Chess960, have as
 /// many legal moves as is said; for the first two these are published counts (chessprogramming.org, Perft Results).
-/// `castling` says in which other positions of Chess960 the king may castle.
+/// `castling` says of other positions of Chess960 whether the king may castle.
 ///
 /// It refuses definitions with one of these mistakes: a pawn that captures straight ahead, goes past a piece or
 /// promotes to a queen alone, a king of Chess960 that can't castle because its own rook is in its way or because it
@@ -45,8 +45,8 @@ pub fn known_positions_have_so_many_moves()
 /// A law: the contract says it, and the function does nothing. Small positions are mate, stalemate, or drawn for
 /// insufficient material or by the 75-move rule.
 ///
-/// It refuses definitions with one of these mistakes: a king and a bishop against a king, or bishops on squares of one
-/// colour, that play on, and the 75-move rule before insufficient material.
+/// It refuses definitions with one of these mistakes: a game goes on with king and bishop against king, or with bishops
+/// on squares of one colour alone; or the 75-move rule comes before insufficient material.
 pub fn known_endings_are_judged()
     ensures { EndingsAreJudged }
 {}
