@@ -253,8 +253,8 @@ fn with_start(found: Reading, setup: &Setup, parts: &Parts, kind: Kind, from: Sq
     }
 }
 
-// What a text of these parts is read as from the legal moves of pieces of this kind from the squares `starts` to their
-// end square, as far as the parts denote them: a single move is the reading, several are `Ambiguous`. Seldom called, so
+// What a text of these parts is read as: one move, several (`Ambiguous`) or none (`NoSuch`), of those that it denotes
+// among the legal moves of pieces of this kind from the squares `starts` to the parts' end square. Seldom called, so
 // not inlined.
 #[inline(never)]
 fn with_starts(setup: &Setup, parts: Parts, kind: Kind, starts: SquareSet) -> Reading

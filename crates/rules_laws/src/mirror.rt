@@ -5,7 +5,7 @@
 ghost use Rattle.rules_laws.specs.Mirror.{MirrorAttacksAlike, MirrorEndsAlike, MirrorGamesAlike, MirrorIsAsLegal, MirrorMovesAlike};
 
 /// A law: the contract says it, and the function does nothing. A piece in the mirror attacks just the mirrored squares,
-/// and a king is in check exactly if it is so in the mirror: the rules are the same for both colours (FIDE Laws of Chess
+/// and a king is in check exactly if it is in the mirror: the rules are the same for both colours (FIDE Laws of Chess
 /// 2023, articles 3.1 to 3.9).
 ///
 /// It refuses definitions by which one colour attacks otherwise than the other, such as black pawns that attack up the
@@ -18,8 +18,8 @@ pub fn attacks_are_mirrored()
 /// mirrored move is legal in the mirrored position, and then both lead to mirrored positions. Only the fullmove number
 /// differs: it rises after Black's moves.
 ///
-/// It refuses definitions by which one colour moves otherwise than the other, such as castling squares, a promotion rank
-/// or a double advance that are wrong for one colour alone.
+/// It refuses definitions by which one colour moves otherwise than the other, such as castling squares, a promotion
+/// rank or a double advance that are wrong for one colour alone.
 pub fn moves_are_mirrored()
     ensures legal { MirrorIsAsLegal }
     ensures after { MirrorMovesAlike }

@@ -37,10 +37,10 @@ pub fn moves_are_numbered()
 {}
 
 /// A law: the contract says it, and the function does nothing. The first six tags of each game are Event, Site, Date,
-/// Round, White and Black, in this order. The tags after these are named for three games: one from the initial
+/// Round, White and Black, in this order. For three games the law also lists the tags that follow: one from the initial
 /// position, one from another, and one of Chess960 (PGN standard of 1994, sections 8.1.1, 9.7 and 9.8.1). The tag
-/// Termination of a game that was lost on time or against the rules says so. A tag's text is cut to 60 bytes of
-/// printable ASCII.
+/// Termination of a game that ended on time or by a breach of the rules says so, unless its outcome is `*`. A tag's
+/// text is cut to 60 bytes, with `?` for each that isn't printable ASCII.
 pub fn tags_are_in_order()
     ensures { TagsAreInOrder }
 {}
