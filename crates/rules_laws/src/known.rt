@@ -44,8 +44,8 @@ pub fn known_positions_have_so_many_moves()
 /// A law: the contract says it, and the function does nothing. Small positions are mate, stalemate, or drawn for
 /// insufficient material or by the 75-move rule.
 ///
-/// It refuses definitions with one of these mistakes: a game goes on with king and bishop against king, or with bishops
-/// on squares of one colour alone; or the 75-move rule comes before insufficient material.
+/// It refuses definitions with one of these mistakes: a game continues with king and bishop against king, or if all
+/// bishops are on squares of one colour; or the 75-move rule comes before insufficient material.
 pub fn known_endings_are_judged()
     ensures { EndingsAreJudged }
 {}

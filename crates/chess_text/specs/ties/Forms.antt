@@ -95,8 +95,8 @@ with_move (reads.Move n) m = reads.Ambiguous
 with_move reads.Ambiguous m = reads.Ambiguous
 with_move reads.NotAMove m = reads.NotAMove
 
--- what a text is read as after these legal moves that it denotes, from the reading so far (`found`): a single move is
--- the reading, several are `Ambiguous`
+-- what a text is read as after these legal moves that it denotes, from the reading so far (`found`), one after another
+-- by `with_move`: from `NoSuch`, a single move is the reading, several are `Ambiguous`, and with none it stays `NoSuch`
 abbrev pub with_moves : Reading → List Move → Reading
 with_moves found [] = found
 with_moves found (m ∷ ms) = with_moves (with_move found m) ms
