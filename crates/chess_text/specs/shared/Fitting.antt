@@ -109,6 +109,6 @@ has_parts test text = passes test (parts_at (unmarked text))
 unfoldable pub has_form : List ℕ → Bool
 has_form text = is_castling_text text KingSide || is_castling_text text QueenSide || has_parts is_form text
 
--- d, a described move, is castling and the text denotes this castling; or the text's parts denote d
+-- the text denotes the described move d: d is castling, and the text denotes this castling; or its parts denote d
 unfoldable pub fits_text : List ℕ → Described → Bool
 fits_text text d = passes (is_castling_text text) d.castles || has_parts (λ q. parts_fit q d) text
