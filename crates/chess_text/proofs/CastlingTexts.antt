@@ -1,4 +1,4 @@
--- A text that names castling to a side has no other form, and names no other side.
+-- A text that names castling to a side can't be read as parts, and names no other side: shown for each such text.
 use Rattle.std.proofs.Common.{◌≡◌, ℕ, inl, inr, Bool, true, false, List, [], ◌∷◌, None, refl, codes, bytes_eq}
 use Rattle.std.proofs.{lemmas.Bool.or_cases, lemmas.Slice.Eq.bytes_eq-Decides}
 use Rattle.std.specs.List.{list_any}

@@ -1,5 +1,5 @@
--- The rivals of a move of a piece other than a pawn begin on the squares from which another piece of its kind has the
--- legal move to the end square.
+-- The rivals of a move of a piece other than a pawn begin on the squares from which another piece of its kind has a
+-- legal move to its end square: one move from each, since such a move is no promotion.
 use mathlib.Core.Bool.{and-true, and-false, not-not}
 use Rattle.std.proofs.Common.{◌≡◌, ◌≢◌, ℕ, zero, suc, ◌<◌, ◌+◌, ◌≤◌, inl, inr, Bool, true, false, not, ◌&&◌, ◌==◌, if◌then◌else◌, cond, Some, None, List, [], ◌∷◌, ◌++◌, map, refl, sym, ap, ◌∙◌, arith, subst}
 use Rattle.std.proofs.lemmas.Bool.{cases_Bool, and_parts, false_from_ne_true, eqb-true, eq-eqb}

@@ -1,4 +1,5 @@
--- What the writer of SAN puts together is the SAN of the definition.
+-- What the writer of SAN puts together, the text without `+` or `#` and then the mark, is the SAN of the definition: a
+-- legal move has a description, with a promotion only for a pawn.
 use Rattle.std.proofs.Common.{◌≡◌, ℕ, List, ◌++◌, Some, None, refl, ap, ◌∙◌, IsTrue}
 use Rattle.chess_base.specs.{declared.man.Kind.Kind, declared.man.Move.Move, declared.setup.Setup.Setup, Moves.is_legal, Moves.after, shared.Parts.optional, MoveList.moves}
 use Rattle.chess_base.specs.declared.man.Kind.TheVariants.{King, Queen, Rook, Bishop, Knight, Pawn}

@@ -1,4 +1,5 @@
--- What is written of a start square fits it, and no other of the start squares from which it must be distinguished.
+-- What SAN writes of a start square (nothing, file, rank or both) fits this square, and none of the start squares from
+-- which it must be distinguished: none of them is on the file or rank that is written, and both name one square.
 use Rattle.std.proofs.Common.{◌≡◌, ◌≢◌, ℕ, Bool, true, false, not, cond, List, [], ◌∷◌, refl, ap, arith, eqb-true, eq-eqb}
 use Rattle.chess_base.specs.Squares.{file, rank}
 use Rattle.chess_text.specs.shared.Fitting.{admits}

@@ -117,7 +117,7 @@ one_of (m ∷ n ∷ ms) = reads.Ambiguous
 unfoldable pub reading : Setup → List ℕ → Reading
 reading p text = if shape text then one_of (filter (λ m. denotes p text m) (moves p)) else reads.NotAMove
 
--- a text that is read so has a move's shape
+-- a text with this reading has a move's shape: any reading but `NotAMove`
 abbrev pub has_shape : Reading → Bool
 has_shape reads.NotAMove = false
 has_shape _ = true

@@ -1,4 +1,4 @@
--- Pieces of moves' texts, and the marks at their end.
+-- What moves' texts are put together from: letters, files and ranks, and the marks at the end.
 use Rattle.std.specs.Prelude.{ℕ, ◌+◌, ◌-◌, ◌==◌, Bool, ◌||◌, List, [], ◌∷◌, ◌++◌, length, take, map, flat_map}
 use Rattle.std.specs.List.{suffix_len}
 use Rattle.chess_base.specs.declared.man.Kind.{Kind}

@@ -253,8 +253,8 @@ fn with_start(found: Reading, setup: &Setup, parts: &Parts, kind: Kind, from: Sq
     }
 }
 
-// What a text of these parts is read as from the legal moves of pieces of this kind from the squares `starts` to their
-// end square, as far as the parts denote them: a single move is the reading, several are `Ambiguous`. Seldom called, so
+// What a text of these parts is read as: one move, several (`Ambiguous`) or none (`NoSuch`), of those that it denotes
+// among the legal moves of pieces of this kind from the squares `starts` to the parts' end square. Seldom called, so
 // not inlined.
 #[inline(never)]
 fn with_starts(setup: &Setup, parts: Parts, kind: Kind, starts: SquareSet) -> Reading
@@ -352,9 +352,9 @@ fn denoted_usual<B: Board>(board: &B, parts: &Parts) -> Reading
 }
 
 // What coordinates, such as `e2e4` or `e7e8q`, are read as, with one mark after them or none: they denote only the move
-// between their squares. `None` for any other text, and for a promotion that is not legal. In a session nearly each
-// text is one. If it was described like any other, in loops over squares and promotions, the workload `matches` took
-// 1.05 times as long.
+// between their squares. `None` for any other text, and for a promotion that is not legal. In a session nearly all
+// texts are coordinates. With these read like other texts, in loops over squares and promotions, the workload `matches`
+// took 1.05 times as long.
 fn read_coordinates<B: Board>(board: &B, text: &[u8]) -> Option<Reading>
     ensures { IfSome result (λ r. reading (B.position board.now) text.now ≡ r) }
 {

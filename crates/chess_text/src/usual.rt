@@ -1,7 +1,7 @@
 //! The texts of which games in PGN are full: `e4`, `Nf3`, `exd5`, `Nxd5` and `Nbd2`, perhaps with one mark after them.
-//! Their parts are read at once. For any text `usual_parts` may return `None`: then `read_form` reads it part by part,
-//! as it reads all other texts. Where `usual_parts` returns parts, `read_form` would read the same (`usual_form` in
-//! proofs/UsualForms).
+//! `usual_parts` reads the parts of such a text in one step; `read_form`, which goes part by part, would read the same
+//! (`usual_form` in proofs/UsualForms). For all other texts `usual_parts` returns `None`, and `read_any_move` of
+//! reading.rt reads them.
 //!
 //! With all texts read part by part, verifying games took 1.04 times as long (the workload collections; this was faster
 //! in 34 of 41 runs). All functions here are inlined for the reason at the head of reading.rt.

@@ -194,7 +194,7 @@ pub fn add_check_mark<B: Board>(board: &B, text: &mut SanText)
 }
 
 /// Makes a legal move on the board, and returns its SAN, as [`san`] writes it, and what [`Board::take_back`] needs to
-/// undo the move. The mark `+` or `#` depends on the position after the move, where the board then is: so whoever
+/// undo the move. The board is left at the position after the move, on which the mark `+` or `#` depends: so whoever
 /// writes a game's moves one after another makes each only once.
 ///
 /// ```

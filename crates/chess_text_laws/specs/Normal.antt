@@ -1,5 +1,5 @@
--- The texts of moves by the rules of normal chess alone (Normal of chess_base_laws): each definition is that of the
--- same name without `normal_`.
+-- The texts of moves by the rules of normal chess alone (Normal of chess_base_laws): each definition says for normal
+-- chess what the one of the same name without `normal_` says for both variants.
 use Rattle.std.specs.Prelude.{◌≡◌, ℕ, ◌==◌, Bool, false, not, ◌&&◌, List, [], ◌++◌, length, map, filter, codes, Option, is_some, if◌then◌else◌}
 use Rattle.std.specs.Option.{option_map, option_map_or}
 use Rattle.chess_base.specs.declared.man.Move.{Move}
@@ -36,7 +36,7 @@ normal_described p m =
       castles = normal_castling p m;
     }) (man_at p.men m.from)
 
--- the text denotes move m in position p: Nf3, Ng1f3 and g1f3 all denote the knight's move
+-- the text denotes move m in position p: Nf3, Ng1f3 and g1f3 all denote g1f3 in the initial position
 unfoldable pub normal_denotes : Setup → List ℕ → Move → Bool
 normal_denotes p text m = option_map_or (denotes_described text) (normal_described p m) false
 

@@ -31,11 +31,13 @@ pub fn move_text_denotes_its_move()
 {}
 
 /// A law: the contract says it, and the function does nothing. The definitions compare a text with lists of all texts
-/// of a move; the law says the same by parts, `[letter][file][rank][x]square[[=]promotion]`. Splitting a text gives
-/// certain parts exactly if these can be the parts of a text, and writing them out gives the text. A text denotes a
-/// move exactly if it names the move's castling or is, but for marks at its end, written out from parts that fit the
-/// move. It has the shape of a move exactly if it names castling or is, but for such marks, written out from parts in
-/// one of the forms of a move's text.
+/// of a move; this law says the same by the text's parts, `[letter][file][rank][x]square[[=]promotion]`.
+///
+/// - `read`, `written`: a text is split into parts exactly if they can be a text's parts and it is their text.
+/// - `denoted`: a text denotes a move exactly if it names the castling that the move is, or if it is, without the marks
+///   at its end, the text of parts that fit the move.
+/// - `shaped`: a text has the shape of a move exactly if it names castling, or if it is, without its marks, the text of
+///   parts that have a form of a move's text (`is_form`).
 pub fn texts_have_parts()
     ensures read { PartsAreTheTexts }
     ensures written { PartsAreRead }

@@ -1,5 +1,5 @@
--- For `outcome_of`, which calls `try_from` of Outcome: this returns the outcome that is written as the word, and none
--- for other words.
+-- For `outcome_of`, which calls `try_from` of Outcome: `try_from` returns the outcome that is written as the word, and
+-- an error for other words.
 use Rattle.std.proofs.Common.{◌≡◌, ℕ, Bool, true, false, List, refl, sym, subst, bytes_eq, Some, Result, Ok, Err}
 use Rattle.std.proofs.lemmas.Slice.Eq.{bytes_eq-Decides}
 use Rattle.std.specs.Result.{result_ok}

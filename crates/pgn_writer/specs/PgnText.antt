@@ -11,8 +11,8 @@ use Rattle.pgn_writer.specs.Written.{ended}
 abbrev pub line_text : List (List ℕ) → List ℕ
 line_text tokens = join_with_byte space tokens
 
--- these lines of tokens are as full as they can be: none is empty or has more than 79 characters, or could also have
--- taken the next one's first token
+-- these lines of tokens are as full as they can be: each has a token and at most 79 characters, and no room for the
+-- first token of the next line
 pub record AreFullLines (lines : List (List (List ℕ))) : Type 0 where
   pub some : AllByRecursion (λ line. 0 < length line) lines
   pub short : AllByRecursion (λ line. length (line_text line) ≤ 79) lines

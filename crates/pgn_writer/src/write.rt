@@ -1,11 +1,11 @@
 //! Writes a game's text (PGN standard of 1994, sections 3.2, 8 and 9.7). All parts are written to one `LineWriter`, the
 //! parameter `lines`, which collects them in a buffer.
 //!
-//! In contracts the clause `added` (`Adds`) ends in the text that a function adds: what waited in the buffer, and then
-//! this text, is what the writer took, and then what waits now. `ended prefix lines` is the text of these lines, each
-//! with the prefix before it and `\n` after it. `prefix`, `writer` and `kept` say what stays as it was; `column` says
-//! how long the line is that is begun, `position` which position the board has, and `playable` that the game's moves
-//! are legal.
+//! In contracts the last argument of `added` (`Adds`) is the text that a function adds. What waited in the buffer,
+//! followed by this text, are the bytes that the writer took, followed by those that now wait. `ended prefix lines` is
+//! the text of these lines, each with the prefix before it and `\n` after it. `prefix`, `writer` and `kept` say what
+//! stays as it was; `column` says how long the line is that is begun, `position` which position the board has, and
+//! `playable` that the game's moves are legal.
 
 ghost use Rattle.std.specs.Prelude.{◌≡◌, ℕ, ◌≤◌, ◌<◌, List, [], ◌∷◌, ◌++◌, true, length, decimal, OnOk, OnErr, IsTrue};
 ghost use Rattle.arrayvec.specs.ArrayVec.{array_vec_len};
@@ -66,7 +66,8 @@ pub fn write_pgn<B: Board, W: Output>(
 // Writes a game's whole text to `lines`: tags, an empty line, moves with the outcome, an empty line. Its end may still
 // wait in the buffer: `write_pgn` calls `finish`. The moves are played on the board `scratch` for their SAN.
 //
-// `Adds`: what waited in the buffer and then the text (`pgn`) is what the writer took and what waits now.
+// `Adds`: what waited in the buffer, followed by the text (`pgn`), are the bytes that the writer took, followed by
+// those that now wait.
 fn put_game<B: Board, W: Output>(
     lines: &mut LineWriter<'_, '_, W>,
     game: &Game<B>,

@@ -1,5 +1,6 @@
 -- A legal king's move by e1g1 (and so on) in normal chess, or onto an own rook in Chess960, castles, and leaves king
--- and rook on the named squares (HasCastled). The move can be no other kind: see normal_by and fischer_by.
+-- and rook on the named squares (HasCastled). It can be no step of the king: e1 and g1 aren't next to each other
+-- (normal_by), and a step can't end on a piece of its own colour (fischer_by).
 use Rattle.std.proofs.Common.{◌≡◌, ◌≢◌, ℕ, ◌<◌, ◌≤◌, ◌⊎◌, inl, inr, Bool, true, false, Option, Some, None, refl, sym, subst, ◌∙◌, arith, ◌==◌, ◌&&◌}
 use Rattle.std.proofs.lemmas.Bool.{and_parts, both_ways, cases_eq, eqb-true, eq-eqb, ne_eqb, not-true, ltb-true}
 use Rattle.std.specs.{Int.abs_diff, Option.option_map_or}

@@ -1,5 +1,5 @@
 -- The scholar's mate and the fool's mate, by computation: each line is legal, and at its end no move is legal and the
--- side on move is in check. With the listed definitions unfolded, both sides of an equation compute to one value.
+-- side on move is in check. With the listed definitions unfolded, both sides of each equation compute to one value.
 use Rattle.std.proofs.Common.{◌≡◌, true, refl, ◌∙◌, List, Some}
 use Rattle.chess_base.specs.{declared.man.Colour.Colour, declared.man.Colour.TheVariants.White, declared.man.Colour.TheVariants.Black, declared.man.Move.Move, ByColour.by_colour, Men.is_of, Men.is_man, Men.other, Initial.initial_setup, Initial.initial_setup_of, MoveList.all_moves, MoveList.moves}
 use Rattle.chess_base.specs.Squares.{squares, some_square, each_square, is_between}

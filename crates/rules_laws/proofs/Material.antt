@@ -1,6 +1,6 @@
 -- Material that is insufficient by the definition's counts is so by squares (`IsBare`, bare_from): no pawn, rook or
--- queen, and few minor pieces. No legal move changes that (bare_after): there is no castling and no pawn move, and
--- bishops keep to squares of their colour.
+-- queen, and at most one bishop or knight, or only bishops on squares of one colour. No legal move changes that
+-- (bare_after): there is no castling and no pawn move, and bishops keep to squares of their colour.
 use Rattle.std.proofs.Common.{◌≡◌, ◌≢◌, ℕ, zero, suc, ◌+◌, ◌-◌, ◌%◌, ◌<◌, ◌≤◌, Bool, true, false, cond, List, [], ◌∷◌, length, get_or, Some, None, Option, refl, sym, ap, ◌∙◌, arith, ◌==◌, nat_le, inl, inr, count_by, subst, ◌⊎◌, ◌||◌, ◌&&◌, not, is_none, if◌then◌else◌}
 use Rattle.std.proofs.lemmas.Bool.{and_parts, and_from, and_right, or_cases, or_left, or_right, both_ways, cases_Bool, cases_eq, cases_lt, eqb-true, eq-eqb, ne_eqb, leb-true, not-true, false_from_ne_true}
 use Rattle.std.proofs.{lemmas.List.get_or_past, lemmas.List.Folds.list_any_at, lemmas.List.Sums.sum_by-cons}

@@ -1,5 +1,5 @@
--- A move is legal exactly if its mirror is, and what comes after the mirrored move is the mirror of what comes after
--- the move, but for the fullmove number.
+-- A move is legal exactly if its mirror is, and then the mirrored position comes after the mirrored move, but for the
+-- fullmove number: shown for the board, checks, rights, target and clock, one after another.
 use Rattle.std.proofs.Common.{◌≡◌, ◌≢◌, ℕ, zero, suc, ◌+◌, ◌<◌, Bool, true, false, Some, None, Option, refl, sym, ap, ap₂, ◌∙◌, arith, ◌==◌, min, subst, ◌||◌, ◌&&◌, not, ◌∷◌, option_and_then, if◌then◌else◌, map}
 use Rattle.std.proofs.{Math.Path.fun_ext, lemmas.Bool.and_parts, lemmas.Bool.eqb-true}
 use Rattle.std.specs.Option.{option_map, option_map_or}

@@ -1,5 +1,5 @@
--- Mate, stalemate and insufficient material are the same in the mirror: no move is legal in both, and tests and counts
--- of pieces give the same.
+-- Mate, stalemate and insufficient material are the same in the mirror: no move is legal there exactly if none is here,
+-- and tests and counts of pieces give the same in both.
 use Rattle.std.proofs.Common.{◌≡◌, ℕ, zero, suc, ◌+◌, ◌-◌, ◌%◌, ◌<◌, ◌≤◌, Bool, cond, Some, None, Option, refl, sym, ap, ap₂, ◌∙◌, arith, ◌==◌, subst, ◌||◌, ◌&&◌, List, [], ◌∷◌, length, map, count_by, ext_get_or}
 use Rattle.std.proofs.{lemmas.Bool.both_ways, lemmas.Bool.false_from_ne_true, lemmas.Bool.Decides.nat_tests, lemmas.List.Sums.sum_by-cons, Math.Bool.and_comm}
 use Rattle.std.specs.List.{list_any}

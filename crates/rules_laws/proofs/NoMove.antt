@@ -1,5 +1,6 @@
--- A game ends by mate or stalemate exactly if no move is legal, in check or not. The verdict is a chain of tests
--- (`judged`), of which the first is that no move is legal; so the laws follow from the tests alone.
+-- A game ends by mate exactly if no move is legal and the side on move is in check, and by stalemate exactly if no move
+-- is legal and it isn't in check. The verdict is a chain of tests (`judged`), of which the first is that no move is
+-- legal; so the law follows from the tests alone.
 use Rattle.std.proofs.Common.{ℕ, ◌≡◌, Bool, true, false, List, [], ◌∷◌, length, Some, None, Option, refl, sym, ◌∙◌, arith, ◌==◌, nat_le, filter, if◌then◌else◌}
 use Rattle.std.proofs.lemmas.Bool.{eqb-true, eq-eqb, false_from_ne_true, ltb-true}
 use Rattle.chess_base.specs.{declared.man.Colour.Colour, declared.man.Colour.TheVariants.White, declared.man.Colour.TheVariants.Black, declared.man.Move.Move, declared.setup.Setup.Setup, Attacks.is_in_check, ByColour.by_colour, Men.other, MoveList.all_moves, MoveList.moves, Moves.is_legal}

@@ -31,7 +31,8 @@ pub record IsStalemate (p : Setup) : Type 0 where
   pub check : is_in_check p.men p.side ≡ false
   pub moves : HasNoMove p
 
--- the verdict on the game from `start` by the moves ms is mate, or stalemate, exactly if its present position is one
+-- the verdict on the game from `start` by the moves ms is mate by a colour exactly if in its present position the other
+-- colour is on move and mated, and stalemate exactly if that position is stalemate
 pub record EndsByNoMove (start : Setup) (ms : List Move) : Type 0 where
   pub white_mates : (verdict start ms ≡ Some WhiteMates)
       ↔ (((position_after start ms).side ≡ Black) × IsMate (position_after start ms))
@@ -81,7 +82,7 @@ ClocksCountQuietMoves = (n : ℕ) (start : Setup) (ms : List Move) → n ≤ COU
     → ((n ≤ (position_after start ms).halfmove) ↔ IsQuietFor n start ms)
 
 -- the counters after move m of position p: a quiet move raises the halfmove clock by one, a move of Black the fullmove
--- number; but each stays at 999,999
+-- number, which a move of White doesn't change; but each stays at 999,999
 pub record CountsOn (p : Setup) (m : Move) : Type 0 where
   pub quiet : IsQuiet p m → p.halfmove < 999999 → (after p m).halfmove ≡ p.halfmove + 1
   pub full_clock : IsQuiet p m → p.halfmove ≡ 999999 → (after p m).halfmove ≡ 999999
@@ -95,9 +96,9 @@ CountersStop = (p : Setup) (m : Move) → CountsOn p m
 
 -- ---- draws by counting
 
--- a game is over once its present position is there for the fifth time or the last 150 half-moves are quiet, and has no
--- such verdict before; if both hold, the verdict is not the latter. A draw can be claimed at the third time or after
--- 100 quiet half-moves
+-- a game is over once its present position is there for the fifth time or the last 150 half-moves are quiet, and is not
+-- drawn for this reason before; if both hold, the verdict is not the 75-move rule. A draw can be claimed exactly from
+-- the third time on or after 100 quiet half-moves
 pub record EndsByCounting (start : Setup) (ms : List Move) : Type 0 where
   pub fivefold : verdict start ms ≡ Some FivefoldRepetition → IsThere 5 start ms
   pub at_fifth : IsThere 5 start ms → verdict start ms ≢ None

@@ -1,4 +1,4 @@
--- How many moves known positions have, in which of Chess960 castling is legal, and how small endings are judged.
+-- How many moves known positions have, in which positions of Chess960 castling is legal, and verdicts of small endings.
 use Rattle.std.specs.Prelude.{◌≡◌, ℕ, Bool, true, false, [], codes, length, option_map, Option, Some, None}
 use Prim.Native.String.{String as Text}
 use Rattle.std.specs.Result.{result_ok}

@@ -50,6 +50,7 @@ pub record MovesAreWritten : Type 0 where
   pub file : IsWritten "4k3/8/8/8/8/5N2/8/1N2K3 w - - 0 1" (move_by "b1" "d2") "Nbd2"
   pub rank : IsWritten "4k3/8/8/R7/8/8/8/R3K3 w - - 0 1" (move_by "a1" "a3") "R1a3"
   pub both : IsWritten "1k6/8/8/8/4Q2Q/8/K7/7Q w - - 0 1" (move_by "h4" "e1") "Qh4e1"
+  -- the knight on e2 is pinned, so it is no rival
   pub pinned : IsWritten "4r2k/8/8/8/8/8/4N3/1N2K3 w - - 0 1" (move_by "b1" "c3") "Nc3"
   pub capture : IsWritten "4k3/8/8/3p4/4P3/8/8/4K3 w - - 0 1" (move_by "e4" "d5") "exd5"
   pub promotion : IsWritten "4k3/P7/8/8/8/8/8/4K3 w - - 0 1" (promotes "a7" "a8") "a8=Q+"
@@ -168,7 +169,7 @@ known_tags = record {
   ended = how.Normal;
 }
 
--- the lines of a game's tags after that of Black
+-- the lines of a game's tags after that of the tag Black
 abbrev pub last_tags : State → List (List ℕ)
 last_tags s = drop 6 (tag_lines known_tags s)
 

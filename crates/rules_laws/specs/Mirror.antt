@@ -50,8 +50,8 @@ mirrored_setup p = record {
 abbrev pub mirrored_move : Move → Move
 mirrored_move m = record { from = mirrored m.from; to = mirrored m.to; promotion = m.promotion }
 
--- in the mirror the pieces `men` attack the same squares and give the same checks, with squares mirrored and colours
--- exchanged
+-- the board `men` and its mirror agree, with squares mirrored and colours exchanged: between which squares the way is
+-- clear, what a piece attacks, which squares a colour attacks, and who is in check
 pub record AttacksAreMirrored (men : Men) : Type 0 where
   pub clear : (a b : ℕ) → a < 64 → b < 64
       → is_clear (mirrored_men men) (mirrored a) (mirrored b) ≡ is_clear men a b

@@ -1,6 +1,6 @@
 //! Laws of lines, FENs and positions that chess players and programmers know, by computation. A caller learns one by
-//! calling its function, which does nothing. What a law refuses are wrong definitions: with one of them it can't be
-//! proved.
+//! calling its function, which does nothing. That a law refuses a definition means: with this definition the law
+//! can't be proved.
 
 ghost use Rattle.rules_laws.specs.KnownCounts.{CastlingIsKnown, EndingsAreJudged, MovesAreAsMany};
 ghost use Rattle.rules_laws.specs.KnownPositions.{FensAreRefused, LinesLeadToFens, PositionsAreTheSame, TheSameHaveTheSamePieces};
@@ -8,23 +8,22 @@ ghost use Rattle.rules_laws.specs.KnownPositions.{FensAreRefused, LinesLeadToFen
 /// A law: the contract says it, and the function does nothing. Known lines are legal, and lead to positions with the
 /// FENs that are named (three are examples of the PGN standard of 1994, section 16.1.4).
 ///
-/// It refuses definitions with one of these mistakes: a right to castle that is lost without a reason, an en passant
-/// target that is missing, a move number that rises after White's move, and castling or a promotion that leaves other
-/// pieces.
+/// It refuses definitions with one of these mistakes: in these lines a right to castle is lost without a reason, an en
+/// passant target is missing, the move number rises after White's move, or castling or a promotion leaves wrong pieces.
 pub fn known_lines_lead_to_these_fens()
     ensures { LinesLeadToFens }
 {}
 
 /// A law: the contract says it, and the function does nothing. Known FENs are refused, each for the first of its
-/// faults, and similar ones are accepted: for each condition of a sound position, and for each field. Fields are
-/// separated by spaces, not by a tab. Where the counters are left out they are 0 and 1.
+/// faults, and similar ones are accepted: some for each condition of a sound position, and some for each field. Fields
+/// are separated by spaces, not by a tab. Where the counters are left out they are 0 and 1.
 pub fn known_fens_are_refused()
     ensures { FensAreRefused }
 {}
 
-/// A law: the contract says it, and the function does nothing. Of positions that look alike some are the same, and
-/// others differ in the side on move, in rights to castle, or in a capture en passant (FIDE Laws of Chess 2023, article
-/// 9.2.3). Any two that are the same have the same piece, or none, on each square.
+/// A law: the contract says it, and the function does nothing. Of known positions that look alike some are the same for
+/// repetition, and others differ in the side on move, in rights to castle, or in a capture en passant (FIDE Laws of
+/// Chess 2023, article 9.2.3). Any two that are the same have the same piece, or none, on each square.
 pub fn known_positions_are_the_same()
     ensures known { PositionsAreTheSame }
     ensures pieces { TheSameHaveTheSamePieces }
@@ -32,7 +31,7 @@ pub fn known_positions_are_the_same()
 
 /// A law: the contract says it, and the function does nothing. Six known positions, three of them of Chess960, have as
 /// many legal moves as is said; for the first two these are published counts (chessprogramming.org, Perft Results).
-/// `castling` says in which other positions of Chess960 the king may castle.
+/// `castling` says of other positions of Chess960 whether the king may castle.
 ///
 /// It refuses definitions with one of these mistakes: a pawn that captures straight ahead, goes past a piece or
 /// promotes to a queen alone, a king of Chess960 that can't castle because its own rook is in its way or because it
@@ -45,8 +44,8 @@ pub fn known_positions_have_so_many_moves()
 /// A law: the contract says it, and the function does nothing. Small positions are mate, stalemate, or drawn for
 /// insufficient material or by the 75-move rule.
 ///
-/// It refuses definitions with one of these mistakes: a king and a bishop against a king, or bishops on squares of one
-/// colour, that play on, and the 75-move rule before insufficient material.
+/// It refuses definitions with one of these mistakes: a game continues with king and bishop against king, or if all
+/// bishops are on squares of one colour; or the 75-move rule comes before insufficient material.
 pub fn known_endings_are_judged()
     ensures { EndingsAreJudged }
 {}

@@ -1,13 +1,14 @@
 //! Laws of positions in the mirror: with colours exchanged and ranks counted from the other side. A caller learns one
-//! by calling its function, which does nothing. What a law refuses are wrong definitions: with one of them it can't be
-//! proved.
+//! by calling its function, which does nothing. That a law refuses a definition means: with this definition the law
+//! can't be proved.
 
 ghost use Rattle.rules_laws.specs.Mirror.{MirrorAttacksAlike, MirrorEndsAlike, MirrorGamesAlike, MirrorIsAsLegal, MirrorMovesAlike};
 
-/// A law: the contract says it, and the function does nothing. Pieces in the mirror attack the mirrored squares, and
-/// give check as they do: the rules are the same for both colours (FIDE Laws of Chess 2023, articles 3.1 to 3.9).
+/// A law: the contract says it, and the function does nothing. A piece in the mirror attacks just the mirrored squares,
+/// and a king is in check exactly if the mirrored king is: the rules are the same for both colours (FIDE Laws of Chess
+/// 2023, articles 3.1 to 3.9).
 ///
-/// It refuses definitions with one of these mistakes: a slip in one colour, such as black pawns that attack up the
+/// It refuses definitions by which one colour attacks otherwise than the other, such as black pawns that attack up the
 /// board.
 pub fn attacks_are_mirrored()
     ensures { MirrorAttacksAlike }
@@ -17,8 +18,8 @@ pub fn attacks_are_mirrored()
 /// mirrored move is legal in the mirrored position, and then both lead to mirrored positions. Only the fullmove number
 /// differs: it rises after Black's moves.
 ///
-/// It refuses definitions with one of these mistakes: a slip in one colour, such as castling squares, a promotion rank
-/// or a double advance of one side alone.
+/// It refuses definitions by which one colour moves otherwise than the other, such as castling squares, a promotion
+/// rank or a double advance that are wrong for one colour alone.
 pub fn moves_are_mirrored()
     ensures legal { MirrorIsAsLegal }
     ensures after { MirrorMovesAlike }

@@ -1,5 +1,5 @@
 //! Laws of moves and games as they are written, by computation. A caller learns one by calling its function, which does
-//! nothing. What a law refuses are wrong definitions: with one of them it can't be proved.
+//! nothing. That a law refuses a definition means: with this definition the law can't be proved.
 
 ghost use Rattle.rules_laws.specs.KnownTexts.{MovesAreNumbered, MovesAreShown, MovesAreWritten, ResultsAreWorded, TagsAreInOrder, TextsDenoteMoves};
 
@@ -7,18 +7,18 @@ ghost use Rattle.rules_laws.specs.KnownTexts.{MovesAreNumbered, MovesAreShown, M
 /// marks check and mate (PGN standard of 1994, section 8.2.3). By its squares a move is written as `e1g1` or `a7a8q`,
 /// but castling in Chess960 is `O-O` or `O-O-O`.
 ///
-/// It refuses definitions with one of these mistakes: a mark that is missing or another one, a rank where the file is
-/// enough, a rival that is pinned, and castling of Chess960 that is written as a move to the rook.
+/// It refuses definitions with one of these mistakes: a missing or wrong mark for check or mate, a rank where the file
+/// is enough, a pinned piece from which SAN distinguishes, and castling of Chess960 written as a move to the rook.
 pub fn known_moves_are_written()
     ensures san { MovesAreWritten }
     ensures squares { MovesAreShown }
 {}
 
 /// A law: the contract says it, and the function does nothing. Beside its SAN a move may be written in other ways, as
-/// `ed5`, `e4xd5` or `exd5!?` for `exd5`, and `0-0-0` for castling; some texts that look alike don't denote it.
+/// `ed5`, `e4xd5` or `exd5!?` for `exd5`, and `0-0-0` for castling; some similar texts don't denote the move.
 ///
 /// It refuses definitions with one of these mistakes: a capture that needs its `x`, a promotion that needs its `=`, and
-/// a text with a mark such as `!` that is not read.
+/// marks such as `!?` after which a text denotes no move.
 pub fn known_texts_denote_moves()
     ensures { TextsDenoteMoves }
 {}
@@ -37,10 +37,10 @@ pub fn moves_are_numbered()
 {}
 
 /// A law: the contract says it, and the function does nothing. The first six tags of each game are Event, Site, Date,
-/// Round, White and Black, in this order. The tags after these are named for three games: one from the initial
+/// Round, White and Black, in this order. For three games the law also lists the tags that follow: one from the initial
 /// position, one from another, and one of Chess960 (PGN standard of 1994, sections 8.1.1, 9.7 and 9.8.1). The tag
-/// Termination of a game that was lost on time or against the rules says so. A tag's text is cut to 60 bytes of
-/// printable ASCII.
+/// Termination of a game that ended on time or by a breach of the rules says so, unless its outcome is `*`. A tag's
+/// text is cut to 60 bytes, with `?` for each that isn't printable ASCII.
 pub fn tags_are_in_order()
     ensures { TagsAreInOrder }
 {}

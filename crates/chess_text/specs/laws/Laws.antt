@@ -71,8 +71,8 @@ SanBeginsWithLetter = (p : Setup) → (m : Move) → IsSound p → IsTrue (is_le
 abbrev pub ReadMovesAreLegal : Type 0
 ReadMovesAreLegal = (p : Setup) → (text : List ℕ) → (m : Move) → reading p text ≡ reads.Move m → IsTrue (is_legal p m)
 
--- the text denotes the described move: it names its castling, or it is, but for its marks, the text of parts (letter,
--- file, rank, `x`, end) that fit it. Said by parts, without lists of all texts
+-- the text denotes the described move d: d is castling, and the text names it; or, but for its marks, the text is that
+-- of parts (letter, file, rank, `x`, end) that fit d. Unlike `denotes_described`, this needs no lists of texts
 abbrev pub IsDenoted : List ℕ → Described → Type 0
 IsDenoted text d =
     ((w : CastlingSide) × (d.castles ≡ Some w) × IsTrue (is_castling_text text w))

@@ -69,8 +69,8 @@ is_by_squares q d =
     is_none q.letter && names q.file (file d.from) && names q.rank (rank d.from) && not q.takes && (q.end.to == d.to)
     && not (has_equals q.end.promotion) && promotes_so q.end.promotion d.promotion
 
--- the parts q denote move d, no pawn's and not castling, by its letter and end square, as Nf3, Ngf3 or Nxf3. A file or
--- rank that they name is the start square's; with `x` the move is a capture
+-- the parts q denote move d, not castling, by its piece's letter (a pawn has none) and end square: Nf3, Ngf3 or Nxf3.
+-- A file or rank that they name is the start square's; with `x` the move is a capture
 unfoldable pub is_by_letter : Parts → Described → Bool
 is_by_letter q d =
     names_kind q.letter d.man && is_none d.castles && admits q.file (file d.from) && admits q.rank (rank d.from)
@@ -94,8 +94,8 @@ is_by_file q d =
 unfoldable pub parts_fit : Parts → Described → Bool
 parts_fit q d = is_by_squares q d || is_by_letter q d || is_straight q d || is_by_file q d
 
--- the parts can be those of a move's text: a letter without a promotion (Nf3); or no letter, and a start file (exd5,
--- e2e4) or the end square alone (e4)
+-- the parts can be those of a move's text: a letter without a promotion (Nf3); or no letter, and either a start file
+-- (exd5, e2e4) or neither start rank nor `x` (e4, e8=Q)
 unfoldable pub is_form : Parts → Bool
 is_form q = if is_some q.letter then is_none q.end.promotion else is_some q.file || (is_none q.rank && not q.takes)
 
@@ -109,6 +109,6 @@ has_parts test text = passes test (parts_at (unmarked text))
 unfoldable pub has_form : List ℕ → Bool
 has_form text = is_castling_text text KingSide || is_castling_text text QueenSide || has_parts is_form text
 
--- the text denotes the castling that the described move d is, or its parts denote d
+-- the text denotes the described move d: d is castling, and the text denotes this castling; or its parts denote d
 unfoldable pub fits_text : List ℕ → Described → Bool
 fits_text text d = passes (is_castling_text text) d.castles || has_parts (λ q. parts_fit q d) text

@@ -1,5 +1,5 @@
--- The parts of a text as they are read from the front. Each shows by its first byte; but a file is the start's only if
--- a square follows.
+-- The parts of a text as they are read from the front. Which part comes next shows by its first byte, except for a file
+-- letter: it begins the end square if the text can be read so (e4), and otherwise is the start file (exd5).
 use Rattle.std.specs.Prelude.{ℕ, ◌+◌, ◌-◌, ◌*◌, ◌==◌, Bool, true, false, ◌&&◌, ◌||◌, if◌then◌else◌, List, [], ◌∷◌, find, Option, Some, None}
 use Rattle.std.specs.Option.{option_map}
 use Rattle.chess_base.specs.declared.man.Kind.{Kind}

@@ -1,5 +1,5 @@
--- What a text is read as before any position is looked at: castling, or its parts. Then, in a position, the one square
--- on which each move ends that it denotes.
+-- What a text is read as before any position is looked at: castling, or its parts (its form). Then, in a position, the
+-- one square on which all moves end that a form denotes, and which of the moves to it are denoted.
 use Rattle.std.specs.Prelude.{Bool, is_some, is_none, not, ◌||◌, ◌==◌, ◌≡◌, ◌&&◌, ◌+◌, ◌*◌, nat_lt, if◌then◌else◌, List, [], ◌∷◌, ℕ, map, Option, Some, None, IsTrue}
 use Rattle.std.specs.List.{list_any, filter}
 use Rattle.std.specs.Str.{bytes_eq}
@@ -35,8 +35,8 @@ castling_named text =
     if list_any (bytes_eq text) (castling_texts KingSide) then Some KingSide
     else (if list_any (bytes_eq text) (castling_texts QueenSide) then Some QueenSide else None)
 
--- what a text is read as if it has these parts: the parts, if they can be those of a move's text; `None` if not, or if
--- it has no parts
+-- what a text with these parts is read as: the parts, if they can be those of a move's text; `None` if they can't, or
+-- if the text has no parts
 abbrev pub form_of_parts : Option Parts → Option Form
 form_of_parts None = None
 form_of_parts (Some q) = if is_form q then Some (Piece q) else None
@@ -95,8 +95,8 @@ with_move (reads.Move n) m = reads.Ambiguous
 with_move reads.Ambiguous m = reads.Ambiguous
 with_move reads.NotAMove m = reads.NotAMove
 
--- what a text is read as after these legal moves that it denotes, from the reading so far (`found`): a single move is
--- the reading, several are `Ambiguous`
+-- what a text is read as after these legal moves that it denotes, from the reading so far (`found`), one after another
+-- by `with_move`: from `NoSuch`, a single move is the reading, several are `Ambiguous`, and with none it stays `NoSuch`
 abbrev pub with_moves : Reading → List Move → Reading
 with_moves found [] = found
 with_moves found (m ∷ ms) = with_moves (with_move found m) ms

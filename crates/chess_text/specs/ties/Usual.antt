@@ -1,4 +1,4 @@
--- The parts of texts of the usual shapes (e4, Nf3, exd5, Nxd5, Nbd2), as code reads them at once.
+-- The parts of texts of the usual shapes (e4, Nf3, exd5, Nxd5, Nbd2), as code reads them in one step.
 use Rattle.std.specs.Prelude.{ℕ, ◌+◌, ◌-◌, ◌*◌, ◌==◌, Bool, true, false, ◌&&◌, if◌then◌else◌, List, [], ◌∷◌, Option, Some, None}
 use Rattle.std.specs.Option.{option_map}
 use Rattle.chess_base.specs.Letters.{is_file_letter, is_rank_digit}

@@ -23,7 +23,7 @@ roster_lines t o =
 abbrev pub fen_lines : Setup → List (List ℕ)
 fen_lines start = tag_line (codes "FEN") (fen start) ∷ tag_line (codes "SetUp") (codes "1") ∷ []
 
--- the lines of the tags FEN and SetUp in variant `v`: none for normal chess from the initial position
+-- the lines of the tags FEN and SetUp for a game of variant `v`: none for normal chess from the initial position
 abbrev pub start_lines_in : Variant → Setup → List (List ℕ)
 start_lines_in v start = list_if (is_fischerandom v || not (is_initial start)) (fen_lines start)
 
@@ -33,6 +33,6 @@ last_lines v termination =
     tag_line (codes "Termination") (termination_text termination)
     ∷ list_if (is_fischerandom v) (tag_line (codes "Variant") (codes "fischerandom") ∷ [])
 
--- the lines of the tags after the seven
+-- the lines of the tags after the seven that each game has
 abbrev pub further_lines : Setup → Termination → List (List ℕ)
 further_lines start termination = start_lines_in start.variant start ++ last_lines start.variant termination

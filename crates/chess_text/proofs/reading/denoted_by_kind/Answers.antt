@@ -1,5 +1,5 @@
--- The moves that the parts denote are those from the squares with such a piece that has the legal move (by_starts of
--- MovesFromStarts).
+-- The moves that the parts denote are, of those from the squares where a piece of this kind has a legal move to the end
+-- square, the ones that the parts fit (by_starts of MovesFromStarts).
 use Rattle.std.proofs.Common.{ap, ◌∙◌, flat_map}
 use Rattle.chess_moves.specs.Sets.{members}
 use Rattle.chess_text.specs.{Moves.one_of, ties.Forms.denoted_start}

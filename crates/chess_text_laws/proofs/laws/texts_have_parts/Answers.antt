@@ -1,5 +1,6 @@
--- Each part shows by its first byte, but for a file, which is the start's just where a square follows: so parts and
--- their texts fit one to one (Grammar of chess_text). Any other text denotes castling or nothing (PartsOfTexts).
+-- Which part comes next shows by its first byte; a file letter is the start file only where a square follows. So each
+-- text has the parts of just one reading (Grammar of chess_text). A text without parts denotes castling or nothing
+-- (PartsOfTexts).
 use Rattle.chess_text.proofs.shared.Parts.{denoted-parts, parts-denoted}
 use Rattle.chess_text_laws.proofs.PartsOfTexts.{denoted_by_text, shaped_by_text}
 use Rattle.chess_text_laws.proofs.laws.texts_have_parts.Goals as goal

@@ -1,6 +1,6 @@
 -- By the invariant the moves so far were put, and the scratch board is at the position after them. The game's next move
--- is legal there (GameTexts.legal_next), and once it is put, one move more was (GameTexts.moves_put); if the writer
--- fails at it, it took a beginning of all (GameTexts.moves_broke).
+-- is legal there (GameTexts.legal_next), and once it is put, all moves up to it were (GameTexts.moves_put). If the
+-- writer fails at this move, it took a beginning of the text of all moves (GameTexts.moves_broke).
 use Rattle.std.proofs.Common.{refl, ◌∙◌}
 use Rattle.pgn_writer.proofs.Added.{adds_exit}
 use Rattle.pgn_writer.proofs.GameTexts.{legal_next, IsNext, moves_put, moves_broke, columns_more, positions_more}

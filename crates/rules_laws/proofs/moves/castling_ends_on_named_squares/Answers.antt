@@ -1,4 +1,5 @@
--- King and rook end on the named squares, in normal chess and in Chess960 (Castled).
+-- Such a move of the king can only be castling, which leaves king and rook on the named squares, in normal chess and in
+-- Chess960 (Castled).
 use Rattle.rules_laws.proofs.Castled.{normal_ends, fischerandom_ends}
 use Rattle.rules_laws.proofs.moves.castling_ends_on_named_squares.Goals as goal
 

@@ -1,4 +1,4 @@
--- Rook, bishop and queen attack the squares that the diagrams mark (Sliders).
+-- Rook, bishop and queen attack the squares that the diagrams mark, by computation (Sliders).
 use Rattle.rules_laws.proofs.Sliders.{diagrams_hold}
 use Rattle.rules_laws.proofs.moves.lines_end_at_the_first_piece.Goals as goal
 
