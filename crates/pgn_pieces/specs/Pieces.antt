@@ -54,7 +54,7 @@ is_empty_line line = bytes_eq (take 1 line) (codes "%") || bytes_eq (take 1 (fro
     || list_all (λ c. is_blank c || (c == 13) || (c == 10)) (front_of line)
 
 -- a text from the first quote on that no backslash keeps from closing a string: `"]` of `a\"b"]`; empty without one.
--- `kept`: the byte before the text is such a backslash
+-- `kept`: a backslash before the text keeps its first byte
 abbrev pub from_quote : Bool → List ℕ → List ℕ
 from_quote kept [] = []
 from_quote kept (c ∷ rest) = if not kept && c == byte "\"" then c ∷ rest else from_quote (not kept && c == byte "\\") rest
@@ -84,8 +84,8 @@ ends_in_tag text = bytes_eq (take 1 text) (codes "[")
     && ((length (after_name text) == 0) || begins_tag text && (length (after_string text) == 0))
 
 -- whether a tag line has more than tags, by what comes after its parts (`after_parts`): a byte that neither ends the
--- line nor begins a comment, such as a move's. `ended`: the line's end was seen; if not, a tag in which what was seen
--- ends doesn't count
+-- line nor begins a comment, such as a move's. `ended`: the line's end is in its front; if not, a tag that the front
+-- cuts off doesn't count
 abbrev pub has_more : Bool → List ℕ → Bool
 has_more ended rest = list_any (λ c. not (list_any (λ k. c == k) (codes "\r\n{;"))) (take 1 rest)
     && (ended || not (ends_in_tag rest))
