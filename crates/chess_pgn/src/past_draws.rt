@@ -95,7 +95,7 @@ fn termination_of(tag: Option<Tag<'_>>) -> Option<Termination>
     }
 }
 
-// What the last tag `Termination` says of the game whose text begins at the offset `at`.
+// What the last tag `Termination` of the game whose text begins at the offset `at` says.
 fn tagged_termination(text: &[u8], at: usize) -> Option<Termination>
     requires { at ≤ length text.now }
     ensures { result ≡ option_and_then (λ tag. termination_named tag.0)
@@ -321,13 +321,12 @@ fn read_again<B: Board>(
 
 /// Reads the first game of a text from the offset `at` on, as `read_pgn` does, but as if the Laws of Chess hadn't the
 /// draws by fivefold repetition and by 75 moves, which they have only had since 2014: a move after one is read like any
-/// other. `game` is opened for as many half-moves as a game can have.
+/// other. `game` must be opened for as many half-moves as a game can have (`MOST_MOVES`).
 ///
 /// `game` is then at the position in which reading stopped, and the same verdict ends it as the game that was read, if
 /// any (`Stands`). It has the game's moves only if none came after such a draw.
 ///
-/// # Errors
-/// The first fault of the game's text, with its offset.
+/// # Errors The first fault of the game's text, with its offset.
 pub fn read_past_draws<B: Board>(
     text: &[u8],
     at: usize,

@@ -149,8 +149,8 @@ fn begins_tag(text: &[u8]) -> bool
     has_tag(name, after_name(text, name))
 }
 
-// What comes after a tag's string and any spaces and tabs, from the tag's value on: `] e4` for `"Oslo" ] e4`; empty if
-// the string isn't closed.
+// What comes after a tag's string and any spaces and tabs, where `value` is the text from the string's opening quote
+// on: `] e4` for `"Oslo" ] e4`; empty if the string isn't closed.
 #[inline(always)]
 fn behind_string(value: &[u8]) -> &[u8]
     ensures { result.now ≡ behind_string value.now }
@@ -158,8 +158,8 @@ fn behind_string(value: &[u8]) -> &[u8]
     without_blanks(without_first(from_quote(without_first(value))))
 }
 
-// What comes after a tag and any spaces and tabs, from the tag's value on: `e4` for `"Oslo"] e4`; `None` if the tag
-// isn't closed.
+// What comes after a tag and any spaces and tabs, where `value` is the text from the string's opening quote on: `e4`
+// for `"Oslo"] e4`; `None` if the tag isn't closed.
 #[inline(always)]
 fn after_value(value: &[u8]) -> Option<&[u8]>
     ensures { option_map (λ r. r.now) result ≡ after_value value.now }
