@@ -95,8 +95,8 @@ moves_read draws limit total cause s ((left, _) ∷ ts) = failed s NoResult (tot
 
 -- ---- the tags
 
--- the position that a tag FEN (its text, and how many bytes are left at that) denotes in the variant `v`, or its fault,
--- at the byte after the tag's first quote. `total`: the text's length
+-- the position that a tag FEN (its text, and how many bytes are left where that begins) denotes in the variant `v`, or
+-- its fault, at the byte after the tag's first quote. `total`: the text's length
 abbrev pub fen_read : ℕ → Variant → List ℕ × ℕ → Result Setup PgnFault
 fen_read total v tag = result_map_both (λ start. start)
     (λ fault. record { kind = BadFen fault; offset = total - tag.1 }) (fen_reading_as v tag.0)
@@ -126,9 +126,9 @@ read_after_tags draws limit total s tags rest = moves_read draws limit total
     (option_and_then (λ tag. termination_named tag.0) (last_tag (codes "Termination") tags)) s rest
 
 -- what is read of the game at the front of these tokens. `draws`, `limit` and `total` are as in `moves_read`. There is
--- no game if no token says anything of one. The last tag Variant gives the variant, and the last FEN the start,
+-- no game if all tokens are skipped or marks. The last tag Variant gives the variant, and the last FEN the start,
 -- otherwise the variant's initial position. The first FEN that denotes no position is the fault, and then the last FEN
--- before it gives the start
+-- before it, if any, gives the start
 abbrev pub read_of_split : Bool → ℕ → ℕ → List (ℕ × Token) → GameRead
 read_of_split draws limit total tokens = let tags = tag_section tokens in let v = tagged_variant tags in
     let fens = map (fen_read total v) (filter_map (λ t. named_tag (codes "FEN") t.1) tags) in

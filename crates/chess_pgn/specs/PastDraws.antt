@@ -11,8 +11,8 @@ pub record Stands (draws : Bool) (g s : State) : Type 0 where
   pub position : current g ≡ current s
   pub ends : ending draws g ≡ ending draws s
 
--- what the code returned of a game is what was read of it (`r`): no game, its end with its start and number of
--- half-moves, or the fault
+-- what the code returned of a game is what was read of it (`r`): that no game is left; the game's end, start and number
+-- of half-moves; or the fault
 abbrev pub IsAnswer : GameRead → Result (Option ReadGame) PgnFault → Type 0
 IsAnswer r (Ok None) = r.answer ≡ Ok None
 IsAnswer r (Ok (Some game)) = (r.answer ≡ Ok (Some game.end)) × (game.start ≡ r.state.start)

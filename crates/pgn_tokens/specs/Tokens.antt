@@ -152,8 +152,8 @@ token_at line_begins c rest =
     else (Bad, [])))))))))
 
 -- a text's tokens in order, each paired with how many bytes are left at it; one that can't be read is the last.
--- `line_begins`: the text's first byte begins a line, as after the token `\n`; no other token ends with `\n`. `most` is
--- a bound; `tokens_from` takes the text's length, which is enough
+-- `line_begins`: the text's first byte begins a line, as after the token `\n`; no other token ends with `\n`. `most`:
+-- at most so many tokens are read
 unfoldable pub tokens_of : ℕ → Bool → List ℕ → List (ℕ × Token)
 tokens_of zero line_begins text = []
 tokens_of (suc most) line_begins [] = []
@@ -167,6 +167,6 @@ abbrev pub begins_line : List ℕ → ℕ → Bool
 begins_line text offset = (offset == 0) || (slice_index text (offset - 1) == new_line)
 
 -- a text's tokens from an offset on, each paired with how many bytes are left at it. A token takes at least a byte, so
--- the bound is never reached
+-- the text's length is enough for `most`
 unfoldable pub tokens_from : List ℕ → ℕ → List (ℕ × Token)
 tokens_from text offset = tokens_of (length text) (begins_line text offset) (drop offset text)

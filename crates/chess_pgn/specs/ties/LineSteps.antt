@@ -41,7 +41,7 @@ played before (Err fault) q later = Some fault
 
 -- the position in which the moves of a variation at the offset `at` begin, and how many variations may be open in it.
 -- `before` is the position before the move that it replaces (`None`, a fault: there is no such move), and `depth` how
--- many may be open in the line that it is in (with 0 it is a fault)
+-- many may be open in the line that it is in (0: a fault)
 abbrev pub opening : ℕ → Option Setup → ℕ → Result (Setup × ℕ) PgnFault
 opening depth None at = Err (record { kind = BadToken; offset = at })
 opening zero (Some start) at = Err (record { kind = TooLong; offset = at })
