@@ -1,7 +1,7 @@
 //! Games that go on after a draw by fivefold repetition or by 75 moves. The Laws of Chess have these two draws only
-//! since 2014 (articles 9.6.1 and 9.6.2), so older games may have moves after them; but a `Game` never has. Such a game
-//! is read a second time, without its moves being kept: after each move the `Game` begins anew, in the position that
-//! the move leaves. A game without such moves is read once, by `read_pgn`.
+//! since 2014 (articles 9.6.1 and 9.6.2), so older games may have moves after them; but a `Game` takes no move after
+//! one. Such a game is read a second time, without its moves being kept: after each move the `Game` begins anew, in the
+//! position that the move leaves. A game without such moves is read once, by `read_pgn`.
 
 ghost use Rattle.std.specs.Prelude.{◌≡◌, ℕ, ◌+◌, ◌-◌, ◌^◌, ◌≤◌, ◌<◌, true, false, length, codes, Err, option_and_then};
 ghost use Rattle.chess_game.specs.Game.{current, from_start};

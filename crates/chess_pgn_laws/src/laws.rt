@@ -125,9 +125,9 @@ pub fn texts_are_worked_out()
 /// texts show where strings, comments, variations, glyphs and words end, where `%` skips a line, which tags count, by
 /// which rules a FEN is read, and which names of variants, terminations and outcomes are known.
 ///
-/// For example, the law doesn't hold of a definition by which the number 12 before a first move is a fault, moves in a
-/// comment are played, a `)` in a comment ends the variation around it, a quote after a backslash ends a string, a `%`
-/// within a line skips its rest, or a word after a mate is an illegal move.
+/// For example, the law doesn't hold of a definition by which the number 12 in a game without moves is a fault, moves
+/// in a comment are played, a `)` in a comment ends the variation around it, a quote after a backslash ends a string, a
+/// `%` within a line skips its rest, or a word after a mate is an illegal move.
 pub fn empty_games_are_read()
     ensures { EmptyGamesAreRead }
 {

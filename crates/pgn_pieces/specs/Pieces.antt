@@ -54,7 +54,7 @@ is_empty_line line = bytes_eq (take 1 line) (codes "%") || bytes_eq (take 1 (fro
     || list_all (λ c. is_blank c || (c == 13) || (c == 10)) (front_of line)
 
 -- a text from the first quote on that no backslash keeps from closing a string: `"]` of `a\"b"]`; empty without one.
--- `kept`: a backslash before the text keeps its first byte from closing it
+-- `kept`: a backslash before the text keeps its first byte from closing the string
 abbrev pub from_quote : Bool → List ℕ → List ℕ
 from_quote kept [] = []
 from_quote kept (c ∷ rest) = if not kept && c == byte "\"" then c ∷ rest else from_quote (not kept && c == byte "\\") rest

@@ -73,7 +73,7 @@ pub(crate) fn kind_of(line: &[u8], moves: bool) -> Kind
 }
 
 // Whether a tag line with this front has more than tags, such as moves or a tag that isn't closed on the line. `value`
-// is the front from its first tag's value on: `"Oslo"]` for `[Event "Oslo"]`.
+// is the front from its first tag's opening quote on: `"Oslo"]` for `[Event "Oslo"]`.
 #[inline(never)]
 fn has_moves(front: &[u8], value: &[u8]) -> bool
     requires value { value.now ≡ after_name front.now }
@@ -188,7 +188,7 @@ fn after_part(text: &[u8]) -> Option<&[u8]>
 }
 
 // What comes after the tags, comments, glyphs, dots and marks with which the front of a tag line begins. `value` is the
-// front from its first tag's value on.
+// front from its first tag's opening quote on.
 #[inline(always)]
 fn after_parts<'t>(front: &'t [u8], value: &'t [u8]) -> &'t [u8]
     requires value { value.now ≡ after_name front.now }
