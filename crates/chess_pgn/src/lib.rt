@@ -3,8 +3,13 @@
 //!
 //! The first game of a text, written anew; the next one is read from `offset` on:
 //!
-//! ``` let mut offset = 0; if let Some(end) = read_pgn(text, 0, &mut game)? { offset = end.offset; } write_pgn(&game,
-//! &mut scratch, &Tags::default(), b"", &mut output)?; ```
+//! ```
+//! let mut offset = 0;
+//! if let Some(end) = read_pgn(text, 0, &mut game)? {
+//!     offset = end.offset;
+//! }
+//! write_pgn(&game, &mut scratch, &Tags::default(), b"", &mut output)?;
+//! ```
 #![tactic(auto)]
 
 mod game_ends;

@@ -326,7 +326,8 @@ fn read_again<B: Board>(
 /// `game` is then at the position in which reading stopped, and the same verdict ends it as the game that was read, if
 /// any (`Stands`). It has the game's moves only if none came after such a draw.
 ///
-/// # Errors The first fault of the game's text, with its offset.
+/// # Errors
+/// The first fault of the game's text, with its offset.
 pub fn read_past_draws<B: Board>(
     text: &[u8],
     at: usize,

@@ -213,8 +213,9 @@ fn read_line<B: Board>(
 /// The contract says: by the only split of each text into tokens (the law `a_text_has_one_split`) the fault is the
 /// first in the variations.
 ///
-/// # Errors The first fault. A variation with no move before it is one (`BadToken`), and so are a tag in a variation,
-/// and a variation in [`MOST_NESTED`] others (`TooLong`).
+/// # Errors
+/// The first fault. A variation with no move before it is one (`BadToken`), and so are a tag in a variation, and a
+/// variation in [`MOST_NESTED`] others (`TooLong`).
 pub fn read_variations<B: Board>(
     text: &[u8],
     at: usize,

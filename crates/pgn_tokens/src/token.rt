@@ -70,8 +70,8 @@ fn read_comment(to_end: usize, text: &[u8]) -> Result<(Token<'_>, &[u8]), TokenF
 }
 
 // Skips a variation: returns `Token::Skip` and the text after its `)`, or a fault if the variation, or a comment in it,
-// isn't closed. `text` begins after its `(`. The comment of `after_variation`, in variation.rt, explains `None false
-// 1`.
+// isn't closed. `text` begins after its `(`. The comment of `after_variation`, in variation.rt, explains
+// `None false 1`.
 #[inline(never)]
 fn read_variation(text: &[u8]) -> Result<(Token<'_>, &[u8]), TokenFault>
     ensures { first_seen result ≡ variation_at None false 1 text.now }

@@ -43,8 +43,8 @@ fn parenthesis_from(text: &[u8], at: usize, known: usize) -> usize
     }
 }
 
-/// Whether a token from the offset `at` on is a variation. If none is, chess_pgn's `read_variations` has nothing to
-/// read, so its caller needs no board. `text` is to end where the game's text ends. Tokens are read only up to the
+/// Whether a token from the offset `at` on is a variation. If none is, and the game's text ends where `text` does,
+/// chess_pgn's `read_variations` has nothing to read, so its caller needs no board. Tokens are read only up to the
 /// text's last `(`: mostly none, as a game's text mostly has no `(`. A byte order mark at `at` is to be skipped by the
 /// caller.
 pub fn has_variation(text: &[u8], at: usize) -> bool
