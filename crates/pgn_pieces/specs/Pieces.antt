@@ -90,9 +90,9 @@ abbrev pub has_more : Bool → List ℕ → Bool
 has_more ended rest = list_any (λ c. not (list_any (λ k. c == k) (codes "\r\n{;"))) (take 1 rest)
     && (ended || not (ends_in_tag rest))
 
--- whether a line counts as one of moves: neither a tag line nor empty, so also one inside a `{` comment, and `[ Event
--- "x" ]`, which is no tag line; or a tag line with more than tags: `[White "a"] {x} 1. e4`, or `[White "a`. A front has
--- at most 256 parts
+-- whether a line counts as one of moves: neither a tag line nor empty, so also one inside a `{` comment, and
+-- `[ Event "x" ]`, which is no tag line; or a tag line with more than tags: `[White "a"] {x} 1. e4`, or `[White "a`. A
+-- front has at most 256 parts
 abbrev pub is_moves_line : List ℕ → Bool
 is_moves_line line = let front = front_of line in
     if is_tag_line line then has_more (list_any breaks_line front) (after_parts 256 front) else not (is_empty_line line)
