@@ -1,5 +1,6 @@
 -- `play_words` plays the moves at an offset until the next word is no move that the game plays. Here: then the next
--- token, whatever it is, is no such move (left_at), as the steps of `read_pgn` and their contracts ask for (`IsLeft`).
+-- token, whatever it is, is no such move (left_at), as the contracts of the steps of `read_pgn` ask for (`IsLeft`):
+-- where a word begins the next token is just that word, and any other token is no move.
 use Rattle.std.proofs.Common.{◌≡◌, ℕ, ◌<◌, ◌≤◌, ◌-◌, Bool, true, false, List, [], ◌∷◌, ◌++◌, length, take, drop, refl, sym, ap, subst, ◌∙◌, arith}
 use Rattle.std.specs.List.{list_all, take_while}
 use Rattle.std.proofs.{lemmas.Bool.and_parts, lemmas.List.take_rest}

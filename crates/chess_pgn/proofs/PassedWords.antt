@@ -1,5 +1,5 @@
 -- In a line of moves, outcomes, numbers and marks such as `!?` are passed over. The code decides this by a word's kind,
--- the definition by three tests; both agree (passed_by_kind).
+-- the definition by three tests; both agree (passed_by_kind), since the kind is defined by the same three tests.
 use Rattle.std.proofs.Common.{◌≡◌, ℕ, Bool, true, false, List, Option, Some, None, refl, ◌||◌, is_some, if◌then◌else◌}
 use Rattle.std.specs.{List.list_all, Option.option_map_or}
 use Rattle.byte_devices.specs.Bytes.{is_digit}

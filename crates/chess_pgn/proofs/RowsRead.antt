@@ -1,5 +1,6 @@
 -- The definition of what is read after a game's tags (`moves_read`) is the same as a table with a row for what each
--- token does (`row`): the first token's row, and then what is read from the next token on (moves_by_row).
+-- token does (`row`): the first token's row, and then what is read from the next token on (moves_by_row). By cases of
+-- the first token.
 use Rattle.std.proofs.Common.{◌≡◌, ℕ, ◌+◌, ◌-◌, Bool, true, false, cond, List, ◌∷◌, length, Option, Some, None, is_some, Ok, refl, ◌||◌, nat_lt}
 use Rattle.std.specs.{List.list_all, Option.option_map_or, Option.unwrap_or}
 use Rattle.byte_devices.specs.Bytes.{is_digit}

@@ -1,5 +1,5 @@
 -- Skipped tokens, such as white space and dots, change nothing: the same game is read from before them as from after
--- them (skips_alike), and the same variant is named (skips_say).
+-- them (skips_alike), and the same variant is named (skips_say). By induction on the skipped tokens.
 use Rattle.std.proofs.Common.{◌≡◌, ℕ, ◌+◌, true, List, [], ◌∷◌, ◌++◌, map, length, refl, ap, ◌∙◌}
 use Rattle.chess_base.specs.declared.man.Variant.{Variant}
 use Rattle.chess_pgn.specs.{laws.TokenByToken.SoFar, laws.TokenByToken.game_of, ties.GameSteps.ReadsAlike}

@@ -1,5 +1,5 @@
 -- The variant that a game's tags name, found token by token with the variant so far in hand (`variant_from`), is that
--- of the last tag `Variant`, as the definition has it (variants_are).
+-- of the last tag `Variant`, as the definition has it (variants_are). By induction on the tokens.
 use Rattle.std.proofs.Common.{◌≡◌, ℕ, Bool, true, false, cond, List, [], ◌∷◌, Option, Some, None, refl, sym, ap, ◌∙◌, if◌then◌else◌, codes}
 use Rattle.std.specs.Option.{option_map_or, option_or}
 use Rattle.chess_base.specs.{declared.man.Variant.Variant, declared.man.Variant.TheVariants.Normal}

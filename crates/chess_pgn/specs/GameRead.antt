@@ -95,8 +95,8 @@ moves_read draws limit total cause s ((left, _) ∷ ts) = failed s NoResult (tot
 
 -- ---- the tags
 
--- the position that a tag FEN, as `named_tag` gives it, denotes in the variant `v`, or its fault, at the byte after the
--- tag's first quote. `total`: the text's length
+-- the position that a tag FEN (its text, and how many bytes are left where that begins) denotes in the variant `v`, or
+-- its fault, at the byte after the tag's first quote. `total`: the text's length
 abbrev pub fen_read : ℕ → Variant → List ℕ × ℕ → Result Setup PgnFault
 fen_read total v tag = result_map_both (λ start. start)
     (λ fault. record { kind = BadFen fault; offset = total - tag.1 }) (fen_reading_as v tag.0)
@@ -110,25 +110,25 @@ known_variant text = let is_any = list_any (λ name. str_eq_ignore_ascii_case te
     else if is_any (codes "normal" ∷ codes "standard" ∷ codes "chess" ∷ codes "classical" ∷ codes "from position" ∷ [])
     then Some Normal else None
 
--- the variant that the last tag Variant names; normal chess if that is no known name, such as `Atomic`, or without such
--- a tag
+-- the variant that the last tag Variant names; normal chess if it names no known one, as `Atomic`, or if there is no
+-- such tag
 abbrev pub tagged_variant : List (ℕ × Token) → Variant
 tagged_variant tags = option_map_or (λ t. unwrap_or (known_variant t.0) Normal) (last_tag (codes "Variant") tags) Normal
 
 -- ---- the game
 
--- what is read of the game `s`, which is at its start, from the tokens after its tag section `tags`: a bad tag at their
--- front is the fault, otherwise they are its moves. `draws`, `limit` and `total` are as in `moves_read`. The last tag
--- Termination counts, even if it names no value of the standard
+-- what is read of the game `s`, which is at its start, from the tokens after its tag section `tags`: if the first of
+-- them is a bad tag, that is the fault; otherwise they are read as its moves. `draws`, `limit` and `total` are as in
+-- `moves_read`. The last tag Termination counts, even if it names no value of the standard
 abbrev pub read_after_tags : Bool → ℕ → ℕ → State → List (ℕ × Token) → List (ℕ × Token) → GameRead
 read_after_tags draws limit total s tags ((to_end, Bad_tag) ∷ rest) = failed s BadTag (total - to_end)
 read_after_tags draws limit total s tags rest = moves_read draws limit total
     (option_and_then (λ tag. termination_named tag.0) (last_tag (codes "Termination") tags)) s rest
 
 -- what is read of the game at the front of these tokens. `draws`, `limit` and `total` are as in `moves_read`. There is
--- no game if no token says anything of one. The last tag Variant gives the variant, and the last FEN the start,
--- otherwise the variant's initial position. The first FEN that denotes no position is the fault, and the FENs before it
--- give the start
+-- no game if all tokens are skipped or marks. The last tag Variant gives the variant, and the last FEN the start,
+-- otherwise the variant's initial position. The first FEN that denotes no position is the fault, and then the last FEN
+-- before it, if any, gives the start
 abbrev pub read_of_split : Bool → ℕ → ℕ → List (ℕ × Token) → GameRead
 read_of_split draws limit total tokens = let tags = tag_section tokens in let v = tagged_variant tags in
     let fens = map (fen_read total v) (filter_map (λ t. named_tag (codes "FEN") t.1) tags) in

@@ -7,7 +7,7 @@ use Rattle.pgn_tokens.specs.Tokens.{Token}
 use Rattle.chess_pgn.specs.declared.tagged_result.ResultTag.{ResultTag}
 
 -- the last tag Result, if any, of a game with these tokens, in a text of `total` bytes: the outcome that it names
--- (`None`: none), and the offset and length of the text between its quotes
+-- (`None` if it names none), and the offset and length of the text between its quotes
 abbrev pub result_tag_of : ℕ → List (ℕ × Token) → Option ResultTag
 result_tag_of total ts = option_map (λ t. record { outcome = outcome_of t.0; offset = total - t.1; len = length t.0 })
     (last_tag (codes "Result") (tag_section ts))

@@ -19,11 +19,10 @@ use Rattle.pgn_tokens.specs.VariationTokens.{has_variation, is_variation}
 use Rattle.pgn_tokens.specs.Marks.{is_marks}
 use Rattle.chess_pgn.specs.Words.{word_gives}
 
--- the first fault, if any, of a line and of the variations in it, from these tokens of the text on. `tags`: whether
--- tags are passed over, as in a game's own line, or are bad tokens. `inside start at`: the first fault of the variation
--- whose `(` is at the offset `at`, and whose moves begin in `start`. `before`: the position before the line's last
--- move, `None` without a move, when a variation is a fault. `p`: the position here. A token's offset is
--- `length text - left`
+-- the first fault, if any, among these tokens of a line, or in a variation among them. `tags`: whether tags are passed
+-- over, as in a game's own line, or are bad tokens. `inside start at`: the first fault of the variation whose `(` is at
+-- the offset `at`, and whose moves begin in `start`. `before`: the position before the line's last move, or `None`
+-- before its first: then a variation is a fault. `p`: the position reached. A token's offset is `length text - left`
 abbrev pub line_fault : Bool → List ℕ → (Setup → ℕ → Option PgnFault) → Option Setup → Setup → List (ℕ × Token)
     → Option PgnFault
 line_fault tags text inside before p [] = None

@@ -5,7 +5,7 @@ ghost use Rattle.chess_pgn.specs.laws.Offsets.{FaultsHaveOffsets, HalfMovesHaveB
 ghost use Rattle.chess_pgn.specs.laws.Unreadable.{UnreadableGamesHaveNoEnd};
 
 /// States a law and does nothing: a fault's offset is not before the offset where reading began, and at most the text's
-/// length. It is the length if a result is missing at the text's end.
+/// length. It may be the length, as when a result is missing at the text's end.
 pub fn faults_have_offsets()
     ensures { FaultsHaveOffsets }
 {}

@@ -1,5 +1,5 @@
-//! Reads games of chess in PGN (standard of 1994) and reports their faults. What pgn_writer has to write them can be
-//! imported from here too, and so can what pgn_tokens has of their tags.
+//! Reads games of chess in PGN (standard of 1994) and reports their faults. What pgn_writer offers for writing games,
+//! and pgn_tokens for their tags, can be imported from here too.
 //!
 //! The first game of a text, written anew; the next one is read from `offset` on:
 //!

@@ -1,7 +1,7 @@
 //! Games that go on after a draw by fivefold repetition or by 75 moves. The Laws of Chess have these two draws only
-//! since 2014 (articles 9.6.1 and 9.6.2), so older games may have moves after them; but a `Game` never has. Such a game
-//! is read a second time, without its moves being kept: after each move the `Game` begins anew, in the position that
-//! the move leaves. A game without such moves is read once, by `read_pgn`.
+//! since 2014 (articles 9.6.1 and 9.6.2), so older games may have moves after them; but a `Game` takes no move after
+//! one. Such a game is read a second time, without its moves being kept: after each move the `Game` begins anew, in the
+//! position that the move leaves. A game without such moves is read once, by `read_pgn`.
 
 ghost use Rattle.std.specs.Prelude.{◌≡◌, ℕ, ◌+◌, ◌-◌, ◌^◌, ◌≤◌, ◌<◌, true, false, length, codes, Err, option_and_then};
 ghost use Rattle.chess_game.specs.Game.{current, from_start};
@@ -95,7 +95,7 @@ fn termination_of(tag: Option<Tag<'_>>) -> Option<Termination>
     }
 }
 
-// What the last tag `Termination` says of the game whose text begins at the offset `at`.
+// What the last tag `Termination` of the game whose text begins at the offset `at` says.
 fn tagged_termination(text: &[u8], at: usize) -> Option<Termination>
     requires { at ≤ length text.now }
     ensures { result ≡ option_and_then (λ tag. termination_named tag.0)
@@ -321,7 +321,7 @@ fn read_again<B: Board>(
 
 /// Reads the first game of a text from the offset `at` on, as `read_pgn` does, but as if the Laws of Chess hadn't the
 /// draws by fivefold repetition and by 75 moves, which they have only had since 2014: a move after one is read like any
-/// other. `game` is opened for as many half-moves as a game can have.
+/// other. `game` must be opened for as many half-moves as a game can have (`MOST_MOVES`).
 ///
 /// `game` is then at the position in which reading stopped, and the same verdict ends it as the game that was read, if
 /// any (`Stands`). It has the game's moves only if none came after such a draw.

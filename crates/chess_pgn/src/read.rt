@@ -376,7 +376,7 @@ fn read_normal_tags<B: Board>(
         if !may_precede_tags(&token) {
             return Ok((progress, offset));
         }
-        // It is `Normal` also for any token that is no tag `Variant`.
+        // The variant is `Normal` also for any token that is no tag `Variant`.
         match variant_of(named_tag(b"Variant", &token)) {
             Variant::Normal => {}
             Variant::Fischerandom => return Err(offset),

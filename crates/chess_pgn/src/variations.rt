@@ -206,8 +206,9 @@ fn read_line<B: Board>(
 /// Reads the variations of the game that begins at the offset `at` and ends where the text ends, right after its
 /// termination marker. The game is one that `read_pgn` reads without a fault, from the position `start`. The moves of a
 /// variation begin in the position before the move that it replaces, which is the one just before it in the game, or in
-/// the variation of which it is a part. Each is to be legal, as `read_pgn` asks it of the game's own, but no draw ends
-/// a variation. The board is only room for the positions. A byte order mark at `at` is to be skipped by the caller.
+/// the variation of which it is a part. Each move must be legal where it is made, as in the game itself, but no draw
+/// ends a variation. The board is only room for the positions. A byte order mark at `at` is to be skipped by the
+/// caller.
 ///
 /// The contract says: by the only split of each text into tokens (the law `a_text_has_one_split`) the fault is the
 /// first in the variations.

@@ -82,8 +82,8 @@ fn try_move<B: Board>(game: &mut Game<B>, word: &[u8]) -> bool
 }
 
 // Plays the move that a word denotes, if it can be played (`try_move`), or passes over a number such as `12`. Returns
-// whether it did one of these. For any other word nothing changes and it returns false. It does so for the empty word
-// too, which `split_word` returns where no word begins: `word_kind` takes that for a number.
+// whether it did one of these. For any other word nothing changes and it returns false; also for the empty word, which
+// `split_word` returns where no word begins, and which `word_kind` would take for a number.
 //
 // `left`: after false the word is no move that the game plays. `taken`: after true the game is as the definition
 // `word_step` says, after false as it was.

@@ -117,7 +117,7 @@ pub record TokensEnd : Type 0 where
   -- a variation at its own `)`, not at one in a comment
   pub nested : EndsAt "((1-0)0-1)*" 11
   pub comment_inside : EndsAt "({)})*" 6
-  -- what isn't closed; a comment in a variation is the fault itself
+  -- what isn't closed; an unclosed comment is the fault even in a variation
   pub unclosed_comment : FailsAt "12 {*" UnclosedComment 3
   pub unclosed_variation : FailsAt "12 (a(b)" UnclosedVariation 3
   pub unclosed_inside : FailsAt "12 (a({)" UnclosedComment 6
@@ -161,7 +161,7 @@ pub record TagsAreFound : Type 0 where
   -- after a number a tag, even a bad one, is the next game's
   pub late : FailsAt "12[A \"b\"]*" NoResult 2
   pub late_bad : FailsAt "12[*" NoResult 2
-  -- so a game's own tags are those before it, in order, each with the offset of its text
+  -- so a game's own tags are those before the number, in order, each with the offset of its text
   pub in_order : game_tags_of (length two_tags) (tokens_from two_tags 0)
       ≡ tag_found "A" "b" 4 ∷ tag_found "C" "d" 11 ∷ []
   pub passed : IsAfterTags two_tags 0 14

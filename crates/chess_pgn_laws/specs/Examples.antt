@@ -57,8 +57,8 @@ endless text at = (4, Word (codes "e4")) ∷ (1, Skip) ∷ []
 abbrev pub fault_with : ℕ → Setup → Option PgnFault
 fault_with most p = variation_fault endless most (codes "e4 (") p 3
 
--- how deep variations may be nested, where each replaces the move m: one of a game is the first of 64, one in it the
--- first of one fewer, and where none may be open it is the fault
+-- how deep variations may be nested, where each replaces the move m: 64 deep in a game, and inside one of these one
+-- less; where none may be open, a variation is the fault
 pub record VariationsAreCounted : Type 0 where
   pub of_a_game : (p : Setup) (m : Move) → reading p (codes "e4") ≡ reads.Move m
       → variations_fault endless (codes "e4 (") p 0 ≡ option_or (fault_with 64 p) None

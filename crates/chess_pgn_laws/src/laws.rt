@@ -28,8 +28,8 @@ use chess_text_laws::texts_have_parts;
 
 /// States a law and does nothing: if a game is written without a prefix, and its text is read where it begins, the
 /// start, the moves, the outcome and the termination that are read are the written ones, whatever text comes before and
-/// after it. The offset returned is right after the outcome. The law is about readers that allow as many half-moves as
-/// the game has.
+/// after it. The offset returned is right after the outcome. The reader must allow at least as many half-moves as the
+/// game has.
 ///
 /// A result that was declared is read without its comment, since the text doesn't contain the comment. Tags such as
 /// `White` are not kept. The last tag `Result` of the text names the game's outcome (`result`), and the last tag
@@ -84,7 +84,7 @@ pub fn games_are_of_tokens()
     ensures { GamesAreOfTokens }
 {}
 
-/// States a law and does nothing: if a game has no fault in its variations, then its own moves and those of each
+/// States a law and does nothing: if a game has variations, and no fault in them, then its own moves and those of each
 /// variation are legal where they are made. A variation begins in the position before the last move of the line (the
 /// game, or another variation) that it is in.
 pub fn variations_are_legal()
@@ -120,14 +120,14 @@ pub fn texts_are_worked_out()
 {}
 
 /// States a law and does nothing: what small texts are read as, most of them games without moves, in which a number, a
-/// comment or a variation could be taken for moves or for a result. `*` declares nothing, `1-0` does. The tags Variant
-/// and Termination name in capital or small letters what they name. A word after a mate is a move after the end. The
+/// comment or a variation could be taken for moves or for a result. `*` declares nothing, `1-0` does. The texts of the
+/// tags Variant and Termination may be in capital or small letters. A word after a mate is a move after the end. The
 /// texts show where strings, comments, variations, glyphs and words end, where `%` skips a line, which tags count, by
 /// which rules a FEN is read, and which names of variants, terminations and outcomes are known.
 ///
-/// No definition fits that compares numbers with the moves, counts moves in a comment, ends a variation inside a
-/// comment or a string at a quote after a backslash, lets a `%` within a line skip its rest, or calls a word after a
-/// mate an illegal move.
+/// For example, the law doesn't hold of a definition by which the number 12 in a game without moves is a fault, moves
+/// in a comment are played, a `)` in a comment ends the variation around it, a quote after a backslash ends a string, a
+/// `%` within a line skips its rest, or a word after a mate is an illegal move.
 pub fn empty_games_are_read()
     ensures { EmptyGamesAreRead }
 {

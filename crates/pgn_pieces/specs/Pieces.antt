@@ -54,7 +54,7 @@ is_empty_line line = bytes_eq (take 1 line) (codes "%") || bytes_eq (take 1 (fro
     || list_all (λ c. is_blank c || (c == 13) || (c == 10)) (front_of line)
 
 -- a text from the first quote on that no backslash keeps from closing a string: `"]` of `a\"b"]`; empty without one.
--- `kept`: the byte before the text is such a backslash
+-- `kept`: a backslash before the text keeps its first byte from closing the string
 abbrev pub from_quote : Bool → List ℕ → List ℕ
 from_quote kept [] = []
 from_quote kept (c ∷ rest) = if not kept && c == byte "\"" then c ∷ rest else from_quote (not kept && c == byte "\\") rest
@@ -84,14 +84,15 @@ ends_in_tag text = bytes_eq (take 1 text) (codes "[")
     && ((length (after_name text) == 0) || begins_tag text && (length (after_string text) == 0))
 
 -- whether a tag line has more than tags, by what comes after its parts (`after_parts`): a byte that neither ends the
--- line nor begins a comment, such as a move's. `ended`: the line's end was seen; if not, a tag in which what was seen
--- ends doesn't count
+-- line nor begins a comment, such as a move's. `ended`: the line's end is in its front; if not, a tag that the front
+-- cuts off doesn't count
 abbrev pub has_more : Bool → List ℕ → Bool
 has_more ended rest = list_any (λ c. not (list_any (λ k. c == k) (codes "\r\n{;"))) (take 1 rest)
     && (ended || not (ends_in_tag rest))
 
--- whether a line counts as one of moves: neither a tag line nor empty (also inside a `{` comment, and `[ Event "x" ]`);
--- or a tag line with more than tags: `[White "a"] {x} 1. e4`, or `[White "a`. A front has at most 256 parts
+-- whether a line counts as one of moves: neither a tag line nor empty, so also one inside a `{` comment, and
+-- `[ Event "x" ]`, which is no tag line; or a tag line with more than tags: `[White "a"] {x} 1. e4`, or `[White "a`. A
+-- front has at most 256 parts
 abbrev pub is_moves_line : List ℕ → Bool
 is_moves_line line = let front = front_of line in
     if is_tag_line line then has_more (list_any breaks_line front) (after_parts 256 front) else not (is_empty_line line)

@@ -68,8 +68,8 @@ pieces_seen ended offset text = map (λ (piece : Piece). piece_at piece.offset p
 abbrev pub current : State → PieceSeen
 current s = piece_at s.offset s.part
 
--- the pieces still to come of a text: the first begins at this offset, and `part` of it was read. `ended`: the input
--- ends with `text`; if not, the last piece is left out
+-- the pieces still to come: the first begins at this offset of the input, `part` of it was read, and `text` follows.
+-- `ended`: the input ends with `text`; if not, the last piece is left out
 abbrev pub pieces_after_part : Bool → ℕ → List ℕ → List ℕ → List PieceSeen
 pieces_after_part ended offset part text = pieces_seen ended offset (part ++ text)
 

@@ -82,8 +82,9 @@ impl Gone {
     }
 
     // Lets go of `bytes` too, which are the piece's bytes right after those let go before. First `beginning` is filled
-    // up to 40 bytes. In the rest the `\n` and the other bytes are only counted. The contract (`SameCounts`): it then
-    // has as many bytes, as many line ends and the same first 40 bytes as what was let go before and then `bytes`.
+    // up to 40 bytes. In the rest the `\n` and the other bytes are only counted. The contract (`SameCounts`) says:
+    // `self` then has as many bytes, as many line ends and the same first 40 bytes as what was let go before and then
+    // `bytes`.
     pub(crate) fn add(&mut self, bytes: &[u8])
         requires { length self.old + length bytes.now < 2 ^ 64 }
         ensures { SameCounts (self.old ++ bytes.now) self.new }

@@ -73,7 +73,7 @@ pub(crate) fn kind_of(line: &[u8], moves: bool) -> Kind
 }
 
 // Whether a tag line with this front has more than tags, such as moves or a tag that isn't closed on the line. `value`
-// is the front from its first tag's value on: `"Oslo"]` for `[Event "Oslo"]`.
+// is the front from its first tag's opening quote on: `"Oslo"]` for `[Event "Oslo"]`.
 #[inline(never)]
 fn has_moves(front: &[u8], value: &[u8]) -> bool
     requires value { value.now ≡ after_name front.now }
@@ -149,8 +149,8 @@ fn begins_tag(text: &[u8]) -> bool
     has_tag(name, after_name(text, name))
 }
 
-// What comes after a tag's string and any spaces and tabs, from the tag's value on: `] e4` for `"Oslo" ] e4`; empty if
-// the string isn't closed.
+// What comes after a tag's string and any spaces and tabs, where `value` is the text from the string's opening quote
+// on: `] e4` for `"Oslo" ] e4`; empty if the string isn't closed.
 #[inline(always)]
 fn behind_string(value: &[u8]) -> &[u8]
     ensures { result.now ≡ behind_string value.now }
@@ -158,8 +158,8 @@ fn behind_string(value: &[u8]) -> &[u8]
     without_blanks(without_first(from_quote(without_first(value))))
 }
 
-// What comes after a tag and any spaces and tabs, from the tag's value on: `e4` for `"Oslo"] e4`; `None` if the tag
-// isn't closed.
+// What comes after a tag and any spaces and tabs, where `value` is the text from the string's opening quote on: `e4`
+// for `"Oslo"] e4`; `None` if the tag isn't closed.
 #[inline(always)]
 fn after_value(value: &[u8]) -> Option<&[u8]>
     ensures { option_map (λ r. r.now) result ≡ after_value value.now }
@@ -188,7 +188,7 @@ fn after_part(text: &[u8]) -> Option<&[u8]>
 }
 
 // What comes after the tags, comments, glyphs, dots and marks with which the front of a tag line begins. `value` is the
-// front from its first tag's value on.
+// front from its first tag's opening quote on.
 #[inline(always)]
 fn after_parts<'t>(front: &'t [u8], value: &'t [u8]) -> &'t [u8]
     requires value { value.now ≡ after_name front.now }

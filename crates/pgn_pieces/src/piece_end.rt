@@ -46,7 +46,7 @@ fn len_before_end(text: &[u8]) -> usize
     ensures count { result ≡ position_or_len breaks_line text.now }
     ensures within { result ≤ length text.now }
 {
-    // The compiler makes one comparison of two alike.
+    // This looks for any of three bytes; for the two that are alike the compiler makes one comparison.
     len_before_any(text, b'\n', b'\r', b'\r')
 }
 

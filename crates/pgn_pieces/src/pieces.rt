@@ -232,8 +232,8 @@ impl PgnPieces {
     }
 
     // Reads up to 65,536 bytes (`CHUNK_LEN`) once, and adds them at the end of `held`. If the read gives no bytes, the
-    // input has ended (`ended`). After a fault nothing has changed here. It is `InputTooLong`, without a read, once
-    // more than `MOST_READ` bytes were read.
+    // input has ended (`ended`). After a fault no bytes were added. Once more than `MOST_READ` bytes were read, nothing
+    // is read, and the fault is `InputTooLong`.
     fn read_more<R: Input>(&mut self, input: &mut R) -> Result<(), PieceFault>
         ensures { Adds self.old self.new (R.seen input.old) (R.seen input.new) result }
     {

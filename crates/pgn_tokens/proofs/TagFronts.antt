@@ -1,5 +1,6 @@
 -- How a tag begins: `[`, a gap, the name, a gap and a quote (an opening). What the relation `OpensTag` says of a text
--- is what the reader finds (opening_read), and what the reader finds is such an opening (opening_is).
+-- is what the reader finds (opening_read), and what the reader finds is such an opening (opening_is). Part by part: the
+-- gaps, the name, the quote.
 use Rattle.std.proofs.Common.{◌≡◌, ℕ, suc, ◌+◌, ◌<◌, Bool, true, false, cond, eqb, List, [], ◌∷◌, ◌++◌, length, take, drop, Option, Some, None, refl, sym, ap, subst, ◌∙◌, inl, inr, append_assoc, length-append, arith, is_some, unwrap_or, eqb-true, length-take-le, take-append-drop}
 use Rattle.std.specs.List.{list_all, prefix_len, take_while}
 use Rattle.std.proofs.{Math.Seq.drop-append_seam, lemmas.Bool.Decides.nat_tests, lemmas.List.Sums.prefix_len-le-length}

@@ -1,5 +1,6 @@
 -- Gaps, strings and tags: what the relations of specs/Split call one is read as that one (the lemmas .._read), and what
--- the reader finds is one by the relation (gap_goes, string_leaves, tag_leaves).
+-- the reader finds is one by the relation (gap_goes, string_leaves, tag_leaves). The former is by induction on the
+-- relation, the latter on the text.
 use Rattle.std.proofs.Common.{◌≡◌, ℕ, zero, suc, ◌+◌, ◌<◌, ◌≤◌, Bool, true, false, cond, eqb, List, [], ◌∷◌, ◌++◌, length, drop, Option, Some, None, IfSome, refl, sym, ap, subst, ◌∙◌, inl, inr, ◌⊎◌, arith, ◌&&◌, take-append-drop, append_assoc, length-append}
 use Rattle.std.specs.List.{list_all, list_any, prefix_len, take_while}
 use Rattle.std.proofs.lemmas.Bool.{and_parts, or_parts, or_cases, eqb-true}

@@ -1,6 +1,6 @@
 -- A token: what the relation `IsOf` calls a token of some kind is read as the token of that kind, if it is the longest
 -- such beginning of the text (token_read); and what is read is such a token, or a fault where no token of any kind
--- begins (token_says).
+-- begins (token_says). The former goes by the kinds, the latter by the text's first byte.
 use Rattle.std.proofs.Common.{◌≡◌, ℕ, suc, ◌+◌, ◌<◌, ◌≤◌, Bool, true, false, cond, not, eqb, List, [], ◌∷◌, ◌++◌, length, take, drop, Option, Some, None, refl, sym, ap, subst, ◌∙◌, inl, inr, arith, ◌&&◌, ◌||◌}
 use Rattle.std.specs.List.{list_all, list_any, prefix_len, take_while}
 use Rattle.std.proofs.lemmas.Bool.{and_parts, or_parts, or_cases, eqb-true}

@@ -1,5 +1,5 @@
 -- A token names a tag's string, or the `{` of a comment that isn't closed, by how many bytes are left there. These are
--- within the token and the text after it (within), and so in the text (token_within).
+-- within the token and the text after it (within), and so in the text (token_within). By cases of the token's kind.
 use Rattle.std.proofs.Common.{◌≡◌, ℕ, suc, ◌-◌, ◌≤◌, Bool, List, [], ◌∷◌, ◌++◌, length, drop, refl, sym, ap, subst, ◌∙◌, inl, inr, arith, length-append, length-drop}
 use Rattle.pgn_tokens.specs.Tokens.{Token, Skip, Tag, Word, Bad_tag, Unclosed_comment, Unclosed_variation, Bad, token_at, begins_line, tokens_from}
 use Rattle.pgn_tokens.specs.{Split.HasOpenComment, Split.here, Split.deeper, shared.Places.IsWithin}

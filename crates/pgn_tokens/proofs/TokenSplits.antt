@@ -1,6 +1,6 @@
 -- A text has exactly one split by kinds (IsSplitByKinds): any such split is the list of tokens that is read
--- (kinds_read), and this list is such a split (read_kinds). Also where no token begins there is one fault, the one that
--- is read (fault_read).
+-- (kinds_read), and this list is such a split (read_kinds): by induction on the split, and on the bytes left. Also
+-- where no token begins there is one fault, the one that is read (fault_read).
 use Rattle.std.proofs.Common.{◌≡◌, ℕ, zero, suc, ◌+◌, ◌-◌, ◌<◌, ◌≤◌, Bool, true, false, cond, eqb, List, [], ◌∷◌, ◌++◌, length, drop, refl, sym, ap, subst, ◌∙◌, inl, inr, arith}
 use Rattle.std.specs.List.{list_any}
 use Rattle.std.proofs.{lemmas.Bool.or_parts, lemmas.List.length-append, lemmas.List.length-drop, lemmas.List.nil_from_length}

@@ -1,6 +1,7 @@
 -- Variations: a text that may be inside one by the relation `IsInside` is read over up to its `)` (inside_read), and an
--- unclosed comment in it is reported (open_read). The other way round, what is read closes the variations by the
--- relation, or shows one that isn't closed (leaves). `suc d` counts the variations open.
+-- unclosed comment in it is reported (open_read): by induction on the relation. The other way round, by induction on
+-- the text, what is read closes the variations by the relation, or shows one that isn't closed (leaves). `suc d` counts
+-- the variations open.
 use Rattle.std.proofs.Common.{◌≡◌, ℕ, zero, suc, ◌≤◌, Bool, true, false, not, eqb, List, [], ◌∷◌, ◌++◌, length, Option, Some, None, refl, sym, ap, subst, ◌∙◌, inl, inr, ◌⊎◌, arith, append_assoc, length-append}
 use Rattle.std.specs.List.{list_any}
 use Rattle.std.proofs.{lemmas.Bool.or_parts, lemmas.Bool.Decides.nat_tests}

@@ -10,7 +10,7 @@ pub record TagPair : Type 0 where
   pub name : List ℕ
   -- the bytes between its quotes as they are
   pub text : List ℕ
-  -- the first byte's offset in the whole text
+  -- the offset of the first of these bytes in the whole text
   pub offset : ℕ
 
 -- the tag that a token is, in a text of `total` bytes; `None` for any other token

@@ -9,7 +9,7 @@ use Rattle.pgn_tokens.specs.declared.token.TokenFault.TheVariants as fault
 use Rattle.pgn_tokens.specs.Tokens as tokens
 use Rattle.pgn_tokens.specs.Tokens.{tokens_from}
 
--- the tag that the code found: its text, and how many bytes are left where that begins
+-- the tag that the code found: its text, and how many bytes are left where that begins; `None` if it found none
 abbrev pub found_seen : Option Tag → Option (List ℕ × ℕ)
 found_seen tag = option_map (λ t. (t.text.now, t.to_end)) tag
 

@@ -88,7 +88,7 @@ IsTokenAt text at front t =
 -- ---- what can't be read
 
 -- the text after a variation's `(` has an unclosed comment; the number counts the bytes from its `{` to the text's end,
--- 2 in `d4 {a`. Before it are only whole parts (`IsInside`) and `(`s
+-- 2 in `d4 {a`. Before the comment are only whole parts (`IsInside`) and `(`s
 pub data HasOpenComment : List ℕ → ℕ → Type 0 where
   here : {parts : List ℕ} (text : List ℕ) → IsInside false parts → lacks (byte "}") text ≡ true
       → HasOpenComment (parts ++ byte "{" ∷ text) (length (byte "{" ∷ text))

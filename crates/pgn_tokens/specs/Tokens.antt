@@ -1,5 +1,5 @@
--- The tokens of a game's text (PGN standard of 1994, sections 5 to 7 and 8.2). This project's own: what Split names,
--- and that EF BB BF at offset 0 is skipped.
+-- The tokens of a game's text (PGN standard of 1994, sections 5 to 7 and 8.2). This project's own: what the head of
+-- specs/Split names, and that a byte order mark (EF BB BF) at offset 0 is skipped.
 use Rattle.std.specs.Prelude.{ℕ, zero, suc, ◌-◌, Bool, false, not, ◌&&◌, ◌||◌, List, [], ◌∷◌, ◌++◌, length, take, drop, slice_index, Option, Some, None, codes, ◌==◌, if◌then◌else◌, option_and_then}
 use Rattle.byte_devices.specs.Bytes.{is_digit, byte, carriage_return, new_line, space, tab, is_name_byte, after_byte}
 use Rattle.std.specs.List.{list_all, list_any, join_with_byte, prefix_len, position_or_len, take_while}
@@ -55,7 +55,8 @@ after_white_space text = drop (prefix_len is_white_space text) text
 abbrev pub is_gap_line : List ℕ → Bool
 is_gap_line line = bytes_eq (take 1 line) (codes "%") || list_all is_white_space line
 
--- the text of these lines (each without its `\n`) after the lines at its front that are skipped whole, and white space
+-- what is left of these lines (each without its `\n`), as a text, after those at the front that are skipped whole, and
+-- then white space
 unfoldable pub after_gap_lines : List (List ℕ) → List ℕ
 after_gap_lines lines = after_white_space (join_with_byte new_line (drop (prefix_len is_gap_line lines) lines))
 
@@ -69,8 +70,8 @@ after_gap text =
 -- ---- variations
 
 -- a variation's token and the text after it, from a text inside it. The third argument: how many variations are open
--- there, 1 after its `(`. `comment`: in a comment or `%` line, the byte that ends it, and the token if none comes;
--- `line_begins`: the text's first byte begins a line
+-- there, 1 after its `(`. `comment`: if the text begins in a comment or `%` line, the byte that ends that, and the
+-- token to give if it doesn't come; `line_begins`: the text's first byte begins a line
 abbrev pub variation_at : Option (ℕ × Token) → Bool → ℕ → List ℕ → Token × List ℕ
 -- the variation's `)` was read
 variation_at comment line_begins zero text = (Skip, text)
@@ -129,8 +130,8 @@ tag_at text = do
 
 -- ---- tokens
 
--- a `{` comment's token and the text after it. `after`: that after its `}`, if any; `to_end`: how many bytes come from
--- its `{` on
+-- a `{` comment's token and the text after it. `after`: the text after its `}`, if any; `to_end`: how many bytes come
+-- from its `{` on
 abbrev pub comment_at : ℕ → Option (List ℕ) → Token × List ℕ
 comment_at to_end after = option_map_or (λ rest. (Skip, rest)) after (Unclosed_comment to_end, [])
 
@@ -151,8 +152,8 @@ token_at line_begins c rest =
     else (Bad, [])))))))))
 
 -- a text's tokens in order, each paired with how many bytes are left at it; one that can't be read is the last.
--- `line_begins`: the text's first byte begins a line, as after the token `\n`; no other token ends with `\n`. `most`: a
--- bound that is never reached (see `tokens_from`)
+-- `line_begins`: the text's first byte begins a line, as after the token `\n`; no other token ends with `\n`. `most`:
+-- at most so many tokens are read
 unfoldable pub tokens_of : ℕ → Bool → List ℕ → List (ℕ × Token)
 tokens_of zero line_begins text = []
 tokens_of (suc most) line_begins [] = []
@@ -166,6 +167,6 @@ abbrev pub begins_line : List ℕ → ℕ → Bool
 begins_line text offset = (offset == 0) || (slice_index text (offset - 1) == new_line)
 
 -- a text's tokens from an offset on, each paired with how many bytes are left at it. A token takes at least a byte, so
--- no text has more tokens than bytes
+-- the text's length is enough for `most`
 unfoldable pub tokens_from : List ℕ → ℕ → List (ℕ × Token)
 tokens_from text offset = tokens_of (length text) (begins_line text offset) (drop offset text)

@@ -1,5 +1,6 @@
-//! Kinds of bytes. Each byte of a text is tested, so the look-ups in the table are inlined. It has a character for each
-//! byte, in eight rows of 32: the second row begins with the space (0x20), the third with `@` (0x40).
+//! Kinds of bytes. Each byte of a text is tested, so the look-ups in the table are inlined. The table (`CLASSES`) has a
+//! character for each byte, in eight rows of 32: the second row begins with the space (0x20), the third with `@`
+//! (0x40).
 
 ghost use Rattle.std.specs.Prelude.{◌≡◌, ◌||◌, ◌==◌};
 ghost use Rattle.pgn_tokens.specs.Tokens.{is_white_space, is_word_byte};

@@ -29,8 +29,8 @@ pub struct PgnTag<'t> {
     pub offset: usize,
 }
 
-/// The tags of a game in the order of its text, as [`game_tags`] returns them. In contracts it is the list of those
-/// that are left.
+/// The tags of a game in the order of its text, as [`game_tags`] returns them. In contracts a `GameTags` is the list of
+/// the tags that it has not returned yet.
 #[derive(Drop)]
 pub struct GameTags<'t> {
     text: &'t [u8],
@@ -50,7 +50,7 @@ impl<'t> Model for GameTags<'t> {
     ghost invariant = { λ it. it.offset ≤ length it.text.now };
 }
 
-// The tag that a token of a text of `len` bytes is; `None` if it is none.
+// The token as a tag of a text of `len` bytes; `None` if the token is no tag.
 fn tag_in<'t>(len: usize, token: &Token<'t>) -> Option<PgnTag<'t>>
     ensures { option_map pair_of result ≡ tag_pair len (token_seen token.now) }
 {

@@ -70,7 +70,8 @@ fn read_comment(to_end: usize, text: &[u8]) -> Result<(Token<'_>, &[u8]), TokenF
 }
 
 // Skips a variation: returns `Token::Skip` and the text after its `)`, or a fault if the variation, or a comment in it,
-// isn't closed. `text` begins after its `(`. The comment of `after_variation` explains `None false 1`.
+// isn't closed. `text` begins after its `(`. The comment of `after_variation`, in variation.rt, explains
+// `None false 1`.
 #[inline(never)]
 fn read_variation(text: &[u8]) -> Result<(Token<'_>, &[u8]), TokenFault>
     ensures { first_seen result ≡ variation_at None false 1 text.now }
@@ -158,8 +159,8 @@ pub fn next_token(text: &[u8], at: usize) -> Result<Option<(Token<'_>, usize)>, 
 
 /// Skips white space and dots from the offset `at` on, and returns the offset after them: in `12. e4` from 2 on it is
 /// 4. [`next_token`] would return each of these bytes as a `Token::Skip` (`SkipsTo`); here no tokens are made of them.
-/// It has a loop of its own: each round skips one token, so `SkipsTo` is the loop's invariant. `split_while` says which
-/// bytes it takes, but not that each of them is a token.
+/// Its loop skips one token in each round, so `SkipsTo` is the loop's invariant. The library's `split_while` would take
+/// the same bytes, but its contract doesn't say that each of them is a token.
 #[inline(always)]
 pub fn after_blanks(text: &[u8], at: usize) -> usize
     requires { at ≤ length text.now }

@@ -30,8 +30,8 @@ fn next_parenthesis(text: &[u8], at: usize) -> usize
     at + len_before(&text[at..], b'(')
 }
 
-// The offset of the first `(` from the offset `at` on, where `known` is that of the first from an earlier offset on. It
-// is looked for only if `known` comes before `at`, so that no byte is looked at twice.
+// The offset of the first `(` from the offset `at` on, where `known` is the offset of the first `(` from an earlier
+// offset on. The text is searched only if `known` comes before `at`, so that no byte is looked at twice.
 fn parenthesis_from(text: &[u8], at: usize, known: usize) -> usize
     requires { at ≤ length text.now }
     ensures { (from : ℕ) → from ≤ at → HasNone text.now from known → HasNone text.now at result }
@@ -43,9 +43,10 @@ fn parenthesis_from(text: &[u8], at: usize, known: usize) -> usize
     }
 }
 
-/// Whether a token from the offset `at` on is a variation. Of a game without one, whose text goes to the end of `text`,
-/// chess_pgn's `read_variations` reads nothing, so no board is needed. Tokens are read only up to the text's last `(`:
-/// mostly none, as a game's text mostly has no `(`. A byte order mark at `at` is to be skipped by the caller.
+/// Whether a token from the offset `at` on is a variation. If none is, and the game's text ends where `text` does,
+/// chess_pgn's `read_variations` has nothing to read, so its caller needs no board. Tokens are read only up to the
+/// text's last `(`: mostly none, as a game's text mostly has no `(`. A byte order mark at `at` is to be skipped by the
+/// caller.
 pub fn has_variation(text: &[u8], at: usize) -> bool
     requires { at ≤ length text.now }
     ensures { result ≡ has_variation text.now (tokens_from text.now at) }

@@ -1,4 +1,5 @@
--- What one token does in a line of moves (a game's own, or those of a variation); `line_fault` says the same of all.
+-- What one token does in a line of moves (a game's own, or those of a variation); `line_fault` says the same of a whole
+-- line.
 use Rattle.std.specs.Prelude.{ℕ, Bool, ◌||◌, if◌then◌else◌, Option, Some, None, is_some, Result, Ok, Err}
 use Rattle.std.specs.List.{list_all}
 use Rattle.byte_devices.specs.Bytes.{is_digit}

@@ -1,4 +1,5 @@
--- What one token after a game's tags does, as a row of a table; `moves_read` says the same of all tokens.
+-- What one token after a game's tags does, as a row of a table; `moves_read` says the same of all these tokens
+-- together.
 use Rattle.std.specs.Prelude.{ℕ, ◌+◌, ◌-◌, nat_lt, Bool, ◌||◌, if◌then◌else◌, List, length, Option, Some, None, is_some, Result, Ok, Err}
 use Rattle.std.specs.List.{list_all, last_or}
 use Rattle.std.specs.Option.{option_map_or, unwrap_or}
@@ -19,8 +20,8 @@ use Rattle.pgn_tokens.specs.Tokens.{Token, Skip, Word, Unclosed_comment, Unclose
 use Rattle.pgn_writer.specs.Outcomes.{outcome_of}
 use Rattle.pgn_tokens.specs.Marks.{is_marks}
 
--- what a token does: the game goes on as `next`; an outcome ends it, before the offset `end`; or this is a fault at the
--- offset `at`
+-- what a token does: the game goes on as `next`; an outcome ends it, before the offset `end`; or there is a fault of
+-- this kind at the offset `at`
 pub data Row : Type 0 where
   Goes_on : (next : State) → Row
   Ends : (o : Outcome) (end : ℕ) → Row
@@ -72,6 +73,6 @@ after_row termination s (Fails kind at) later = with_fault s (record { kind = ki
 
 -- ---- the start
 
--- the position of the last FEN before any that denotes none; `start` if there is no such FEN
+-- the position of the last FEN before the first that denotes none; `start` if there is no such FEN
 abbrev pub last_start : Setup → List (Result Setup PgnFault) → Setup
 last_start start fens = unwrap_or (last_or None (ok_prefix fens)) start

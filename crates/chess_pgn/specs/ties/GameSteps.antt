@@ -59,8 +59,9 @@ StopsAt game (t ∷ ts) = IsLeft game t.1
 abbrev pub begun : Progress → Progress
 begun p = record { is_met = true; is_begun = true; termination = p.termination }
 
--- whether a word was taken as a number or move. If it was, reading goes on as `step` says for what was read before the
--- word and for its offset, whatever these are; if not, nothing changed. `old` and `new` are the game before and after
+-- whether a word was taken as a number or move. `old` and `new` are the game before and after. If it was taken, reading
+-- goes on with `new`, as `step` says, whatever was known before the word (`p`) and wherever the word is (`offset`). If
+-- not, the game didn't change
 abbrev pub IsTaken : Bool → Seen → Seen → (SoFar → ℕ → Step) → Type 0
 IsTaken true old new step =
     (p : Progress) (offset : ℕ) → On (so_far new.state (begun p)) ≡ step (so_far old.state p) offset

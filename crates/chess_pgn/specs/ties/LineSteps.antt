@@ -9,7 +9,7 @@ use Rattle.chess_pgn.specs.Variations.{variation_fault}
 use Rattle.chess_pgn.specs.laws.LineEnds.{is_end}
 use Rattle.pgn_tokens.specs.Seen.{token_seen}
 
--- whether a token can't be read
+-- this token is what can't be read: a bad tag, an unclosed comment or variation, or a byte that begins no token
 abbrev pub IsUnread : Token → Type 0
 IsUnread Skip = ⊥
 IsUnread (Tag name text to_end) = ⊥
@@ -21,8 +21,8 @@ abbrev pub EndsLine : List ℕ → ℕ → Type 0
 EndsLine text at = (tokens_from text at ≡ []) ⊎ ((t : Token) × (tokens_from text at ≡ (length text - at, t) ∷ [])
     × IsUnread t × (is_end text at t ≡ true))
 
--- what code returned for the token of a line from `at` on is the first of the definitions' tokens; `None`: the line
--- ends; a fault is a bad token there, and the last token
+-- what the code returned for a line's token at the offset `at` agrees with the definitions: `None` if the line ends
+-- there; the first token, and the offset after it; or the fault BadToken, at what can't be read and ends no line
 abbrev pub IsLineToken : List ℕ → ℕ → Result (Option (code.Token × ℕ)) PgnFault → Type 0
 IsLineToken text at (Ok None) = EndsLine text at
 IsLineToken text at (Ok (Some r)) = (tokens_from text at ≡ (length text - at, token_seen r.0) ∷ tokens_from text r.1)
@@ -40,14 +40,14 @@ played before (Ok (Some p)) q later = later (Some p) q
 played before (Err fault) q later = Some fault
 
 -- the position in which the moves of a variation at the offset `at` begin, and how many variations may be open in it.
--- `before` is the position before the move that it replaces (`None`: there is no such move), and `depth` how many may
--- be open in the line that it is in
+-- `before` is the position before the move that it replaces (`None`, a fault: there is no such move), and `depth` how
+-- many may be open in the line that it is in (0: a fault)
 abbrev pub opening : ℕ → Option Setup → ℕ → Result (Setup × ℕ) PgnFault
 opening depth None at = Err (record { kind = BadToken; offset = at })
 opening zero (Some start) at = Err (record { kind = TooLong; offset = at })
 opening (suc depth) (Some start) at = Ok (start, depth)
 
--- the first fault of the variation whose `(` is at the offset `from`, and whose moves begin in the position `p`; so
--- many variations may be open there (`depth`)
+-- the first fault of the variation whose `(` is at the offset `from`, and whose moves begin in the position `p`;
+-- `depth`: how many variations may be open inside it
 abbrev pub inside : ℕ → List ℕ → Setup → ℕ → Option PgnFault
 inside depth text = λ p from. variation_fault tokens_from depth text p from

@@ -27,12 +27,13 @@ abbrev pub is_past_draw : PgnFaultKind → State → Bool
 is_past_draw AfterEnd s = is_none (ending false s)
 is_past_draw _ s = false
 
--- whether this answer, with which reading of the game `s` stopped, is such a move
+-- whether this answer, with which reading of the game `s` stopped, is the fault of a move after such a draw
+-- (`is_past_draw`)
 abbrev pub is_at_past_draw : State → Result (Option PgnEnd) PgnFault → Bool
 is_at_past_draw s (Ok end) = false
 is_at_past_draw s (Err fault) = is_past_draw fault.kind s
 
--- whether reading stopped at such a move, by what was read
+-- whether reading stopped at a move after one of the draws of 2014, by what was read
 abbrev pub stops_past_draw : GameRead → Bool
 stops_past_draw r = is_at_past_draw r.state r.answer
 

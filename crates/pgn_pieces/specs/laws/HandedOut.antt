@@ -1,4 +1,4 @@
--- The pieces that are returned, as the law about them claims it.
+-- The pieces that are returned one after another are those that a text is cut into.
 use Rattle.std.specs.Prelude.{◌≡◌, ℕ, Bool, List, []}
 use Rattle.pgn_pieces.specs.Stream.{pieces_seen, pieces_after_part}
 

@@ -1,4 +1,4 @@
--- The pieces that `cut` makes, found from the first line on: where a piece ends, it is done with.
+-- The pieces that `cut` makes, defined from the first line on: each piece is whole before the next begins.
 use Rattle.std.specs.Prelude.{ℕ, if◌then◌else◌, List, [], ◌∷◌, ◌++◌}
 use Rattle.std.specs.List.{concat}
 use Rattle.pgn_pieces.specs.Pieces.{begins_piece}

@@ -1,4 +1,5 @@
--- The kind of a line, by its first byte and its front: what `is_empty_line` says of it, and the parts of a tag.
+-- Parts of the definitions of a line's kind, as the code asks for them: by a line's first byte and front, or from a
+-- tag's opening quote on.
 use Rattle.std.specs.Prelude.{ℕ, Bool, false, ◌||◌, ◌==◌, List, take, drop, codes, Option}
 use Rattle.std.specs.List.{list_all, position_or_len}
 use Rattle.std.specs.Option.{option_map}
@@ -19,12 +20,12 @@ is_empty_with first front = bytes_eq first (codes "%") || bytes_eq (take 1 front
 abbrev pub from_mark : List ℕ → List ℕ
 from_mark text = drop (position_or_len (λ c. c == byte "\"" || (c == byte "\\" || c == byte "\\")) text) text
 
--- what comes after a tag's string and any spaces and tabs, from the tag's value on: `] e4` for `"Oslo" ] e4`; empty if
--- the string isn't closed
+-- what comes after a tag's string and any spaces and tabs, where `value` is the text from the string's opening quote
+-- on: `] e4` for `"Oslo" ] e4`; empty if the string isn't closed
 abbrev pub behind_string : List ℕ → List ℕ
 behind_string value = without_blanks (drop 1 (from_quote false (drop 1 value)))
 
--- what comes after a tag and any spaces and tabs, from the tag's value on: `e4` for `"Oslo"] e4`; `None` if the tag
--- isn't closed
+-- what comes after a tag and any spaces and tabs, where `value` is the text from its opening quote on: `e4` for
+-- `"Oslo"] e4`; `None` if the tag isn't closed
 abbrev pub after_value : List ℕ → Option (List ℕ)
 after_value value = option_map without_blanks (after_byte (byte "]") (behind_string value))

@@ -47,8 +47,8 @@ pub record SameTag (line line' : List ℕ) : Type 0 where
 abbrev pub IsDecided : List ℕ → Type 0
 IsDecided line = (more : List ℕ) → SameKind (line ++ more) line
 
--- `line` are the bytes of a piece's last line: with `true` it may continue, and its kind is known; with `false` a new
--- line begins next, and it has no bytes
+-- `line`: the bytes so far of a piece's last line. `true`: it has begun and may continue, and its kind is known;
+-- `false`: it has no bytes yet
 abbrev pub MayGoOn : Bool → List ℕ → Type 0
 MayGoOn false line = line ≡ []
 MayGoOn true line = IsDecided line
@@ -82,7 +82,9 @@ abbrev pub SeesWhole : Seen → Seen → List ℕ → Bool → Type 0
 SeesWhole seen seen' line true = (piece more : List ℕ) → HasSeen seen piece → Ends piece (line ++ more)
 SeesWhole seen seen' line false = (piece : List ℕ) → HasSeen seen piece → HasSeen seen' (piece ++ line)
 
--- what was found of the line with which a text begins; what was seen of a piece before is `seen`, and then `seen'`
+-- what was found of the line with which a text begins: it begins the next piece; it isn't known yet whether it does; or
+-- the text's first `n` bytes belong to the piece. `seen` and `seen'`: what is known of the piece's lines, before and
+-- after
 abbrev pub Steps : Seen → Seen → List ℕ → Step → Type 0
 Steps seen seen' text Begins = (piece : List ℕ) → HasSeen seen piece → Ends piece text
 Steps seen seen' text Waits =
@@ -91,7 +93,7 @@ Steps seen seen' text (Belongs n) = (0 < n) × (n ≤ length text)
     × ((piece : List ℕ) → HasSeen seen piece → HasSeen seen' (piece ++ take n text))
 
 -- what was found of a text that comes after what was seen of a piece: the piece ends after `n` bytes of it (true); or
--- it goes on after these, and of the other bytes no more is known
+-- it goes on after them (false), and has all of the text if nothing follows
 abbrev pub Looks : Seen → Seen → List ℕ → Bool → ℕ → Type 0
 Looks seen seen' text true n = (n ≤ length text)
     × ((piece : List ℕ) → HasSeen seen piece → Ends (piece ++ take n text) (drop n text))
@@ -111,7 +113,7 @@ pub record SameCounts (bytes bytes' : List ℕ) : Type 0 where
   pub beginning : take 40 bytes' ≡ take 40 bytes
   pub line_ends : line_ends bytes' ≡ line_ends bytes
 
--- these are the bytes of a piece, of which `part` is held: if that is too long, only its counts are right
+-- `part` is held of a piece with the bytes `piece`: these bytes, or if they are too many, others with the same counts
 abbrev pub IsLike : List ℕ → List ℕ → Type 0
 IsLike piece part = SameCounts piece part × (length piece ≤ PIECE_LEN → part ≡ piece)
 

@@ -47,7 +47,7 @@ pub record IsLongest (P : List ℕ → Type 0) (front rest : List ℕ) : Type 0 
   -- P holds of no longer beginning
   pub longest : (more others : List ℕ) → rest ≡ more ++ others → P (front ++ more) → more ≡ []
 
--- the token that reading makes of a text of this kind, after which `to_end` bytes come. In a tag's token, its number
+-- the token that reading makes of a text of this kind, after which `to_end` bytes come. The number in a tag's token
 -- counts the bytes left at the tag's string
 abbrev pub token_of : Kind → List ℕ → ℕ → Token
 token_of (Tag_pair name string closing) text to_end = Tag name string (length (string ++ closing) + to_end)
@@ -65,8 +65,8 @@ token_of Variation text to_end = Skip
 abbrev pub HasNoToken : Bool → List ℕ → Type 0
 HasNoToken b text = (kind : Kind) (front rest : List ℕ) → text ≡ front ++ rest → IsOf b kind front → ⊥
 
--- the text begins with a comment that isn't closed, or with a variation in which one isn't; so many bytes are left at
--- its brace
+-- the text begins with a comment that isn't closed, or with a variation in which one isn't; `to_end` bytes are left at
+-- that comment's `{`
 abbrev pub HasUnclosedComment : List ℕ → ℕ → Type 0
 HasUnclosedComment text to_end =
     ((comment : List ℕ) × (text ≡ byte "{" ∷ comment) × (lacks (byte "}") comment ≡ true) × (to_end ≡ length text))

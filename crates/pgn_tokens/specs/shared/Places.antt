@@ -2,8 +2,8 @@
 use Rattle.std.specs.Prelude.{ℕ, ◌≤◌, length}
 use Rattle.pgn_tokens.specs.Tokens.{Token, Skip, Tag, Word, Bad_tag, Unclosed_comment, Unclosed_variation, Bad}
 
--- a token, from whose first byte on the text has `to_end` bytes, names nothing before itself: at its string or comment
--- at most so many bytes are left, and its word is no longer
+-- `to_end` bytes of the text are left at a token: then at its string or unclosed comment at most so many are left, and
+-- its word has at most so many
 abbrev pub IsWithin : ℕ → Token → Type 0
 IsWithin to_end Skip = Unit {0}
 IsWithin to_end (Tag name text string) = string ≤ to_end

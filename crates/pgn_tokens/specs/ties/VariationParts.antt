@@ -1,4 +1,4 @@
--- A variation by the parts that are skipped at once, where a line begins or not.
+-- A variation part by part, a part being what the code skips at once: a comment, a `%` line or a byte.
 use Rattle.std.specs.Prelude.{ℕ, zero, suc, ◌+◌, Bool, ◌&&◌, ◌||◌, List, Option, Some, None, ◌==◌, if◌then◌else◌}
 use Rattle.byte_devices.specs.Bytes.{byte}
 use Rattle.pgn_tokens.specs.Tokens.{line_end, after_brace}

@@ -1,4 +1,5 @@
--- The loop's invariant: the rest begins with a quote or a backslash, and the quote that closes it closes the string.
+-- The loop's invariant: `rest` begins with a quote or a backslash, and the first quote in it that no backslash keeps is
+-- that of the whole text.
 use Rattle.std.proofs.Common.{◌≡◌, List, ℕ, length, false, true}
 use Rattle.pgn_pieces.specs.Pieces.{from_quote}
 use Rattle.pgn_pieces.proofs.StringEnds.{begins_with_mark}

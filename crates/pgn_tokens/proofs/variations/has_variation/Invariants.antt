@@ -1,4 +1,5 @@
--- The loop's invariant: no token before `offset` is a variation, and no `(` comes from there up to `place`.
+-- The loop's invariant: no token before `offset` is a variation, and no `(` is in the text from `offset` up to `place`
+-- (Sought of VariationsSought). What decreases is the number of bytes after `offset`.
 use Rattle.std.proofs.Common.{length, ◌-◌}
 use Rattle.pgn_tokens.proofs.VariationsSought.{Sought}
 use Rattle.pgn_tokens.proofs.variations.has_variation.Given as goal
