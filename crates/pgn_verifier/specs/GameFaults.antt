@@ -40,9 +40,9 @@ board_says_otherwise verdict end = if contradicts_verdict verdict end.outcome
 -- ---- a game
 
 -- what is reported of a game, by how reading it ended (last argument): no game (`Ok None`), a fault of reading (`Err`),
--- or the game's end (`Some end`). But if the game has a fault that `strict` asks for, the first of these is reported:
--- one in its variations (`variation end`); an unknown variant, named at the offset `unknown`; a marker that contradicts
--- the last tag Result (`tag`); one that contradicts the board's `verdict`
+-- or the game's end (`Some end`). If a game read to its end has a fault that `strict` asks for, the first of these is
+-- reported instead: one in its variations (`variation end`); an unknown variant, named at the offset `unknown`; a
+-- marker that contradicts the last tag Result (`tag`); one that contradicts the board's `verdict`
 abbrev pub judged : Strictness → (PgnEnd → Option PgnFault) → Option ℕ → Option ResultTag → Option Verdict
     → Result (Option PgnEnd) PgnFault → Result (Option PgnEnd) GameFault
 judged strict variation unknown tag verdict (Ok None) = Ok None

@@ -72,7 +72,7 @@ pub record PartsAreShown : Type 0 where
   -- of an illegal move its word, and of a game without a result its first word
   pub move : wrong_part (Pgn IllegalMove) (codes "1. e9 *") 0 3 ≡ (3, codes "e9")
   pub game : wrong_part (Pgn NoResult) (codes " 1. e4 ") 1 7 ≡ (1, codes "1.")
-  -- `?` for each byte that is not printable ASCII, as of `é` in UTF-8; up to white space
+  -- a text is shown up to white space, with `?` for each byte that is not printable ASCII, as for both of `é` in UTF-8
   pub unprintable : shown (195 ∷ 169 ∷ codes "4 e5") ≡ codes "??4"
   -- at most 40 bytes; `(end)` where the text ends
   pub long : shown (replicate 41 (byte "z")) ≡ replicate 40 (byte "z")

@@ -157,7 +157,8 @@ pub record StandsAt (start : TextStart) (input text : List ℕ) : Type 0 where
 abbrev pub StandsIf : Bool → TextStart → List ℕ → List ℕ → Type 0
 StandsIf explain start input text = explain ≡ true → StandsAt start input text
 
--- the piece is in the input at its offset, at the beginning of the line with this number
+-- the piece (if its bytes are known, so unless it is too long) is in the input at its offset, which is the beginning of
+-- the line with this number
 pub record PieceStandsAt (number : ℕ) (input : List ℕ) (piece : PieceSeen) : Type 0 where
   pub bytes : (text : List ℕ) → piece.bytes ≡ Some text → take (length text) (drop piece.offset input) ≡ text
   pub line : line_of input piece.offset ≡ number
