@@ -10,7 +10,7 @@ use pgn_verifier_laws::{reports_are_the_only_ones, written_texts_have_no_fault};
 /// States a law and does nothing: the score is the sum of the tags `Result` above it. The last line of a match says how
 /// many games its first engine won, lost and drew, and how many were unfinished. These are the numbers by the lines
 /// `[Result ..]` above, where this engine has White in the first game, Black in the second, and so on. If no engine had
-/// a fault, there are as many such lines as planned games, and no other line begins with `[Result `.
+/// a fault, there are just as many such lines as planned games.
 ///
 /// It refuses colours that never change, a draw that counts as a win, and a score of another outcome than the tag's.
 pub fn scores_are_sums()

@@ -72,9 +72,9 @@ pub fn written_texts_have_no_fault()
 }
 
 /// States a law and does nothing: a game that is read in a text without a fault, from a byte of one of its parts on,
-/// and that ends in that part, is read in the part alone, if the part begins where a line begins. So where the pieces
-/// of a text of at most 16,777,216 bytes hold whole games, `verify` and `verify_collection` report the same games.
-/// Variations aren't looked at.
+/// and that ends in that part, is read in the part alone, if the part begins where a line begins, and a byte order mark
+/// is skipped in both or in neither. So where the pieces of a text of at most 16,777,216 bytes hold whole games,
+/// `verify` and `verify_collection` report the same games. Variations aren't looked at.
 pub fn games_are_in_parts()
     ensures game { GamesAreInParts }
     ensures reports { WholeGamesAreReportedAlike }
