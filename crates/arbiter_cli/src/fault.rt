@@ -50,7 +50,7 @@ impl From<FenFault> for WordsFault {
     }
 }
 
-// How an error of `clap` is reported: as out of memory if it is that, otherwise as the error itself.
+// The fault that reports an error of `clap`: `NoMemory` if memory ran out, otherwise the error itself.
 pub(crate) fn refusal(error: Error) -> WordsFault
     ensures { Refuses error result }
 {

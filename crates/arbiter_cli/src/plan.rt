@@ -24,12 +24,12 @@ pub enum Plan<'a> {
     Session,
     /// To verify the games on the standard input.
     Verify {
-        /// Whether verifying continues after a fault, where its game ends, and writes totals at the end.
+        /// Whether verifying continues after a game with a fault, where that game ends, and writes totals at the end.
         keep_going: bool,
         /// How they are verified.
         options: VerifyOptions,
     },
-    /// To be an engine that plays these arguments.
+    /// To be the built-in engine `stub`, whose replies are these arguments.
     Stub(Vec<&'a str>),
     /// Games between two engines, 1 to 1,000 of them; their log, if there is one, goes to the error output.
     Match(GamesPlan<'a>),
@@ -127,7 +127,8 @@ fn validate<'a>(request: &MatchRequest<'a>) -> Result<GamesPlan<'a>, WordsFault>
     })
 }
 
-// The options of `verify`, if all names in the list that `--ignore` was given are those of kinds that can be ignored.
+// The options of `verify`, if the list that `--ignore` was given names only kinds that can be ignored; otherwise
+// `BadKind`.
 fn validate_kinds(
     options: VerifyOptions,
     ignored: Option<&str>,
@@ -145,7 +146,7 @@ fn validate_kinds(
 }
 
 // The plan of what the request asks for; of a match only if levels, FEN and date are valid, otherwise the fault of the
-// first of them that is not; of `verify` only if the kinds to ignore are.
+// first of them that is not; of `verify` only if the kinds to ignore are valid, otherwise `BadKind`.
 pub(crate) fn planned<'a>(request: Request<'a>) -> Result<Plan<'a>, WordsFault>
     ensures plan { IfOk result (IsPlanned request.entry) }
     ensures fault { IfErr result (IsPlanFault request.entry) }

@@ -23,7 +23,7 @@ fn entered<'m, 'a>(matches: &'m ArgMatches<'a>) -> Option<(&'a str, &'m ArgMatch
 ///
 /// # Errors
 /// If `clap` refuses the arguments or asks to show help or the version, if memory runs out, if a level, the FEN or the
-/// date of a match is invalid (the first of them), or if `--ignore` of `verify` names what is no kind.
+/// date of a match is invalid (the first of them), or if `--ignore` of `verify` names a kind that can't be ignored.
 pub fn read_words<'a>(alloc: Global, arguments: &'a [&'a str]) -> Result<Plan<'a>, WordsFault>
     ensures { IsReading (map (λ w. w.now) arguments.entry.now) result }
 {

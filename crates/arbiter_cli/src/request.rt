@@ -35,7 +35,7 @@ pub(crate) struct MatchRequest<'a> {
 }
 
 /// What the arguments ask for; texts are not yet read as time controls or positions, and `ignored`, the list of
-/// `--ignore`, may name what is no kind.
+/// `--ignore`, may have names of no kind of fault.
 #[derive(Drop)]
 pub(crate) enum Request<'a> {
     Session,

@@ -55,8 +55,8 @@ arbiter_app names = let a = new_app (codes "arbiter") in fold with_subcommand
     (record a { top = record a.top { has_version = true; no_binary_name = true; disable_help_subcommand = true } })
     ((new_app (codes "session")).top ∷ verify_app.top ∷ stub_app.top ∷ (match_app names).top ∷ [])
 
--- the result of parsing the arguments `words` is right: their subcommand and options, or an error of a kind of fault
--- that they have
+-- the result of parsing the arguments `words` is right: their subcommand and options, if they have no fault; otherwise
+-- an error of a kind of fault that they have
 abbrev pub IsParsedBy : OptionNames → List Text → Result ArgMatches Error → Type 0
 IsParsedBy names words (Ok m) = (fault_of (arbiter_app names) words ≡ [])
     × (subcommand_rows_of m ≡ subcommand_of (arbiter_app names) words)

@@ -1,4 +1,5 @@
-//! Laws of what a match writes. What a law refuses are wrong definitions: with one of them it can't be proved.
+//! Laws of what a match writes. That a law refuses something means: with definitions that allow it, the law can't be
+//! proved.
 
 ghost use Rattle.match_pgn_laws.specs.Verified.{MatchesPassVerify};
 ghost use Rattle.match_pgn_laws.specs.Scores.{ScoresAreSums};
@@ -8,8 +9,8 @@ use pgn_verifier_laws::{reports_are_the_only_ones, written_texts_have_no_fault};
 
 /// States a law and does nothing: the score is the sum of the tags `Result` above it. The last line of a match says how
 /// many games its first engine won, lost and drew, and how many were unfinished. These are the numbers by the lines
-/// `[Result ..]` above, where this engine has White in the first game, Black in the second, and so on. Each game has
-/// such a line, and no other line of the output begins with `[Result `.
+/// `[Result ..]` above, where this engine has White in the first game, Black in the second, and so on. If no engine had
+/// a fault, there are just as many such lines as planned games.
 ///
 /// It refuses colours that never change, a draw that counts as a win, and a score of another outcome than the tag's.
 pub fn scores_are_sums()

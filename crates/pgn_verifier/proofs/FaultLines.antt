@@ -1,6 +1,6 @@
 -- The lines that `fault_lines` makes of a fault, from its label (the game's number, span and names, and what is left
--- unread), are those of the definition's report on it (fault_lines_are). Each part of the label is what the definition
--- names there.
+-- unread), are those of the definition's report on it (fault_lines_are), since each part of the label is the
+-- definition's.
 use Rattle.std.proofs.Common.{◌≡◌, ℕ, ◌+◌, ◌&&◌, Bool, true, false, List, [], ◌++◌, length, drop, Option, Some, None, refl, sym, ap, ap₂, ◌∙◌, append_assoc, append-nil, arith, codes, decimal, if◌then◌else◌, is_some, nat_lt, not, option_map, unwrap_or}
 use Rattle.chess_game.specs.Game.{State}
 use Rattle.chess_pgn.specs.GameRead.{ending}

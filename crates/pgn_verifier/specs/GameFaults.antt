@@ -25,24 +25,24 @@ use Rattle.pgn_verifier.specs.declared.game_fault.GameFault.{GameFault}
 -- ---- at a game's end
 
 -- the fault of a game whose last tag Result (`tag`, if any) names no outcome, or another than its termination marker
--- (`end`), at the first byte between the tag's quotes
+-- (`end`), at the first byte between the tag's quotes; otherwise `None`
 abbrev pub result_differs : Option ResultTag → PgnEnd → Option GameFault
 result_differs None end = None
 result_differs (Some tag) end = if option_eq same_outcome tag.outcome (Some end.outcome) then None
     else Some (record { kind = ResultDiffers tag.len end.outcome; offset = tag.offset })
 
--- the fault of a game whose termination marker (`end`) isn't the outcome of the board's `verdict`, as `*` never is, at
--- the marker's first byte; `None` without a verdict
+-- the fault of a game whose termination marker (`end`) differs from the outcome of the board's `verdict` (`*` always
+-- does), at the marker's first byte; `None` if they agree or there is no verdict
 abbrev pub board_says_otherwise : Option Verdict → PgnEnd → Option GameFault
 board_says_otherwise verdict end = if contradicts_verdict verdict end.outcome
     then Some (record { kind = BoardSaysOtherwise; offset = end.offset - length (outcome_text end.outcome) }) else None
 
 -- ---- a game
 
--- what is reported of a game, by how reading it ended (last argument). `Ok None`: no game. `Err`: the fault of reading.
--- `Ok (Some end)`: its end, or the first fault that `strict` asks for of: one in its variations (`variation end`); an
--- unknown variant, named at the offset `unknown`; a marker that contradicts the last tag Result (`tag`), or the board's
--- `verdict`
+-- what is reported of a game, by how reading it ended (last argument): no game (`Ok None`), a fault of reading (`Err`),
+-- or the game's end (`Some end`). If a game read to its end has a fault that `strict` asks for, the first of these is
+-- reported instead: one in its variations (`variation end`); an unknown variant, named at the offset `unknown`; a
+-- marker that contradicts the last tag Result (`tag`); one that contradicts the board's `verdict`
 abbrev pub judged : Strictness → (PgnEnd → Option PgnFault) → Option ℕ → Option ResultTag → Option Verdict
     → Result (Option PgnEnd) PgnFault → Result (Option PgnEnd) GameFault
 judged strict variation unknown tag verdict (Ok None) = Ok None
@@ -62,7 +62,7 @@ pub record IsJudged (strict : Strictness) (text : List ℕ) (at : ℕ) (s : Stat
   -- the text's tokens from `at` on
   pub tokens : List (ℕ × Token)
   pub split : IsSplit text (after_byte_order_mark text at) tokens
-  -- the tokens of each text from each offset on. Variations are read in the text up to the game's end (`end.offset`)
+  -- the tokens of any text from any offset on: variations are read in another text, which stops at the game's end
   pub split_of : List ℕ → ℕ → List (ℕ × Token)
   pub splits : (other : List ℕ) (from : ℕ) → IsSplit other from (split_of other from)
   -- how reading the game ended

@@ -76,10 +76,10 @@ pub data AreReports (goes_on : Bool) (strict : Strictness) (start : ℕ) (text :
       → AreReports goes_on strict start text end.offset reports
       → AreReports goes_on strict start text at (spanning (start + game_begin text at) (start + end.offset)
       (Game (length s.moves) end.outcome end.termination) ∷ reports)
-  -- the next game has a fault: `part` is the wrong part, `reason` why, `next` where the game ends (`None` if not
-  -- `goes_on`, or no end is found). Its span ends there, or with `None` at the text's end, and reading goes on there.
-  -- If `goes_on`, but no end is found, the report says that from the fault's byte on, if there is one, the text isn't
-  -- read
+  -- the next game has a fault: `part` is the wrong part, `reason` why, `next` where the game ends (`None` if no end is
+  -- found, or if not `goes_on`). The span ends at `next`, or for `None` at the text's end, and reading goes on there.
+  -- If `goes_on`, but no end is found, the report says that the text isn't read from the fault's byte on, unless that
+  -- is the text's end
   next_fault : {at : ℕ} {s : State} {fault : GameFault} {reports : List Placed} (part : ℕ × List ℕ)
       (reason : Option (List ℕ)) (next : Option ℕ) (game : IsJudged strict text at s (Err fault))
       → part ≡ wrong_part fault.kind text (game_begin text at) fault.offset
@@ -130,8 +130,8 @@ written_line options input number placed (Faulty fault names wrong_at part why i
     then codes " | bytes " ++ (decimal fault.offset ++ (codes " to " ++ (decimal placed.end ++ codes " not read")))
     else []))) else [])
 
--- the lines of these reports, numbered from `number` on, also those that `options.quiet` leaves out. `input`: all that
--- was read
+-- the lines of these reports, numbered from `number` on; one that `options.quiet` leaves out has a number too. `input`:
+-- all that was read
 abbrev pub report_lines : VerifyOptions → List ℕ → ℕ → List Placed → List ℕ
 report_lines options input number [] = []
 report_lines options input number (placed ∷ rest) =

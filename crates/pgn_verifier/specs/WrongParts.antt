@@ -25,8 +25,8 @@ abbrev pub field_at : ℕ → List ℕ → List ℕ
 field_at number fen = take_while (λ c. not (c == space)) (from_field number fen)
 
 -- the number of the field shown for this fault of a FEN, 0 for the first. Of the counters it is the halfmove clock, or
--- if that is a number of 1 to 6 digits, the fullmove number. For a fault of no single field, such as two kings, it is
--- the first
+-- if that is a number of 1 to 6 digits, the fullmove number. For a fault of the placement, or of no single field, such
+-- as two kings, it is the first
 abbrev pub field_number : FenFault → List ℕ → ℕ
 field_number Side fen = 1
 field_number Castling fen = 2
@@ -56,8 +56,8 @@ HasOpening text rest = (name opening : List ℕ) × OpensTag name opening × (te
 abbrev pub HasString : List ℕ → Type 0
 HasString text = (string rest : List ℕ) × IsString string × (text ≡ string ++ byte "\"" ∷ rest)
 
--- the second argument is the reason for a bad tag: the first part missing of a name, a quote after it, a quote that
--- ends the value, and `]`. `text`: all from the tag's `[` on, where no tag can be read
+-- the second argument is the reason for a bad tag, by what it lacks first: a name, a quote after it, a quote that ends
+-- the value, or the `]`. `text`: all from the tag's `[` on, where no tag can be read
 pub data IsTagReason (text : List ℕ) : Option (List ℕ) → Type 0 where
   no_name : (HasName text → ⊥) → IsTagReason text (Some (codes "no name"))
   no_value : HasName text → ((rest : List ℕ) → HasOpening text rest → ⊥) → IsTagReason text (Some (codes "no value"))
@@ -79,5 +79,5 @@ token_reason text =
     else if list_any (bytes_eq (take_while is_word_byte text)) (codes "--" ∷ codes "Z0" ∷ [])
     then codes "a null move, which chess does not have"
     else if bytes_eq (take 1 text) (codes "(") then codes "no move that this variation replaces"
-    -- in a variation also the `[` of a tag begins no token
+    -- the last reason also for a `[` in a variation, where no tag can be
     else if list_any is_word_byte (take 1 text) then codes "not a move" else codes "begins no token"

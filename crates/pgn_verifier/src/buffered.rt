@@ -22,7 +22,8 @@ use verify_options::VerifyOptions;
 // How many bytes a read asks for.
 const READ_LEN: usize = 4096;
 
-// Reads the input to its end and returns its bytes; a fault if there are more than `PIECE_LEN` (16,777,216).
+// Reads the input to its end and returns its bytes; a fault if a read fails, if memory runs out, or if there are more
+// than 16,777,216 bytes (`PIECE_LEN`).
 fn read_all<R: Input>(alloc: Global, input: &mut R) -> Result<Vec<u8>, VerifyFault>
     ensures all { IfOk result (λ text. IsAll (R.seen input.old) (R.seen input.new) text.items) }
     ensures failed { IfErr result (λ f. IsNotAll (R.seen input.old) (R.seen input.new) f) }
@@ -41,8 +42,8 @@ fn read_all<R: Input>(alloc: Global, input: &mut R) -> Result<Vec<u8>, VerifyFau
     }
 }
 
-// Reads the games of a text, one after another into `game`, writes their lines to `output` and flushes it; returns
-// whether each game is without a fault.
+// Reads the games of a text into `game`, one after another up to the first fault, writes their lines to `output` and
+// flushes it; returns whether there was a fault.
 fn finish<W: Output>(
     options: VerifyOptions,
     text: &[u8],
@@ -67,7 +68,7 @@ fn finish<W: Output>(
 /// `, time forfeit` or the like if its last tag `Termination` has a known text. The first game with a fault gets the
 /// line `game 2: illegal move at byte 39`, and no game after it is read. `options` say which lines are left out,
 /// whether results are compared, and whether a line follows that explains the fault. After `Ok` nothing is unflushed,
-/// also of what was written before.
+/// not even what was written before this call.
 ///
 /// # Errors
 /// If a device fails, memory runs out, or the input has more than 16,777,216 bytes. If the output failed, a beginning

@@ -24,8 +24,8 @@ use std::alloc::Global;
 use verify_options::VerifyOptions;
 
 // Reads the games of the current piece into `game`, one after another, and writes their lines; returns the counts:
-// `before` with these reports added. A piece that is too long is one fault. The piece begins on the line `line` of the
-// input.
+// `before` with these reports added. A piece that is too long is reported as one fault. The piece begins on the line
+// `line` of the input.
 fn verify_piece<W: Output>(
     options: VerifyOptions,
     line: usize,
@@ -116,9 +116,9 @@ fn finish<W: Output>(output: &mut W, tally: Tally) -> Result<(), WriteFault>
 /// pieces, and each is read as a text of its own, also after a fault: the next game is read where the one with the
 /// fault ends (`game_end`), or if that isn't found, in the next piece. A piece begins at the input's first byte, at
 /// each tag line after a line of moves, and at an Event tag line if the piece so far already has one. A piece with more
-/// than 16,777,216 bytes is one fault, `too long` at its first byte. Offsets count from the input's first byte. The
-/// last line is `games G half-moves H faults F`: how many games have no fault, how many half-moves these have, and how
-/// many faults there are. The lines do not depend on how reads cut the input.
+/// than 16,777,216 bytes isn't read, but reported as one fault, `too long`, at its first byte. Offsets count from the
+/// input's first byte. The last line is `games G half-moves H faults F`: how many games have no fault, how many
+/// half-moves these have, and how many faults there are. The lines do not depend on how reads cut the input.
 ///
 /// No clause says when a line is written, nor how much memory is used. The code holds one piece and the bytes of one
 /// read, and writes a piece's lines as soon as its end is known.

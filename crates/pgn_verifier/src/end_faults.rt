@@ -34,7 +34,7 @@ fn found_in_variations(
     ensures within { IfErr result (λ fault. fault.offset ≤ length text.now) }
 {
     let first = after_byte_order_mark(text, at);
-    // This is never the case, since a game that was read ends after its first byte.
+    // Never true, since a game that was read ends after its first byte.
     if end.offset < first {
         return Ok(());
     }

@@ -80,8 +80,8 @@ fn append_fault_line(lines: &mut FaultLines, label: &FaultLabel, fault: GameFaul
     lines.push(b'\n');
 }
 
-// How many bytes after a fault's byte the part begins that is wrong: of a bad FEN that of the field that is shown, else
-// 0. `text` is the text from the fault's byte on.
+// How many bytes after a fault's byte the wrong part begins: for a bad FEN up to the field that is shown, otherwise 0.
+// `text` is the text from the fault's byte on.
 fn part_offset(kind: FaultKind, text: &[u8]) -> usize
     ensures value { result ≡ (part_on kind text.now).0 }
     ensures within { result ≤ length text.now }
@@ -92,8 +92,8 @@ fn part_offset(kind: FaultKind, text: &[u8]) -> usize
     }
 }
 
-// What is shown of the part that is wrong from a fault's byte on; of a missing result nothing, since it is explained
-// where its game begins. `text` is the text from the fault's byte on.
+// What is shown of the wrong part; nothing for a missing result, since that is explained where its game begins. `text`
+// is the text from the fault's byte on.
 fn shown_part(kind: FaultKind, text: &[u8]) -> Shown
     ensures { result.items ≡ (part_on kind text.now).1 }
 {
@@ -106,7 +106,8 @@ fn shown_part(kind: FaultKind, text: &[u8]) -> Shown
     }
 }
 
-// Whether a fault is explained by the first word of its game, where the game begins: whether it is a missing result.
+// Whether the explanation shows the first word of the fault's game, and so is about where that begins: only for a
+// missing result.
 fn is_at_begin(kind: FaultKind) -> bool
     ensures { result ≡ is_at_begin kind }
 {
@@ -128,8 +129,8 @@ pub(crate) fn explained_at(fault: GameFault, begin: usize, text: &[u8]) -> usize
     fault.offset + part_offset(fault.kind, &text[fault.offset..])
 }
 
-// Appends the first word of a game as it is shown, if the fault is explained by that; `text` is the text from the
-// game's beginning on.
+// Appends the first word of a game as it is shown, for a missing result; nothing for any other fault; `text` is the
+// text from the game's beginning on.
 fn append_first(lines: &mut FaultLines, kind: FaultKind, text: &[u8])
     requires { array_vec_len lines.old + 45 ≤ FAULT_LINES_LEN }
     ensures text { lines.new.items ≡ lines.old.items ++ (if is_at_begin kind then shown text.now else []) }
@@ -250,8 +251,8 @@ fn append_reason(lines: &mut FaultLines, kind: FaultKind, text: &[u8], verdict: 
     }
 }
 
-// Whether the explanation of a fault shows a position: not of a bad tag, a bad FEN or an unknown variant, and not in a
-// variation.
+// Whether the explanation of a fault shows a position: not for a bad tag, a bad FEN, an unknown variant, or a fault in
+// a variation.
 fn has_position(kind: FaultKind) -> bool
     ensures { result ≡ has_position kind }
 {
@@ -325,7 +326,7 @@ fn append_explanation<B: Board>(
 }
 
 /// The lines on a fault of the game: its own, and with `options.explain` the one that explains it. `text` is the text
-/// in which the fault is; `place` is what the explanation is about.
+/// in which the fault is; `place` is the offset that the explanation is about, with its line and column.
 pub(crate) fn fault_lines<B: Board>(
     options: VerifyOptions,
     label: &FaultLabel,

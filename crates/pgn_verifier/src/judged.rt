@@ -96,8 +96,8 @@ fn judge_past_draws(
 }
 
 /// Reads the game of a text from the offset `at` on, and returns its end or its fault; `None` if no game is left. The
-/// faults that `strict` names are looked for, too. Whatever `game` held is dropped: it is then at the position in which
-/// reading stopped, and the same verdict, if any, ends it as the game that was read.
+/// faults that `strict` names are looked for, too. What `game` held before is dropped. Afterwards it is at the position
+/// in which reading stopped, with the verdict, if any, that ended the game that was read.
 pub(crate) fn judge_game(
     strict: Strictness,
     text: &[u8],

@@ -1,5 +1,5 @@
-//! What the line of each report says of its game: the number, with `--spans` where the game is, and of a game with a
-//! fault with `--names` its players, event and date.
+//! What the line of each report says of its game: its number; with `--spans` also where it is; and if it has a fault,
+//! with `--names` also its players, event and date.
 
 ghost use Rattle.std.specs.Prelude.{◌≡◌, ◌≤◌, ◌<◌, ◌+◌, ◌++◌, ◌^◌, [], if◌then◌else◌, Some, length};
 ghost use Rattle.std.specs.Option.{IfSome, option_map, unwrap_or};
@@ -103,7 +103,7 @@ impl Label {
     }
 }
 
-// The part of the input that the current piece is.
+// The span of the current piece in the input.
 fn piece_span(pieces: &PgnPieces) -> Span
     ensures begin { result.begin ≡ (current pieces.now).offset }
     ensures end { result.end ≡ (current pieces.now).end }
@@ -140,8 +140,9 @@ pub(crate) struct FaultLabel {
 }
 
 impl FaultLabel {
-    /// What is said of a game with a fault, which is read from the offset `at` of a text on, and ends where reading
-    /// goes on, or with the text (`after`). The text begins at the offset `start` of the input.
+    /// What is said of a game with a fault, which is read from the offset `at` of a text on. It ends where reading goes
+    /// on (`after.next`), or with the text if reading doesn't go on. The text begins at the offset `start` of the
+    /// input.
     pub(crate) fn of_game(
         options: VerifyOptions,
         number: usize,

@@ -13,7 +13,7 @@ use arrayvec::ArrayVec;
 use byte_devices::append;
 use chess_pgn::tag_text;
 
-// The most bytes of the end of a line that names a game: four tags' of 40, and 9 more.
+// Room for the end of a line that names a game: four tags of 40 bytes, and at least 9 bytes more.
 const NAMES_LEN: usize = 170;
 
 /// The end of a line that names a game, such as ` | Anand - Carlsen, WCh 2013.11.09`; empty if the line is not to name

@@ -21,8 +21,8 @@ fn after_name(text: &[u8]) -> Option<&[u8]>
     Some(rest)
 }
 
-// What a bad tag lacks, from the text after the opening quote of its string on: the closing quote, or the tag's
-// bracket.
+// What a bad tag lacks, from the text after the opening quote of its string on: the closing quote, or if that is there,
+// the tag's `]`.
 fn string_reason(string: &[u8]) -> &'static [u8]
     ensures value { result.now ≡ string_reason string.now }
     ensures short { length result.now ≤ 26 }
@@ -34,7 +34,8 @@ fn string_reason(string: &[u8]) -> &'static [u8]
     }
 }
 
-// What a bad tag lacks, from the text after its name on: a value, which begins with a quote, or what comes after it.
+// What a bad tag lacks, from the text after its name on: a value, which begins with a quote, or else what
+// `string_reason` says.
 fn value_reason(text: &[u8]) -> &'static [u8]
     ensures value { result.now ≡ value_reason text.now }
     ensures short { length result.now ≤ 26 }
@@ -45,7 +46,7 @@ fn value_reason(text: &[u8]) -> &'static [u8]
     }
 }
 
-// What a bad tag lacks, from the text after its `[` on: a name, or what comes after it.
+// What a bad tag lacks, from the text after its `[` on: a name, or else what `value_reason` says.
 fn name_reason(text: &[u8]) -> &'static [u8]
     ensures value { result.now ≡ name_reason text.now }
     ensures short { length result.now ≤ 26 }

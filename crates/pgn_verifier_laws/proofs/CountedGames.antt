@@ -1,6 +1,6 @@
--- Games that are counted are games by what is said of their tokens (GamesAreOfTokens): each move's word denotes just
--- one legal move, no verdict came before the last move, and a marker ends the game (has_game). Then for all reports of
--- a text (has_games) and of a piece (counted_games_of_pieces).
+-- Games that are counted are games by the Laws, by what `GamesAreOfTokens` says of their tokens: each move's word
+-- denotes just one legal move, no verdict came before the last move, and a marker ends the game (has_game). So it is
+-- for all reports on a text (has_games) and on a piece (counted_games_of_pieces).
 use Rattle.std.proofs.Common.{◌≡◌, ◌∙◌, ℕ, zero, suc, ◌+◌, ◌-◌, ◌<◌, Bool, true, false, List, [], ◌∷◌, ◌++◌, length, take, Option, Some, None, Ok, refl, sym, ap, subst, append_assoc, append-nil, arith, MatchBool, if◌then◌else◌, nat_le}
 use Rattle.std.specs.{List.filter, List.list_all, Option.option_map_or, Option.unwrap_or}
 use Rattle.chess_base.specs.{Initial.initial_setup_of, MoveList.moves, Sound.IsSound, declared.man.Move.Move, declared.man.Variant.Variant, declared.setup.Setup.Setup}

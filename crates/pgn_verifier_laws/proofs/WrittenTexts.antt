@@ -1,6 +1,6 @@
 -- Written games, one after another, have no fault. A game's text ends with two line feeds (text_ends), after which
--- nothing more is read (none_after), so each text has one report (one_report), on a game; then all texts together
--- (all_reports), by Parts.
+-- nothing more is read (none_after), so each game's text alone has one report, which is on that game (one_report). By
+-- Parts all texts together have these reports (all_reports).
 use Rattle.std.proofs.Common.{◌≡◌, ℕ, zero, suc, ◌+◌, ◌-◌, ◌<◌, Bool, false, List, [], ◌∷◌, ◌++◌, length, drop, Some, None, Ok, refl, sym, ap, subst, ◌∙◌, inl, inr, ◌⊎◌, append_assoc, append-nil, length-append, arith, map}
 use Rattle.std.specs.List.{concat, flat_map, list_all}
 use Rattle.std.proofs.{Math.Seq.drop-append-add, lemmas.Grind.flat_map-append}

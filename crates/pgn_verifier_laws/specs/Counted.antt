@@ -49,8 +49,8 @@ pub record HasGame (draws : Bool) (text : List ℕ) (from to plies : ℕ) (outco
   -- before its last move no verdict, such as mate, had ended the game
   pub unended : (k : ℕ) → k < plies → ending draws (game_by start (take k moves)) ≡ None
 
--- from this offset on the text has the games of these reports, one after another; after a fault the next comes from
--- some offset on
+-- from this offset on the text has the games of these reports, one after another; after a fault the next game begins at
+-- some offset (which one isn't said)
 abbrev pub HasGames : Bool → List ℕ → ℕ → List Plain → Type 0
 HasGames draws text from [] = ⊤
 HasGames draws text from (PlainGame plies outcome termination ∷ reports) =

@@ -51,7 +51,7 @@ pub record FaultsAreInOrder : Type 0 where
   pub then_variant : found false true true true ≡ fault_at UnknownVariant 10
   pub then_tag : found false false true true ≡ fault_at (ResultDiffers 7 WhiteWins) 30
   pub then_board : found false false false true ≡ fault_at BoardSaysOtherwise 90
-  -- with neither option
+  -- with neither `--strict` nor `--variations`
   pub unless_lenient : found false false false false ≡ Ok (Some won_by_white)
   -- a tag Result that names no result, such as `1/2`, differs from every marker
   pub no_outcome : judged (record only_board { result = true }) (λ end. None) None
@@ -74,7 +74,7 @@ EndsEachGame v = not_of_2014 v ≡ Some v
 pub record DrawsArePassed : Type 0 where
   pub fivefold : not_of_2014 FivefoldRepetition ≡ None
   pub seventy_five_moves : not_of_2014 SeventyFiveMoves ≡ None
-  -- 75 moves end a game only if these draws do
+  -- 75 moves end a game only if the draws of 2014 do
   pub passed : (s : State) → verdict_now s ≡ Some SeventyFiveMoves → ending false s ≡ None
   pub heeded : (s : State) → verdict_now s ≡ Some SeventyFiveMoves → ending true s ≡ Some SeventyFiveMoves
   pub white_mates : EndsEachGame WhiteMates

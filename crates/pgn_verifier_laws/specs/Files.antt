@@ -22,7 +22,8 @@ AreCutWherePiecesBegin (file ∷ []) = ⊤
 AreCutWherePiecesBegin (file ∷ next ∷ files) =
     EndsInMoves file × (begins_in_tag (lines_of next) ≡ true) × AreCutWherePiecesBegin (next ∷ files)
 
--- a report on a file that begins at this offset of the collection, with offsets counted from the collection's beginning
+-- a report on a file, with its offsets counted from the collection's beginning instead of the file's; the file begins
+-- there at the offset `by`
 abbrev pub moved : ℕ → Report → Report
 moved by (Game plies outcome termination) = Game plies outcome termination
 moved by (Faulty fault names wrong_at part why is_unread) =

@@ -17,9 +17,9 @@ begins_with_mark text = bytes_eq (take 3 text) (239 ∷ 187 ∷ 191 ∷ [])
 abbrev pub ends_with_return : List ℕ → Bool
 ends_with_return text = bytes_eq (take 1 (reverse text)) (carriage_return ∷ [])
 
--- if the reports on a text's pieces have no fault, they are the reports on the text, with two exceptions: a piece after
--- the first begins with a byte order mark, which is skipped only at a text's front; or a piece ends with `\r`, which
--- doesn't end a `;` comment within a text. Variations aren't looked at
+-- if the reports on a text's pieces have no fault, they are also the reports on the text, unless a piece after the
+-- first begins with a byte order mark, which is skipped only at a text's front, or a piece ends with `\r`, which within
+-- a text doesn't end a `;` comment. Variations aren't looked at
 abbrev pub FaultlessTextsAreReportedAlike : Type 0
 FaultlessTextsAreReportedAlike = (strict : Strictness) → strict.variations ≡ false → (text : List ℕ)
     → verified (counts_of (collection_placed strict true text)) ≡ EachGame

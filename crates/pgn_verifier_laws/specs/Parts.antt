@@ -44,7 +44,7 @@ EndsAlike part after = ((front : List ℕ) × (part ≡ front ++ new_line ∷ []
 
 -- from an offset on (the number before the reports), a part that is in a text after `before` holds whole games, of
 -- which these are the reports: each is read in the text without a fault and ends in the part. After the last, the part
--- alone has no more games
+-- alone has no more games, and it ends where a line or the text ends
 pub data HoldsWhole (strict : Strictness) (before part after : List ℕ) : ℕ → List Plain → Type 0 where
   no_more : {at : ℕ} → judged_at strict part at ≡ Ok None → EndsAlike part after
       → HoldsWhole strict before part after at []
@@ -57,8 +57,9 @@ pub data HoldsWhole (strict : Strictness) (before part after : List ℕ) : ℕ �
       (length before + at)).state.moves) end.outcome end.termination
       ∷ games)
 
--- of a part that holds whole games, the reports are theirs. Those on the text, from the part's beginning on, are theirs
--- and then those from the part's end on. `start`: the input's offset at which the part, or the text, begins
+-- the reports on a part that holds whole games are those on its `games`. The reports on the text, from the part's
+-- beginning on, are the same, and then those from the part's end on. `start`: the input's offset at which the part, or
+-- the text, begins
 pub record AreReportedAlike (strict : Strictness) (start : ℕ) (before part after : List ℕ) (games : List Plain)
     : Type 0 where
   pub alone : reports_on strict start part ≡ games

@@ -72,12 +72,12 @@ pub record PartsAreShown : Type 0 where
   -- of an illegal move its word, and of a game without a result its first word
   pub move : wrong_part (Pgn IllegalMove) (codes "1. e9 *") 0 3 ≡ (3, codes "e9")
   pub game : wrong_part (Pgn NoResult) (codes " 1. e4 ") 1 7 ≡ (1, codes "1.")
-  -- `?` for each byte that is not printable ASCII, as of `é` in UTF-8; up to white space
+  -- a text is shown up to white space, with `?` for each byte that is not printable ASCII, as for both bytes of `é`
   pub unprintable : shown (195 ∷ 169 ∷ codes "4 e5") ≡ codes "??4"
   -- at most 40 bytes; `(end)` where the text ends
   pub long : shown (replicate 41 (byte "z")) ≡ replicate 40 (byte "z")
   pub end : shown [] ≡ codes "(end)"
-  -- of a player's name too
+  -- of a player's name, too, at most 40 bytes are shown
   pub long_name : names_of ((60, Tag (codes "White") (replicate 41 (byte "z")) 50) ∷ [])
       ≡ codes " | " ++ (replicate 40 (byte "z") ++ codes " - ?, ? ?")
   -- a carriage return begins no line, but columns count from it
@@ -86,7 +86,7 @@ pub record PartsAreShown : Type 0 where
   -- the position in which reading stopped; none for a bad tag, a bad FEN, a fault in a variation or an unknown variant
   pub position : explanation (from_start initial_setup) (Pgn IllegalMove) None
       ≡ codes " | rnbqkbnr/pppppppp/8/8/8/8/PPPPPPPP/RNBQKBNR w KQkq - 0 1"
-  -- the game's last, not its start (`FEN` is in place of a position's)
+  -- the position is the game's last, not its start; here its FEN is simply `FEN`
   pub last_position : (s : State) → fen (current s) ≡ codes "FEN"
       → explanation s (Pgn IllegalMove) None ≡ codes " | FEN"
   pub reason_after_it : (s : State) → fen (current s) ≡ codes "FEN"
@@ -129,7 +129,7 @@ pub record ReasonsAreGiven : Type 0 where
   pub percent : IsTagReasonOf "[%\nA \"b\"] *" "no name"
   pub castling : fen_reason faults.Castling ≡ codes "castling, as in normal chess unless the tag Variant names Chess960"
   pub zeros : IsGiven (Pgn IllegalMove) "0-0 *" "castling, and no result of PGN"
-  -- not of castling on the queen's side
+  -- for castling on the queen's side no reason is given
   pub no_zeros : IsReason (Pgn IllegalMove) (codes "0-0-0 *") (Some BlackMates) None
   pub after_end : IsGiven (Pgn AfterEnd) "e4 *" "0-1 {Black mates}"
   pub token_in_variation : IsGiven (InVariation BadToken) "foo)" "not a move"

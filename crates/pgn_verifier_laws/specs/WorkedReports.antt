@@ -66,7 +66,7 @@ illegal =
 abbrev pub after_end : Report
 after_end = Faulty (record { kind = Pgn AfterEnd; offset = 39 }) (codes " | A - B, E F") 39 (codes "O-O") [] false
 
--- the report on a comment that isn't closed, after which nothing is read; `FEN` is in place of a position's
+-- the report on a comment that isn't closed, after which nothing is read; here the position's FEN is simply `FEN`
 abbrev pub unclosed : Report
 unclosed = Faulty (record { kind = Pgn UnclosedComment; offset = 6 }) [] 6 (codes "{") (codes " | FEN") true
 
@@ -162,7 +162,7 @@ abbrev pub is_left : Report → Bool
 is_left (Game plies outcome termination) = false
 is_left (Faulty fault names wrong_at part why is_unread) = is_unread
 
--- whether a report with its span says so (`is_left`)
+-- whether the report says that bytes aren't read (`is_left`)
 abbrev pub leaves_bytes : Placed → Bool
 leaves_bytes p = is_left p.report
 
@@ -185,7 +185,7 @@ pub record TextsAreReadOn : Type 0 where
   -- a game ends nowhere if the text ends before its marker or such tags, or can't be read up to there
   pub end : IsReadOnAt "e9 e4" None
   pub unreadable : IsReadOnAt "e9 {1-0 *" None
-  -- so also at a `[` that begins no tag
+  -- so also if a `[` that begins no tag comes before them
   pub bad_tag : IsReadOnAt "e9 [A b] *" None
 
 -- ---- pieces
@@ -202,7 +202,7 @@ long_line second = codes "[Event \"a\"] " ++ codes second ++ replicate 250 32 ++
 pub record PiecesBegin : Type 0 where
   -- at an Event line after an Event line
   pub events : AreItsPieces "[Event \"a\"]\n[Event \"b\"]\n" (codes "[Event \"a\"]\n" ∷ codes "[Event \"b\"]\n" ∷ [])
-  -- not at one after other tag lines, nor at another tag line after an Event line
+  -- not at an Event line after another tag line, nor at another tag line after an Event line
   pub event_later : AreItsPieces "[White \"a\"]\n[Event \"b\"]\n" (codes "[White \"a\"]\n[Event \"b\"]\n" ∷ [])
   pub white_later : AreItsPieces "[Event \"a\"]\n[White \"b\"]\n" (codes "[Event \"a\"]\n[White \"b\"]\n" ∷ [])
   -- not at a tag line after only comment lines and lines of spaces
@@ -214,29 +214,29 @@ pub record PiecesBegin : Type 0 where
       (codes "[Event \"a\"] e4 *\n" ∷ codes "[White \"b\"]\n" ∷ [])
   pub moves_after_tags : AreItsPieces "[Event \"a\"] [Site \"b\"] e4 *\n[White \"c\"]\n"
       (codes "[Event \"a\"] [Site \"b\"] e4 *\n" ∷ codes "[White \"c\"]\n" ∷ [])
-  -- and after a string with a quote in it, and a comment
+  -- and if a comment, and a string with a quote in it, come before the moves
   pub moves_after_comment : AreItsPieces "[Event \"\\\"\"] {a} e4 *\n[White \"b\"]\n"
       (codes "[Event \"\\\"\"] {a} e4 *\n" ∷ codes "[White \"b\"]\n" ∷ [])
   pub quote_in_tag : AreItsPieces "[Event \"\\\"\"]\n[White \"b\"]\n" (codes "[Event \"\\\"\"]\n[White \"b\"]\n" ∷ [])
-  -- also at one after a tag line with a byte that begins no token, or with a tag that isn't closed
+  -- also at a tag line after one with a byte that begins no token, or with a tag that isn't closed
   pub no_token : AreItsPieces "[Event \"a\"] <\n[White \"b\"]\n"
       (codes "[Event \"a\"] <\n" ∷ codes "[White \"b\"]\n" ∷ [])
   pub unclosed_tag : AreItsPieces "[Event \"a\n[White \"b\"]\n"
       (codes "[Event \"a\n" ∷ codes "[White \"b\"]\n" ∷ [])
-  -- also after a glyph, a dot and a mark with moves after them, or after a variation
+  -- also at a tag line after one with a glyph, a dot, a mark and then a move, or with a variation
   pub moves_after_glyph : AreItsPieces "[Event \"a\"] $12 . ! e4 *\n[White \"b\"]\n"
       (codes "[Event \"a\"] $12 . ! e4 *\n" ∷ codes "[White \"b\"]\n" ∷ [])
   pub variation_after_tag : AreItsPieces "[Event \"a\"] (e4)\n[White \"b\"]\n"
       (codes "[Event \"a\"] (e4)\n" ∷ codes "[White \"b\"]\n" ∷ [])
-  -- after a line with a space before its `%`, which is no escape of PGN
+  -- also at a tag line after a line with a space before its `%`, which is no escape of PGN
   pub indented_escape : AreItsPieces " %\n[White \"b\"]\n" (codes " %\n" ∷ codes "[White \"b\"]\n" ∷ [])
-  -- not at one after marks or a glyph, or after a comment that isn't closed on its line
+  -- not at a tag line after one with only marks or a glyph after its tag, or with a comment that isn't closed on it
   pub marks_after_tag : AreItsPieces "[Event \"a\"] !\n[White \"b\"]\n" (codes "[Event \"a\"] !\n[White \"b\"]\n" ∷ [])
   pub glyph_after_tag : AreItsPieces "[Event \"a\"] $12\n[White \"b\"]\n"
       (codes "[Event \"a\"] $12\n[White \"b\"]\n" ∷ [])
   pub unclosed_comment : AreItsPieces "[Event \"a\"] {\n[White \"b\"]\n" (codes "[Event \"a\"] {\n[White \"b\"]\n" ∷ [])
-  -- on a line so long that its end is not looked at: after a tag with something between its string and its bracket, but
-  -- not after one that may be closed further on
+  -- after a tag line so long that its end isn't looked at: if something is between a tag's string and its bracket, but
+  -- not if the tag may be closed further on
   pub broken_on_long_line : cut (long_line "[Site \"b\" c" ++ codes "[White \"b\"]\n")
       ≡ long_line "[Site \"b\" c" ∷ codes "[White \"b\"]\n" ∷ []
   pub open_on_long_line : cut (long_line "[Site \"b\"" ++ codes "[White \"b\"]\n")

@@ -53,7 +53,7 @@ abbrev pub report_of : TaggedGame → Plain
 report_of g =
     PlainGame (length g.state.moves) (outcome_now g.state) (Some (termination_of g.tags.ended (outcome_now g.state)))
 
--- the texts of such games, one after another, have no fault but perhaps one in variations: the reports are on just
+-- the texts of writable games, one after another, have no fault but perhaps one in variations: the reports are on just
 -- these games. `start`: the input's offset at which the text begins
 abbrev pub WrittenTextsHaveNoFault : Type 0
 WrittenTextsHaveNoFault = (strict : Strictness) → strict.variations ≡ false → (start : ℕ) (games : List TaggedGame)

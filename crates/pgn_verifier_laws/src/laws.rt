@@ -1,5 +1,5 @@
-//! Laws of the definitions, each the contract of a function that does nothing. What a law refuses are wrong
-//! definitions: with one of them it can't be proved.
+//! Laws of the definitions, each the contract of a function that does nothing. That a law refuses something means: with
+//! definitions that allow it, the law can't be proved.
 
 ghost use Rattle.std.specs.Prelude.{◌≡◌, Bool, false, List, Option, Result, ℕ};
 ghost use Rattle.chess_game.specs.Game.{State};
@@ -72,9 +72,9 @@ pub fn written_texts_have_no_fault()
 }
 
 /// States a law and does nothing: a game that is read in a text without a fault, from a byte of one of its parts on,
-/// and that ends in that part, is read in the part alone, if the part begins where a line begins. So where the pieces
-/// of a text of at most 16,777,216 bytes hold whole games, `verify` and `verify_collection` report the same games.
-/// Variations aren't looked at.
+/// and that ends in that part, is read in the part alone, if the part begins where a line begins, and a byte order mark
+/// is skipped in both or in neither. So where the pieces of a text of at most 16,777,216 bytes hold whole games,
+/// `verify` and `verify_collection` report the same games. Variations aren't looked at.
 pub fn games_are_in_parts()
     ensures game { GamesAreInParts }
     ensures reports { WholeGamesAreReportedAlike }
@@ -146,8 +146,8 @@ pub fn files_are_verified_alike()
 
 /// States a law and does nothing: of a game that has several faults at its end the first of these is reported that is
 /// looked for: a fault in a variation, a variant that isn't known, a tag Result that differs from the marker, a verdict
-/// of the board that does. An example is worked out. With `--ignore after-end` a game may continue after fivefold
-/// repetition and 75 moves, and after no other end.
+/// of the board that differs from it. This is worked out for an example. With `--ignore after-end` a game may continue
+/// after fivefold repetition and 75 moves, and after no other end.
 ///
 /// It refuses the board before the tag.
 pub fn faults_are_in_order()
@@ -155,7 +155,7 @@ pub fn faults_are_in_order()
     ensures draws { DrawsArePassed }
 {}
 
-/// States a law and does nothing: examples are worked out of all that `verify` reports. Byte by byte: the lines of some
+/// States a law and does nothing: examples of what `verify` reports are worked out. Byte by byte: the lines of some
 /// reports, of their counts and of an explanation, with some options, and what is written of a text and of a collection
 /// with two reports. Also where two games of a text begin and end; where some texts are read on after a fault; into
 /// which pieces some texts are cut; how each fault is named, which part of a text is shown for it, and for which

@@ -1,4 +1,4 @@
--- For laws of arguments: levels, start and date of a match are read in this order, and the first fault is that of all.
+-- For laws of arguments: levels, start and date of a match are read in this order, and the first fault is the result.
 -- So they can be replaced one by one by what each of them was read as (read_as).
 use Rattle.std.proofs.Common.{◌≡◌, ◌∙◌, Bool, ap, codes, Result, Ok, Err, if◌then◌else◌, unwrap_or}
 use Rattle.std.specs.Result.{result_map_both}

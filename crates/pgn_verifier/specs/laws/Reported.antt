@@ -1,6 +1,6 @@
 -- What is reported of the games of texts, as functions: a text is cut into tokens one after another, and its games are
--- read one after another. The law `reports_are_the_only_ones` says that just these are the reports. They come first
--- without their spans, and then with them.
+-- read one after another. The law `reports_are_the_only_ones` says that just these are the reports. The reports are
+-- defined first without their spans, then with them.
 use Rattle.std.specs.Prelude.{ℕ, zero, suc, ◌+◌, Bool, true, false, ◌&&◌, not, nat_le, nat_lt, if◌then◌else◌, List, [], ◌∷◌, ◌++◌, length, map, drop, is_some, Option, Some, None, Result, Ok, Err}
 use Rattle.std.specs.List.{flat_map}
 use Rattle.std.specs.Option.{option_map_or, unwrap_or}
@@ -54,7 +54,8 @@ next_at goes_on text at =
 
 -- ---- without their spans
 
--- a report without its span, and without what depends on where its game begins, on its names and on what isn't read
+-- a report without its span and its game's names, and without what depends on where the game begins or on what isn't
+-- read
 pub data Plain : Type 0 where
   PlainGame : (plies : ℕ) (outcome : Outcome) (termination : Option Termination) → Plain
   PlainFault : (fault : GameFault) (wrong_at : ℕ) (explanation : List ℕ) → Plain
@@ -64,7 +65,8 @@ abbrev pub is_at_begin : FaultKind → Bool
 is_at_begin (Pgn NoResult) = true
 is_at_begin _ = false
 
--- the report without its span; a missing result is then explained at its own byte, and without its game's first word
+-- the report without its span. A missing result is explained here at the fault's own byte, not where its game begins,
+-- and without the game's first word
 abbrev pub plain_of : Report → Plain
 plain_of (Game plies outcome termination) = PlainGame plies outcome termination
 plain_of (Faulty fault names wrong_at part why is_unread) =
@@ -83,9 +85,10 @@ plain_fault draws start text fault s = PlainFault (record fault { offset = start
     ((if is_at_begin fault.kind then [] else (wrong_part fault.kind text fault.offset fault.offset).1)
     ++ explanation s fault.kind (reason fault.kind (drop fault.offset text) (ending draws s)))
 
--- the report on a game of a text, by how it was judged (the argument before `s`), and then what `later` gives for the
--- offset of its end, or after a fault for `next`, unless that is `None`. `s`: the game as far as it was read. The text
--- begins at the offset `start` of the input; `draws`: whether the draws of 2014 end a game
+-- the report on a game of a text, by how it was judged (the argument before `s`), and then those on the games after it:
+-- `later` gives them from an offset on, which is that of the game's end, or after a fault `next` (if `None`, there are
+-- none). `s`: the game as far as it was read. The text begins at the offset `start` of the input; `draws`: whether the
+-- draws of 2014 end a game
 abbrev pub report_then : Bool → ℕ → List ℕ → Option ℕ → Result (Option PgnEnd) GameFault → State → (ℕ → List Plain)
     → List Plain
 report_then draws start text next (Ok None) s later = []
@@ -160,8 +163,8 @@ fault_report draws goes_on start text at next fault s =
     (explanation s fault.kind (reason fault.kind (drop fault.offset text) (ending draws s)))
     (goes_on && not (is_some next) && nat_lt fault.offset (length text))
 
--- the report on a fault (`fault_report`) with its span, which goes up to `next`, where reading continues, or if it
--- doesn't to the text's end
+-- the report on a fault (`fault_report`) with its span, which ends at `next`, where reading continues, or at the text's
+-- end if reading doesn't continue
 abbrev pub fault_placed : Bool → Bool → ℕ → List ℕ → ℕ → Option ℕ → GameFault → State → Placed
 fault_placed draws goes_on start text at next fault s = record {
   begin = start + game_begin text at;
@@ -169,8 +172,8 @@ fault_placed draws goes_on start text at next fault s = record {
   report = fault_report draws goes_on start text at next fault s;
 }
 
--- the report on a game of a text, with its span, and then what `later` gives for the offset of its end, or after a
--- fault for `next`, unless that is `None` (as `report_then` without spans)
+-- the report on a game of a text, with its span, and then those on the games after it, which `later` gives from its end
+-- on, or after a fault from `next` on (if `None`, there are none). `report_then` is the same without spans
 abbrev pub placed_then : Bool → Bool → ℕ → List ℕ → ℕ → Option ℕ → Result (Option PgnEnd) GameFault → State
     → (ℕ → List Placed) → List Placed
 placed_then draws goes_on start text at next (Ok None) s later = []
@@ -179,8 +182,8 @@ placed_then draws goes_on start text at next (Ok (Some end)) s later =
 placed_then draws goes_on start text at next (Err fault) s later =
     fault_placed draws goes_on start text at next fault s ∷ option_map_or later next []
 
--- the reports on at most n games (the fourth argument) of a text from its offset `at` on, with their spans (as
--- `games_from` without)
+-- the reports on at most n games (the fourth argument) of a text from its offset `at` on, with their spans.
+-- `games_from` is the same without spans
 unfoldable pub placed_from : Bool → Strictness → ℕ → ℕ → List ℕ → ℕ → List Placed
 placed_from goes_on strict start zero text at = []
 placed_from goes_on strict start (suc n) text at =

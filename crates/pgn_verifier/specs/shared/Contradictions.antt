@@ -38,7 +38,7 @@ abbrev pub contradiction : Strictness → Option ResultTag → Option Verdict �
 contradiction strict tag verdict end = option_or (looked_for strict.result (result_differs tag end))
     (looked_for strict.board (board_says_otherwise verdict end))
 
--- the first fault at a game's end (`end`): in its variations, an unknown variant, or a contradiction
+-- the first fault at a game's end (`end`) that is looked for: in its variations, an unknown variant, a contradiction
 abbrev pub end_fault : Strictness → (PgnEnd → Option PgnFault) → Option ℕ → Option ResultTag → Option Verdict → PgnEnd
     → Option GameFault
 end_fault strict variation unknown tag verdict end =

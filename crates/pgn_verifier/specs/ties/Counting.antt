@@ -15,8 +15,8 @@ pub record IsHere (place : Place) (input : List ℕ) : Type 0 where
   pub line : line_of input (place.start.offset + place.offset) ≡ place.line
   pub column : column_of input (place.start.offset + place.offset) ≡ place.column
 
--- if faults are explained and the text is in the input where it begins, `place` has the line and the column of its
--- offset; in any case they are bounded by the bytes before it
+-- if faults are explained and the text is in the input where `place.start` says, `place` has the line and the column
+-- that its offset has there; in any case the bytes before it bound them, so that they don't overflow
 pub record Known (explain : Bool) (text : List ℕ) (place : Place) : Type 0 where
   pub offset : place.offset ≤ length text
   pub line : place.line ≤ place.start.line + place.offset

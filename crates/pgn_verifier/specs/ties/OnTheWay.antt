@@ -146,17 +146,19 @@ Writes options input before w w' (Ok after) reports =
 Writes options input before w w' (Err e) reports =
     CutShort w w' (report_lines options input (next_number before) reports)
 
--- the text is in the input at its offset (`start.offset`), at the beginning of the line with the number that it has
+-- the text is in the input at the offset `start.offset`, which is the beginning of the line with the number
+-- `start.line`
 pub record StandsAt (start : TextStart) (input text : List ℕ) : Type 0 where
   pub bytes : take (length text) (drop start.offset input) ≡ text
   pub line : line_of input start.offset ≡ start.line
   pub column : column_of input start.offset ≡ 1
 
--- if faults are explained, the text is in the input where it begins, at the beginning of a line
+-- if faults are explained, the text is in the input at the offset and line that `start` names (`StandsAt`)
 abbrev pub StandsIf : Bool → TextStart → List ℕ → List ℕ → Type 0
 StandsIf explain start input text = explain ≡ true → StandsAt start input text
 
--- the piece is in the input at its offset, at the beginning of the line with this number
+-- the piece (if its bytes are known, so unless it is too long) is in the input at its offset, which is the beginning of
+-- the line with this number
 pub record PieceStandsAt (number : ℕ) (input : List ℕ) (piece : PieceSeen) : Type 0 where
   pub bytes : (text : List ℕ) → piece.bytes ≡ Some text → take (length text) (drop piece.offset input) ≡ text
   pub line : line_of input piece.offset ≡ number
@@ -166,7 +168,8 @@ pub record PieceStandsAt (number : ℕ) (input : List ℕ) (piece : PieceSeen) :
 abbrev pub PieceStandsIf : Bool → ℕ → List ℕ → PieceSeen → Type 0
 PieceStandsIf explain number input piece = explain ≡ true → PieceStandsAt number input piece
 
--- a text of `len` bytes adds at most as many half-moves to the counts, and at most one report more than it has bytes
+-- between the counts `before` and `after` a text of `len` bytes was verified: it added at most `len + 1` reports and at
+-- most `len` half-moves
 pub record GrowsBy (len : ℕ) (before after : Tally) : Type 0 where
   pub reports : after.games + after.faults ≤ before.games + before.faults + len + 1
   pub half_moves : after.half_moves ≤ before.half_moves + len

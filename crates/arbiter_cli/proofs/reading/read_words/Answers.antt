@@ -1,5 +1,5 @@
 -- What was entered is what the arguments ask for (Readings.some_asked), with all that its command needs, since `clap`
--- took the arguments (Readings.entered_well). What is planned by it is a reading of the arguments
+-- took the arguments (Readings.entered_well). The plan or fault made of it is a right reading of the arguments
 -- (Readings.planned_reading).
 use Rattle.std.proofs.Common.{rules, ◌≡◌, ap, sym, subst, map, Some, None, Ok}
 use Rattle.arbiter_grammar.specs.Grammar.{IsParsed}

@@ -1,4 +1,5 @@
--- What `clap` finds of an option is the first value in its row (first_value-rows), and this is compared.
+-- What `clap` finds of an option is the first value in its row (first_value-rows), and the code compares that with
+-- `text`.
 use Rattle.std.proofs.Common.{rules, ◌≡◌, ◌∙◌, ap, Bool, false, Option, Some, None, bytes_eq, sym}
 use Rattle.std.specs.Option.{option_map_or}
 use Rattle.clap.specs.Words.{Text, first_value, found_of}

@@ -1,4 +1,5 @@
--- The fault returned is the first of two, both of which are in the text, so it is too (FaultsInText.first_within).
+-- The fault returned is one of two, the first that the game has. Both are in the text, so it is too
+-- (FaultsInText.first_within).
 use Rattle.std.proofs.Common.{length, sym, subst}
 use Rattle.pgn_verifier.proofs.FaultsInText.{InText, first_within}
 use Rattle.pgn_verifier.proofs.end_faults.end_fault_from.Goals as goal

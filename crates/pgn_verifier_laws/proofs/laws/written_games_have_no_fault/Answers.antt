@@ -1,5 +1,5 @@
--- A written game is read back (the law that is called), so neither reading it nor its tags nor the board has a fault
--- (WrittenGames).
+-- A written game is read back (the law that is called), so reading it ends without a fault, and neither its tags nor
+-- the board contradict its result (WrittenGames).
 use Rattle.pgn_verifier_laws.proofs.WrittenGames.{written_games}
 use Rattle.pgn_verifier_laws.proofs.laws.written_games_have_no_fault.Goals as goal
 
