@@ -32,7 +32,7 @@ pub enum EngineLine<'a> {
     Other,
 }
 
-// The kind of a line `pong N`, where `text` is N: an answer to `ping N`; if it is no number, the line is ignored.
+// The kind of a line `pong N`, where `text` is N: the answer to `ping N`; `Other`, if N is no number.
 fn pong(text: &[u8]) -> EngineLine<'_>
     ensures { seen result ≡ option_map_or Answers (command_number text.now) SaysElse }
 {

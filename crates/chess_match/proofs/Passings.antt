@@ -1,5 +1,6 @@
--- Steps that pass at a table, and then others, pass as one list (`passed_more`). So lines are sent by noting their
--- bytes and then writing them (`given_lines`), and no lines by nothing (`given_nothing`).
+-- Steps that pass at a table, and then others, pass as one list (`passed_more`). So the steps of sending lines (`giving`)
+-- pass if their bytes are noted and then written (`given_lines`); those of no lines, if nothing is done
+-- (`given_nothing`).
 use Rattle.std.proofs.Common.{◌≡◌, ◌≢◌, ℕ, Bool, List, [], ◌∷◌, ◌++◌, sym, ◌∙◌, append_assoc, append-nil, subst}
 use Rattle.byte_devices.specs.Bytes.{new_line}
 use Rattle.chess_base.specs.declared.man.Colour.{Colour}

@@ -85,7 +85,7 @@ reading_until S (Err e) line = Does (Happens (FailsToRead S))
 pub record Beginning : Type 0 where
   -- each engine's devices: `input` is its output, which is read, and `output` its input
   pub engines : Colour → Devices
-  -- the moment that each reading of the clock since was to give, from reading 0 on; `None`: unknown
+  -- the moment that each later reading of the clock was to give, from reading 0 on; `None`: unknown
   pub coming : ℕ → Option ℕ
   -- a text that the witness once held, and the notes that it may have been given from then to this beginning; `None`:
   -- nothing is said

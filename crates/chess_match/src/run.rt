@@ -90,8 +90,8 @@ pub struct MatchEnd {
     pub white_name: TagText,
     /// The name that Black's engine gave itself; empty where it gave none.
     pub black_name: TagText,
-    /// The first fault, and whose it is. If only a write of the last lines failed, the outcome stays; so it does with a
-    /// fault before the first turn, if the start has a verdict.
+    /// The fault that ended the match, or else a failed write of the last lines (White's before Black's), and whose it
+    /// is. A failed write of the last lines leaves the outcome as it is.
     pub fault: Option<(Colour, MatchFault)>,
 }
 
@@ -101,8 +101,8 @@ pub struct MatchEnd {
 /// In the contract there is a list of acts: blocks that were sent, lines and moments that were read, ends of outputs,
 /// and failures. It is a match, in which each act was due when it came: nothing is read while a block is due, and the
 /// clock is read after each line and at the end of each turn's opening. The acts agree with both engines' devices and
-/// with the clock, and they fix all that was sent, the game and the end. At the end nothing is unflushed, also of what
-/// was written before, except at an engine to which a write or a flush failed.
+/// with the clock, and they fix all that was sent, the game and the end. At the end nothing is unflushed, also nothing
+/// that was written before the match, except at an engine to which a write or a flush failed.
 ///
 /// The contract sees each device apart. [`run_match_at`], which this calls, has clauses on the order of all calls, and
 /// on the moment until which each line is waited for, by `setup.patience`. No clause says that the readers wait by the
