@@ -1,5 +1,5 @@
--- What each event does: the match after it, and the lines that each side is then sent. `.._row` is the effect of a line
--- or a silence, or of one kind of them.
+-- What each event does: the match after it, and the lines that each side is then sent. A definition `.._row` is the
+-- effect of a line or silence, or of one in some case.
 use Rattle.std.specs.Prelude.{ℕ, ◌+◌, ◌-◌, ◌/◌, ◌==◌, ◌&&◌, nat_le, nat_lt, Bool, true, false, not, if◌then◌else◌, List, [], ◌∷◌, ◌++◌, length, codes, sum, Option, None, Some, is_some, option_map, unwrap_or, map}
 use Rattle.std.specs.List.{list_any}
 use Rattle.std.specs.Option.{option_map_or, option_or}

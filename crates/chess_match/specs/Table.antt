@@ -48,7 +48,7 @@ watched r reason m [] = []
 -- the bytes of a block are noted before it is sent
 watched r reason m (Sends block ∷ H) =
     Notes (Gives block.to (bytes_of block.lines)) ∷ Does (Sends block) ∷ watched r reason m H
--- then the failure is noted, if the match ended by it
+-- so too if sending fails; then the failure is noted, if the match ended by it
 watched r reason m (SendFails block ∷ H) =
     Notes (Gives block.to (bytes_of block.lines)) ∷ Does (SendFails block)
     ∷ (list_if (is_write_fault_of reason block.to) (Notes (Happened (FailsToWrite block.to)) ∷ [])
