@@ -206,7 +206,7 @@ over_first S t b e = ap (λ (x : Bool). blocks_from (if x then White else S) t.t
 
 -- ---- the end
 
--- what passed from the beginning of a match to its end are all its acts
+-- steps that lead from `m` to the end of the match are those of acts that are the rest of a match from `m` and `due`
 pub leads_out : (r : Rules) (m m' : Match) (due : List Block) (K : List Step) (f : Colour → Bool) (reason : Reason)
     → Leads r m due K m' [] f → m'.phase ≡ Over reason
     → (H : List Act) × IsMatchFrom r m due H m' × (watched r reason m H ≡ K) × ((S : Colour) → is_broken H S ≡ f S)

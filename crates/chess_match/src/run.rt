@@ -244,7 +244,7 @@ fn awaited_in(phase: Phase) -> Awaited
 }
 
 // Notes that writing to `side` failed, which ends the match, and sends the other side its last lines, put together in
-// the empty block `waiting`. Returns whether that failed too.
+// the empty block `waiting`. Returns whether sending these failed too.
 fn end_for_other<T: MatchTable, G: MatchGame>(
     table: &mut T,
     core: &mut MatchState,
@@ -268,7 +268,7 @@ fn end_for_other<T: MatchTable, G: MatchGame>(
 }
 
 // Sends each side its last lines, White first: the answers in its block and what `given` says. Empties both blocks, and
-// returns to which sides that failed.
+// returns to which sides sending failed.
 fn send_last<T: MatchTable, G: MatchGame>(
     table: &mut T,
     core: &MatchState,
@@ -452,8 +452,8 @@ fn take_silence<T: MatchTable, G: MatchGame>(
     core.silent(game, side, moment)
 }
 
-// Reads the next line of this side's engine into `line`, and waits for it until the moment `until`, if there is one.
-// Returns `None` if no line had come, otherwise whether there was one.
+// Reads the next line of this side's engine into `line`, and waits for it until the moment `until` (`None`: as long as
+// it takes). Returns `None` if no line had come, otherwise whether there was one: none at the end of the output.
 fn read_next<T: MatchTable>(
     table: &mut T,
     side: Colour,
@@ -472,8 +472,8 @@ fn read_next<T: MatchTable>(
     }
 }
 
-// Reads the next line of this side's engine into `line` and takes it, if there is one and `\n` ended it; otherwise it
-// takes note that none had come, that its output ended, or that the read failed. Returns what is to be sent; the
+// Reads the next line of this side's engine into `line` and takes it, if there is one and `\n` ended it; otherwise
+// takes note that no line had come, that the output ended, or that the read failed. Returns what is to be sent; the
 // answers to the line's items go to `block`, which must be empty.
 fn take_next<T: MatchTable, G: MatchGame>(
     table: &mut T,
