@@ -1,5 +1,5 @@
 -- A move in time: the time that a level allots never falls with a move more, so a side's used time stays within it
--- (within_more), and its count doesn't overflow (room_more).
+-- (within_more); since at most 2 ^ 62 milliseconds are allotted, the sum doesn't overflow (room_more).
 use Rattle.std.proofs.Common.{ℕ, ◌+◌, ◌-◌, ◌≤◌, ◌<◌, arith}
 use Rattle.cecp_engine.specs.{Levels.LevelSeen, Levels.allotted, Clocks.SideSeen, Clocks.side_charged, ties.Bounds.IsWithin}
 use Rattle.chess_base.specs.declared.setup.TheConstants.{MOST_MOVES}

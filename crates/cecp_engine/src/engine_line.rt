@@ -32,7 +32,7 @@ pub enum EngineLine<'a> {
     Other,
 }
 
-// The kind of a line `pong N`, where `text` is N: an answer to `ping N`; if it is no number, the line is ignored.
+// The kind of a line `pong N`, where `text` is N: the answer to `ping N`; `Other`, if N is no number.
 fn pong(text: &[u8]) -> EngineLine<'_>
     ensures { seen result ≡ option_map_or Answers (command_number text.now) SaysElse }
 {
@@ -42,8 +42,8 @@ fn pong(text: &[u8]) -> EngineLine<'_>
     }
 }
 
-/// The kind of a line with this text, by its first words: `move e2e4` is a move, with the text `e2e4`. The text must
-/// have no spaces or tabs at its ends.
+/// The kind of a line with this text, by its first words: `move e2e4` is a move, with the text `e2e4`. Spaces and
+/// tabs at the ends of the text are to be removed before.
 #[tactic(auto, unfolding(crate::specs::EngineLines::kind_of))]
 pub fn read_engine_line(text: &[u8]) -> EngineLine<'_>
     ensures { seen result ≡ kind_of text.now }

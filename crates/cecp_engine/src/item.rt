@@ -131,8 +131,8 @@ impl<'a> Value<'a> {
 }
 
 impl Item<'_> {
-    /// Whether the engine has the feature `name` on after this item: the item decides if it has that name; otherwise it
-    /// stays as `before`.
+    /// Whether the engine has the feature `name` on after this item: if the item has that name, it decides; otherwise
+    /// the feature stays as `before`.
     pub(crate) fn says_or(&self, name: &[u8], before: bool) -> bool
         ensures { result ≡ said_again name.now (item_seen self.now) before }
     {

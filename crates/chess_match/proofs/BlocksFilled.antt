@@ -6,7 +6,7 @@ use Rattle.chess_match.specs.{Effects.Match, Effects.beginning, Effects.effect, 
 use Rattle.chess_match.specs.Events.{Line, Silent, OutputEnds, FailsToRead, FailsToWrite}
 use Rattle.chess_match.proofs.shared.MatchCases.{by_cases}
 
--- there is a line
+-- this list of lines is not empty
 abbrev pub HasLine : List SentLine → Type 0
 HasLine [] = ⊥
 HasLine (l ∷ ls) = Unit {0}

@@ -3,7 +3,7 @@
 use Rattle.std.proofs.Common.{◌≡◌, ℕ, zero, suc, ◌+◌, ◌<◌, List, [], ◌∷◌, ◌++◌, length, ap, sym, ◌∙◌, arith, length-append, subst, Option, Some, None, zero-add, slice_get, IfSome}
 use Rattle.chess_match.specs.Run.{ClockReadings}
 
--- what follows from `P` of each value follows from it of a value that may be missing
+-- if `Q` follows from `P` for each value, so it does for a value that may be missing (of `None` nothing is said)
 some_of : {P Q : ℕ → Type 0} (o : Option ℕ) → ((t : ℕ) → P t → Q t) → IfSome o P → IfSome o Q
 some_of None f h = h
 some_of (Some t) f h = f t h

@@ -1,5 +1,5 @@
 -- The blocks of an event, sent one after the other: both are sent, or a write fails, and that ends the match unless it
--- is over.
+-- is over. A lemma for each of these cases, in which the steps of each write lead from one match to another (Leading).
 use Rattle.std.proofs.Common.{◌≡◌, ◌<◌, Bool, true, false, ◌||◌, List, [], ◌++◌, length, refl, ap, sym, ◌∙◌, subst, append_assoc, append-nil, arith}
 use Rattle.chess_base.specs.{declared.man.Colour.Colour, declared.man.Colour.TheVariants.White, declared.man.Colour.TheVariants.Black, declared.man.Move.Move, ByColour.by_colour, Men.other, Men.same_colour}
 use Rattle.chess_base.proofs.shared.Men.{same_colour-other, same_colour-self}

@@ -1,5 +1,5 @@
 -- The steps of a block that was sent, of a write that failed and of an event lead from one match to another (`Leads`);
--- `leads_on` joins such steps, and `leads_out` has the acts of a whole match from them.
+-- `leads_on` joins such steps; by `leads_out` those from the beginning to the end of a match are the steps of its acts.
 use Rattle.std.proofs.Common.{◌≡◌, ℕ, ◌<◌, Bool, true, false, ◌||◌, List, [], ◌∷◌, ◌++◌, length, refl, ap, sym, ◌∙◌, subst, append_assoc, append-nil, arith, lt-ltb, if◌then◌else◌, nat_lt}
 use Rattle.std.specs.Cmp.Derive.{both_true}
 use Rattle.chess_base.specs.{declared.man.Colour.Colour, declared.man.Colour.TheVariants.White, declared.man.Colour.TheVariants.Black, Men.other, Men.same_colour, Options.list_if}
@@ -206,7 +206,7 @@ over_first S t b e = ap (λ (x : Bool). blocks_from (if x then White else S) t.t
 
 -- ---- the end
 
--- what passed from the beginning of a match to its end are all its acts
+-- steps that lead from `m` to the end of the match are those of acts that are the rest of a match from `m` and `due`
 pub leads_out : (r : Rules) (m m' : Match) (due : List Block) (K : List Step) (f : Colour → Bool) (reason : Reason)
     → Leads r m due K m' [] f → m'.phase ≡ Over reason
     → (H : List Act) × IsMatchFrom r m due H m' × (watched r reason m H ≡ K) × ((S : Colour) → is_broken H S ≡ f S)

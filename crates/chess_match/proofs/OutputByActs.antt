@@ -1,5 +1,6 @@
 -- What came from an engine in the acts of a match (`SaidBy`): the lines that were read are the first lines of what it
 -- gave; they are all of them after its output ended, after a failed read, and if the last look for a line found none.
+-- By induction over the acts.
 use mathlib.Core.Bool.{or-false}
 use Rattle.std.proofs.Common.{◌≡◌, ℕ, Bool, true, false, ◌||◌, ◌⊎◌, inl, inr, List, [], ◌∷◌, ◌++◌, map, refl, ap, sym, ◌∙◌, subst, append_assoc, append-nil, Option, None, Some, MatchBool}
 use Rattle.std.specs.{List.count_by, List.flat_map, List.last_or, Io.KnownBytes.Consumes, Io.KnownBytes.IsAtEnd}

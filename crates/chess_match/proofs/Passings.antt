@@ -1,5 +1,6 @@
--- Steps that pass at a table, and then others, pass as one list (`passed_more`). So lines are sent by noting their
--- bytes and then writing them (`given_lines`), and no lines by nothing (`given_nothing`).
+-- Steps that pass at a table, and then others, pass as one list (`passed_more`). So the steps of sending lines
+-- (`giving`) pass if their bytes are noted and then written (`given_lines`); those of no lines, if nothing is done
+-- (`given_nothing`).
 use Rattle.std.proofs.Common.{◌≡◌, ◌≢◌, ℕ, Bool, List, [], ◌∷◌, ◌++◌, sym, ◌∙◌, append_assoc, append-nil, subst}
 use Rattle.byte_devices.specs.Bytes.{new_line}
 use Rattle.chess_base.specs.declared.man.Colour.{Colour}
@@ -20,7 +21,7 @@ passed_more d d' d'' K J p q = record {
 pub passed_as : (d d' : Passing) (K J : List Step) → K ≡ J → Passes d d' K → Passes d d' J
 passed_as d d' K J e p = subst (λ (all : List Step). Passes d d' all) e p
 
--- what is not empty was noted, and then sent
+-- lines whose text is not empty were noted, and then sent
 pub given_lines : (d d' d'' : Passing) (failed : Bool) (S : Colour) (lines : List SentLine) (text : List ℕ)
     → bytes_of lines ≡ text → text ≢ [] → Passes d d' (Notes (Gives S text) ∷ [])
     → Passes d' d'' (Does (sending failed (record { to = S; lines = lines })) ∷ [])
@@ -36,7 +37,7 @@ not_nil : (a : List ℕ) (b : ℕ) (c : List ℕ) → a ++ b ∷ c ≡ [] → �
 not_nil [] b c e = cc
 not_nil (x ∷ a) b c e = cc
 
--- what is empty is nothing
+-- of lines whose text is empty there are none, so that no step passes
 pub given_nothing : (d : Passing) (failed : Bool) (S : Colour) (lines : List SentLine) (text : List ℕ)
     → bytes_of lines ≡ text → text ≡ [] → Passes d d (giving failed S lines)
 unfolding bytes_of

@@ -1,5 +1,6 @@
 -- What holds of every match that is played (`IsSane`) holds at its beginning, and stays so with each event of an
--- engine's output, which ends no match by a failed write (`IsWritten`).
+-- engine's output; none of these events ends a match by a failed write (`IsWritten`). By cases of the line or silence
+-- (shared.LineCases).
 use Rattle.std.proofs.Common.{◌≡◌, ℕ, ◌+◌, ◌-◌, ◌≤◌, ◌<◌, true, false, [], ◌∷◌, ◌++◌, length, length-append, refl, ap, sym, ◌∙◌, subst, Option, None, arith}
 use Rattle.chess_base.specs.{declared.man.Colour.Colour, declared.man.Colour.TheVariants.White, declared.man.Colour.TheVariants.Black, declared.man.Move.Move, Men.other}
 use Rattle.chess_base.proofs.shared.Men.{same_colour-true}

@@ -52,7 +52,7 @@ abbrev pub is_limited : Patience → Phase → Bool
 is_limited patience (BeforeMove side opened) = patience.flag
 is_limited patience _ = is_some patience.reply
 
--- the first moment more than `limit` milliseconds after `since`, at most the last one, 2 ^ 64 - 1
+-- the first moment more than `limit` milliseconds after `since`, but no later than the last moment, 2 ^ 64 - 1
 abbrev pub first_beyond : ℕ → ℕ → ℕ
 first_beyond since limit = min (since + limit + 1) (2 ^ 64 - 1)
 
@@ -61,14 +61,14 @@ abbrev pub waits_until : Rules → Phase → Match → Option ℕ
 -- before a move, if flags fall without a line: until this side has used more time than it had left
 waits_until r (BeforeMove side opened) m =
     if r.patience.flag then Some (first_beyond opened (clock r m side)) else None
--- otherwise, if replies have a limit: until the reply has been owed for longer; while its time doesn't run (`since` is
--- `None`), 0, so that a look doesn't wait
+-- otherwise, if replies have a limit: until the reply has been owed for longer than it; the moment 0, so that a look
+-- doesn't wait, while the reply's time doesn't run (`since` is `None`)
 waits_until r _ m = option_map (λ limit. option_map_or (λ since. first_beyond since limit) m.since 0) r.patience.reply
 
 -- this event may come in this phase. A failed write never does: it is an act `SendFails`
 abbrev pub MayCome : Patience → Phase → Event → Type 0
 MayCome patience phase (Line S text moment) = awaits_line phase S ≡ true
--- a look finds no line only where it has a limit
+-- a silence comes only where the wait for a line has a limit
 MayCome patience phase (Silent S moment) = (awaits_line phase S && is_limited patience phase) ≡ true
 MayCome patience phase (OutputEnds S) = awaits_line phase S ≡ true
 MayCome patience phase (FailsToRead S) = awaits_line phase S ≡ true
@@ -87,8 +87,8 @@ abbrev pub due_after : Event → Effect → List Block
 due_after (Line S text moment) done = blocks_from (if is_over done.after.phase then White else S) done.to
 due_after event done = blocks_from White done.to
 
--- the match and the blocks due after a block for this side could not be sent in the match `m`, where `due` are the
--- other blocks. If `m` was over, these are still sent; otherwise the failure ends it, and only the last lines for the
+-- the match, and the blocks then due, when a block for this side could not be sent in the match `m`; `due` are the
+-- other blocks. If `m` was over, these are still due; otherwise the failure ends it, and only the last lines for the
 -- other side are due
 abbrev pub after_failed_send : Rules → Match → List Block → Colour → Match × List Block
 after_failed_send r m due side = let done = effect r m (FailsToWrite side) in

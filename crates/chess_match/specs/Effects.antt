@@ -1,5 +1,5 @@
--- What each event does: the match after it, and the lines that each side is then sent. `.._row` is the effect of a line
--- or a silence, or of one kind of them.
+-- What each event does: the match after it, and the lines that each side is then sent. A definition `.._row` is the
+-- effect of a line or silence, or of one in some case.
 use Rattle.std.specs.Prelude.{ℕ, ◌+◌, ◌-◌, ◌/◌, ◌==◌, ◌&&◌, nat_le, nat_lt, Bool, true, false, not, if◌then◌else◌, List, [], ◌∷◌, ◌++◌, length, codes, sum, Option, None, Some, is_some, option_map, unwrap_or, map}
 use Rattle.std.specs.List.{list_any}
 use Rattle.std.specs.Option.{option_map_or, option_or}
@@ -43,7 +43,7 @@ pub data Phase : Type 0 where
   Opening : (side : Colour) → Phase
   -- that side's move; its turn began at `opened`, in milliseconds by the clock
   BeforeMove : (side : Colour) → (opened : ℕ) → Phase
-  -- that side's `pong` after its move, which the other side is not yet sent
+  -- that side's `pong` after its move; only then the other side is sent the move
   AfterMove : (side : Colour) → Phase
   -- nothing: the match has ended
   Over : (reason : Reason) → Phase
@@ -57,8 +57,9 @@ pub record Match : Type 0 where
   pub played : List Move
   -- how many lines came in this handshake, or were ignored in this setup or turn; meaningless at the end
   pub count : ℕ
-  -- the moment from which the time for a reply runs: that of the last line that counted (`feature` in a handshake,
-  -- `pong 1` in a setup, any before a move); before any, that of the first silence; `None` before both
+  -- the moment from which the time for a reply runs: that of the last line that counted (in a handshake `feature`, in a
+  -- setup `pong 1`, in a turn any up to the move); before the first such line, that of the first silence; `None` before
+  -- both
   pub since : Option ℕ
 
 -- the match after an event, and the lines that each side is then sent (`to`)
@@ -68,7 +69,7 @@ pub record Effect : Type 0 where
 
 -- ---- what is asked of a match
 
--- the milliseconds that the side `S` has left, at least 0; a turn that has begun is not counted
+-- the milliseconds that the side `S` has left, at least 0; the time of a turn that goes on is not yet taken off
 abbrev pub clock : Rules → Match → Colour → ℕ
 clock r m S = allotted (r.level S) (length (m.seat S).used) - sum (m.seat S).used
 
@@ -84,7 +85,7 @@ missing r items = if not (takes (codes "ping") items) then Some NoPing
     else if is_fischerandom r.start.variant && not (plays_fischerandom items) then Some NoVariant
     else None
 
--- the draw `claim`, if draws end a match without being claimed
+-- the draw `claim`, if draws end a match without being claimed; otherwise `None`
 abbrev pub if_automatic : Draws → Option DrawClaim → Option DrawClaim
 if_automatic Automatic claim = claim
 if_automatic _ claim = None
@@ -135,8 +136,8 @@ abbrev pub with_seat : Colour → (Seat → Seat) → Match → Match
 with_seat S change m = record m { seat = λ side. if same_colour side S then change (m.seat side) else m.seat side }
 
 -- the match `m` ends for this reason. Each side is sent the last move, if owed; the result, such as
--- `result 1-0 {Black resigns}`, by the board's verdict, if any; and `quit`; but nothing, if a failed write to it ended
--- the match
+-- `result 1-0 {Black resigns}`, by the board's verdict, if any, otherwise by the reason; and `quit`. A side to which a
+-- failed write ended the match is sent nothing
 abbrev pub ends : Rules → Reason → Match → Effect
 ends r reason m = record {
   after = record m { phase = Over reason };
@@ -150,8 +151,8 @@ abbrev pub ignores : Rules → Colour → Match → Effect
 ignores r S m = if nat_le 10000 (m.count + 1) then ends r (Faulted S Flood) m
     else sends_nothing (record m { count = m.count + 1 })
 
--- the side `S` is sent its `opening`. The phase is `Opening` until the clock is read, once these lines are sent; from
--- that moment the turn's time runs
+-- the side `S` is sent its `opening`. Once these lines are sent, the clock is read: until then the phase is `Opening`,
+-- and from that moment the turn's time runs
 abbrev pub begins_turn : Rules → Colour → Match → Effect
 begins_turn r S m = sends_to S (opening r m S) (record m { phase = Opening S; count = 0 })
 
@@ -162,22 +163,22 @@ unless_over r m otherwise = option_map_or (λ reason. ends r reason m) (over_by_
 -- ---- a line in a turn
 
 -- `offer draw` of the side `S`: if an offer of the other side is open, the draw is agreed; if one of `S` is, the line
--- is ignored; otherwise it opens one, and the other side is sent `draw`, unless it has this feature off
+-- is ignored; otherwise the offer of `S` is now open, and the other side is sent `draw`, unless it has that feature off
 abbrev pub offer_row : Rules → Colour → Match → Effect
 offer_row r S m = if (m.seat (other S)).offers then ends r Agreed m
     else if (m.seat S).offers then ignores r S m
     else sends_to (other S) (list_if (takes (codes "draw") (m.seat (other S)).items) (Says (codes "draw") ∷ []))
     (with_seat S (λ s. record s { offers = true }) m)
 
--- what a line of this kind of the side `S` does in its turn, before or after its move; for `move`, and for `pong` after
--- the move, see `before_move` and `line_row`
+-- what a line of the side `S` does in its turn, by its kind: before the move any but `move` (see `before_move`); after
+-- the move any but `move` and `pong` (see `line_row`)
 abbrev pub turn_row : Rules → Colour → LineKind → Match → Effect
 turn_row r S Resigns m = ends r (over_by.Resigns S) m
 turn_row r S OffersDraw m = offer_row r S m
 -- `1/2-1/2`: a draw, if one may be claimed; otherwise an offer
 turn_row r S ClaimsDraw m =
     option_map_or (λ claim. ends r (Claimed claim) m) (draw_claim (claims r.start m.played)) (offer_row r S m)
--- `1-0` or `0-1`: `S` loses, by a false claim if it names itself (a mate needs no claim), otherwise by resigning
+-- `1-0` or `0-1`: `S` loses, by a false claim if it says that it won (a mate needs no claim), otherwise by resigning
 turn_row r S (ClaimsWin winner) m = ends r (if same_colour winner S then ClaimsFalsely S else over_by.Resigns S) m
 -- `Illegal move`: `S` loses, as the move it was sent is legal; ignored if the other side has made none
 turn_row r S Rejects m =
@@ -207,8 +208,8 @@ before_move r S used (Moves text) m = if nat_le r.limit (length m.played) then e
     else move_row r S used (reading (position_after r.start m.played) text) m
 before_move r S used kind m = turn_row r S kind m
 
--- the flag of the side `S` has fallen: it loses, but draws if the other side has only its king. Further draws on time
--- of article 6.9 of the Laws of Chess 2023 are not judged
+-- the flag of the side `S` has fallen: it loses, but draws if the other side has only its king. Other positions in
+-- which that side can't mate, which article 6.9 of the Laws of Chess 2023 draws too, are lost
 abbrev pub flag_row : Rules → Colour → Match → Effect
 flag_row r S m = let bare = has_bare_king (other S) (position_after r.start m.played).men in
     ends r (if bare then ForfeitsToBareKing else Forfeits S) m
@@ -220,7 +221,8 @@ abbrev pub awaited_since : ℕ → Match → Match
 awaited_since moment m = record m { since = Some moment }
 
 -- what a silence at this moment does, if the side `S` owes a reply other than a move. If it has owed it for more than
--- `r.patience.reply`, the match ends by this fault; otherwise the reply's time runs from now on, unless it runs already
+-- `r.patience.reply` milliseconds, the match ends by this fault; otherwise the reply's time runs from now on, unless it
+-- runs already
 abbrev pub reply_row : Rules → Colour → MatchFault → ℕ → Match → Effect
 reply_row r S fault moment m = let since = unwrap_or m.since moment in
     if option_map_or (λ limit. nat_lt limit (moment - since)) r.patience.reply false then ends r (Faulted S fault) m

@@ -3,13 +3,13 @@ use Rattle.std.specs.Prelude.{ℕ, Bool, List, Option}
 use Rattle.chess_base.specs.declared.man.Colour.{Colour}
 use Rattle.cecp_engine.specs.Items.{Item}
 
--- what happens in a match. `moment` is what the clock showed right after it, in milliseconds from any beginning
+-- what happens in a match. `moment` is what the clock showed right after it: milliseconds since an arbitrary start
 pub data Event : Type 0 where
   -- a line of that side's engine was read (`None`: it was too long)
   Line : (side : Colour) → (text : Option (List ℕ)) → (moment : ℕ) → Event
   -- the lines that open that side's turn were all sent; its time runs from `moment`
   Opened : (side : Colour) → (moment : ℕ) → Event
-  -- a look for a line of that side's engine found none, or one only begun
+  -- a look for a line of that side's engine found no whole line
   Silent : (side : Colour) → (moment : ℕ) → Event
   OutputEnds : (side : Colour) → Event
   FailsToRead : (side : Colour) → Event

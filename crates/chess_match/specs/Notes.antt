@@ -14,6 +14,6 @@ pub data Note : Type 0 where
 abbrev pub Noted : Type 1
 Noted = List ℕ → List Note → Type 0
 
--- from its state `old` to `new` a witness was given the notes `more`, in order, after those up to `old`
+-- from its state `old` to `new` a witness was given just the notes `more`, in order, after those that it had in `old`
 pub record WasNoted (old new : Noted) (more : List Note) : Type 0 where
   pub extends : (before : List ℕ) (notes : List Note) → old before notes → new before (notes ++ more)

@@ -21,7 +21,7 @@ use Rattle.chess_match.specs.declared.run.MatchEnd.{MatchEnd}
 use Rattle.chess_match.specs.declared.run.Setup.{Setup}
 use Rattle.chess_game.specs.Ends.{verdict}
 
--- what contracts see, at one time, of a match's devices, without the log, and of its game
+-- what contracts see, at one time, of a match's engines and clock (not of the witness), and of its game
 pub record World : Type 0 where
   -- each engine's devices: `input` is its output, which is read, and `output` its input
   pub engines : Colour → Devices
@@ -53,7 +53,7 @@ WasSent sent (block ∷ []) o = BreaksOffIn (all_flushed (nat_lt 0 (length sent)
 WasSent sent _ o = ⊥
 
 -- the acts `H` are a match by the rules `r`, which is `final` at its end, and from the world `w` to `w'` each device
--- did what they say. Nothing is said of the order of acts at different devices, nor of the game
+-- did what these acts say. Nothing is said of the order of acts at different devices, nor of the game
 pub record Passed (r : Rules) (H : List Act) (final : Match) (w w' : World) : Type 0 where
   pub is_match : IsMatch r H final
   -- what came from each side's engine (`i`) and what went to it (`o`) agree with the acts

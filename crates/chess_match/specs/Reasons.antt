@@ -66,7 +66,7 @@ comment_of reason = (reported reason).1
 abbrev pub result_of : Reason → Declared
 result_of reason = record { outcome = (reported reason).0; comment = comment_of reason }
 
--- how a match that ended for this reason did so, for the tag Termination (PGN standard, section 9.8.1)
+-- how a match that ended for this reason came to its end, for the tag Termination (PGN standard, section 9.8.1)
 abbrev pub ended_by : Reason → HowEnded
 ended_by reason = (reported reason).2
 
@@ -76,8 +76,8 @@ abbrev pub reported_reason : Option Verdict → Reason → Reason
 reported_reason (Some v) _ = Decided v
 reported_reason None reason = reason
 
--- the side and fault reported of a match that ended for this reason: those of `Faulted`; otherwise `Write` and the
--- first side, White before Black, to which writing the last lines failed (`failed`), if any
+-- the side and fault reported of a match that ended for this reason: those of `Faulted`; otherwise, if writing the last
+-- lines failed (`failed` says to which sides), `Write` and that side, or White if to both
 abbrev pub reported_fault : Reason → (Colour → Bool) → Option (Colour × MatchFault)
 reported_fault (Faulted c f) failed = Some (c, f)
 reported_fault _ failed = option_map (λ side. (side, Write)) (find failed (White ∷ Black ∷ []))

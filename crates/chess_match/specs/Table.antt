@@ -48,7 +48,7 @@ watched r reason m [] = []
 -- the bytes of a block are noted before it is sent
 watched r reason m (Sends block ∷ H) =
     Notes (Gives block.to (bytes_of block.lines)) ∷ Does (Sends block) ∷ watched r reason m H
--- then the failure is noted, if the match ended by it
+-- so too if sending fails; then the failure is noted, if the match ended by it
 watched r reason m (SendFails block ∷ H) =
     Notes (Gives block.to (bytes_of block.lines)) ∷ Does (SendFails block)
     ∷ (list_if (is_write_fault_of reason block.to) (Notes (Happened (FailsToWrite block.to)) ∷ [])
@@ -85,7 +85,7 @@ reading_until S (Err e) line = Does (Happens (FailsToRead S))
 pub record Beginning : Type 0 where
   -- each engine's devices: `input` is its output, which is read, and `output` its input
   pub engines : Colour → Devices
-  -- the moment that each reading of the clock since was to give, from reading 0 on; `None`: unknown
+  -- the moment that each later reading of the clock was to give, from reading 0 on; `None`: unknown
   pub coming : ℕ → Option ℕ
   -- a text that the witness once held, and the notes that it may have been given from then to this beginning; `None`:
   -- nothing is said

@@ -61,7 +61,7 @@ fn add_clocks(block: &mut Block, core: &MatchState, side: Colour)
     }
 }
 
-// Appends the lines that open a turn of the side `mover`, which is not its first: both clocks, and then the last move.
+// Appends the lines that open any turn of the side `mover` but its first: both clocks, and then the last move.
 fn add_later_opening(block: &mut Block, core: &MatchState, mover: Colour)
     requires { array_vec_len block.old + 100 ≤ BLOCK_LEN }
     ensures text { (r : Rules) (played : List Move) (m : Match) → Represents r core.now played m

@@ -17,7 +17,7 @@ pub enum Note<'a> {
         side: Colour,
         moment: u64,
     },
-    /// No line of the engine had come.
+    /// A look for a line of the engine found that none had come.
     Silent {
         side: Colour,
         moment: u64,

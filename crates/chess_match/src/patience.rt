@@ -9,7 +9,7 @@ pub struct Patience {
     pub flag: bool,
     /// For how many milliseconds a line is waited for that an engine owes and that is no move: the next `feature` line
     /// of its handshake, `pong 1` and the `pong` after a move. If it is still owed after more, the match ends; but a
-    /// line that a look finds counts, however late it came. `None`: it has any time.
+    /// line that a look finds counts, however late it came. `None`: it is waited for as long as it takes.
     pub reply: Option<u64>,
 }
 

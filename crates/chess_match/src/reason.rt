@@ -47,7 +47,7 @@ pub enum Reason {
     MovesIllegally(Colour),
     /// It sends another `move` before it answers the ping after its move.
     MovesOutOfTurn(Colour),
-    /// It says by `1-0` or `0-1` that it has won. A claim of a draw that doesn't hold counts as an offer.
+    /// It says by `1-0` or `0-1` that it has won. (A draw that it claims without a right to it counts as an offer.)
     ClaimsFalsely(Colour),
     /// It says `Illegal move` of a move that it was sent: all of these are legal.
     RejectsLegalMove(Colour),

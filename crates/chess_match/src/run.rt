@@ -90,8 +90,8 @@ pub struct MatchEnd {
     pub white_name: TagText,
     /// The name that Black's engine gave itself; empty where it gave none.
     pub black_name: TagText,
-    /// The first fault, and whose it is. If only a write of the last lines failed, the outcome stays; so it does with a
-    /// fault before the first turn, if the start has a verdict.
+    /// The fault that ended the match, or else a failed write of the last lines (White's before Black's), and whose it
+    /// is. A failed write of the last lines leaves the outcome as it is.
     pub fault: Option<(Colour, MatchFault)>,
 }
 
@@ -101,8 +101,8 @@ pub struct MatchEnd {
 /// In the contract there is a list of acts: blocks that were sent, lines and moments that were read, ends of outputs,
 /// and failures. It is a match, in which each act was due when it came: nothing is read while a block is due, and the
 /// clock is read after each line and at the end of each turn's opening. The acts agree with both engines' devices and
-/// with the clock, and they fix all that was sent, the game and the end. At the end nothing is unflushed, also of what
-/// was written before, except at an engine to which a write or a flush failed.
+/// with the clock, and they fix all that was sent, the game and the end. At the end nothing is unflushed, also nothing
+/// that was written before the match, except at an engine to which a write or a flush failed.
 ///
 /// The contract sees each device apart. [`run_match_at`], which this calls, has clauses on the order of all calls, and
 /// on the moment until which each line is waited for, by `setup.patience`. No clause says that the readers wait by the
@@ -244,7 +244,7 @@ fn awaited_in(phase: Phase) -> Awaited
 }
 
 // Notes that writing to `side` failed, which ends the match, and sends the other side its last lines, put together in
-// the empty block `waiting`. Returns whether that failed too.
+// the empty block `waiting`. Returns whether sending these failed too.
 fn end_for_other<T: MatchTable, G: MatchGame>(
     table: &mut T,
     core: &mut MatchState,
@@ -268,7 +268,7 @@ fn end_for_other<T: MatchTable, G: MatchGame>(
 }
 
 // Sends each side its last lines, White first: the answers in its block and what `given` says. Empties both blocks, and
-// returns to which sides that failed.
+// returns to which sides sending failed.
 fn send_last<T: MatchTable, G: MatchGame>(
     table: &mut T,
     core: &MatchState,
@@ -452,8 +452,8 @@ fn take_silence<T: MatchTable, G: MatchGame>(
     core.silent(game, side, moment)
 }
 
-// Reads the next line of this side's engine into `line`, and waits for it until the moment `until`, if there is one.
-// Returns `None` if no line had come, otherwise whether there was one.
+// Reads the next line of this side's engine into `line`, and waits for it until the moment `until` (`None`: as long as
+// it takes). Returns `None` if no line had come, otherwise whether there was one: none at the end of the output.
 fn read_next<T: MatchTable>(
     table: &mut T,
     side: Colour,
@@ -472,8 +472,8 @@ fn read_next<T: MatchTable>(
     }
 }
 
-// Reads the next line of this side's engine into `line` and takes it, if there is one and `\n` ended it; otherwise it
-// takes note that none had come, that its output ended, or that the read failed. Returns what is to be sent; the
+// Reads the next line of this side's engine into `line` and takes it, if there is one and `\n` ended it; otherwise
+// takes note that no line had come, that the output ended, or that the read failed. Returns what is to be sent; the
 // answers to the line's items go to `block`, which must be empty.
 fn take_next<T: MatchTable, G: MatchGame>(
     table: &mut T,

@@ -38,8 +38,8 @@ fn add_rest<G: MatchGame>(
     add_entered(block, core, game, given, side);
 }
 
-// Notes that `side` is sent this text, and then sends it; an empty text is neither noted nor sent. Returns whether that
-// failed.
+// Notes that `side` is sent this text, and then sends it; an empty text is neither noted nor sent. Returns whether
+// sending failed.
 #[tactic(auto, using(crate::proofs::Due::is_some_text))]
 fn note_and_put<T: MatchTable>(table: &mut T, text: &[u8], side: Colour) -> bool
     ensures passes { (lines : List SentLine) → bytes_of lines ≡ text.now

@@ -53,7 +53,7 @@ pub(crate) struct MatchState {
     pub count: u32,
     /// The moment at which the turn's opening was sent: the time of its move runs from there.
     pub opened: u64,
-    /// The moment from which the time for a reply runs, once there is one.
+    /// The moment from which the time for a reply runs; `None`: it doesn't run yet.
     pub since: Option<u64>,
     /// How long lines are waited for.
     pub patience: Patience,

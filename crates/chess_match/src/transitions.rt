@@ -81,7 +81,7 @@ impl MatchState {
         }
     }
 
-    // Begins this side's turn, and returns what is to be sent: the lines that open it, in which the last move is.
+    // Begins this side's turn, and returns what is to be sent: the lines that open it, among them the last move.
     pub(crate) fn open_turn(&mut self, side: Colour) -> Actions
         ensures { (r : Rules) (played : List Move) (m : Match) → Represents r self.old played m
             → Goes r self.new played result nothing_said (begins_turn r side m) }

@@ -7,12 +7,12 @@ use Rattle.cecp_engine.specs.Items as items
 use Rattle.cecp_engine.specs.declared.item.Value.{Value}
 use Rattle.cecp_engine.specs.Seen.{value_seen}
 
--- whether an engine has the feature `name` on after the item `i`: the item decides if it has that name, otherwise it
--- stays as `before`
+-- whether an engine has the feature `name` on after the item `i`: if the item has that name, it decides; otherwise the
+-- feature stays as `before`
 abbrev pub said_again : List ℕ → Item → Bool → Bool
 said_again name i before = if bytes_eq i.name name then is_one i.value else before
 
--- whether an engine plays Chess960 after the item `i`: the item decides if it is `variants`, otherwise it stays as
+-- whether an engine plays Chess960 after the item `i`: if the item is `variants`, it decides; otherwise this is as
 -- `before`
 abbrev pub fischerandom_again : Item → Bool → Bool
 fischerandom_again i before = if bytes_eq i.name (codes "variants") then has_word (codes "fischerandom")

@@ -16,8 +16,8 @@ use Rattle.chess_match.specs.Lines.{SentLine, Says}
 abbrev pub enter : Phase → Match → Match
 enter phase m = record m { phase = phase; count = 0 }
 
--- since when a reply is awaited, once a line of this kind came at this moment in a handshake: from there on after a
--- `feature` line, otherwise as before
+-- from when on a reply is awaited, after a line of this kind came at `moment` in a handshake: from `moment`, if it is a
+-- `feature` line; otherwise from `since`, as before
 abbrev pub since_counted : LineKind → ℕ → Option ℕ → Option ℕ
 since_counted (Features text) moment since = Some moment
 since_counted _ moment since = since

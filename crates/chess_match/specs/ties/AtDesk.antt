@@ -17,7 +17,7 @@ use Rattle.chess_match.specs.Table.{Step, Does, LooksFor, ReadsLine, FindsNoLine
 use Rattle.chess_match.specs.declared.desk.Desk.{Desk}
 use Rattle.chess_match.specs.ties.EngineOutput.{OutputAt}
 
--- the acts at engines among these steps; a line or a silence has the moment 0, as these devices don't show the clock's
+-- the acts at engines among these steps. A line or silence is given the moment 0: an engine's devices show no clock
 abbrev pub acts_in : List Step → List Act
 acts_in [] = []
 acts_in (Does act ∷ K) = act ∷ acts_in K
@@ -59,13 +59,13 @@ abbrev pub WritesOf : Colour → List Act → OutputState → OutputState → Ty
 WritesOf S [] w w' = w' ≡ w
 WritesOf S (a ∷ H) w w' = (v : OutputState) × WritesAt S a w v × WritesOf S H v w'
 
--- the witness may have been given the notes `more`, besides those that `first` has
+-- the witness may have been given the notes `more` after those in `first`; `None`: nothing is said
 abbrev pub NotedSince : Noted → Option (List ℕ × List Note) → List Note → Type 0
 NotedSince witness None more = Unit {0}
 NotedSince witness (Some first) more = witness first.0 (first.1 ++ more)
 
 -- since the desk was as in `begun` just these steps passed: the devices did the acts, and the witness was given the
--- notes. The rest says how the desk is now
+-- notes. The arguments from `engines` to `names` are what contracts see of the desk now
 pub record Did (begun : Beginning) (engines : Colour → Devices) (held : Colour → Held) (coming : ℕ → Option ℕ)
     (witness : Noted) (names : List ℕ) (steps : List Step) : Type 0 where
   pub named : names ≡ begun.names
@@ -92,7 +92,8 @@ abbrev pub PassesAt : {R W M L : Type 0} → (R → InputState) → (W → Outpu
 PassesAt input output shown noted old new step =
     Passes (passed_at input output shown noted old) (passed_at input output shown noted new) (step ∷ [])
 
--- from the desk `old` to `new` just this step of a look passed, which waits until that moment, if there is one
+-- from the desk `old` to `new` just a look for a line of this side passed, which waits until the moment `until`, if
+-- any, and then this step, which says what it found
 abbrev pub LooksAt : {R W M L : Type 0} → (R → InputState) → (W → OutputState) → (M → ℕ → Option ℕ) → (L → Noted)
     → Desk R W M L → Desk R W M L → Colour → Option ℕ → Step → Type 0
 LooksAt input output shown noted old new side until step = Passes (passed_at input output shown noted old)

@@ -1,4 +1,4 @@
--- The lines for which the code has functions of their own.
+-- Lines, and lists of lines, for each of which the code has a function of its own.
 use Rattle.std.specs.Prelude.{ℕ, ◌/◌, if◌then◌else◌, nat_lt, List, [], ◌∷◌, ◌++◌, length, codes, Option}
 use Rattle.std.specs.Option.{option_map_or}
 use Rattle.chess_base.specs.declared.man.Colour.{Colour}

@@ -100,9 +100,10 @@ Leads r m due K m' due' failed = (H : List Act) (final : Match) (reason : Reason
     → (H' : List Act) × IsMatchFrom r m due H' final × (watched r reason m H' ≡ K ++ watched r reason m' H)
     × ((S : Colour) → is_broken H' S ≡ (failed S || is_broken H S))
 
--- the steps `K` passed, which sent the blocks `due`, or those up to a write that failed, and then those of the end. `m`
--- is the match before; `m'` is the one after, of which `core` and the moves `played` are the code's state. `failed`
--- says to which sides a write failed; `old` and `new` are the table before and after
+-- the steps `K` passed, which sent the blocks `due`; or, if a write failed and ended the match, those up to it, and
+-- then the other side's end lines. `m` is the match before; `m'` is the one after, of which `core` and the moves
+-- `played` are the code's state. `failed` says to which sides a write failed; `old` and `new` are the table before and
+-- after
 pub record IsDelivered (r : Rules) (old new : Passing) (core : MatchState) (played : List Move) (m : Match)
     (due : List Block) (failed : Colour → Bool) (m' : Match) (K : List Step) : Type 0 where
   pub stands : Represents r core played m'
@@ -115,7 +116,7 @@ pub record IsDelivered (r : Rules) (old new : Passing) (core : MatchState) (play
   pub fine : is_over m'.phase ≡ false → (S : Colour) → failed S ≡ false
   pub sane : IsSane r m → IsSane r m'
 
--- the blocks `due` were sent, or those up to a write that failed, and then those of the end
+-- for some steps and some match after them, the blocks `due` were sent as `IsDelivered` says
 abbrev pub Delivered : Rules → Passing → Passing → MatchState → List Move → Match → List Block → (Colour → Bool)
     → Type 0
 Delivered r old new core played m due failed =

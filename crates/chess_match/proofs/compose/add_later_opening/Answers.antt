@@ -1,4 +1,5 @@
--- Both clocks are added first, and then the last move; together they are the opening (Sends.joined_after).
+-- Both clocks are added first, and then the last move: the bytes of both together are those of the two lists of lines
+-- put together (Sends.joined_after).
 use Rattle.std.proofs.Common.{◌∙◌, ap, ◌++◌, List, ℕ}
 use Rattle.chess_match.specs.{Lines.bytes_of, ties.Delivering.clocks, ties.Delivering.last_move}
 use Rattle.chess_match.proofs.Sends.{joined_after}

@@ -1,4 +1,5 @@
--- White's last lines are noted and sent, and then Black's; what passes for both is what passes for one after the other.
+-- White's last lines are noted and sent, and then Black's; the steps of the two calls, one after the other, are all
+-- that passed.
 use Rattle.std.proofs.Common.{◌≡◌, ◌<◌, length, true}
 use Rattle.chess_base.specs.ByColour.{by_colour}
 use Rattle.chess_match.proofs.{LineNeeds.both_sides, Passings.passed_more}

@@ -1,4 +1,5 @@
--- The phase of the core is that of the match, and says what the side owes: a move before its move, otherwise a reply.
+-- The phase of the core is that of the match, and says what the side owes: in its turn, before its move, the move
+-- (`owe_move`); otherwise a reply (`owe_reply`).
 use Rattle.std.proofs.Common.{ap, sym, ◌∙◌}
 use Rattle.chess_base.specs.declared.man.Colour.{Colour}
 use Rattle.chess_base.proofs.shared.Men.{same_colour-true}
