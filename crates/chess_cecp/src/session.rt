@@ -434,7 +434,7 @@ impl<B: Board> Session<B> {
         ensures go { IfOk result
             (λ go. go ≡ (if (session_response self.old line.now).ends then Go.Quit else Go.On)) }
 
-        // In single facts, in addition to the table.
+        // Two facts that follow from the table: a refusal changes nothing, and tags and limit never change.
         ensures refused { IsRefusal (session_response self.old line.now).text → self.new ≡ self.old }
         ensures kept { (self.new.tags ≡ self.old.tags) × (self.new.limit ≡ self.old.limit) }
     {

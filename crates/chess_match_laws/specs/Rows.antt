@@ -107,11 +107,11 @@ is_move_of S _ = false
 -- a draw was agreed by these acts: the other side offered it, and then `side` did too, by the match's last line. In
 -- between `side` made no move, by which the offer would have lapsed
 pub record IsAgreed (H : List Act) : Type 0 where
-  -- the side that answers
+  -- the side that offered last
   pub side : Colour
   pub before : List Act
   pub offer : Option (List ℕ)
-  -- the moment after that line
+  -- the clock's moment after the other side's offer
   pub offered_at : ℕ
   pub between : List Act
   pub answer : Option (List ℕ)

@@ -223,7 +223,7 @@ pub record LinesAreSent : Type 0 where
 abbrev pub is_bare : List (Option Man) → Bool
 is_bare men = has_bare_king White men
 
--- bare kings, whatever the other side has, and others
+-- a king is bare if its side has no other piece, whatever the other side has
 pub record KingsAreBare : Type 0 where
   pub king : is_bare (man_of White King ∷ None ∷ man_of Black King ∷ man_of Black Queen ∷ []) ≡ true
   pub queen : is_bare (man_of White King ∷ man_of White Queen ∷ man_of Black King ∷ []) ≡ false
@@ -234,7 +234,7 @@ pub record KingsAreBare : Type 0 where
 
 -- ---- ends
 
--- who wins, by the match's end
+-- who wins, by the reason why the match ended
 pub record LosersLose : Type 0 where
   pub white_resigns : outcome_by_reason (over_by.Resigns White) ≡ BlackWins
   pub black_resigns : outcome_by_reason (over_by.Resigns Black) ≡ WhiteWins
@@ -255,7 +255,7 @@ pub record LosersLose : Type 0 where
   pub too_long : outcome_by_reason GameTooLong ≡ Unfinished
   pub faults : (c : Colour) (fault : MatchFault) → outcome_by_reason (Faulted c fault) ≡ Unfinished
 
--- the kind of end for the tag Termination: whoever breaks a rule loses by that, and not in the normal way
+-- the kind of end for the tag Termination: a side broke a rule, its time ran out, or neither (normal)
 pub record EndsAreOfKinds : Type 0 where
   pub errs : (c : Colour) → ended_by (MovesIllegally c) ≡ how.RulesInfraction
   pub moves_twice : (c : Colour) → ended_by (MovesOutOfTurn c) ≡ how.RulesInfraction
@@ -268,7 +268,7 @@ pub record EndsAreOfKinds : Type 0 where
   pub decided : (v : Verdict) → ended_by (over_by.Decided v) ≡ how.Normal
   pub claimed : (claim : DrawClaim) → ended_by (over_by.Claimed claim) ≡ how.Normal
 
--- which fault is reported, and of which side, by whether writing each side's last lines failed
+-- which fault is reported, and of which side, by why the match ended and whether writing each side's last lines failed
 pub record FaultsAreReported : Type 0 where
   pub ending : reported_fault (Faulted Black Flood) (λ S. true) ≡ Some (Black, Flood)
   pub both_unwritten : reported_fault Agreed (λ S. true) ≡ Some (White, Write)
