@@ -105,8 +105,9 @@ pub fn moves_sent_are_known()
     ensures after { InEachMatch EndsAfterItsActs }
 {}
 
-/// States a law and does nothing: the number in each `time` line is the engine's own clock in centiseconds, rounded
-/// down, and the number in each `otim` line is its opponent's. This holds at each moment of a match.
+/// States a law and does nothing: the `time` lines that an engine is sent show its own clock in centiseconds, rounded
+/// down, before its first move and after each of its moves, in order; the `otim` lines show its opponent's in the same
+/// way. This holds at each moment of a match.
 pub fn times_are_clocks()
     ensures own { InEachMatch TimesAreClocks }
     ensures others { InEachMatch OtherTimesAreClocks }
@@ -129,7 +130,8 @@ pub fn clocks_do_not_underflow()
 {}
 
 /// States a law and does nothing: a side loses on time, or draws against a bare king, exactly if its flag fell: at some
-/// moment of its turn, when a line had come or none yet, the clock showed more than it had left.
+/// moment of its turn, when a line had come or none yet, more time had passed since the opening of the turn than it had
+/// left.
 pub fn time_forfeits_are_shown()
     ensures { InEachMatch TimeForfeitsAreShown }
 {}
