@@ -362,8 +362,8 @@ abbrev pub SilencesAreAskedFor : Type 0
 SilencesAreAskedFor = (r : Rules) (H : List Act) (final : Match) → IsMatch r H final → r.patience ≡ endless
     → (list_any is_silent H ≡ false) × AreSilent (λ S n. false) H
 
--- whether the side `S`, whose line is awaited, is beyond its limit at this moment: before its move, if it used more
--- time than it had left; otherwise, if it owed its line for longer than the rules allow
+-- whether the side `S`, whose line is awaited, is beyond its limit at this moment: before its move, if more time had
+-- passed since the opening than it had left; otherwise, if it owed its line for longer than the rules allow
 abbrev pub is_beyond : Rules → Match → Phase → Colour → ℕ → Bool
 is_beyond r m (BeforeMove side opened) S moment = nat_lt (clock r m S) (moment - opened)
 is_beyond r m _ S moment =

@@ -60,7 +60,7 @@ pub record LinesSay : Type 0 where
 abbrev pub name_and_value : Item → List ℕ × List ℕ
 name_and_value i = (i.name, i.value.text)
 
--- the items of a `feature` line: none after `done=1`
+-- the items of a `feature` line, in an example: none after `done=1`
 abbrev pub ItemsAreRead : Type 0
 ItemsAreRead = map name_and_value
     (items_of (codes "ping=1 myname=\"Sjeng 11\" usermove=0 done=1 san=1"))
@@ -117,7 +117,7 @@ pub record LevelsGive : Type 0 where
   pub seconds : level_of (codes "0 0:60 0") ≡ None
   pub shown : level_text (record { moves = 0; base = 8500; increment = 100 }) ≡ codes "0 0:08.5 0.1"
   pub minutes_shown : level_text (record { moves = 40; base = 305000; increment = 2000 }) ≡ codes "40 5:05 2"
-  -- before the first move, after 39 moves, and after 40
+  -- the time given before the first move, after 39 moves, and after 40
   pub first : allotted forty_in_five 0 ≡ 300000
   pub last : allotted forty_in_five 39 ≡ 300000
   pub second : allotted forty_in_five 40 ≡ 600000

@@ -98,16 +98,17 @@ pub fn moves_are_sent_once()
     ensures opened { AtEachOpening IsSentAllMoves }
 {}
 
-/// States a law and does nothing: an engine of which a line is read was sent a move if and only if its opponent has
-/// moved. And a match ends in the state after all its acts.
+/// States a law and does nothing: whenever a line of an engine is read, it was sent a move if and only if its opponent
+/// has made one. And a match ends in the state after all its acts.
 pub fn moves_sent_are_known()
     ensures whole { AtEachLine MovesSentAreKnown }
     ensures after { InEachMatch EndsAfterItsActs }
 {}
 
 /// States a law and does nothing: the `time` lines that an engine is sent show its own clock in centiseconds, rounded
-/// down, before its first move and after each of its moves, in order; the `otim` lines show its opponent's in the same
-/// way. This holds at each moment of a match.
+/// down, before its first move and after each of its moves, in order; the `otim` lines show its opponent's, but before
+/// the opponent's first move only to the side that moves first. The last number may be unsent, and none is sent with
+/// `time=0`. This holds at each moment of a match.
 pub fn times_are_clocks()
     ensures own { InEachMatch TimesAreClocks }
     ensures others { InEachMatch OtherTimesAreClocks }
@@ -137,10 +138,10 @@ pub fn time_forfeits_are_shown()
 {}
 
 /// States a law and does nothing: a silence (a look for an engine's line that found none yet) ends the match exactly if
-/// this side was beyond its limit: before its move, if it used more time than it had left; otherwise, if it owed its
-/// line for longer than the rules allow. A silence within the limit changes nothing, except that the first one of a
-/// match may begin the time for a reply. If the rules let flags fall only with a line, and set no limit for replies,
-/// there are no silences.
+/// this side was beyond its limit: before its move, if more time had passed since the opening of its turn than it had
+/// left; otherwise, if it owed its line for longer than the rules allow. A silence within the limit changes nothing,
+/// except that the first one of a match may begin the time for a reply. If the rules let flags fall only with a line,
+/// and set no limit for replies, there are no silences.
 pub fn silences_end_matches()
     ensures asked_for { SilencesAreAskedFor }
     ensures beyond { SilencesEndMatches }
@@ -182,9 +183,10 @@ pub fn acts_are_in_order()
     ensures events { NothingIsDueAtEvents }
 {}
 
-/// States a law and does nothing: the lines that an engine is sent last before its `pong 1` set it up. Two examples are
-/// worked out: normal chess from the initial position, if the engine's own level is 40 moves in 5 minutes, and Chess960
-/// from any position, if it is 2 minutes and 12 seconds for each move.
+/// States a law and does nothing: whenever a line of an engine is read whose `pong 1` is awaited, the lines that it was
+/// sent last are those of its setup. This is said, byte by byte, of two cases: normal chess from the initial position,
+/// if the engine's own level is 40 moves in 5 minutes, and Chess960 from any position, if it is 2 minutes and 12
+/// seconds for each move.
 pub fn setups_are_these_lines()
     ensures { AtEachLine IsSetUp }
 {}
