@@ -1,4 +1,5 @@
--- The rows of `showmoves` and `showpgn`, whose answers are not put together with those of the other commands.
+-- The rows of `showmoves` and `showpgn`, whose answers are not put together with those of the other commands. Both only
+-- answer a text and keep the game, so the code may write the text after it has obeyed the line.
 use Rattle.std.proofs.Common.{◌≡◌, List, ℕ, true, false, not, if◌then◌else◌, codes, refl, sym, ap, ◌∙◌, arith}
 use Rattle.std.proofs.lemmas.Bool.{and_parts, not-true}
 use Rattle.chess_base.specs.MoveList.{moves}

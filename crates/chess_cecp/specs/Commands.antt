@@ -20,8 +20,8 @@ ignored_commands =
 unfoldable pub is_ignored : List ℕ → Bool
 is_ignored word = list_any (bytes_eq word) ignored_commands
 
--- the commands that are not ignored: each name, with the command of a line of this name with `argument` after it. A
--- number (of `ping`, `protover`) has 1 to 9 digits
+-- the commands that are not ignored: each name, with the command of a line of this name with `argument` after it.
+-- `usermove` needs an argument; a number (of `ping`, `protover`) has 1 to 9 digits
 abbrev pub commands : List ℕ → List (List ℕ × Command)
 commands argument =
     (codes "new", New) ∷ (codes "setboard", SetBoard)
@@ -32,8 +32,8 @@ commands argument =
     ∷ (codes "variant", Variant) ∷ (codes "go", Go) ∷ (codes "showfen", ShowFen) ∷ (codes "showmoves", ShowMoves)
     ∷ (codes "showstate", ShowState) ∷ (codes "showpgn", ShowPgn) ∷ (codes "quit", Quit) ∷ []
 
--- the command of a line with this first word and the argument after it; `None` if the word is no command's name, such
--- as `e2e4`
+-- the command of a line with this first word and the argument after it; `Silent` if the word is empty or an ignored
+-- command's name, `None` if it is no command's, such as `e2e4`
 unfoldable pub named_command : List ℕ → List ℕ → Option Command
 named_command word argument = if bytes_eq word [] || is_ignored word then Some Silent
     else option_map (λ c. c.1) (find (λ c. bytes_eq word c.0) (commands argument))

@@ -34,7 +34,8 @@ abbrev pub claims_text : Claims → List ℕ
 claims_text c = if c.threefold then (if c.fifty_moves then codes "threefold+50" else codes "threefold")
     else (if c.fifty_moves then codes "50" else codes "none")
 
--- what `showstate` writes after `# state ply`, as in `0 rep 1 clock 0 claims none verdict none declared none`
+-- what `showstate` writes after `# state ply`: half-moves, how often the position occurred, halfmove clock and so on,
+-- as in `0 rep 1 clock 0 claims none verdict none declared none`
 unfoldable pub state_text : State → List ℕ
 state_text s = decimal (length s.moves)
     ++ (codes " rep " ++ (decimal (repetition_count s.start s.moves)

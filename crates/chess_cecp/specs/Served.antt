@@ -10,8 +10,8 @@ use Rattle.chess_cecp.specs.declared.run.Fault.{Fault}
 use Rattle.chess_cecp.specs.declared.run.Fault.TheVariants.{Read, Write}
 use Rattle.chess_cecp.specs.declared.session.TheConstants.{COMMAND_LEN}
 
--- the lines in what was read (`i`). Bytes after the last `\n` are one only if the input's end was reported. One of more
--- than `COMMAND_LEN` (1,024) bytes is too long
+-- the lines in what was read (`i`). Bytes after the last `\n` are a line only if the input's end was reported. A line
+-- of more than `COMMAND_LEN` (1,024) bytes is too long
 abbrev pub lines_read : FromInput → List LineSeen
 lines_read i = stream_lines COMMAND_LEN i.ended i.text
 

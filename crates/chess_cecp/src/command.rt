@@ -1,4 +1,4 @@
-//! The commands of a line, by its first word.
+//! The command of a line, by its first word.
 
 ghost use Rattle.std.specs.Prelude.{◌≡◌, ◌+◌, ◌<◌, ◌≤◌, ◌++◌, length};
 ghost use Rattle.byte_devices.specs.Bytes.{is_blank};

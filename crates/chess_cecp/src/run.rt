@@ -60,7 +60,7 @@ pub trait LineServer {
     /// the server continues.
     ///
     /// # Errors
-    /// If a write or the flush fails. The change is kept, and a beginning of the answer was written.
+    /// If a write or the flush fails. The change is kept; of the answer nothing, a beginning or all was written.
     fn answer_line<W: Output>(
         &mut self,
         line: &Line<COMMAND_LEN>,
@@ -90,7 +90,8 @@ impl<B: Board> LineServer for Session<B> {
 ///
 /// # Errors
 /// If a call of the reader or of the writer fails. After a failed read all whole lines were answered; after a failed
-/// write the change of its line is kept, and a beginning of the answer was written.
+/// write or flush the change by the line then answered is kept, and of its answer nothing, a beginning or all was
+/// written.
 pub fn serve_lines<R: Input, W: Output, S: LineServer>(
     reader: &mut R,
     writer: &mut W,

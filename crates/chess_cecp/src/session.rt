@@ -77,8 +77,8 @@ impl<B: Board> Model for Session<B> {
 
 impl<B: Board + Drop> Session<B> {
     /// A session as it is after `new`: the initial position of normal chess, no moves, nothing declared. `board` and
-    /// `scratch` may be at any position; games are written with these tags, on `scratch`. All memory, for `limit`
-    /// half-moves, is allocated here.
+    /// `scratch` may be at any position; `showpgn` writes the game with these tags, and plays it again on `scratch`.
+    /// All memory, for `limit` half-moves, is allocated here.
     ///
     /// # Errors
     /// If memory runs out; what was allocated is freed, and the boards and the tags are dropped.
@@ -422,7 +422,7 @@ impl<B: Board> Session<B> {
     /// writer. Returns whether the session continues; only `quit` ends it.
     ///
     /// # Errors
-    /// If a write or the flush fails. The change is kept, and a beginning of the answer was written.
+    /// If a write or the flush fails. The change is kept; of the answer nothing, a beginning or all was written.
     pub fn answer<W: Output>(
         &mut self,
         line: &Line<COMMAND_LEN>,
@@ -434,7 +434,7 @@ impl<B: Board> Session<B> {
         ensures go { IfOk result
             (λ go. go ≡ (if (session_response self.old line.now).ends then Go.Quit else Go.On)) }
 
-        // In single facts, in addition to the table.
+        // Two facts that follow from the table: a refusal changes nothing, and tags and limit never change.
         ensures refused { IsRefusal (session_response self.old line.now).text → self.new ≡ self.old }
         ensures kept { (self.new.tags ≡ self.old.tags) × (self.new.limit ≡ self.old.limit) }
     {

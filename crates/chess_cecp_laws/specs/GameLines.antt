@@ -74,7 +74,7 @@ pub record ByTheGame (session : SessionSeen) : Type 0 where
       → IsAnswered session "usermove e4" "Illegal move (game over): e4\n"
   pub claim_after_end : is_over session.state ≡ true
       → IsAnswered session "claim" "Error (command not legal now): claim\n"
-  -- a game that has the most half-moves
+  -- a game with as many half-moves as the limit, or more
   pub too_long : is_over session.state ≡ false → session.limit ≤ length session.state.moves
       → IsAnswered session "usermove e4" "Error (game too long): e4\n"
   -- a game that is on, in which `e4` denotes a move that ends nothing, one that mates, several moves, or none
@@ -96,7 +96,7 @@ pub record ByTheGame (session : SessionSeen) : Type 0 where
       → IsAnswered session "remove" "Error (command not legal now): remove\n"
   pub remove : (m n : Move) → session.state.moves ≡ m ∷ n ∷ []
       → Becomes session "remove" (from_start session.state.start)
-  -- and one of three, of which the first stays
+  -- a game of three half-moves, of which the first stays
   pub remove_two : (m n o : Move) → session.state.moves ≡ m ∷ n ∷ o ∷ [] → Becomes session "remove"
       (record { start = session.state.start; moves = m ∷ []; declared = None })
   -- a game of Chess960, and one of normal chess
@@ -127,7 +127,7 @@ pub record ByTheGame (session : SessionSeen) : Type 0 where
   pub fifty_moves : is_over session.state ≡ false
       → draw_claim (claims session.state.start session.state.moves) ≡ Some FiftyMoves
       → Declares session "claim" "1/2-1/2 {50-move rule}\n" Draw "50-move rule"
-  -- a game without a verdict, with the same one, and with others
+  -- a game without a verdict, with a verdict of the same outcome, and with those of others
   pub new_result : verdict_now session.state ≡ None
       → Declares session "result 1-0 {Black resigns}" "" WhiteWins "Black resigns"
   pub same_result : verdict_now session.state ≡ Some WhiteMates
@@ -165,7 +165,7 @@ BareMovesAreMoves = (session : SessionSeen) (bare named : LineSeen) → bare.too
 
 -- ---- draws that can be claimed
 
--- `showstate` shows by this text which draws can be claimed
+-- if these draws can be claimed, `showstate` writes this text after `claims`
 abbrev pub AreShown : (threefold fifty_moves : Bool) → Text → Type 0
 AreShown threefold fifty_moves text =
     claims_text (record { threefold = threefold; fifty_moves = fifty_moves }) ≡ codes text

@@ -1,6 +1,6 @@
 -- The table of commands for normal chess only. Nothing here takes a variant: positions, FENs, moves and games are those
--- of NormalGame, NormalPgn, and the files Normal of other crates. With Chess960 only `variant` and `protover` have
--- other rows.
+-- of NormalGame, NormalPgn, and the files Normal of other crates. Where a session plays Chess960 too, only the rows of
+-- `variant` and `protover` differ.
 use Rattle.std.specs.Prelude.{ℕ, nat_le, nat_lt, Bool, true, false, if◌then◌else◌, List, [], ◌∷◌, ◌++◌, length, codes, decimal, Option, None, Some, Result, Ok, Err}
 use Rattle.std.specs.List.{flat_map}
 use Rattle.std.specs.Option.{option_map_or}
@@ -34,7 +34,7 @@ normal_becomes_judged s =
     says s (option_map_or (λ v. result_text (verdict_result v) ++ new_line ∷ []) (normal_verdict_now s) [])
 
 -- the answer to `setboard`, by how its FEN was read: a game begins at that position, and the answer is the verdict on
--- it, if it has one; or the FEN's fault is
+-- it, if it has one; or the answer names the FEN's fault
 abbrev pub normal_setboard_row : State → Result Setup FenFault → Response State
 normal_setboard_row s (Ok start) = normal_becomes_judged (from_start start)
 normal_setboard_row s (Err fault) =
@@ -54,8 +54,8 @@ normal_move_row limit s text =
     else if nat_le limit (length s.moves) then answers s (codes "Error (game too long): ") text
     else normal_reading_row s text (normal_reading (normal_current s) text)
 
--- the answer to `result` (`text` is the whole line): what its argument declares is declared; refused if that is
--- nothing, or the board has a verdict with another outcome
+-- the answer to `result` (`text` is the whole line): the result that its argument declares replaces any earlier one;
+-- refused if there is none, or the board has a verdict with another outcome
 abbrev pub normal_result_row : State → List ℕ → Option Declared → Response State
 normal_result_row s text None = answers s (codes "Error (bad result): ") text
 normal_result_row s text (Some d) =
@@ -63,7 +63,8 @@ normal_result_row s text (Some d) =
     then answers s (codes "Error (the board says otherwise): ") text
     else becomes (record s { declared = Some d })
 
--- the answer to `claim` in the game `s`: a draw, if the game is not over and one can be claimed
+-- the answer to `claim` in the game `s`: a draw is declared, if the game is not over and one can be claimed; otherwise
+-- refused
 abbrev pub normal_claim_row : State → Response State
 normal_claim_row s =
     if normal_is_over s then answers s (codes "Error (command not legal now): ") (codes "claim")

@@ -16,8 +16,8 @@ use Rattle.chess_cecp.specs.Session.{session_response}
 
 -- ---- words that no command has
 
--- the first words of all lines that a session knows: that of an empty line, of those that it ignores, since they
--- concern an engine that plays, and of its commands
+-- the first words that a session knows: the empty one, of an empty line; the commands that it ignores, since they
+-- concern an engine that plays; and its other commands
 abbrev pub known_words : List (List ℕ)
 known_words =
     [] ∷ codes "xboard" ∷ codes "accepted" ∷ codes "rejected" ∷ codes "force" ∷ codes "random" ∷ codes "hard"
@@ -56,7 +56,7 @@ pub record IsAnswered (session : SessionSeen) (line answer : Text) : Type 0 wher
 abbrev pub IsIgnored : SessionSeen → Text → Type 0
 IsIgnored session line = IsAnswered session line ""
 
--- this line gets no answer, and the game is `s` then
+-- this line gets no answer, and then the session's game is `s`
 pub record Becomes (session : SessionSeen) (line : Text) (s : State) : Type 0 where
   pub text : (response_to session line).text ≡ []
   pub state : (response_to session line).state ≡ record session { state = s }
@@ -89,12 +89,12 @@ pub record LinesAreAnswered (session : SessionSeen) : Type 0 where
   -- `usermove` without a move
   pub no_move : IsAnswered session "usermove" "Error (unknown command): usermove\n"
   pub go : IsAnswered session "go" "Error (the arbiter plays no side): go\n"
-  -- what follows it means nothing, and is not shown
+  -- what follows `go` means nothing, and is not shown
   pub go_now : IsAnswered session "go now" "Error (the arbiter plays no side): go\n"
   pub no_result : IsAnswered session "result 2-0" "Error (bad result): result 2-0\n"
   -- a comment on a result has braces
   pub no_braces : IsAnswered session "result 1-0 Black resigns" "Error (bad result): result 1-0 Black resigns\n"
-  -- and nothing after them
+  -- nothing may follow the braces
   pub after_braces : IsAnswered session "result 1-0 {x} y" "Error (bad result): result 1-0 {x} y\n"
   pub no_variant : IsAnswered session "variant suicide" "Error (unsupported variant): variant suicide\n"
   pub new : Becomes session "new" (from_start initial_setup)
@@ -113,7 +113,8 @@ SessionLinesAreAnswered = (session : SessionSeen) → LinesAreAnswered session
 
 -- ---- lines of an input
 
--- the texts of the lines of an input that has ended, and that gave these bytes; a line of more than nine is too long
+-- the texts of the lines of an input that has ended, and that gave these bytes; a line of more than nine bytes is too
+-- long
 abbrev pub texts_of : List ℕ → List (List ℕ)
 texts_of bytes = map (λ (line : LineSeen). line.text) (stream_lines 9 true bytes)
 
@@ -122,7 +123,7 @@ pub record LinesAreCut : Type 0 where
   -- a line's text is without a `\r` at its end, and then without spaces and tabs at both ends
   pub trimmed : texts_of (codes " go" ++ carriage_return ∷ new_line ∷ tab ∷ codes "ping 7 \n\nquit\n")
       ≡ codes "go" ∷ codes "ping 7" ∷ [] ∷ codes "quit" ∷ []
-  -- a `\r` before a space is not at the line's end
+  -- a `\r` before a space is not at the line's end, so it stays
   pub returns : texts_of (codes "go \r\nquit\r \n") ≡ codes "go" ∷ codes "quit\r" ∷ []
   -- what follows the last `\n` is a line only if the input has ended
   pub last : texts_of (codes "go\nquit") ≡ codes "go" ∷ codes "quit" ∷ []

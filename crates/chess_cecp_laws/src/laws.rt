@@ -1,6 +1,6 @@
-//! Laws of sessions and of servers of lines: that a refusal changes nothing, that normal chess keeps its own table of
-//! commands, that reads change no answer, and that games which chess_pgn reads are accepted. A caller learns one by
-//! calling its function, which does nothing.
+//! Laws of sessions and of servers of lines: that a refusal changes nothing, that in normal chess the commands do what
+//! a table for normal chess only says, that no answer depends on how reads cut the bytes, and that games which
+//! chess_pgn reads are accepted. A caller learns one by calling its function, which does nothing.
 
 ghost use Rattle.std.specs.Prelude.{◌≡◌, ℕ, true, List, Ok};
 ghost use Rattle.byte_devices.specs.Transfers.{Devices, FromInput, InputGave, Ran};

@@ -1,8 +1,8 @@
 //! Laws of sessions: that games which chess_pgn reads are accepted, that a move is taken back, that a position that was
-//! shown is set again, what some lines are answered, that a refusal changes nothing, that normal chess keeps its own
-//! table of commands, and that no answer depends on how reads cut the bytes. Each is the contract of a function that
-//! does nothing. They are in a crate of their own so that no program waits for their proofs, and no session for the
-//! reader of games.
+//! shown is set again, what some lines are answered, that a refusal changes nothing, that in normal chess the commands
+//! do what a table for normal chess only says, and that no answer depends on how reads cut the bytes. Each is the
+//! contract of a function that does nothing. They are in a crate of their own so that no program waits for their
+//! proofs, and no session for the reader of games.
 #![tactic(auto)]
 
 mod game;

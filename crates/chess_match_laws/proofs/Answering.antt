@@ -1,6 +1,6 @@
--- An engine that answers has no fault, and loses only by mate. By induction over the acts (`clean_at_end`): a line that
--- is expected of S (`own_line`), any line of the other side (`other_line`) and any silence leave the match on, or end
--- it for a reason for which S is not to blame (`clean`).
+-- An engine that answers has no fault, and loses only by mate. By induction over the acts (`clean_at_end`), for the
+-- side S of that engine: a line that is expected of S (`own_line`), any line of the other side (`other_line`) and any
+-- silence leave the match on, or end it for a reason for which S is not to blame (`clean`).
 use Rattle.std.proofs.Common.{◌≡◌, ◌⊎◌, inl, inr, ℕ, suc, ◌+◌, ◌-◌, ◌<◌, Bool, true, false, not, List, [], ◌∷◌, ◌++◌, length, refl, ap, sym, ◌∙◌, subst, Option, None, Some, arith, if◌then◌else◌, nat_le, nat_lt, unwrap_or, ◌==◌}
 use Rattle.std.specs.{List.list_any, Option.option_map, Option.option_map_or}
 use Rattle.std.proofs.{lemmas.Bool.or_parts, lemmas.Bool.Decides.nat_tests}

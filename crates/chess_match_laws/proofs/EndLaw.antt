@@ -1,5 +1,6 @@
--- No move is made after a verdict or a draw that needs no claim, and none beyond the limit. The invariant (`Goes`),
--- which each act keeps, says so of the moves so far, and in a turn also that the next may be made.
+-- No move is made after a verdict, none beyond the limit, and where draws are automatic none once a draw may be
+-- claimed. The invariant (`Goes`), which each act keeps, says so of the moves so far, and in a turn also that the next
+-- may be made.
 use Rattle.std.proofs.Common.{◌≡◌, ◌∙◌, ℕ, ◌+◌, ◌≤◌, ◌<◌, Bool, true, false, List, [], ◌∷◌, ◌++◌, length, length-append, take, refl, sym, ap, subst, None, arith, nat_lt}
 use Rattle.std.proofs.{Math.Seq.take-append_seam, lemmas.Bool.Decides.nat_tests, lemmas.List.take-append-le}
 use Rattle.chess_base.specs.{declared.man.Colour.Colour, declared.man.Colour.TheVariants.White, declared.man.Move.Move}

@@ -1,5 +1,6 @@
 -- A match that a side lost by a line of its own (`whose_line`) ended with a line of that side: a line can end a match
--- so only for the side that sent it (`line_theirs`), and after the end only blocks are sent.
+-- so only for the side that sent it (`line_theirs`), and after the end only blocks are sent. By induction over the
+-- acts.
 use Rattle.std.proofs.Common.{◌≡◌, ℕ, Bool, true, false, List, [], ◌∷◌, ◌++◌, refl, ap, sym, ◌∙◌, Option, None, Some}
 use Rattle.chess_base.specs.declared.man.Colour.{Colour}
 use Rattle.cecp_engine.specs.EngineLines.{LineKind}

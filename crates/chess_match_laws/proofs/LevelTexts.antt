@@ -1,5 +1,5 @@
 -- What is written of a level is parsed as that level: its three words have neither spaces nor tabs, and each is parsed
--- as the number that it was written for.
+-- as the number (of moves, or milliseconds) that it was written for.
 use Rattle.std.proofs.Common.{◌≡◌, ℕ, suc, ◌+◌, ◌*◌, ◌/◌, ◌%◌, ◌<◌, ◌≤◌, Bool, true, false, eqb, ltb, leb, List, [], ◌∷◌, ◌++◌, length, take, drop, Some, refl, sym, ap, ◌∙◌, arith, rules, decimal, ◌==◌, append-nil, length-append, take_all}
 use Rattle.std.specs.{List.list_all, List.position_or_len, Char.digit_value, Str.Parse.digits_value}
 use Rattle.std.proofs.{lemmas.Bool.and_parts, lemmas.Bool.Decides.nat_tests, lemmas.Str.Parse.IsNumeralModel, lemmas.Str.Parse.numerals_by_value, lemmas.Str.digit_value_digit}

@@ -1,5 +1,5 @@
--- The moves of a match are read off the two engines' lines. Going back from the end (`ReadsOff`): the moves to come are
--- what the `move` lines to come denote in turn.
+-- The moves of a match are read off the two engines' lines. By induction over the acts, back from the end (`ReadsOff`):
+-- the moves to come are what the `move` lines to come denote in turn.
 use Rattle.std.proofs.Common.{◌≡◌, ℕ, ◌+◌, ◌-◌, ◌≤◌, true, false, List, [], ◌∷◌, ◌++◌, length, refl, ap, sym, subst, ◌∙◌, append-nil, append_assoc, Option, arith}
 use Rattle.std.specs.List.{list_any}
 use Rattle.chess_base.specs.{declared.man.Colour.Colour, declared.man.Colour.TheVariants.White, declared.man.Colour.TheVariants.Black, declared.man.Move.Move, Men.other, Men.same_colour, Options.list_if}

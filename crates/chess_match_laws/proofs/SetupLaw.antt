@@ -1,5 +1,5 @@
 -- While the `pong 1` of a side is awaited, the lines that it was sent last are those of its setup (`Told`, which each
--- event keeps); and the bytes of these lines for two examples, worked out.
+-- event keeps); and for two examples the bytes of these lines are computed.
 use Rattle.std.proofs.Common.{◌≡◌, ◌∙◌, ℕ, eqb, arith, Bool, true, false, not, ◌&&◌, None, Some, List, [], ◌∷◌, ◌++◌, refl, sym, ap, subst, append-nil, append_assoc, Option, bytes_eq, flat_map, codes, if◌then◌else◌}
 use Rattle.std.proofs.lemmas.Bool.Decides.{nat_tests}
 use Rattle.std.specs.{Option.option_map_or, Fmt.digits}

@@ -51,7 +51,8 @@ pub data IsDue (r : Rules) (S : Colour) (before : List Act) (m : Match) : LineKi
   to_turn : {text : List ℕ} {moment opened : ℕ} {made : Move} → m.phase ≡ BeforeMove S opened
       → reading (position_after r.start m.played) text ≡ reads.Move made → moment - opened ≤ clock r m S
       → IsDue r S before m (Moves text) moment
-  -- a line that means nothing, of fewer than 1,000 (in the handshake together with others); in its turn also in time
+  -- a line that means nothing, such as thinking: with it fewer than 1,000 were ignored in this setup or turn, or read
+  -- in this handshake; before its move it also comes in time
   idle : {moment : ℕ} → m.count + 1 < 1000
       → ((opened : ℕ) → m.phase ≡ BeforeMove S opened → moment - opened ≤ clock r m S)
       → IsDue r S before m SaysElse moment
@@ -62,7 +63,7 @@ pub record AnswersAll (r : Rules) (S : Colour) (H : List Act) : Type 0 where
   pub lines : (before after : List Act) (text : Option (List ℕ)) (moment : ℕ)
       → H ≡ before ++ Happens (Line S text moment) ∷ after
       → IsDue r S before (match_after r beginning.after before) (line_kind text) moment
-  -- whenever no line of it had come yet, it was still in time
+  -- at each silence of it (no line had come yet) it was within its limit
   pub waits : (before after : List Act) (moment : ℕ) → H ≡ before ++ Happens (Silent S moment) ∷ after
       → let m = match_after r beginning.after before in is_beyond r m m.phase S moment ≡ false
   -- its output did not end, and no read or write failed

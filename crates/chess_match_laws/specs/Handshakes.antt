@@ -22,8 +22,8 @@ name_answered (Says text) =
     (drop 9 text ∷ [])
 name_answered _ = []
 
--- the side `S` was sent an answer to each item of its `feature` lines, in order, by the item's name (one that could not
--- be sent counts)
+-- the side `S` was sent an answer to each item of its `feature` lines, in order, by the item's name (an answer that
+-- could not be sent counts)
 abbrev pub ItemsAreAnswered : Rules → Colour → List Act → Match → Type 0
 ItemsAreAnswered r S H m =
     flat_map name_answered (lines_given S H) ≡ map (λ i. i.name) (items_said (lines_read S H))

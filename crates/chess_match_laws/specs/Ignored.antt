@@ -11,7 +11,7 @@ use Rattle.chess_match.specs.declared.reason.Reason.TheVariants.{Faulted}
 use Rattle.chess_match.specs.laws.Laws.{is_pong, line_kind}
 
 -- a line, which did `done`, left phase, moves and seats of the match `m` as they were, and nothing was sent; one more
--- line was ignored. From when a reply is awaited (`since`) may change
+-- line was ignored. The moment since which a reply is awaited (`since`) may change
 pub record ChangesNothing (m : Match) (done : Effect) : Type 0 where
   pub phase : done.after.phase ≡ m.phase
   pub played : done.after.played ≡ m.played
@@ -34,16 +34,16 @@ is_talk _ = false
 
 -- which lines of the side `S` are ignored in the match `m`
 pub record OthersAreIgnored (r : Rules) (m : Match) (S : Colour) (text : Option (List ℕ)) (moment : ℕ) : Type 0 where
-  -- in a setup each line but `pong 1`
+  -- in its setup: each line but `pong 1`
   pub setup : m.phase ≡ Setup S → is_pong 1 (line_kind text) ≡ false
       → IsIgnored S m (effect r m (Line S text moment))
-  -- before a move talk, in time
+  -- before its move, in time: talk (`is_talk`)
   pub before : (opened : ℕ) → m.phase ≡ BeforeMove S opened → moment - opened ≤ clock r m S
       → is_talk (line_kind text) ≡ true → IsIgnored S m (effect r m (Line S text moment))
-  -- `Illegal move` in a turn before which the other side made no move
+  -- and `Illegal move`, if the other side has made no move
   pub rejects : (opened : ℕ) → m.phase ≡ BeforeMove S opened → moment - opened ≤ clock r m S
       → line_kind text ≡ Rejects → (m.seat (other S)).used ≡ [] → IsIgnored S m (effect r m (Line S text moment))
-  -- after a move any other line, and each `pong` whose number is not one more than that of the moves made
+  -- after its move: lines of no known kind, and each `pong` whose number is not one more than the number of its moves
   pub after : m.phase ≡ AfterMove S → line_kind text ≡ SaysElse → IsIgnored S m (effect r m (Line S text moment))
   pub pongs : (n : ℕ) → m.phase ≡ AfterMove S → line_kind text ≡ Answers n
       → (n == length (m.seat S).used + 1) ≡ false → IsIgnored S m (effect r m (Line S text moment))

@@ -1,6 +1,6 @@
 -- Laws of the acts of a match, `H` in order: each sends an engine a block of lines, or reads an event, such as a line
--- (`Act`). Sent lines are `lines_sent`, or `lines_given`, with those of a block that could not be sent. Notes are what
--- a witness, such as the log, is given.
+-- (`Act`). `lines_sent` are the lines that were sent, `lines_given` these and those of blocks that could not be sent.
+-- Notes are what a witness, such as the log, is given.
 use Rattle.std.specs.Prelude.{◌≡◌, ◌<◌, ◌≤◌, ◌+◌, ◌-◌, ◌*◌, ◌^◌, ◌&&◌, ◌⊎◌, ℕ, Bool, true, false, if◌then◌else◌, List, [], ◌∷◌, ◌++◌, length, drop, take, nat_lt, sum, codes, slice_get, Option, None, Some, is_some, unwrap_or}
 use Rattle.std.specs.List.{flat_map, fold, list_any}
 use Rattle.std.specs.Option.{IfSome, option_map_or}
@@ -88,7 +88,8 @@ LinesAreReadInOrder = (r : Rules) (reason : Reason) (m : Match) (H : List Act) (
     → (moment : ℕ) × (rest : List Step)
     × (after ≡ ReadsClock S moment ∷ Notes (Happened (Line S text moment)) ∷ rest)
 
--- the same for a silence: after a look that found no line, the clock is read, and the silence noted
+-- in the steps of any acts: after a look that found no line, the next steps are to read the clock for that side and to
+-- note the silence with the moment that it showed
 abbrev pub SilencesAreReadInOrder : Type 0
 SilencesAreReadInOrder = (r : Rules) (reason : Reason) (m : Match) (H : List Act) (before after : List Step)
     (S : Colour) → watched r reason m H ≡ before ++ FindsNoLine S ∷ after
@@ -140,7 +141,7 @@ pub record ReadFrom (s : Streams) (H : List Act) : Type 0 where
   pub lines : (S : Colour) → (rest : List (Option (List ℕ))) × (s.lines S ≡ lines_read S H ++ rest)
   -- an output that ended gave all its lines
   pub ends : (S : Colour) → has_ended S H ≡ true → (s.lines S ≡ lines_read S H) × (s.fails S ≡ false)
-  -- so did one of which a read failed
+  -- an output of which a read failed gave all its lines, too
   pub failures : (S : Colour) → has_failed_read S H ≡ true → (s.lines S ≡ lines_read S H) × (s.fails S ≡ true)
   pub silences : AreSilent s.silent H
   -- the reading n of the clock shows `s.moments n`
@@ -190,8 +191,8 @@ pub record ShowsAll (w w' : World) : Type 0 where
 abbrev pub endless : Patience
 endless = record { flag = false; reply = None }
 
--- in the acts `H` and `K` the same looks for a line found none yet, or the rules set no limit to waiting (then none
--- does: `SilencesAreAskedFor`)
+-- in the acts `H` and `K` the same looks for a line found none yet, or the rules set no limit to waiting (then no act
+-- is a silence)
 abbrev pub HaveSameSilences : Rules → List Act → List Act → Type 0
 HaveSameSilences r H K =
     (r.patience ≡ endless) ⊎ ((silent : Colour → ℕ → Bool) × AreSilent silent H × AreSilent silent K)
@@ -249,8 +250,8 @@ MovesAreRead r H m =
 abbrev pub ItemsAreSaid : Rules → List Act → Match → Type 0
 ItemsAreSaid r H m = (S : Colour) → (m.seat S).items ≡ items_said (lines_read S H)
 
--- what the side `O` is to be sent of a game's moves `ms`: the other side's, in SAN if its engine has `san` on by these
--- items, otherwise by squares
+-- what the side `O` is to be sent of a game's moves `ms`: the other side's, in SAN if the engine of `O` has `san` on by
+-- these items, otherwise by squares
 abbrev pub others_moves : Rules → Colour → List Item → List Move → List (List ℕ)
 others_moves r O items ms = texts_from r (takes (codes "san") items) (other O) r.start.side [] ms
 
@@ -299,7 +300,7 @@ GamesAreLines = (start : Position) (level : Colour → LevelSeen) (patience : Pa
     (final : Match) → IsMatch (rules_of start level patience draws limit) H final → IsLine start final.played
 
 -- the match has no more half-moves than the limit, none after a verdict of the board, and where draws are automatic
--- none after one that may be claimed
+-- none once a draw may be claimed
 abbrev pub EndsAtVerdicts : Rules → List Act → Match → Type 0
 EndsAtVerdicts r H m = (length m.played ≤ r.limit)
     × ((k : ℕ) → k < length m.played → verdict r.start (take k m.played) ≡ None)
@@ -361,8 +362,8 @@ abbrev pub SilencesAreAskedFor : Type 0
 SilencesAreAskedFor = (r : Rules) (H : List Act) (final : Match) → IsMatch r H final → r.patience ≡ endless
     → (list_any is_silent H ≡ false) × AreSilent (λ S n. false) H
 
--- whether the side `S`, whose line is awaited, is beyond its limit at this moment: before its move, if it used more
--- time than it had left; otherwise, if it owed its line for longer than the rules allow
+-- whether the side `S`, whose line is awaited, is beyond its limit at this moment: before its move, if more time had
+-- passed since the opening than it had left; otherwise, if it owed its line for longer than the rules allow
 abbrev pub is_beyond : Rules → Match → Phase → Colour → ℕ → Bool
 is_beyond r m (BeforeMove side opened) S moment = nat_lt (clock r m S) (moment - opened)
 is_beyond r m _ S moment =
@@ -393,7 +394,7 @@ SilencesLeaveNoLine = (before after : List Act) (S : Colour) (moment : ℕ) (rea
     → (i : FromInput) × InputGave (w.engines S).input (w'.engines S).input i × (engine_lines i.text ≡ lines_read S H)
 
 -- whether this act shows the flag of the side `S` fallen, in a match that is `m` before it: before the move of `S` a
--- line came, or none yet, and the clock showed more than `S` had left
+-- line came, or none yet, and since the opening more time had passed than `S` had left
 abbrev pub shows_fallen : Rules → Match → Phase → Colour → Act → Bool
 shows_fallen r m (BeforeMove side opened) S (Happens (Line c text moment)) =
     same_colour side S && nat_lt (clock r m S) (moment - opened)

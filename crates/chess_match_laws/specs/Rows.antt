@@ -32,15 +32,15 @@ abbrev pub chess960_setup : Position → List ℕ
 chess960_setup start =
     codes "new\nvariant fischerandom\nlevel 0 2 12\nnopost\neasy\nforce\nsetboard " ++ fen start ++ codes "\nping 1\n"
 
--- the bytes `sent` end in the setup of the side `S`, for normal chess from the initial position with `level 40 5 0`,
--- and for Chess960 with `level 0 2 12`
+-- the bytes `sent` end in the setup of the side `S`, in two cases: normal chess from the initial position with
+-- `level 40 5 0`, and Chess960 with `level 0 2 12`
 pub record SetUpBy (r : Rules) (S : Colour) (sent : List ℕ) : Type 0 where
   pub normal : r.start ≡ initial_setup → r.level S ≡ record { moves = 40; base = 300000; increment = 0 }
       → (before : List ℕ) × (sent ≡ before ++ normal_setup)
   pub chess960 : r.start.variant ≡ Fischerandom → r.level S ≡ record { moves = 0; base = 120000; increment = 12000 }
       → (before : List ℕ) × (sent ≡ before ++ chess960_setup r.start)
 
--- while the side `S` owes `pong 1`, its setup is what it was sent last
+-- while the side `S` owes `pong 1`, its setup is what it was sent last (`SetUpBy`)
 abbrev pub IsSetUp : Rules → Colour → List Act → Match → Type 0
 IsSetUp r S H m = m.phase ≡ Setup S → SetUpBy r S (bytes_of (lines_given S H))
 
@@ -107,11 +107,11 @@ is_move_of S _ = false
 -- a draw was agreed by these acts: the other side offered it, and then `side` did too, by the match's last line. In
 -- between `side` made no move, by which the offer would have lapsed
 pub record IsAgreed (H : List Act) : Type 0 where
-  -- the side that answers
+  -- the side that offered last
   pub side : Colour
   pub before : List Act
   pub offer : Option (List ℕ)
-  -- the moment after that line
+  -- the clock's moment after the other side's offer
   pub offered_at : ℕ
   pub between : List Act
   pub answer : Option (List ℕ)

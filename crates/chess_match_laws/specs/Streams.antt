@@ -134,8 +134,8 @@ items_said (l ∷ ls) =
 
 -- ---- clocks
 
--- a side's clock in centiseconds, rounded down: before the first of its moves that took these milliseconds, and after
--- each of them. `k` moves came before, which took `spent` milliseconds in all
+-- a side's clock in centiseconds, rounded down: before the first and after each of its moves, given by the milliseconds
+-- that they took. Before these it made `k` moves, which took `spent` milliseconds in all
 abbrev pub centiseconds : LevelSeen → ℕ → ℕ → List ℕ → List ℕ
 centiseconds level k spent [] = (allotted level k - spent) / 10 ∷ []
 centiseconds level k spent (u ∷ us) = (allotted level k - spent) / 10 ∷ centiseconds level (k + 1) (spent + u) us

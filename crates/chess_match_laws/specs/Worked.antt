@@ -60,7 +60,7 @@ pub record LinesSay : Type 0 where
 abbrev pub name_and_value : Item → List ℕ × List ℕ
 name_and_value i = (i.name, i.value.text)
 
--- the items of a `feature` line: none after `done=1`
+-- the items of a `feature` line, in an example: none after `done=1`
 abbrev pub ItemsAreRead : Type 0
 ItemsAreRead = map name_and_value
     (items_of (codes "ping=1 myname=\"Sjeng 11\" usermove=0 done=1 san=1"))
@@ -117,7 +117,7 @@ pub record LevelsGive : Type 0 where
   pub seconds : level_of (codes "0 0:60 0") ≡ None
   pub shown : level_text (record { moves = 0; base = 8500; increment = 100 }) ≡ codes "0 0:08.5 0.1"
   pub minutes_shown : level_text (record { moves = 40; base = 305000; increment = 2000 }) ≡ codes "40 5:05 2"
-  -- before the first move, after 39 moves, and after 40
+  -- the time given before the first move, after 39 moves, and after 40
   pub first : allotted forty_in_five 0 ≡ 300000
   pub last : allotted forty_in_five 39 ≡ 300000
   pub second : allotted forty_in_five 40 ≡ 600000
@@ -223,7 +223,7 @@ pub record LinesAreSent : Type 0 where
 abbrev pub is_bare : List (Option Man) → Bool
 is_bare men = has_bare_king White men
 
--- bare kings, whatever the other side has, and others
+-- a king is bare if its side has no other piece, whatever the other side has
 pub record KingsAreBare : Type 0 where
   pub king : is_bare (man_of White King ∷ None ∷ man_of Black King ∷ man_of Black Queen ∷ []) ≡ true
   pub queen : is_bare (man_of White King ∷ man_of White Queen ∷ man_of Black King ∷ []) ≡ false
@@ -234,7 +234,7 @@ pub record KingsAreBare : Type 0 where
 
 -- ---- ends
 
--- who wins, by the match's end
+-- who wins, by the reason why the match ended
 pub record LosersLose : Type 0 where
   pub white_resigns : outcome_by_reason (over_by.Resigns White) ≡ BlackWins
   pub black_resigns : outcome_by_reason (over_by.Resigns Black) ≡ WhiteWins
@@ -255,7 +255,7 @@ pub record LosersLose : Type 0 where
   pub too_long : outcome_by_reason GameTooLong ≡ Unfinished
   pub faults : (c : Colour) (fault : MatchFault) → outcome_by_reason (Faulted c fault) ≡ Unfinished
 
--- the kind of end for the tag Termination: whoever breaks a rule loses by that, and not in the normal way
+-- the kind of end for the tag Termination: a side broke a rule, its time ran out, or neither (normal)
 pub record EndsAreOfKinds : Type 0 where
   pub errs : (c : Colour) → ended_by (MovesIllegally c) ≡ how.RulesInfraction
   pub moves_twice : (c : Colour) → ended_by (MovesOutOfTurn c) ≡ how.RulesInfraction
@@ -268,7 +268,7 @@ pub record EndsAreOfKinds : Type 0 where
   pub decided : (v : Verdict) → ended_by (over_by.Decided v) ≡ how.Normal
   pub claimed : (claim : DrawClaim) → ended_by (over_by.Claimed claim) ≡ how.Normal
 
--- which fault is reported, and of which side, by whether writing each side's last lines failed
+-- which fault is reported, and of which side, by why the match ended and whether writing each side's last lines failed
 pub record FaultsAreReported : Type 0 where
   pub ending : reported_fault (Faulted Black Flood) (λ S. true) ≡ Some (Black, Flood)
   pub both_unwritten : reported_fault Agreed (λ S. true) ≡ Some (White, Write)

@@ -19,7 +19,7 @@ use Rattle.chess_match.specs.declared.reason.MatchFault.TheVariants.{NoAnswer, N
 use Rattle.chess_match.specs.declared.reason.Reason.TheVariants as over_by
 use Rattle.chess_match_laws.specs.Worked.{AreSentAs, after_e4, e4, seat_of, worked_rules}
 
--- a match in this phase, before any move; at the moment 2,000 came the last line that counted
+-- a match in this phase, before any move; a reply is awaited since the moment 2,000
 abbrev pub match_in : Phase → Match
 match_in phase = record {
   phase = phase;
@@ -50,9 +50,9 @@ pub record ClaimsAreJudged : Type 0 where
   -- one that rejects the move that it was sent, which was legal, loses
   pub rejects : (by_line (record after_e4 { phase = BeforeMove Black 1000 }) Black "Illegal move: e2e4").after.phase
       ≡ Over (over_by.RejectsLegalMove Black)
-  -- White was sent none yet, so its line is ignored
+  -- White was sent no move yet, so its line is ignored
   pub rejects_nothing : (by_line after_e4 White "Illegal move: e2e4").after.phase ≡ AfterMove White
-  -- also once it has moved
+  -- a side's claim is judged so also once it has moved
   pub claims_later : phase_after (AfterMove White) White "1-0 {White mates}" ≡ Over (over_by.ClaimsFalsely White)
   pub gives_in_later : phase_after (AfterMove Black) Black "1-0 {Black resigns}" ≡ Over (over_by.Resigns Black)
 
@@ -64,7 +64,7 @@ offered_by white black = record (match_in (BeforeMove White 1000)) {
   seat = by_colour (record (seat_of "ping=1" []) { offers = white }) (record (seat_of "ping=1" []) { offers = black });
 }
 
--- Black is then sent this text
+-- by this effect Black is sent this text
 abbrev pub SendsBlack : Effect → Text → Type 0
 SendsBlack e text = AreSentAs (e.to Black) text
 
@@ -210,8 +210,8 @@ pub record EndLinesAreSent : Type 0 where
   -- a side to which writing failed is sent nothing more
   pub broken_off : AreSentAs (broken.to Black) ""
   pub others : AreSentAs (broken.to White) "result * {Black can not be written}\nquit\n"
-  -- if the start ends the game, that is the result, also after a fault
+  -- if the start position ends the game, its outcome is the result, also after a fault
   pub stalemate : sent_at_fault "7k/5Q2/6K1/8/8/8/8/8 b - - 0 1" ≡ Some (codes "result 1/2-1/2 {Stalemate}\nquit\n")
-  -- the end is sent to White first; before it, the side whose line came is sent its block first
+  -- the end is sent to White first; before the end, the side whose line came is sent its block first
   pub at_the_end : sides_due (match_in (BeforeMove Black 1000)) Black "resign" ≡ White ∷ Black ∷ []
   pub before_it : sides_due (match_in (Handshake Black)) Black "feature ping=1 done=1" ≡ Black ∷ White ∷ []

@@ -1,5 +1,5 @@
-//! Laws of matches, said of their acts: a block of lines that an engine is sent, or an event that is read, such as an
-//! engine's line and the clock. A caller learns one by calling its function, which does nothing.
+//! Laws of matches, said of their acts. An act is that the arbiter sends an engine a block of lines, or reads an event,
+//! such as an engine's line (and then the clock). A caller learns one by calling its function, which does nothing.
 
 ghost use Rattle.std.specs.Prelude.{true, false};
 ghost use Rattle.chess_match_laws.specs.Answering.{AnsweringEnginesAreBlameless};
@@ -13,8 +13,8 @@ use chess_text::read_moves_are_legal;
 /// the same, act by act, if engines and clock give the same lines, ends and moments, the same looks for a line found
 /// none yet, and to each engine sending fails after the same number of blocks, or never. If neither ended by a failed
 /// write, their events and their ends are the same, whichever end lines (`result ..`, `quit`) could be sent. And two
-/// matches of one run are the same, act by act, if everything is known about its devices, and the same looks found
-/// none; without a limit to waiting none does.
+/// matches of one run are the same, act by act, if everything is known about its devices, and the same looks found none
+/// (or the rules set no limit to waiting).
 pub fn match_is_the_only_one()
     ensures of_streams { OnlyOneMatch }
     ensures events { OneMatchButForEndLines }
@@ -31,16 +31,17 @@ pub fn failed_blocks_are_last()
 {}
 
 /// States a law and does nothing: a match that ended for a verdict of the board, such as mate, has this verdict after
-/// its moves. If the board has a verdict then, the match ended for it, or by a fault before its first move. The outcome
-/// that is reported of a match is always that of its game.
+/// its moves. Conversely, if the board has a verdict after the moves of a match, the match ended for it, or by a fault
+/// before its first move. The outcome that is reported of a match is always that of its game.
 pub fn verdicts_end_matches()
     ensures decided { DecidedByTheBoard }
     ensures verdicts { VerdictsEndMatches }
     ensures outcomes { OutcomesAreOfTheGame }
 {}
 
-/// States a law and does nothing: where draws are automatic, a match ends when a draw may be claimed. If after its
-/// moves one may be claimed, and the board has no verdict, it ended for this draw, or by a fault before its first move.
+/// States a law and does nothing: where draws are automatic, a match ends when a draw may be claimed. If a draw may be
+/// claimed after the moves of a match, and the board has no verdict, the match ended for this draw, or by a fault
+/// before its first move.
 pub fn automatic_draws_end_matches()
     ensures { AutomaticDrawsEndMatches }
 {}
@@ -69,7 +70,7 @@ pub fn games_are_lines()
 }
 
 /// States a law and does nothing: a match has no move after a verdict of the board, such as mate, and no more
-/// half-moves than its limit. Where draws are automatic, it has no move after one that may be claimed, either.
+/// half-moves than its limit. Where draws are automatic, it has no move once a draw may be claimed, either.
 pub fn games_end_at_verdicts()
     ensures { InEachMatch EndsAtVerdicts }
 {}
@@ -97,15 +98,17 @@ pub fn moves_are_sent_once()
     ensures opened { AtEachOpening IsSentAllMoves }
 {}
 
-/// States a law and does nothing: an engine of which a line is read was sent a move if and only if its opponent has
-/// moved. And a match ends in the state after all its acts.
+/// States a law and does nothing: whenever a line of an engine is read, it was sent a move if and only if its opponent
+/// has made one. And a match ends in the state after all its acts.
 pub fn moves_sent_are_known()
     ensures whole { AtEachLine MovesSentAreKnown }
     ensures after { InEachMatch EndsAfterItsActs }
 {}
 
-/// States a law and does nothing: the number in each `time` line is the engine's own clock in centiseconds, rounded
-/// down, and the number in each `otim` line is its opponent's. This holds at each moment of a match.
+/// States a law and does nothing: the `time` lines that an engine is sent show its own clock in centiseconds, rounded
+/// down, before its first move and after each of its moves, in order; the `otim` lines show its opponent's, but before
+/// the opponent's first move only to the side that moves first. The last number may be unsent, and none is sent with
+/// `time=0`. This holds at each moment of a match.
 pub fn times_are_clocks()
     ensures own { InEachMatch TimesAreClocks }
     ensures others { InEachMatch OtherTimesAreClocks }
@@ -121,22 +124,24 @@ pub fn used_times_are_differences()
 {}
 
 /// States a law and does nothing: the moves of a side take no more time than it was given. What it has left and what
-/// they took are together what it was given. This holds at each moment of a match.
+/// its moves took add up to what it was given. This holds at each moment of a match.
 pub fn clocks_do_not_underflow()
     ensures whole { InEachMatch ClocksDoNotUnderflow }
     ensures so_far { AtEachMoment ClocksDoNotUnderflow }
 {}
 
 /// States a law and does nothing: a side loses on time, or draws against a bare king, exactly if its flag fell: at some
-/// moment of its turn, when a line had come or none yet, the clock showed more than it had left.
+/// moment of its turn, when a line had come or none yet, more time had passed since the opening of the turn than it had
+/// left.
 pub fn time_forfeits_are_shown()
     ensures { InEachMatch TimeForfeitsAreShown }
 {}
 
 /// States a law and does nothing: a silence (a look for an engine's line that found none yet) ends the match exactly if
-/// this side was beyond its limit: before its move, if it used more time than it had left; otherwise, if it owed its
-/// line for longer than the rules allow. A silence within the limit changes nothing, except that the first one of a
-/// match may begin the time for a reply. Without a limit for flags and replies there are no silences.
+/// this side was beyond its limit: before its move, if more time had passed since the opening of its turn than it had
+/// left; otherwise, if it owed its line for longer than the rules allow. A silence within the limit changes nothing,
+/// except that the first one of a match may begin the time for a reply. If the rules let flags fall only with a line,
+/// and set no limit for replies, there are no silences.
 pub fn silences_end_matches()
     ensures asked_for { SilencesAreAskedFor }
     ensures beyond { SilencesEndMatches }
@@ -178,9 +183,10 @@ pub fn acts_are_in_order()
     ensures events { NothingIsDueAtEvents }
 {}
 
-/// States a law and does nothing: the lines that an engine is sent last before its `pong 1` set it up. Two examples are
-/// worked out: normal chess from the initial position, if the engine's own level is 40 moves in 5 minutes, and Chess960
-/// from any position, if it is 2 minutes and 12 seconds for each move.
+/// States a law and does nothing: whenever a line of an engine is read whose `pong 1` is awaited, the lines that it was
+/// sent last are those of its setup. This is said, byte by byte, of two cases: normal chess from the initial position,
+/// if the engine's own level is 40 moves in 5 minutes, and Chess960 from any position, if it is 2 minutes and 12
+/// seconds for each move.
 pub fn setups_are_these_lines()
     ensures { AtEachLine IsSetUp }
 {}

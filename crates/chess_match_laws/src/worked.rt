@@ -21,17 +21,17 @@ pub fn engine_lines_are_worked_out()
 /// States a law and does nothing: what some time controls are, how much time they give after some moves, and what moves
 /// leave on the clocks of a game with two time controls.
 ///
-/// It refuses a clock that the other side's move runs down, an increment or a new session that is left out, and moves
-/// of which only the last counts.
+/// It refuses that a side's move takes time off the other's clock, that the increment or the time for the next 40 moves
+/// is left out, and that only the last move's time counts.
 pub fn levels_are_worked_out()
     ensures levels { LevelsGive }
     ensures clocks { ClocksGoOn }
 {}
 
-/// States a law and does nothing: the lines that engines are sent in examples, byte by byte. Those of handshakes and
-/// openings, in a match of 40 moves in 5 minutes: in an engine's first turn the move comes before the clocks, in later
-/// turns after them; in SAN, and without clocks, if the engine asked for that. And those at the end: the last move, if
-/// the engine was not sent it yet, the result and `quit`, to White first.
+/// States a law and does nothing: the lines that engines are sent in examples, byte by byte. Those of handshakes and of
+/// openings of turns, in a match of 40 moves in 5 minutes: in an engine's first turn the move comes before the clocks,
+/// in later turns after them; in SAN, and without clocks, if the engine asked for that. And those at the end: the last
+/// move, if the engine was not sent it yet, the result and `quit`, to White first.
 ///
 /// It refuses another version of the protocol, `time` and `otim` that are exchanged, clocks that are rounded up, an end
 /// without `quit`, and a result that is sent before the last move.
@@ -61,8 +61,8 @@ pub fn losers_lose()
 /// claim; one that says that the other side has won resigns. One that answers a move by `Illegal move` loses by that;
 /// without a move to reject the line is ignored.
 ///
-/// It refuses that a resignation by `1-0` or `0-1` is a false claim, that a legal move may be rejected, and that one
-/// may be rejected which nobody made.
+/// It refuses that a resignation by `1-0` or `0-1` is a false claim, that a side may reject a legal move, and that one
+/// loses by `Illegal move` which was sent no move.
 pub fn claims_are_worked_out()
     ensures { ClaimsAreJudged }
 {}
@@ -70,8 +70,8 @@ pub fn claims_are_worked_out()
 /// States a law and does nothing: `offer draw` is passed on to the other side as `draw`, once; if that side has offered
 /// a draw, both agree. The same holds of `1/2-1/2` where no draw may be claimed.
 ///
-/// It refuses an offer that is ignored, is sent back, or is never agreed to, and a `1/2-1/2` without a claim that is no
-/// offer.
+/// It refuses an offer that is ignored, is sent back, or is never agreed to, and a `1/2-1/2` that is no offer where no
+/// draw may be claimed.
 pub fn offers_are_worked_out()
     ensures { OffersAreJudged }
 {}
@@ -80,8 +80,8 @@ pub fn offers_are_worked_out()
 /// match ends whose reply is owed for longer than the rules allow. In a handshake each `feature` line begins it anew,
 /// and in a setup `pong 1`; other lines, such as a remark, don't.
 ///
-/// It refuses that an engine gets more time by any line, and that one whose answer to a `ping` is missing is said to
-/// have sent no `done=1`.
+/// It refuses that other lines give an engine more time, and that one which owes the answer to a `ping` is reported for
+/// a missing `done=1`.
 pub fn reply_times_are_worked_out()
     ensures times { RepliesAreTimed }
     ensures silences { SilencesAreJudged }

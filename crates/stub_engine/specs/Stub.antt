@@ -48,15 +48,15 @@ remarks arguments = flat_map (λ argument. unwrap_or (remark argument.now) []) (
 unfoldable pub after_remarks : Arguments → Arguments
 after_remarks arguments = drop (prefix_len is_remark arguments) arguments
 
--- the line for an argument that is played: `resign`, or as in `move e2e4`
+-- the line for an argument that is played: `resign` as it is, any other as in `move e2e4`
 abbrev pub played_text : List ℕ → List ℕ
 played_text argument = (if bytes_eq argument (codes "resign") then [] else codes "move ") ++ (argument ++ new_line ∷ [])
 
--- a stub's turn, with these arguments left
+-- a stub's turn, with these arguments left; without any it resigns
 abbrev pub turn : Arguments → Response StubState
 turn [] = says (playing []) (codes "resign\n")
--- `end` ends it in the middle of a line. Any other argument is played, even `offer` (as `move offer`), with the remarks
--- right after it
+-- `end` ends the stub in the middle of a line. Any other argument is played, even `offer` (as `move offer`), with the
+-- remarks right after it
 turn (argument ∷ arguments) =
     if bytes_eq argument.now (codes "end") then record (says (playing arguments) (codes "mov")) { ends = true }
     else says (playing (after_remarks arguments)) (played_text argument.now ++ remarks arguments)

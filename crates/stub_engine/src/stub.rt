@@ -73,8 +73,8 @@ fn say_pong<W: Output>(writer: &mut W, number: u32) -> Result<(), WriteFault>
     put(writer, line.as_slice())
 }
 
-// Sends the lines that the arguments `offer` and `claim` stand for (an offer and a claim of a draw), from the index
-// `from` up to the first other argument.
+// Sends the lines (`remark`) of the arguments `offer` and `claim` from the index `from` on, up to the first other
+// argument.
 fn say_remarks<W: Output>(arguments: &[&str], from: usize, writer: &mut W) -> Result<(), WriteFault>
     requires { from ≤ length arguments.now }
     ensures { Puts (W.seen writer.old) (W.seen writer.new) result (remarks (drop from arguments.now)) }
@@ -107,8 +107,8 @@ fn after_remarks(arguments: &[&str], from: usize) -> usize
     at
 }
 
-// Sends the line of an argument that the stub plays, and then the lines that `offer` and `claim` stand for, from the
-// index `from` of `arguments` up to the first other argument.
+// Sends the line of an argument that the stub plays, and then the lines (`remark`) of the arguments `offer` and `claim`
+// from the index `from` of `arguments` on, up to the first other argument.
 fn say_played<W: Output>(
     argument: &str,
     arguments: &[&str],
