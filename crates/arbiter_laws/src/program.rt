@@ -41,9 +41,9 @@ pub fn plain_arguments_do_what_they_say()
     verify_is_as_asked();
 }
 
-/// States a law and does nothing: whenever the program runs with `--help` or `--version`, it writes a text of help.
-/// `match` without options lacks its two engines, and is refused with status 2, or 1 if memory ran out; nothing is
-/// started.
+/// States a law and does nothing: whenever the program runs with `--help` or `--version`, it writes some text to its
+/// output, or fails to. `match` without options lacks its two engines, and is refused with status 2, or 1, as when
+/// memory ran out. In each case it reads nothing and starts nothing.
 pub fn refused_arguments_are_reported()
     ensures help { ShowsHelp (codes "--help" ∷ []) }
     ensures version { ShowsHelp (codes "--version" ∷ []) }
@@ -55,7 +55,8 @@ pub fn refused_arguments_are_reported()
 
 /// States a law and does nothing: the exit status is 2 for arguments that `clap` refuses, for an invalid level, FEN,
 /// date or kind of fault, and for an argument that is no text; it is 1 if memory ran out. That of `verify` is 1 if a
-/// fault was reported, and 0 if none was. That of a session, of a stub and of a match is 1 if it failed, otherwise 0.
+/// fault was reported or something failed, otherwise 0. That of a session, of a stub and of a match is 1 if it failed,
+/// otherwise 0.
 ///
 /// It refuses the status 1 for a bad level, and 0 for a match that was not played to its end.
 pub fn statuses_are_stated()
