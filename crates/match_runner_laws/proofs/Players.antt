@@ -1,5 +1,5 @@
--- Each engine keeps its time control and its name, whichever side it has, and the tags of a game are as stated: by the
--- parity of the game's number.
+-- Each engine keeps its time control and its name, whichever side it has, and the tags of a game are as stated. Odd and
+-- even numbers of games are two cases, as they decide which engine has White; in each the rest is computed.
 use Rattle.std.proofs.Common.{◌≡◌, ◌∙◌, ℕ, ◌%◌, ◌==◌, if◌then◌else◌, List, refl, ap}
 use Rattle.std.specs.Fmt.{digits}
 use Rattle.chess_base.specs.{ByColour.of_colour, Men.same_colour, declared.by_colour.ByColour.ByColour, declared.man.Colour.Colour, declared.man.Colour.TheVariants.White, declared.man.Colour.TheVariants.Black}
