@@ -16,11 +16,11 @@ use crate::arguments::{
     plans_are_named, verify_is_as_asked,
 };
 
-/// States a law and does nothing: whenever the program runs with plain arguments, it does what they say. Or it does
-/// nothing and ends with status 1, as memory ran out, or 2, as a level, the FEN or the date of a match, or a kind after
-/// `--ignore`, is invalid. Plain arguments are an empty command line; `session`; `verify` or `match` with options, in
-/// any order and each at most once (`match` at least with `--white` and `--black`); or `stub` with what it plays. No
-/// value begins with a hyphen.
+/// States a law and does nothing: whenever the program runs with plain arguments, it does what they say. Or it reads
+/// nothing, writes nothing to its output, starts nothing and has the status 1, as memory ran out, or 2, as a level, the
+/// FEN or the date of a match, or a kind after `--ignore`, is invalid. Plain arguments are an empty command line;
+/// `session`; `verify` or `match` with options, in any order and each at most once (`match` at least with `--white` and
+/// `--black`); or `stub` with what it plays. No value begins with a hyphen.
 pub fn plain_arguments_are_followed()
     ensures { PlainArgumentsAreFollowed }
 {

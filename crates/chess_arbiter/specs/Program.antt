@@ -93,6 +93,7 @@ Does (Ok Session) s s' steps status = (steps ≡ []) × (Serves session_response
 Does (Ok (Verify keep_going options)) s s' steps status = (steps ≡ [])
     × ((result : Result Verified VerifyFault) × (status ≡ verify_status result)
     × Ran ((cond keep_going VerifiesCollection Verifies) options result) s.devices s'.devices)
+-- a stub that plays these arguments answered the input's lines
 Does (Ok (Stub arguments)) s s' steps status =
     (steps ≡ []) × Serves stub_response (waiting arguments.items) s.devices s'.devices status
 -- the games of a match were played, written and logged (`PlaysGamesWith`); then a fault, if any, was reported on the

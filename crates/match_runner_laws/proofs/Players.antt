@@ -21,7 +21,7 @@ abbrev player_if : GamesPlan → Colour → Colour → Player
 player_if plan side first =
     (if same_colour side first then plan.white.now else plan.black.now, of_colour (levels_if plan first) side)
 
--- White in odd games is the first engine; in_even: Black in even games
+-- the first engine has White in odd games; in_even: Black in even games
 in_odd : (number : ℕ) → number % 2 ≡ 1 → first_side number ≡ White
 in_odd number h = ap (λ (n : ℕ). if n == 1 then White else Black) h
 
