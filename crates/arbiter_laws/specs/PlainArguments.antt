@@ -106,7 +106,8 @@ IsPlain (stub replies) = AllByRecursion (λ reply. has_hyphen reply ≡ false) r
 IsPlain (match options) = EachOnce IsOfMatch options × IsSome (values_in options (codes "white"))
     × IsSome (values_in options (codes "black"))
 
--- whatever reading plain arguments returns is right by what they say; `clap` has no fault to report (`[]`)
+-- each right reading of plain arguments (`IsReading`) is right by what the command line says (`IsReadAs`), where `clap`
+-- has no fault to report (`[]`)
 abbrev pub PlainArgumentsAreRead : Type 0
 PlainArgumentsAreRead = (line : CommandLine) (r : Result Plan WordsFault) → IsPlain line
     → IsReading (arguments_of line) r → IsReadAs [] (said_in line) r

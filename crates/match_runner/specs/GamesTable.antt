@@ -73,8 +73,8 @@ abbrev pub GamesFuture : Type 1
 GamesFuture = List GamesStep → Type 0
 
 -- `steps` passed, in this order. `old` holds of the lists that may come from before them on, `new` of those that may
--- come after them; each of the latter, with `steps` in front, is one of the former. So if each holds of just one list,
--- that of `old` is `steps` followed by that of `new`; if `old` is `anything`, nothing is claimed
+-- come after them; each list of `new`, with `steps` in front, is one of `old`. So if each holds of just one list, that
+-- of `old` is `steps` followed by that of `new`; if `old` is `anything`, nothing is claimed
 pub record StepsPass {S : Type 0} (old new : List S → Type 0) (steps : List S) : Type 0 where
   pub extends : (after : List S) → new after → old (steps ++ after)
 

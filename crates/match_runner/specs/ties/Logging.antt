@@ -39,8 +39,8 @@ moment_from moment [] = moment
 moment_from moment (n ∷ notes) = moment_from (moment_after moment n) notes
 
 -- in a game in which the engine of `--white` has the side `first`, the lines of just these notes were logged since the
--- log's state `from`. Its state is `now`; its fields `first` and `moment` are `side`, which is that side, and `moment`,
--- what the clock showed last
+-- log's state `from`. The log's state is then `now`; its field `first` is `side`, which is the same side, and its field
+-- `moment` is `moment`, what the clock showed last
 pub record IsLog (first : Colour) (from : LogSeen) (side : Colour) (now : LogSeen) (moment : ℕ) (notes : List Note)
     : Type 0 where
   pub sided : side ≡ first
