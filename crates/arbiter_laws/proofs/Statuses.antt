@@ -1,5 +1,5 @@
--- The exit status of the program for each fault of its arguments and each result of its commands, as the definition of
--- what it does (`Does`) says it.
+-- The exit status of the program for each fault of its arguments and each result of its commands, read off the
+-- definition of what the program does (`Does`), case by case.
 use Rattle.std.proofs.Common.{◌≡◌, ◌≢◌, ℕ, inl, inr, refl}
 use Rattle.clap.specs.Words.{kind_of}
 use Rattle.clap.specs.{declared.error.Error.Error, declared.error.kind.ErrorKind.TheVariants.DisplayHelp, declared.error.kind.ErrorKind.TheVariants.DisplayVersion}

@@ -25,7 +25,8 @@ PlansAreNamed = (said : Said) (plan : Plan) → IsPlanOf said plan → said.comm
 abbrev pub verify_plan_of : Values → Plan
 verify_plan_of value = Verify (is_set (codes "keep-going") value) (verify_options_of value)
 
--- whenever arguments ask for verifying, the plan has just the flags that were given, and `--ignore`
+-- whenever arguments ask for verifying, the plan follows from the flags that were given and the value of `--ignore`, as
+-- `verify_plan_of` says
 abbrev pub VerifyIsAsAsked : Type 0
 VerifyIsAsAsked = (said : Said) (keep_going : Bool) (options : VerifyOptions)
     → IsPlanOf said (Verify keep_going options) → Verify keep_going options ≡ verify_plan_of said.value

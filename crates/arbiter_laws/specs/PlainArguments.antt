@@ -29,7 +29,7 @@ abbrev pub written : Given → List Text
 written (valued name value) = (codes "--" ++ name) ∷ value ∷ []
 written (flag name) = (codes "--" ++ name) ∷ []
 
--- the value that each of these options was given
+-- for each name, the value that the first of these options with this name was given; `None` if there is none
 abbrev pub values_in : List Given → Values
 values_in options = λ name. option_map value_of (find (λ g. bytes_eq (name_of g) name) options)
 
@@ -75,14 +75,14 @@ IsVariant text = (text ≡ codes "normal") ⊎ (text ≡ codes "fischerandom")
 abbrev pub IsDraws : Text → Type 0
 IsDraws text = (text ≡ codes "claimed") ⊎ (text ≡ codes "automatic")
 
--- `verify` has this option
+-- `verify` has this option; its value, if it has one, begins with no hyphen
 abbrev pub IsOfVerify : Given → Type 0
 IsOfVerify (valued name value) = (has_hyphen value ≡ false) × (name ≡ codes "ignore")
 IsOfVerify (flag name) = (name ≡ codes "keep-going") ⊎ (name ≡ codes "quiet") ⊎ (name ≡ codes "strict")
     ⊎ (name ≡ codes "explain") ⊎ (name ≡ codes "spans") ⊎ (name ≡ codes "names")
     ⊎ (name ≡ codes "variations")
 
--- `match` has this option, which may have this value
+-- `match` has this option, which may have this value; the value begins with no hyphen
 abbrev pub IsOfMatch : Given → Type 0
 IsOfMatch (valued name value) = (has_hyphen value ≡ false)
     × ((name ≡ codes "white") ⊎ (name ≡ codes "black") ⊎ (name ≡ codes "level") ⊎ (name ≡ codes "white-level")
@@ -106,7 +106,8 @@ IsPlain (stub replies) = AllByRecursion (λ reply. has_hyphen reply ≡ false) r
 IsPlain (match options) = EachOnce IsOfMatch options × IsSome (values_in options (codes "white"))
     × IsSome (values_in options (codes "black"))
 
--- whatever reading plain arguments returns is right by what they say; `clap` has no fault to report (`[]`)
+-- each right reading of plain arguments (`IsReading`) is right by what the command line says (`IsReadAs`), where `clap`
+-- has no fault to report (`[]`)
 abbrev pub PlainArgumentsAreRead : Type 0
 PlainArgumentsAreRead = (line : CommandLine) (r : Result Plan WordsFault) → IsPlain line
     → IsReading (arguments_of line) r → IsReadAs [] (said_in line) r

@@ -43,7 +43,7 @@ pub record StatusesAreStated : Type 0 where
   -- of a match: 1 if it was not played to its end, otherwise 0
   pub played : (done : Unit {0}) → status_of {A = Unit {0}} {E = GamesFault} (Ok done) ≡ 0
   pub unplayed : (fault : GamesFault) → status_of {A = Unit {0}} {E = GamesFault} (Err fault) ≡ 1
-  -- of faults before a plan is made
+  -- of the program's other faults
   pub unread : fault_status ReadFailed ≡ 1
   pub unwritten : fault_status WriteFailed ≡ 1
   pub no_memory : fault_status NoMemory ≡ 1

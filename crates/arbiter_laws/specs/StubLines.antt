@@ -23,7 +23,7 @@ pub record StubAnswers (s : StubState) (line answer : Text) (s' : StubState) : T
 abbrev pub stub_features : Text
 stub_features = "feature ping=1 setboard=1 usermove=1 myname=\"stub\" done=1\n"
 
--- how a stub answers some lines, in the state `s`, and with these or with few arguments left to play
+-- how a stub answers some lines: in the state `s`; with `arguments` left to play; and with none, one or two left
 pub record StubLines (s : StubState) (arguments : Arguments) : Type 0 where
   -- its features are said to each version of the protocol
   pub features : StubAnswers s "protover 2" stub_features s
@@ -39,7 +39,7 @@ pub record StubLines (s : StubState) (arguments : Arguments) : Type 0 where
   -- with nothing left to play it resigns: at `go`, and at a move while it plays a side
   pub nothing_at_go : StubAnswers (waiting []) "go" "resign\n" (playing [])
   pub nothing_at_a_move : StubAnswers (playing []) "usermove e2e4" "resign\n" (playing [])
-  -- one argument left: a move, `resign`, and `end`, by which it ends in the middle of a line
+  -- with one argument left: a move, `resign`, and `end`, for which it writes only the beginning of a line
   pub plays : (a : Bor (List ℕ)) → a.now ≡ codes "e2e4" → StubSays (waiting (a ∷ [])) "go" "move e2e4\n"
   pub resigns : (a : Bor (List ℕ)) → a.now ≡ codes "resign" → StubSays (waiting (a ∷ [])) "go" "resign\n"
   pub breaks_off : (a : Bor (List ℕ)) → a.now ≡ codes "end" → StubSays (waiting (a ∷ [])) "go" "mov"

@@ -60,7 +60,8 @@ pub record LevelsAreRead : Type 0 where
   pub common : AskForLevels (level_of_both (codes "0 1 0") ∷ []) (Ok (one_minute, one_minute))
   pub own_of_white : AskForLevels (level_of_white (codes "0 1 0") ∷ []) (Ok (one_minute, forty_in_five))
   pub own_of_black : AskForLevels (level_of_black (codes "0 2 0") ∷ []) (Ok (forty_in_five, two_minutes))
-  -- the common level must be valid, even if each has its own; of several faults the first is reported
+  -- the common level must be valid, even if each engine has its own; a fault of the first engine's level is reported
+  -- before one of the second's
   pub common_first : AskForLevels
       (level_of_white (codes "0 1 0") ∷ level_of_black (codes "0 2 0") ∷ level_of_both (codes "x") ∷ []) (Err Words)
   pub white_first : AskForLevels (level_of_black (codes "x") ∷ level_of_white (codes "0 0:60 0") ∷ []) (Err Base)

@@ -7,8 +7,9 @@ ghost use Rattle.arbiter_laws.specs.Arguments.{AreRefused, AskFor, PlansAreNamed
 ghost use Rattle.arbiter_laws.specs.PlainArguments.{PlainArgumentsAreRead};
 ghost use Rattle.arbiter_laws.specs.WorkedOptions.{DatesAreRead, LevelsAreRead, OptionsMean, StartsAreAsked};
 
-/// States a law and does nothing: plain arguments are read as what they say. These are none; `session`; `verify` and
-/// `match` with their options, in any order and each at most once; and `stub` with what it plays.
+/// States a law and does nothing: plain arguments are read as what they say. Plain are: no arguments; `session`;
+/// `verify` and `match` with their options, in any order and each at most once (`match` at least with `--white` and
+/// `--black`); and `stub` with what it plays. No value begins with a hyphen.
 pub fn plain_arguments_are_read()
     ensures { PlainArgumentsAreRead }
 {}
@@ -36,16 +37,17 @@ pub fn plans_are_named()
     ensures { PlansAreNamed }
 {}
 
-/// States a law and does nothing: a plan to verify has just the flags that were given after `verify`.
+/// States a law and does nothing: a plan to verify has just the flags that were given after `verify`, and ignores just
+/// the kinds of fault that `--ignore` names.
 pub fn verify_is_as_asked()
     ensures { VerifyIsAsAsked }
 {}
 
-/// States a law and does nothing: what some options of `match` and of `verify` mean. Each engine of a match has its own
-/// level or the common one, each game starts in the position of `--fen` or in the initial one, both in the variant of
-/// `--variant`, `--reply-timeout` is in seconds, one game is played without `--games`, and `--strict` looks for three
-/// faults but for those that `--ignore` names. Which dates `--date` takes is worked out too, and that of several faults
-/// that of a level is reported, then that of the FEN, then that of the date.
+/// States a law and does nothing: what some options of `match` and of `verify` mean, by examples. Each engine of a
+/// match has its own level or the common one; each game starts in the position of `--fen` or in the initial one, both
+/// in the variant of `--variant`; `--reply-timeout` is in seconds; one game is played without `--games`; and `--strict`
+/// looks for three faults but for those that `--ignore` names. Some dates are worked out that `--date` takes or
+/// refuses. Of several faults one of a level is reported first, then one of the FEN, then one of the date.
 ///
 /// It refuses a common level that is not looked at if each engine has its own, a level of White that is Black's, a
 /// variant that counts only with a FEN, two games by default, and a flag that sets another.

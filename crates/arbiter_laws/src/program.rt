@@ -16,10 +16,11 @@ use crate::arguments::{
     plans_are_named, verify_is_as_asked,
 };
 
-/// States a law and does nothing: whenever the program runs with plain arguments, it does what they say, or reports
-/// that memory ran out, or that the level, the FEN or the date of a match, or a kind after `--ignore`, is invalid.
-/// Plain arguments are an empty command line; `session`; `verify` or `match` with options, in any order and each at
-/// most once; or `stub` with what it plays.
+/// States a law and does nothing: whenever the program runs with plain arguments, it does what they say. Or it reads
+/// nothing, writes nothing to its output, starts nothing and has the status 1, as memory ran out, or 2, as a level, the
+/// FEN or the date of a match, or a kind after `--ignore`, is invalid. Plain arguments are an empty command line;
+/// `session`; `verify` or `match` with options, in any order and each at most once (`match` at least with `--white` and
+/// `--black`); or `stub` with what it plays. No value begins with a hyphen.
 pub fn plain_arguments_are_followed()
     ensures { PlainArgumentsAreFollowed }
 {
@@ -41,9 +42,9 @@ pub fn plain_arguments_do_what_they_say()
     verify_is_as_asked();
 }
 
-/// States a law and does nothing: whenever the program runs with `--help` or `--version`, it writes a text of help.
-/// `match` without options lacks its two engines, and is refused with status 2, or 1 if memory ran out; nothing is
-/// started.
+/// States a law and does nothing: whenever the program runs with `--help` or `--version`, it writes some text to its
+/// output, or fails to. `match` without options lacks its two engines, and is refused with status 2, or 1, as when
+/// memory ran out. In each case it reads nothing and starts nothing.
 pub fn refused_arguments_are_reported()
     ensures help { ShowsHelp (codes "--help" ∷ []) }
     ensures version { ShowsHelp (codes "--version" ∷ []) }
@@ -55,7 +56,8 @@ pub fn refused_arguments_are_reported()
 
 /// States a law and does nothing: the exit status is 2 for arguments that `clap` refuses, for an invalid level, FEN,
 /// date or kind of fault, and for an argument that is no text; it is 1 if memory ran out. That of `verify` is 1 if a
-/// fault was reported, and 0 if none was. That of a session, of a stub and of a match is 1 if it failed, otherwise 0.
+/// fault was reported or something failed, otherwise 0. That of a session, of a stub and of a match is 1 if it failed,
+/// otherwise 0.
 ///
 /// It refuses the status 1 for a bad level, and 0 for a match that was not played to its end.
 pub fn statuses_are_stated()

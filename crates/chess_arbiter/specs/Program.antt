@@ -68,8 +68,8 @@ ReportsArguments faults.NoMemory w w' status = (w' ≡ w) × (status ≡ 1)
 -- an invalid level, FEN or date of a match, or kind to ignore
 ReportsArguments _ w w' status = (w' ≡ w) × (status ≡ 2)
 
--- this text was written to a log's output, even if the log was broken; the log went from `l` to `l'`, and is broken
--- just if it was. `failed` is whether a write or a flush of the text failed
+-- this text was written to a log's output, even if the log was broken before, or a beginning of it, if a write or flush
+-- `failed`. The log went from `l` to `l'`, and is broken just if it was
 abbrev pub Reports : List ℕ → LogSeen → LogSeen → Type 0
 Reports text l l' = (l'.broken ≡ l.broken)
     × ((failed : Bool) × Logged (record l { broken = false }) (record l' { broken = failed }) text)
@@ -93,6 +93,7 @@ Does (Ok Session) s s' steps status = (steps ≡ []) × (Serves session_response
 Does (Ok (Verify keep_going options)) s s' steps status = (steps ≡ [])
     × ((result : Result Verified VerifyFault) × (status ≡ verify_status result)
     × Ran ((cond keep_going VerifiesCollection Verifies) options result) s.devices s'.devices)
+-- a stub that plays these arguments answered the input's lines
 Does (Ok (Stub arguments)) s s' steps status =
     (steps ≡ []) × Serves stub_response (waiting arguments.items) s.devices s'.devices status
 -- the games of a match were played, written and logged (`PlaysGamesWith`); then a fault, if any, was reported on the
@@ -104,7 +105,8 @@ Does (Ok (Match plan)) s s' steps status = (s'.devices.input ≡ s.devices.input
 Does (Err fault) s s' steps status = (steps ≡ [])
     × (s'.devices.input ≡ s.devices.input) × ReportsArguments fault s.devices.output s'.devices.output status
 
--- the program ran with these arguments: by a right reading (`IsReading`), a plan or a fault, it did what `Does` says
+-- the program ran with these arguments: there is a right reading of them (`IsReading`), a plan or a fault, and the
+-- program did what `Does` says of it
 abbrev pub RanProgram : List Text → Surroundings → Surroundings → List HostStep → ℕ → Type 0
 RanProgram arguments s s' steps status =
     (read : Result Plan WordsFault) × IsReading arguments read × Does read s s' steps status

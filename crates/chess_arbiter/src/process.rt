@@ -52,7 +52,7 @@ fn arguments_fault(error: &io::Error) -> ProgramFault
 
 /// Runs the program on the arguments after its name and the standard streams, as `main` does, and returns its exit
 /// status: `run_program`'s, but 2 if an argument is not UTF-8, and 1 if there is no memory for the arguments. No
-/// contract says so; these lines and the stored run show it.
+/// contract says so: only its few lines of code and the program's stored run show it.
 pub fn run(rt: &HostRuntime) -> ExitCode {
     match status_of(rt) {
         Ok(status) => ExitCode::from(status),

@@ -270,10 +270,10 @@ fn matched<H: Host, W: Output, E: Output>(
 ///
 /// The contract says what was read and written, which steps passed at the host (none but in a match), and the status.
 /// After a match the error output has just the logs of its games if `--log` was given, a line for each engine that was
-/// killed, and `arbiter: FAULT` after a fault. Of what is being written when a write fails there is a beginning, and
-/// after it nothing more but `arbiter: FAULT`. What else is written to the error output only tests show:
-/// `arbiter: FAULT` if anything but a match failed; what `clap` says of invalid arguments, but one line if a file is
-/// named to `verify`; and nothing if a game verified has a fault.
+/// killed, and `arbiter: FAULT` after a fault. If a write to it fails, it has a beginning of these, and then nothing
+/// more but `arbiter: FAULT`. What else is written to the error output only tests show: `arbiter: FAULT` if anything
+/// but a match failed; what `clap` says of invalid arguments, but one line if a file is named to `verify`; and nothing
+/// if a game verified has a fault.
 pub fn run_program<'a, H: Host, R: Input, W: Output, E: Output>(
     host: &mut H,
     alloc: Global,

@@ -1,5 +1,6 @@
--- The steps of a table without those at the table alone are the steps of its host. What may come at such a table
--- (`MarkedBy`) ends with a mark, which shows that the table holds the same reference to the host all the time.
+-- Steps at the table of a host: without those at the table alone they are the host's steps. Each list that may come at
+-- such a table (`MarkedBy`) ends with a mark, the number of the table's reference to the host; so the reference stays
+-- the same (name_kept), and what passed at the table passed at the host (by_table).
 use Rattle.std.proofs.Common.{◌≡◌, ◌∙◌, ℕ, Bool, true, false, List, [], ◌∷◌, ◌++◌, Option, Result, Err, refl, sym, ap, subst, append_assoc, inl, inr, map}
 use Rattle.std.proofs.{lemmas.List.Concat.flat_map-append, lemmas.List.same_from_push}
 use Rattle.chess_match.specs.declared.games_plan.GamesPlan.{GamesPlan}
@@ -7,7 +8,7 @@ use Rattle.match_runner.specs.{declared.fault.GamesFault.GamesFault, declared.fa
 use Rattle.match_runner.specs.GamesTable.{AtHost, GamesStep, HostFuture, HostStep, OpensClock, Outputs, PlaysBy, PlaysGamesAt, PlaysGamesWith, StepsPass, WriteFails, Writes, at_host, of_host, writing}
 use Rattle.match_runner.proofs.GamesWritten.{steps_more, steps_none}
 
--- a step of the host
+-- a step that passes at the host passes at the table, as a step of the host
 pub host_passes : (p p' : HostFuture) (name name' : ℕ) (step : HostStep) → name' ≡ name → StepsPass p p' (step ∷ [])
     → StepsPass (MarkedBy p name) (MarkedBy p' name') (AtHost step ∷ [])
 host_passes p p' name name' step same h = record { extends = extends }
@@ -17,7 +18,7 @@ host_passes p p' name name' step same h = record { extends = extends }
         inl (AtHost step ∷ before, rw (is, same) refl, h.extends (at_host before) x)
     extends after (inr (before, is)) = inr (AtHost step ∷ before, rw (is, same) refl)
 
--- a step at the table alone
+-- a step at the table alone passes at the table, while what may come at the host stays
 pub table_passes : (p : HostFuture) (name : ℕ) (step : GamesStep) → of_host step ≡ []
     → StepsPass (MarkedBy p name) (MarkedBy p name) (step ∷ [])
 table_passes p name step none = record { extends = extends }

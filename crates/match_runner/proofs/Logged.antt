@@ -33,7 +33,7 @@ all_logged false true o o' text none h = (λ e. absurd (cc), none, λ e. h)
 all_logged true b' o o' text none (still, same) =
     (λ e. ap (log_seen o') still ∙ ap (λ v. log_seen v true) same, none, λ e. absurd (cc))
 
--- and `Logged` gives `LogsPending` with no byte waiting
+-- conversely `Logged` gives `LogsPending` with no byte waiting
 pends_nothing : (b b' : Bool) (o o' : OutputState) (text : List ℕ) → Logged (log_seen o b) (log_seen o' b') text
     → LogsPending b b' o o' [] text
 pends_nothing false false o o' text h =
@@ -286,7 +286,7 @@ noted seen l l' n (logged, same, after) = record {
 
 -- ---- a whole match
 
--- the text that stands for a log's beginning (`text_of_log`) gives back the side of the first engine
+-- the text that `text_of_log` makes of a log's state gives back the side of the first engine
 first_again : (first : Colour) (l : LogSeen) → first_of_text (text_of_log first l) ≡ first
 first_again White l = refl
 first_again Black l = refl

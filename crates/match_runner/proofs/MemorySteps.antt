@@ -1,6 +1,5 @@
--- Steps at a host over memory. A step that passed there was the next that might come, and what may come later is what
--- may come at the host that it left (step_passes); this is used of a start that failed (none_starts) and of one that
--- didn't (both_start).
+-- Steps at a host over memory. A step passes there if it may come next, and the host notes the commands that it started
+-- (step_passes). So do a start that failed (none_starts) and one that didn't (both_start).
 use Rattle.std.proofs.Common.{◌≡◌, ◌≢◌, ◌∙◌, ◌+◌, ◌≤◌, ℕ, zero, suc, Bool, List, [], ◌∷◌, ◌++◌, Option, Some, refl, sym, ap, arith, append-nil, append_assoc, length, option_map, slice_get, get_or, set, IfSome, cond, count_by}
 use Rattle.std.proofs.{lemmas.List.Sums.sum_by-cons, lemmas.Option.slice_get_past}
 use Rattle.byte_devices.specs.Transfers.{Devices}

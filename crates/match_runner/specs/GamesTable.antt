@@ -72,9 +72,9 @@ anything steps = ⊤
 abbrev pub GamesFuture : Type 1
 GamesFuture = List GamesStep → Type 0
 
--- these steps passed, in this order: any list that may come after them (`new`) may, with `steps` in front, come from
--- before them on (`old`). So if each holds of just one list, that of `old` is `steps` followed by that of `new`; if
--- `old` is `anything`, nothing is claimed
+-- `steps` passed, in this order. `old` holds of the lists that may come from before them on, `new` of those that may
+-- come after them; each list of `new`, with `steps` in front, is one of `old`. So if each holds of just one list, that
+-- of `old` is `steps` followed by that of `new`; if `old` is `anything`, nothing is claimed
 pub record StepsPass {S : Type 0} (old new : List S → Type 0) (steps : List S) : Type 0 where
   pub extends : (after : List S) → new after → old (steps ++ after)
 
@@ -110,7 +110,7 @@ last_steps plan number (Err (CanNotStart command)) None = unstarted_steps plan n
 -- any other result: no next game was begun
 last_steps plan number _ None = []
 
--- as the pipes of an engine just started: no failure, end, silence or unflushed byte is counted
+-- these pipes are like those of an engine just started: no failure, end, silence or unflushed byte is counted
 pub record AreFresh (pipes : Devices) : Type 0 where
   pub reads : pipes.input.failure_count ≡ 0
   pub ends : pipes.input.end_count ≡ 0
@@ -153,8 +153,9 @@ abbrev pub PlaysGamesAt : GamesPlan → Result (Unit {0}) GamesFault → (ℕ �
     → Outputs → Outputs → Type 0
 PlaysGamesAt plan result coming p p' d d' = PlaysBy plan result coming (StepsPass p p') d d'
 
--- a match was played with a host (`PlaysBy`), at which just `steps` passed: a clock was opened, which would show `c`,
--- then came the host's steps among the table's. Or memory ran out before, and nothing was done
+-- a match was played with a host (`PlaysBy`), at which just `steps` passed: a clock was opened, whose reading n would
+-- show `c n`, and then came those of the table's steps that are the host's. Or memory ran out before, and nothing was
+-- done
 abbrev pub PlaysGamesWith : GamesPlan → Result (Unit {0}) GamesFault → List HostStep → Outputs → Outputs → Type 0
 PlaysGamesWith plan result steps d d' =
     ((c : ℕ → Option ℕ) × PlaysBy plan result c (λ at_table. steps ≡ OpensClock c ∷ at_host at_table) d d')

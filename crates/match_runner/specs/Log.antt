@@ -18,8 +18,8 @@ abbrev pub engine_name : Colour → Colour → List ℕ
 engine_name first_side side = if same_colour side first_side then codes "first : " else codes "second: "
 
 -- a line such as `312 <first : move e2e4`: the moment `now` in milliseconds; `mark`, which is `<` if the engine sent
--- the text, `>` if it was sent it (even if that failed), `!` if the text says what happened; the engine's name; and
--- `text`, with `?` for each byte that is not printable ASCII
+-- the text, `>` if the arbiter sent it to the engine (even if that failed), `!` if it says what happened; the engine's
+-- name; and `text`, with `?` for each byte that is not printable ASCII
 abbrev pub log_line : ℕ → ℕ → List ℕ → List ℕ → List ℕ
 log_line now mark engine text = decimal now ++ (byte " " ∷ mark ∷ []) ++ engine ++ map shown_byte text ++ new_line ∷ []
 
@@ -69,7 +69,7 @@ pub record LogSeen : Type 0 where
 abbrev pub log_seen : OutputState → Bool → LogSeen
 log_seen o broken = record { output = o; broken = broken }
 
--- what went to a log's output for `text`, by whether the log is broken then: if not, all of it, flushed, or
+-- `o` is what a log's output took of `text`, by whether the log is broken afterwards: if not, all of it, flushed, or
 -- nothing if it is empty; if so, a beginning, maybe nothing or all, before a write or flush failed
 abbrev pub LogsText : Bool → List ℕ → ToOutput → Type 0
 LogsText false text o = o ≡ all_flushed (nat_lt 0 (length text)) text
@@ -82,7 +82,7 @@ Logged l l' text = (l.broken ≡ true → l' ≡ l) × (text ≡ [] → l' ≡ l
     × (l.broken ≡ false → (o : ToOutput) × OutputTook l.output l'.output o × LogsText l'.broken text o)
 
 -- a log was given this note, and went from `l` to `l'`: it was given the note's lines to write (`Logged`), and its
--- `moment` is the one after the note. `seen` gives what contracts see of its output
+-- `moment` is now what the clock showed last at the note. `seen` gives what contracts see of its output
 abbrev pub LogsNote : {E : Type 0} → (E → OutputState) → Log E → Log E → Note → Type 0
 LogsNote seen l l' note =
     Logged (log_seen (seen l.output) l.broken) (log_seen (seen l'.output) l'.broken)

@@ -1,8 +1,8 @@
 -- A host over memory: what its engines say, and what its clock shows, is given.
 --
--- `MayCome` says which steps may come at it. From these, the plan and the writes that fail follow a match's games (law
--- `OnlyOneMatchOfARun` of chess_match_laws), if the plan sets no limit to waiting; otherwise nothing here says which
--- looks for a line find none. Nor is it said when memory runs out.
+-- `MayCome` says which steps may come at it. They, the plan and the writes that fail determine a match's games (law
+-- `OnlyOneMatchOfARun` of chess_match_laws), if the plan sets no limit to waiting. If it sets one, nothing here says
+-- which looks for a line find none. Nor is it said when memory runs out.
 use Rattle.std.specs.Prelude.{◌≡◌, ℕ, ◌-◌, ◌^◌, List, [], ◌∷◌, ◌++◌, Option, None, Some}
 use Rattle.std.specs.List.{count_by, find, flat_map, last_or, slice_get}
 use Rattle.std.specs.Option.{option_and_then, option_map, option_or}
@@ -53,7 +53,7 @@ abbrev pub started_by : HostStep → List (List ℕ)
 started_by (Starts white black limit pipes) = white ∷ black ∷ []
 started_by _ = []
 
--- the same for these steps
+-- the commands of the engines that these steps started
 abbrev pub started_in : List HostStep → List (List ℕ)
 started_in steps = flat_map started_by steps
 
@@ -85,6 +85,7 @@ started_for games = flat_map (λ g. g.commands.white.now ∷ g.commands.black.no
 
 -- just these steps may come at this host from now on
 pub record MayCome (host : MemoryHost) (steps : List HostStep) : Type 0 where
-  -- each may come after the engines that were started for the host's games, and then in the steps before it
+  -- each is one that may come next (`IsNext`) after the engines that were started for the host's games and those that
+  -- were started in the steps before it
   pub each : (before : List HostStep) (step : HostStep) (after : List HostStep) → before ++ step ∷ after ≡ steps
       → IsNext host.engines.now host.moments.now (started_for host.games.items ++ started_in before) step

@@ -135,9 +135,8 @@ fn write_score<W: Output>(score: Score, output: &mut W) -> Result<(), WriteFault
     send(output, score.line().as_slice())
 }
 
-// Plays the game of this number between the plan's two engines, logs it if the plan asks for that, and writes and
-// flushes its PGN. The engines are started before it, and waited for when its PGN was written. For each that had to be
-// killed a line is logged.
+// Starts the plan's two engines, plays the game of this number between them, logs it if the plan asks for that, writes
+// and flushes its PGN, and waits for the engines' ends. For each engine that had to be killed a line is logged.
 fn play_game<'a, T: GamesTable, W: Output, E: Output>(
     table: &mut T,
     plan: &GamesPlan<'a>,

@@ -19,10 +19,10 @@ pub struct Engines<P, R, W> {
     pub ends: ByColour<Ends<R, W>>,
 }
 
-/// What starts the engines of a match, waits for their ends, and has the clock. What `Input` and `Output` are for
-/// streams, it is for all else that a match gets from outside: for the processes of a system
-/// ([`ProcessHost`](crate::ProcessHost)), or in tests for texts in memory ([`MemoryHost`](crate::MemoryHost)). Each
-/// call is one step, and contracts see in which order the steps come.
+/// What starts the engines of a match, waits for their ends, and has the clock. The engines and the clock may be a
+/// system's processes and clock ([`ProcessHost`](crate::ProcessHost)), or, in tests, texts and moments in memory
+/// ([`MemoryHost`](crate::MemoryHost)); code that is generic in the host can't ask which. Each call is one step, and
+/// contracts see in which order the steps come.
 pub trait Host {
     ghost use Rattle.std.specs.Prelude.{List};
     ghost use Rattle.chess_base.specs.declared.man.Colour.{Colour};

@@ -85,7 +85,8 @@ impl<'t, H: Host> GamesTable for HostTable<'t, '_, '_, '_, '_, H> {
 
     type Engines = Engines<H::Running, H::Reader, H::Writer>;
 
-    // At the table those steps may come whose part at the host may come there; the host stays the same.
+    // Steps may come at the table if those of them that are the host's may come at the host (`MarkedBy`). The reference
+    // to the host stays the same.
     ghost to_come = { λ t. MarkedBy (H.to_come t.host.now) t.host.ghost_name };
 
     ghost game = { λ t. t.game.now };

@@ -228,9 +228,9 @@ fn split_line(text: &[u8]) -> (&[u8], &[u8])
 }
 
 /// An output on which games are logged in the form of XBoard's debug file: it watches a match, and writes each line
-/// that an engine sends or is sent, and each failure and end of an output. All lines of a note are written and flushed
-/// before the match goes on, as the clause `logs` of its method `note` as a `Witness` says. After a write or flush that
-/// failed it logs nothing more.
+/// that an engine sends or is sent, and a line for each silence, each failure, and each end of an output. All lines of
+/// a note are written and flushed before the match goes on (the clause `logs` of the method `note`, by which it is a
+/// `Witness`). After a write or flush that failed it logs nothing more.
 #[derive(Drop)]
 pub struct Log<E> {
     /// Where the log goes.

@@ -24,8 +24,9 @@ pub struct MemoryEngine<'t> {
     /// What it sends in each of the games for which it is started, from the first on. For more games it can't be
     /// started.
     pub outputs: &'t [&'t [u8]],
-    /// Whether after its output every wait for it finds nothing; otherwise its output ends then. Only matches with
-    /// `flag` or `reply` in their patience wait. To others it looks as if its output had ended.
+    /// Whether it runs on when all of its output was read, and each wait for more finds nothing; otherwise its output
+    /// ends then. Only matches with `flag` or `reply` in their patience wait; to others its output seems to have ended
+    /// in both cases.
     pub falls_silent: bool,
 }
 

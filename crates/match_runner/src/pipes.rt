@@ -32,9 +32,9 @@ fn is_ready<S: AsRawFd>(end: &S, events: i16, millis: u64) -> bool {
     true
 }
 
-// How many looks in a row may still find a piece of an output after the moment until which it is waited for. 64 reads
-// of 1,024 bytes (`Lines`) are the 65,536 bytes of a Linux pipe: so what had come by then is given, but an output that
-// never ends a line doesn't go on for ever.
+// How many looks in a row may begin after the moment until which an output is waited for, and still find a piece of it.
+// 64 reads of 1,024 bytes (`Lines`) are the 65,536 bytes of a Linux pipe: so what had come by that moment is given, but
+// an output that never ends a line doesn't go on for ever.
 const MOST_LATE: u32 = 64;
 
 /// An engine's output, with the clock by which it is waited for.
@@ -44,7 +44,7 @@ pub struct EngineOutput<'t, T, S> {
     pub(crate) command: String,
     pipe: Counted<S>,
     clock: SinceStart<'t, T>,
-    /// How many looks in a row began after their moment, at most `MOST_LATE`.
+    /// How many looks in a row began after the moment until which they were to wait, at most `MOST_LATE`.
     late: u32,
 }
 

@@ -234,7 +234,7 @@ result_read notes reason (before, S, lines, is) =
 
 -- ---- a whole log
 
--- all of this of the log of a match
+-- what `LogsShow` says of the log of a match: its lines, events, bytes and result
 pub logs_show : LogsShow
 logs_show r first reason H final h over = (
   log_is first 0 (notes_given reason H),

@@ -192,13 +192,14 @@ module _ (only : OnlyOneMatch) (asked : SilencesAreAskedFor) (plan : GamesPlan) 
 
 -- ---- where a match ends
 
--- these are all games of a match in which so many games may still come: as many, or up to the first with a fault
+-- of a match in which so many games are left to play, these are all that come: as many, or those up to and with the
+-- first with a fault
 abbrev Closed : ℕ → List GameRecord → Type 0
 Closed left [] = left ≡ 0
 Closed left (g ∷ gs) = (0 < left) × (((g.end.fault ≡ None) × Closed (left - 1) gs)
     ⊎ ((fault : Colour × MatchFault) × (g.end.fault ≡ Some fault) × (gs ≡ [])))
 
--- all games that a plan asks for, without a fault, are closed
+-- all games that a plan asks for, played without a fault, are all that come (`Closed`)
 closed_all : (plan : GamesPlan) (number : ℕ) (games : List GameRecord)
     → AllByRecursion (λ g. IsOfPlan plan g.0 g.1 × (g.1.end.fault ≡ None)) (enumerate_from number games)
     → AreOfPlan plan number games × Closed (length games) games
@@ -208,7 +209,7 @@ closed_all plan number (g ∷ gs) ((of, none), h) =
     let fewer : length gs ≡ length (g ∷ gs) - 1 = omega arith in
     ((of, ofs), (omega arith, inl (none, subst (λ (n : ℕ). Closed n gs) fewer closed)))
 
--- games of which just the last has a fault are closed
+-- so are games of which just the last has a fault
 closed_by_fault : (plan : GamesPlan) (number at left : ℕ) (before : List GameRecord) (last : GameRecord)
     (fault : Colour × MatchFault)
     → AllByRecursion (λ g. IsOfPlan plan g.0 g.1 × (g.1.end.fault ≡ None)) (enumerate_from number before)
@@ -335,7 +336,7 @@ fault_of_last plan games (Some (number, side, fault)) (before, last, is, h, of, 
     ∙ sym (ap (λ (f : Option (Colour × MatchFault)). in_game (length games) f)
     (ap last_fault is ∙ fault_at_end before last ∙ found))
 
--- what is reported if this is the fault, or none is
+-- what is reported of a match with this fault (`None`: without one)
 abbrev reported : Option (ℕ × Colour × MatchFault) → List ℕ
 reported None = []
 reported (Some (number, side, fault)) =

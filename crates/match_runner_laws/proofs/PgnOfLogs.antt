@@ -62,7 +62,7 @@ pub record IsPlayed (plan : GamesPlan) (number : ℕ) (played : GameRecord) (H :
   pub fault : played.end.fault ≡ reported_fault reason (is_broken H)
   pub game : played.after.game.state ≡ left plan reason final.played
 
--- each game that is of the plan was played so, by the acts that its record stands for
+-- each game of the plan was played so, by acts that have the notes of its record
 pub is_played : (plan : GamesPlan) (number : ℕ) (played : GameRecord) → IsOfPlan plan number played
     → (H : List Act) × (reason : Reason) × (final : Match) × IsPlayed plan number played H reason final
 is_played plan number played (limit, spared, (H, reason, notes, (final, passed, reported, game))) = (
@@ -169,7 +169,7 @@ texts_alike plan gs hs a = absurd a
 abbrev counted : (ℕ → Outcome) → ℕ → ℕ × GameRecord → ℕ
 counted wanted n g = n + cond (same_outcome g.1.end.outcome (wanted g.0)) 1 0
 
--- and as many of them have a wanted outcome
+-- of two lists of games that are alike, equally many have a wanted outcome
 counts_alike : (plan : GamesPlan) (wanted : ℕ → Outcome) (n : ℕ) (gs hs : List (ℕ × GameRecord)) → Alike plan gs hs
     → fold (counted wanted) n gs ≡ fold (counted wanted) n hs
 counts_alike plan wanted n [] [] a = refl

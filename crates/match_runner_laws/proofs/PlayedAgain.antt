@@ -87,7 +87,8 @@ anew k m = reopen k (again m)
 abbrev IsPlain : Reason → Type 0
 IsPlain reason = (ends_by_flag reason ≡ false) × ((S : Colour) → is_write_fault_of reason S ≡ false)
 
--- what is done is done again at the moment when the turn was opened, and no flag falls
+-- what an event does (`done`) it also does where no time is used (`redone`). If it ends the match, no flag fell, and
+-- the end lines are sent (`Stops`)
 pub record Again (r : Rules) (done redone : Effect) : Type 0 where
   pub same : again done.after ≡ opened redone.after
   pub stops : (reason : Reason) → done.after.phase ≡ Over reason

@@ -1,5 +1,5 @@
--- Each engine keeps its time control and its name, whichever side it has, and the tags of a game are as stated: by the
--- parity of the game's number.
+-- Each engine keeps its time control and its name, whichever side it has, and the tags of a game are as stated. Odd and
+-- even numbers of games are two cases, as they decide which engine has White; in each the rest is computed.
 use Rattle.std.proofs.Common.{◌≡◌, ◌∙◌, ℕ, ◌%◌, ◌==◌, if◌then◌else◌, List, refl, ap}
 use Rattle.std.specs.Fmt.{digits}
 use Rattle.chess_base.specs.{ByColour.of_colour, Men.same_colour, declared.by_colour.ByColour.ByColour, declared.man.Colour.Colour, declared.man.Colour.TheVariants.White, declared.man.Colour.TheVariants.Black}
@@ -21,7 +21,7 @@ abbrev player_if : GamesPlan → Colour → Colour → Player
 player_if plan side first =
     (if same_colour side first then plan.white.now else plan.black.now, of_colour (levels_if plan first) side)
 
--- White in odd games is the first engine; in_even: Black in even games
+-- the first engine has White in odd games; in_even: Black in even games
 in_odd : (number : ℕ) → number % 2 ≡ 1 → first_side number ≡ White
 in_odd number h = ap (λ (n : ℕ). if n == 1 then White else Black) h
 

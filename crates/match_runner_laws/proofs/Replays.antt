@@ -130,17 +130,17 @@ moment_of e = 0
 abbrev step : Rules → Match → Event → Match
 step r m e = opened (effect r (reopen (moment_of e) m) e).after
 
--- these events but the last, if a flag fell at that
+-- these events, but without the last one if a flag fell at it (`late`)
 abbrev in_time : Bool → List Event → List Event
 in_time late [] = []
 in_time late (e ∷ []) = if late then [] else e ∷ []
 in_time late (e ∷ f ∷ es) = e ∷ in_time late (f ∷ es)
 
--- the match after these events, which are shown
+-- the match after these events, played again from `m`; without the last one if a flag fell at it (`late`)
 abbrev pub replayed : Rules → Bool → Match → List Event → Match
 replayed r late m es = fold (step r) m (in_time late es)
 
--- the match `n` has the moves and the items of `final`, and the phase if no flag fell (`late`)
+-- the match `n` has the moves and the items of `final`, and also its phase, unless a flag fell (`late`)
 abbrev Same : Bool → Match → Match → Type 0
 Same late final n = (final.played ≡ n.played) × ((S : Colour) → (final.seat S).items ≡ (n.seat S).items)
     × (late ≡ false → final.phase ≡ n.phase)

@@ -30,7 +30,8 @@ abbrev pub entries_text : Colour → List Entry → List ℕ
 entries_text first_side entries =
     flat_map (λ e. log_line e.moment e.mark (engine_name first_side e.side) e.text) entries
 
--- the log's lines for a note, whose text is `note_text`; `moment` is what the clock showed last before the note
+-- the log's lines for a note, as records; `note_text` is the text of these lines. `moment` is what the clock showed
+-- last before the note
 abbrev pub note_entries : ℕ → Note → List Entry
 note_entries moment (Happened (Line c (Some text) now)) =
     record { moment = now; mark = byte "<"; side = c; text = text } ∷ []

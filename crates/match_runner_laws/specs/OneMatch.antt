@@ -30,8 +30,8 @@ sent_by_then _ = []
 abbrev pub sent_in : List HostStep → List (Option (List ℕ))
 sent_in steps = flat_map sent_by_then steps
 
--- with this result of a match its score was written: all games were played, or those up to one with a fault of an
--- engine
+-- with this result of a match its score was written: all games were played, or those up to and with one in which an
+-- engine had a fault
 abbrev pub HasScore : Result (Unit {0}) GamesFault → Type 0
 HasScore (Ok _) = ⊤
 HasScore (Err (Game number fault)) = ⊤

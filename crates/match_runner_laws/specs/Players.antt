@@ -41,19 +41,19 @@ EachKeepsItsLevel = (plan : GamesPlan) (number : ℕ) → LevelsStayWithEngines 
 
 -- ---- tags
 
--- in a game with this end the tags name each engine by its command, if it gave itself no name: the engine of `--white`
+-- in a game with this end the tags name an engine by its command, if it gave itself no name; the engine of `--white`
 -- has White in odd games, and Black in even ones
 pub record EnginesAreNamed (plan : GamesPlan) (number : ℕ) (end : MatchEnd) : Type 0 where
   pub odd_white : end.white_name ≡ [] → number % 2 ≡ 1 → (tags_of plan number end).white ≡ cut_tag plan.white.now
   pub odd_black : end.black_name ≡ [] → number % 2 ≡ 1 → (tags_of plan number end).black ≡ cut_tag plan.black.now
   pub even_white : end.white_name ≡ [] → number % 2 ≡ 0 → (tags_of plan number end).white ≡ cut_tag plan.black.now
   pub even_black : end.black_name ≡ [] → number % 2 ≡ 0 → (tags_of plan number end).black ≡ cut_tag plan.white.now
-  -- one that named itself `Sjeng` is called so, whichever side it has
+  -- an engine that named itself `Sjeng`, as an example, is called so, whichever side it has
   pub named_white : end.white_name ≡ codes "Sjeng" → (tags_of plan number end).white ≡ codes "Sjeng"
   pub named_black : end.black_name ≡ codes "Sjeng" → (tags_of plan number end).black ≡ codes "Sjeng"
 
--- the tags of each game name its engines so (PGN standard of 1994, section 8.1.1); those of the twelfth game also have
--- this event, site, date, round and end
+-- the tags of each game name its engines as `EnginesAreNamed` says (PGN standard of 1994, section 8.1.1); those of the
+-- twelfth game, as an example, have this event, site, date, round and end
 pub record GamesAreTagged : Type 0 where
   pub players : (plan : GamesPlan) (number : ℕ) (end : MatchEnd) → EnginesAreNamed plan number end
   pub event : (plan : GamesPlan) (end : MatchEnd) → (tags_of plan 12 end).event ≡ codes "CECP match"

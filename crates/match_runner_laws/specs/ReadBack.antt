@@ -54,15 +54,15 @@ entry_event e =
 abbrev pub entry_given : Colour → Entry → List ℕ
 entry_given S e = list_if (e.mark == byte ">" && same_colour e.side S) (e.text ++ new_line ∷ [])
 
--- the text of the last line but one, which in the log of a match is `result ..`; empty if there are fewer than two
--- lines
+-- the text of the last line but one, which in the log of a match is `result ..` (the last is `quit`); empty if there
+-- are fewer than two lines
 abbrev pub result_line : List Entry → List ℕ
 result_line (e ∷ f ∷ g ∷ es) = result_line (f ∷ g ∷ es)
 result_line (e ∷ f ∷ []) = e.text
 result_line _ = []
 
--- the log of every match has these lines (`lines`), which show the events but for the openings of turns, all bytes that
--- each engine is sent, and the result
+-- the log of every match that is over is the text of its records (`lines`, made by `entries_from`). These show all
+-- events but the openings of turns, all bytes that each engine is sent, and the line of the result
 abbrev pub LogsShow : Type 0
 LogsShow = (r : Rules) (first : Colour) (reason : Reason) (H : List Act) (final : Match) → IsMatch r H final
     → final.phase ≡ Over reason

@@ -10,12 +10,12 @@ pub fn only_last_games_have_failed_writes()
 {}
 
 /// States a law and does nothing: in odd games the engine of `--white` has White, in even games Black, and each engine
-/// has its own time control in all games. In the tags each has the name that it gave itself, or if it gave none, its
-/// command. The tags Event, Site and Round of the twelfth game are written out, its date is the plan's, and its
-/// Termination is as it ended: `time forfeit` if White has lost on time.
+/// has its own time control in all games. In the tags an engine that gave itself no name has its command as its name,
+/// and one that named itself `Sjeng` (an example) has this name. The tags Event, Site and Round of the twelfth game are
+/// written out, its date is the plan's, and its Termination is as it ended: `time forfeit` if White has lost on time.
 ///
-/// It refuses a level or a name that stays with its colour, another event, another round, a match without its date, and
-/// a loss on time that is written as a normal end.
+/// It refuses a level or a name that stays with its colour, and for the twelfth game another event, another round, a
+/// date that isn't the plan's, and a loss on time that is written as a normal end.
 pub fn levels_stay_with_engines()
     ensures levels { EachKeepsItsLevel }
     ensures tags { GamesAreTagged }

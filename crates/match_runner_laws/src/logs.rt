@@ -13,11 +13,11 @@ pub fn logs_have_one_reading()
 {}
 
 /// States a law and does nothing: a log gives its game back. From its lines, if their texts are printable ASCII, follow
-/// the lines that each engine sent and its silences, with their moments, and the lines that it was sent, which show the
-/// clocks; the moves; the reason for which it ended, and so its result; and, of one number of one plan, its PGN. Two
-/// matches by one plan, both played to the end and with their score written, whose games have the same logs write the
-/// same to the output. A log doesn't give back the moments at which turns were opened, so not the milliseconds that
-/// moves used; nor whether a write of the last lines failed.
+/// the lines that each engine sent and its silences, with their moments; the lines that it was sent, which show the
+/// clocks; the moves; the reason for which the game ended, and so its result; and its PGN, if the plan and the game's
+/// number are given. If two matches by one plan were both played to the end, their scores were written, and their games
+/// have the same logs, then they write the same to the output. A log doesn't give back the moments at which turns were
+/// opened, so not the milliseconds that moves used; nor whether a write of the last lines failed.
 pub fn logs_give_the_game()
     ensures shows { LogsShow }
     ensures gives { LogsGiveTheGame }

@@ -13,7 +13,8 @@ use chess_bits::{AttackTables, Bits};
 use chess_game::{Game, MOST_MOVES};
 use std::alloc::{AllocError, Global};
 
-// What short pieces are made of: a line of moves, and all but the last go on with a tag line, where a piece begins.
+// What short pieces are made of: a line where moves may be, and a line that begins with `[`, as a tag line does. In all
+// but the last text that is a tag line, at which a new piece begins.
 const SHORT: [&[u8]; 4] = [
     b"x\n[a\"\n",
     b"x\n[a \"b\"]\n",
@@ -21,7 +22,7 @@ const SHORT: [&[u8]; 4] = [
     b"*\n[b\n",
 ];
 
-// What is opened and never closed.
+// Beginnings of games in which a variation, a comment or a tag is opened and never closed.
 const UNCLOSED: [&[u8]; 4] = [b"1. e4 (", b"1. d4 {", b"(((((((((", b"1. e4 e5 [x \"y"];
 
 // A text of `count` of the shortest pieces that a collection can be cut into.

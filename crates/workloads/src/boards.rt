@@ -24,7 +24,7 @@ fn number_of(m: &Move) -> u64 {
     (u64::from(m.from.number()) * 64 + u64::from(m.to.number())) * 8 + promotion
 }
 
-// Adds to the digest as which move a text was read, or why as none.
+// Adds to the digest which move a text was read as, or why it was read as none.
 fn add_reading(reading: Reading, digest: &mut Digest) {
     match reading {
         Reading::Move(m) => digest.add(number_of(&m)),
@@ -156,8 +156,8 @@ pub fn ask_walk(
     }
 }
 
-// The start of the walk with this number: of eight walks four are from the initial position, three from one of
-// Chess960, and one from one with many queens.
+// The start of the walk with this number: of eight walks four begin in the initial position, three in a random starting
+// position of Chess960, and one in a position with many queens.
 fn start_for(number: usize, random: &mut Random) -> Position {
     match number % 8 {
         0 | 1 | 2 | 3 => Position::initial(),

@@ -55,7 +55,8 @@ fn time_reading(rt: &HostRuntime, text: &[u8], game: &mut Game<Bits<'_>>) -> io:
 }
 
 /// Reads all games of a PGN text, and prints how many games and half-moves there are, and on standard error how many
-/// half-moves a second. If a game has a fault, it prints the fault's offset there, and returns status 1.
+/// half-moves a second. If a game has a fault, it prints only the fault's offset, on standard error, and returns status
+/// 1.
 ///
 /// # Errors
 /// If memory runs out, or a write or the clock fails.

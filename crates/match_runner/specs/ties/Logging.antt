@@ -19,7 +19,7 @@ engine_text is_first = if is_first then codes "first : " else codes "second: "
 abbrev pub line_head : ℕ → ℕ → Bool → List ℕ
 line_head moment mark is_first = decimal moment ++ (byte " " ∷ mark ∷ []) ++ engine_text is_first
 
--- what logging `text` did, as in `Logged`, except that the bytes `pending` at its end still wait to be written. The
+-- what logging `text` did: as in `Logged`, but the last bytes of the text (`pending`) may still wait to be written. The
 -- flags say whether the log was broken before and is now; `o` and `o'` are the output before and after
 abbrev pub LogsPending : Bool → Bool → OutputState → OutputState → List ℕ → List ℕ → Type 0
 LogsPending false false o o' pending text =
@@ -38,8 +38,9 @@ abbrev pub moment_from : ℕ → List Note → ℕ
 moment_from moment [] = moment
 moment_from moment (n ∷ notes) = moment_from (moment_after moment n) notes
 
--- since the state `from` of the log just the log of these notes was logged, in a game in which the engine of `--white`
--- has the side `first`. Now the log is as `now`, and its fields are `side` (which is `first`) and `moment`
+-- in a game in which the engine of `--white` has the side `first`, the lines of just these notes were logged since the
+-- log's state `from`. The log's state is then `now`; its field `first` is `side`, which is the same side, and its field
+-- `moment` is `moment`, what the clock showed last
 pub record IsLog (first : Colour) (from : LogSeen) (side : Colour) (now : LogSeen) (moment : ℕ) (notes : List Note)
     : Type 0 where
   pub sided : side ≡ first

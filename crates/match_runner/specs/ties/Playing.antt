@@ -74,9 +74,10 @@ abbrev pub clock_after : (ℕ → Option ℕ) → List GameRecord → ℕ → Op
 clock_after coming [] = coming
 clock_after coming (played ∷ games) = clock_after played.after.coming games
 
--- what playing the game of this number does, by its result: its PGN was written and flushed, and the game logged; or
--- only a beginning of the PGN was written; or its engines could not be started. `c` is what the table's clock would
--- show before, `p` what may come there, `w` and `l` are output and log; `c'`, `p'`, `w'` and `l'` after
+-- what playing the game of this number does, by its result: the game was logged, and its PGN was written and flushed;
+-- or it was logged, but a write or flush of its PGN failed; or its engines could not be started. Before it the table's
+-- clock would show `c`, `p` holds of the steps that may come at the table, and `w` and `l` are output and log; after it
+-- these are `c'`, `p'`, `w'` and `l'`
 abbrev pub PlayedGame : GamesPlan → ℕ → (ℕ → Option ℕ) → (ℕ → Option ℕ) → GamesFuture → GamesFuture → OutputState
     → OutputState → LogSeen → LogSeen → Result MatchEnd GamesFault → Type 0
 PlayedGame plan number c c' p p' w w' l l' (Ok end) =
@@ -91,17 +92,19 @@ PlayedGame plan number c c' p p' w w' l l' (Err fault) =
     IsStartFault plan.white.now plan.black.now fault × (w' ≡ w) × (l' ≡ l)
     × StepsPass p p' (unstarted_steps plan number fault)
 
--- from `d` to `d'` just these games were played, with this result, as `PlaysGames` has it: the PGN of `games` was
--- written, and `unwritten` was played after them, but its PGN could not be written (`None`: there is no such game)
+-- from `d` to `d'` a match with this result played just these games, and wrote and logged what it must (the first case
+-- of `PlaysGames`): the PGN of `games` was written; `unwritten` was played after them, but its PGN could not be written
+-- (`None`: there is no such game)
 abbrev pub PlaysThese : GamesPlan → Result (Unit {0}) GamesFault → List GameRecord → Option GameRecord → Outputs
     → Outputs → Type 0
 PlaysThese plan result games unwritten d d' =
     (o : ToOutput) × WritesGames plan result games unwritten o × OutputTook d.output d'.output o
     × LogsGames plan d.log d'.log (games ++ option_to_list unwritten)
 
--- what playing the games of a match does, by its result: each was written and logged, and the score counts them, up to
--- and with one that has a fault; or the match broke off in a game or at its start. `c` is what the table's clock would
--- show before, `p` what may come there, `w` and `l` are output and log; `p'`, `w'` and `l'` after
+-- what playing the games of a match does, by its result. Either all were written, logged and counted in the score: as
+-- many as planned, or those up to and with one that has a fault. Or the match broke off, since a game could not be
+-- written, or its engines could not be started. Before it the table's clock would show `c`, `p` holds of the steps that
+-- may come at the table, and `w` and `l` are output and log; after it these are `p'`, `w'` and `l'`
 abbrev pub HasPlayed : GamesPlan → (ℕ → Option ℕ) → GamesFuture → GamesFuture → OutputState → OutputState → LogSeen
     → LogSeen → Result GamesPlayed GamesFault → Type 0
 HasPlayed plan c p p' w w' l l' (Ok played) =

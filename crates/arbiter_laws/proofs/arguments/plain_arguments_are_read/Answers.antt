@@ -1,4 +1,5 @@
--- That plain arguments are read as what they say is PlainReadings.plain_read.
+-- For each kind of plain command line `clap` has no fault, and what it matched says the same as the command line
+-- (PlainReadings.plain_read).
 use Rattle.arbiter_laws.proofs.PlainReadings.{plain_read}
 use Rattle.arbiter_laws.proofs.arguments.plain_arguments_are_read.Goals as goal
 
