@@ -137,7 +137,8 @@ IsPlanOf said (Stub arguments) = (said.command ≡ codes "stub") × (map (λ w. 
 IsPlanOf said (Match plan) = (said.command ≡ codes "match") × IsMatchPlan said.value plan
 
 -- the result of reading arguments is right. `said`: what they say; `kinds`: the kinds of fault, except out of memory,
--- that `clap`, the parser of arguments, may report for them (help and the version count as such), none if it accepts them
+-- that `clap`, the parser of arguments, may report for them (help and the version count as such), none if it accepts
+-- them
 abbrev pub IsReadAs : Kinds → Said → Result Plan WordsFault → Type 0
 -- the plan that they ask for
 IsReadAs kinds said (Ok plan) = (kinds ≡ []) × IsPlanOf said plan
