@@ -73,7 +73,7 @@ prove() {
     set -- "$(nproc)" $((BASH_REMATCH[1] / 1500000))
     set -- "$(printf '%s\n' 8 $(($1 + $1 / 4)) "$2" | sort -n | head -n 1)"
     cd "$copies" && hide || return
-    [ ! -s crates.txt ] || rt all check --jobs $(($1 > 0 ? $1 : 1))
+    [ ! -s crates.txt ] || (cd ./crates && exec rt all check --jobs $(($1 > 0 ? $1 : 1)))
     set -- $?
     show && [ "$1" -eq 0 ] || return $(($1 > 0 ? $1 : 1))
     cd ./crates/arbiter && rt run -- --version && grep -oE '^(chess_)?arbiter:' ../../crates.txt | sed 's/^/== /'
