@@ -199,8 +199,8 @@ fn named_square(
     }
 }
 
-// Chess960: a castling right's rook square from two letters, each of which gives a square if it names the right: the
-// one given, `None` if none is, `nowhere` if both are.
+// Chess960: the rook's square of a castling right, from what the letters so far name (`first`) and what the next letter
+// names (`second`). If both name the right, it is `nowhere`, so that the text is refused.
 fn one_or_nowhere(first: Option<Square>, second: Option<Square>) -> Option<Square>
     ensures { result ≡ one_or_nowhere first second }
 {

@@ -137,8 +137,8 @@ fn add_unsent(block: &mut Block, core: &MatchState, side: Colour)
     }
 }
 
-// Appends the last lines for this side: the last move, if it is still to be sent it, `result ..` by the reason that is
-// reported, and `quit`.
+// Appends the lines with which the match ends for this side: the last move, if this side is still to be sent that, and
+// the end lines, `result ..` by the reason that is reported and `quit`.
 fn add_end_lines(block: &mut Block, core: &MatchState, side: Colour, reason: Reason)
     requires { array_vec_len block.old + 120 ≤ BLOCK_LEN }
     ensures text { (r : Rules) (played : List Move) (m : Match) → Represents r core.now played m

@@ -407,7 +407,8 @@ abbrev pub OverstepsTime : Rules → List Act → Colour → Type 0
 OverstepsTime r H S = (before : List Act) × (act : Act) × (after : List Act) × (H ≡ before ++ act ∷ after)
     × (let m = match_after r beginning.after before in shows_fallen r m m.phase S act ≡ true)
 
--- the flag of the side `S` had fallen, and by that the match ended: afterwards only blocks were sent
+-- the last event of `H` showed the flag of the side `S` fallen (`shows_fallen`); after it there are only blocks, sent or
+-- not
 abbrev pub EndsOverstepped : Rules → List Act → Colour → Type 0
 EndsOverstepped r H S = (before : List Act) × (act : Act) × (after : List Act) × (H ≡ before ++ act ∷ after)
     × (only_sends after ≡ true)

@@ -57,12 +57,12 @@ pub fn losers_lose()
     ensures faults { FaultsAreReported }
 {}
 
-/// States a law and does nothing: in its turn a side that says, by `1-0` or `0-1`, that it has won loses by a false
-/// claim; one that says that the other side has won resigns. One that answers a move by `Illegal move` loses by that;
-/// without a move to reject the line is ignored.
+/// States a law and does nothing: examples of claims, before a side's move and after it. A side that says by `1-0` or
+/// `0-1` that it has won loses by a false claim; one that says that the other side has won, or `resign`, resigns. One
+/// that answers a move by `Illegal move` loses by that; without a move to reject the line is ignored.
 ///
-/// It refuses that a resignation by `1-0` or `0-1` is a false claim, that a side may reject a legal move, and that one
-/// loses by `Illegal move` which was sent no move.
+/// It refuses that a resignation by `1-0` or `0-1` is a false claim, that a side may reject a legal move, and that a
+/// side to which no move was sent loses by `Illegal move`.
 pub fn claims_are_worked_out()
     ensures { ClaimsAreJudged }
 {}

@@ -121,16 +121,16 @@ pub fn texts_are_worked_out()
 
 /// States a law and does nothing: what small texts are read as, most of them games without moves, in which a number, a
 /// comment or a variation could be taken for moves or for a result. `*` declares nothing, `1-0` does. The texts of the
-/// tags Variant and Termination may be in capital or small letters. A word after a mate is a move after the end. The
+/// tags Variant and Termination may be in capital or small letters. After a mate `O-O` is a move after the end. The
 /// texts show where strings, comments, variations, glyphs and words end, where `%` skips a line, which tags count, by
 /// which rules a FEN is read, and which names of variants, terminations and outcomes are known.
 ///
 /// For example, the law doesn't hold of a definition by which the number 12 in a game without moves is a fault, moves
 /// in a comment are played, a `)` in a comment ends the variation around it, a quote after a backslash ends a string, a
-/// `%` within a line skips its rest, or a word after a mate is an illegal move.
+/// `%` within a line skips its rest, or `O-O` after a mate is an illegal move.
 pub fn empty_games_are_read()
     ensures { EmptyGamesAreRead }
 {
-    // The prover wants this law: which texts have the shape of a move.
+    // The prover needs it for `O-O` after a mate: which texts have the shape of a move.
     texts_have_parts();
 }

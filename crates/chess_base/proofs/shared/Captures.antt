@@ -1,5 +1,7 @@
--- For boards and texts of moves: which moves capture, and which set the halfmove clock to 0, by what moves and what is
--- on the end square.
+-- A move captures exactly if an enemy piece is on its end square, or by en passant (captures_is). It resets the halfmove
+-- clock exactly if a pawn moves or an enemy piece is on its end square (resets_clock_is).
+
+-- no piece attacks its own square
 pub use Rattle.chess_base.proofs.Rays.{could_capture-itself}
 use Rattle.std.proofs.Common.{◌≡◌, ℕ, Bool, true, false, ◌||◌, ◌&&◌, Some, None, refl, ap, ◌∙◌, arith, is_some, if◌then◌else◌}
 use Rattle.chess_base.specs.{declared.man.Kind.TheVariants.Pawn, declared.man.Move.Move, declared.setup.Setup.Setup, Squares.is_at, Attacks.attacks, Moves.is_en_passant, Moves.captured_square, Moves.resets_clock, shared.Parts.one_rank_back}
@@ -13,7 +15,7 @@ some_by true false x y = refl
 some_by false true x y = refl
 some_by false false x y = refl
 
--- a move captures exactly if an enemy piece is on its last square, or by en passant
+-- a move captures exactly if an enemy piece is on its end square, or by en passant
 pub captures_is : (p : Setup) (m : Move)
     → is_some (captured_square p m) ≡ (is_of (other p.side) (man_at p.men m.to) || is_en_passant p m)
 unfolding captured_square
@@ -24,7 +26,7 @@ captures_is p m =
 passing : (pawn enemy hits target : Bool) → (pawn || (enemy || ((pawn && hits) && target))) ≡ (pawn || enemy)
 passing pawn enemy hits target = grind arith
 
--- a move resets the clock exactly if a pawn moves or an enemy piece is on its last square
+-- a move resets the clock exactly if a pawn moves or an enemy piece is on its end square
 pub resets_clock_is : (p : Setup) (m : Move)
     → resets_clock p m ≡ (is_man p.side Pawn (man_at p.men m.from) || is_of (other p.side) (man_at p.men m.to))
 unfolding resets_clock is_en_passant

@@ -5,13 +5,13 @@ use Rattle.byte_devices.specs.Bytes.{byte, is_name_byte}
 use Rattle.pgn_tokens.specs.Tokens.{Token, Tag, Bad_tag, after_gap, after_next, string_at}
 
 -- the tag with this name and text, and the text after its `]` (the last argument); `Bad_tag` if that is `None`, as
--- there is no `]`. `to_end` counts the bytes from the tag's string on
+-- there is no `]`. `to_end`: how many bytes the text has after the string's opening quote
 abbrev pub closed : List ℕ → ℕ → List ℕ → Option (List ℕ) → Token × List ℕ
 closed name to_end text None = (Bad_tag, [])
 closed name to_end text (Some rest) = (Tag name text to_end, rest)
 
 -- the tag with this name, and the text after it. `found`: its string's bytes and the text after the closing quote;
--- `Bad_tag` if that is `None`, or no `]` follows. `to_end` counts the bytes from the string on
+-- `Bad_tag` and an empty text if that is `None`, or no `]` follows. `to_end` as in `closed`
 abbrev pub with_text : List ℕ → ℕ → Option (List ℕ × List ℕ) → Token × List ℕ
 with_text name to_end None = (Bad_tag, [])
 with_text name to_end (Some found) = closed name to_end found.0 (after_next (byte "]") found.1)

@@ -1,6 +1,6 @@
--- A line that is answered by the legal moves or by the game's text has a row of its own: the text is the answer,
--- nothing changes, and it is no quit (OwnRows.by_moves, OwnRows.by_pgn). The text of all other answers is put together
--- by `obey_line`.
+-- `showmoves` and `showpgn` are answered apart from `obey_line`: by their rows the text is the answer, nothing changes,
+-- and the session goes on (OwnRows.by_moves, OwnRows.by_pgn). The text of all other answers is put together by
+-- `obey_line`. `refused` and `kept` follow from the session that the table gives.
 use Rattle.std.proofs.{Common.◌∙◌, lemmas.Result.err_from_is_err_and}
 use Rattle.chess_cecp.proofs.{OwnRows.by_moves, OwnRows.by_pgn, OwnRows.text_go, Rows.refused, Rows.tags_and_limit_stay}
 use Rattle.chess_cecp.proofs.session.Session.answer.Goals as goal
