@@ -72,7 +72,7 @@ abbrev pub last_said : {A : Type 0} → (Value → A) → A → List ℕ → Lis
 last_said f default name items = fold (λ before i. if bytes_eq i.name name then f i.value else before) default items
 
 -- whether an engine that sent these items has the feature `name` on: the last item of that name is 1, without quotes.
--- With no such item only `time` and `draw` are on, as CECP says of what a match asks for
+-- With no such item CECP's default holds: of what a match asks for, only `time` and `draw` are on
 unfoldable pub takes : List ℕ → List Item → Bool
 takes name items = last_said is_one (bytes_eq name (codes "time") || bytes_eq name (codes "draw")) name items
 

@@ -137,8 +137,8 @@ unfoldable pub castling_way_is_safe : Men → Colour → Castle → Bool
 castling_way_is_safe men c k = each_square
     (λ x. not (is_on_way k.king_from k.king_to x) || not (is_attacked men x (other c)))
 
--- castling k, as which move m is written, is pseudo-legal. Whether the king is in check after it isn't asked: in
--- Chess960 the rook may uncover an attack
+-- castling k, as which move m is written, is pseudo-legal. Whether the king is in check after it, since in Chess960 the
+-- rook may uncover an attack, is for `is_legal`
 unfoldable pub castles : Setup → Move → Castle → Bool
 castles p m k = is_none m.promotion && castling_way_is_empty p.men k && castling_way_is_safe p.men p.side k
 

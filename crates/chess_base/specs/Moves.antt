@@ -74,7 +74,7 @@ captured_square p m = if is_en_passant p m then Some (forward (other p.side) m.t
     else if is_of (other p.side) (man_at p.men m.to) then Some m.to
     else None
 
--- what is on square s after move m, which is castling k. If this is legal, m.promotion is `None`
+-- what is on square s after move m, which is castling k. If m is legal, it has no promotion
 abbrev pub after_castling : Setup → Move → Castle → ℕ → Option Man
 after_castling p m k s = if s == k.king_to then arriving_man (man_at p.men m.from) m.promotion
     else if s == k.rook_to then Some (record { colour = p.side; kind = Rook })

@@ -69,7 +69,7 @@ move_row limit s text = if is_over s then answers s (codes "Illegal move (game o
     else reading_row s text (reading (current s) text)
 
 -- the answer to the command `name`, `undo` (`n` is 1) or `remove` (`n` is 2): the last `n` half-moves are taken back,
--- and a declared result is cleared
+-- and a declared result is cleared; refused if there are fewer
 abbrev pub take_back_row : ℕ → List ℕ → State → Response State
 take_back_row n name s = if nat_le n (length s.moves) then becomes (taken_back s n)
     else answers s (codes "Error (command not legal now): ") name
@@ -86,8 +86,8 @@ result_row s text (Some d) =
 abbrev pub declares : State → Declared → Response State
 declares s d = says (record s { declared = Some d }) (result_text d ++ new_line ∷ [])
 
--- the answer to `claim`: a draw that can be claimed (Laws, articles 9.2.2 and 9.3.2) is declared, unless the game is
--- over
+-- the answer to `claim`: the draw that can be claimed (Laws, articles 9.2.2 and 9.3.2) is declared; refused if the game
+-- is over, or if there is none
 abbrev pub claim_row : State → Response State
 claim_row s = if is_over s then answers s (codes "Error (command not legal now): ") (codes "claim")
     else option_map_or (λ claim. declares s (record { outcome = Draw; comment = claim_comment claim }))
@@ -134,7 +134,7 @@ session_response seen line =
     else row seen.tags seen.limit seen.state line.text (argument_of line.text) (command_of line.text) in
     record { text = r.text; state = record seen { state = r.state }; ends = r.ends }
 
--- the text begins as a refusal does
+-- the text is a refusal, by how it begins
 abbrev pub IsRefusal : List ℕ → Type 0
 IsRefusal text = Begins (codes "Error") text
     ⊎ (Begins (codes "Illegal move") text ⊎ Begins (codes "tellusererror") text)

@@ -79,8 +79,9 @@ pub struct Setup {
 /// How a match ended.
 #[derive(Drop)]
 pub struct MatchEnd {
-    /// The outcome of the game: `Unfinished` if a fault ended the match, or if the game has as many half-moves as its
-    /// limit allows. But if the start has a verdict, the outcome is the verdict's, even if a fault ended the match.
+    /// The outcome of the game: `Unfinished` if a fault ended the match, or if an engine sent a move beyond the game's
+    /// limit of half-moves. But if the start has a verdict, the outcome is the verdict's, even if a fault ended the
+    /// match.
     pub outcome: Outcome,
     /// The comment on the end, as in `result 1-0 {Black resigns}`, without braces.
     pub comment: Comment,

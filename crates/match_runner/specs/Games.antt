@@ -55,13 +55,14 @@ setup_of plan number = record {
   draws = plan.draws;
 }
 
--- an engine's name in the tag White or Black: the name from its feature `myname`, or its command if that is empty; cut
--- to 60 bytes, with `?` for each that is not printable ASCII
+-- an engine's name in the tag White or Black: the name from its feature `myname` or, if it is empty, the engine's
+-- command; cut to 60 bytes, with `?` for each that is not printable ASCII
 abbrev pub player_name : List ℕ → List ℕ → List ℕ
 player_name name command = cut_tag (if length name == 0 then command else name)
 
--- the PGN tags of the game of this number; `cut_tag` cuts to 60 bytes. `pgn` adds the tags that depend on start and
--- outcome, such as FEN and Result
+-- the PGN tags of the game of this number, and how it ended (`ended`, for the tag Termination). Site stays `?`.
+-- `cut_tag`: at most 60 bytes, with `?` for each that isn't printable ASCII. `pgn` adds the tags that depend on start,
+-- outcome and `ended`, such as FEN, Result and Termination
 abbrev pub tags_of : GamesPlan → ℕ → MatchEnd → Tags
 tags_of plan number end = record default_tags {
   event = codes "CECP match";
@@ -107,7 +108,7 @@ none_killed = record { white = false; black = false }
 
 -- `played` was played as the plan says for the game of this number, with at most 20,000 half-moves; without a limit for
 -- replies no engine was killed. Some acts `H` of the arbiter, with the record's notes, led from `before` to `after` and
--- ended as `end` says (`PlayedBy`). `steps_by` says which engines played
+-- ended as `end` says (`PlayedBy`). `steps_by` (GamesTable) says which engines played
 abbrev pub IsOfPlan : GamesPlan → ℕ → GameRecord → Type 0
 IsOfPlan plan number played = (played.before.game.limit ≡ MOST_MOVES)
     × (plan.patience.reply ≡ None → played.killed ≡ none_killed)

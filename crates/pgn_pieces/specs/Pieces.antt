@@ -77,22 +77,22 @@ unfoldable pub after_parts : ℕ → List ℕ → List ℕ
 after_parts zero text = text
 after_parts (suc more) text = option_map_or (after_parts more) (after_part text) text
 
--- whether a text ends within the tag at its front, which more bytes may close: in the name, in the string, or in the
--- spaces and tabs after either
+-- whether a text that begins with `[` ends before a tag there is closed: in the name (perhaps empty, as in `[ `), in
+-- the string, or in the spaces and tabs after either
 abbrev pub ends_in_tag : List ℕ → Bool
 ends_in_tag text = bytes_eq (take 1 text) (codes "[")
     && ((length (after_name text) == 0) || begins_tag text && (length (after_string text) == 0))
 
 -- whether a tag line has more than tags, by what comes after its parts (`after_parts`): a byte that neither ends the
--- line nor begins a comment, such as a move's. `ended`: the line's end is in its front; if not, a tag that the front
--- cuts off doesn't count
+-- line nor begins a comment, such as a move's. `ended`: the line's end is in its front; if not, a tag in which the
+-- front ends doesn't count
 abbrev pub has_more : Bool → List ℕ → Bool
 has_more ended rest = list_any (λ c. not (list_any (λ k. c == k) (codes "\r\n{;"))) (take 1 rest)
     && (ended || not (ends_in_tag rest))
 
 -- whether a line counts as one of moves: neither a tag line nor empty, so also one inside a `{` comment, and
--- `[ Event "x" ]`, which is no tag line; or a tag line with more than tags: `[White "a"] {x} 1. e4`, or `[White "a`. A
--- front has at most 256 parts
+-- `[ Event "x" ]`, which is no tag line; or a tag line with more than tags: `[White "a"] {x} 1. e4`, or `[White "a` and
+-- then a line end. A front has at most 256 parts
 abbrev pub is_moves_line : List ℕ → Bool
 is_moves_line line = let front = front_of line in
     if is_tag_line line then has_more (list_any breaks_line front) (after_parts 256 front) else not (is_empty_line line)

@@ -65,9 +65,9 @@ names_of tokens = codes " | " ++ (shown_tag tokens (codes "White") ++ (codes " -
 
 -- ---- the reports on the games of a text
 
--- the reports on the games of `text` from an offset on (the number). The text begins at the input's offset `start`;
--- reports have offsets in the input. `strict`: which faults are looked for; `goes_on`: whether the text is read on
--- after a fault
+-- the reports on the games of `text` from the offset on that the number gives. The text begins at the input's offset
+-- `start`; reports have offsets in the input. `strict`: which faults are looked for; `goes_on`: whether the text is
+-- read on after a fault
 pub data AreReports (goes_on : Bool) (strict : Strictness) (start : ℕ) (text : List ℕ) : ℕ → List Placed → Type 0 where
   -- no game comes from `at` on
   none_left : {at : ℕ} {s : State} → IsJudged strict text at s (Ok None) → AreReports goes_on strict start text at []
@@ -161,7 +161,8 @@ counts_of reports = record {
 abbrev pub verified : Tally → Verified
 verified t = if t.faults == 0 then EachGame else FaultReported
 
--- the last line written of a collection, such as `games 2 half-moves 6 faults 1`
+-- the last line for a collection, such as `games 2 half-moves 6 faults 1`: games without a fault, their half-moves,
+-- and faults
 unfoldable pub counts_line : Tally → List ℕ
 counts_line t = codes "games " ++ (decimal t.games ++ (codes " half-moves " ++ (decimal t.half_moves
     ++ (codes " faults " ++ (decimal t.faults ++ new_line ∷ [])))))

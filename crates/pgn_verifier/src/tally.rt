@@ -6,9 +6,9 @@ ghost use Rattle.pgn_verifier.specs.Reports.{verified};
 /// How verifying ended.
 #[derive(Clone, Copy, Debug, PartialEq, Eq)]
 pub enum Verified {
-    /// No game that was read has a fault.
+    /// No fault was reported.
     EachGame,
-    /// A game has a fault, which was reported.
+    /// A fault was reported.
     FaultReported,
 }
 
@@ -19,7 +19,7 @@ pub struct Tally {
     pub games: usize,
     /// How many half-moves these have.
     pub half_moves: usize,
-    /// How many games have a fault.
+    /// How many faults there are, of games and of pieces that are too long.
     pub faults: usize,
 }
 
