@@ -146,7 +146,7 @@ IsReadAs kinds said (Ok plan) = (kinds ≡ []) × IsPlanOf said plan
 IsReadAs kinds said (Err (Words e)) = IsAmong (kind_of e) kinds
 -- out of memory may be reported for any arguments
 IsReadAs kinds said (Err NoMemory) = ⊤
--- `--ignore` names something that is no kind
+-- `--ignore` names something that it may not ignore
 IsReadAs kinds said (Err BadKind) = (kinds ≡ []) × (said.command ≡ codes "verify") × (ignores_kinds said.value ≡ false)
 -- a level, the FEN or the date of a match is invalid
 IsReadAs kinds said (Err f) = (kinds ≡ []) × (said.command ≡ codes "match") × (levels_start_and_date said.value ≡ Err f)
@@ -160,9 +160,9 @@ abbrev pub said_by : OptionNames → List Text → Said
 said_by names arguments = let p = unwrap_or (subcommand_of (arbiter_app names) arguments) (codes "session", []) in
     record { command = p.0; value = λ name. first_of name p.1; replies = unwrap_or (all_of (codes "words") p.1) [] }
 
--- the result of reading these arguments, without the program's name, is right by the grammar of the command line.
--- `names`: the names of `OptionNames`, of which only the place in memory is open. The law
--- `plain_arguments_are_followed` says the same of plain arguments, without the grammar
+-- for some place in memory of the texts that `--variant` and `--draws` take (`names`), `result` is a right reading of
+-- these arguments, without the program's name, by the grammar. For plain arguments the law `plain_arguments_are_read`
+-- says it without the grammar
 abbrev pub IsReading : List Text → Result Plan WordsFault → Type 0
 IsReading arguments result =
     (names : OptionNames) × IsReadAs (fault_of (arbiter_app names) arguments) (said_by names arguments) result

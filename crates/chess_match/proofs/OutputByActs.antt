@@ -114,7 +114,7 @@ as_read : (r v v' : InputState) (given : List ℕ) (texts texts' : List (Option 
     → ReadTo texts a b last r v given → ReadTo texts' a' b' last' r v' given
 as_read r v v' given texts texts' a a' b b' last last' t x y l z q = rw (t, x, y, l, z) q
 
--- nothing is read after an end or a failed read
+-- texts with none after them are the same texts
 no_more : (texts more : List (Option (List ℕ))) → more ≡ [] → texts ++ more ≡ texts
 no_more texts more e = ap (λ (l : List (Option (List ℕ))). texts ++ l) e ∙ append-nil texts
 

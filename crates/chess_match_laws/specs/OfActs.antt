@@ -255,8 +255,8 @@ ItemsAreSaid r H m = (S : Colour) → (m.seat S).items ≡ items_said (lines_rea
 abbrev pub others_moves : Rules → Colour → List Item → List Move → List (List ℕ)
 others_moves r O items ms = texts_from r (takes (codes "san") items) (other O) r.start.side [] ms
 
--- each side `O` is sent the other side's moves, each once and in order, but for `rest`: at most the last. While the
--- `pong` after that move is awaited (`is_owed_move`), it is not sent yet
+-- the blocks for each side `O`, also one that could not be sent, have the other side's moves, each once and in order,
+-- but for `rest`: at most the last. While the `pong` after the last move is awaited (`is_owed_move`), no block has it yet
 abbrev pub MovesAreSent : Rules → List Act → Match → Type 0
 MovesAreSent r H m = (O : Colour) → (rest : List (List ℕ)) × (length rest ≤ 1)
     × (is_owed_move m.phase O ≡ true → length rest ≡ 1)

@@ -50,8 +50,8 @@ pub trait Board {
         ensures value { result.now ≡ position self.now }
         ensures sound { IsSound (position self.now) };
 
-    /// All legal moves, each once, rising by start square, end square and promotion (none, queen,
-    /// rook, bishop, knight).
+    /// All legal moves, each once, rising by start square and then end square; promotions in the
+    /// order queen, rook, bishop, knight.
     fn legal_moves(&self) -> MoveList
         ensures moves { result.items ≡ moves (position self.now) }
         ensures legal { All (λ m. IsTrue (is_legal (position self.now) m)) result.items };

@@ -117,7 +117,8 @@ impl Board for Plain {
         &self.setup
     }
 
-    // All legal moves, each once, rising by start square, end square and promotion.
+    // All legal moves, each once, rising by start square and then end square; promotions in the order queen, rook,
+    // bishop, knight.
     fn legal_moves(&self) -> MoveList {
         legal_moves(&self.setup)
     }

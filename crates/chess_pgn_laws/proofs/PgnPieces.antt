@@ -1,6 +1,6 @@
--- What reading does with each piece of a game's text as it is written (a number, a move in SAN, an outcome, a line of a
--- tag): it takes the reader's state to the state with that piece (Takes, TakesLine), or ends the game (outcome_ends).
--- PgnMoves and PgnWhole put the pieces together.
+-- What reading does with each part of a written game's text (a number, a move in SAN, a termination marker, a line of a
+-- tag). Each is one token, besides dots and the line's end, whose step in the reader is computed: it takes the state to
+-- the state with that part (Takes, TakesLine), or ends the game (outcome_ends). PgnMoves and PgnWhole put them together.
 use Rattle.std.proofs.Common.{◌≡◌, ℕ, suc, ◌+◌, ◌-◌, ◌<◌, ◌≤◌, Bool, true, false, eqb, List, [], ◌∷◌, ◌++◌, length, Option, Some, None, refl, ap, subst, ◌∙◌, append_assoc, arith, bytes_eq, Ok, is_some, codes, decimal, IsTrue, nat_lt}
 use Rattle.std.specs.List.{list_all}
 use Rattle.std.proofs.{lemmas.Bool.and_parts, lemmas.Bool.Decides.nat_tests}
@@ -139,7 +139,7 @@ module _ (draws : Bool) (limit total : ℕ) where
       (next (total - suc (length (cs ++ d ∷ rest))))
       ∙ ap (λ b. read_on draws limit total h b (d ∷ rest)) (differs is_word_byte c 10 here refl)
 
-  -- a number, and the dots after it
+  -- a number
   number_takes : (g : SoFar) (n : ℕ) → n ≤ 999999 → Takes g (begun g) (decimal n)
   number_takes g n h =
       let digits = decimal_digits n h in

@@ -31,7 +31,8 @@ use Rattle.pgn_writer.specs.declared.termination.Termination.TheVariants as how
 abbrev pub read_of : Text → GameRead
 read_of text = pgn_read true 1 (codes text) 0
 
--- the end of a game with the marker `*` before this offset
+-- what reading returns of a game that ends with the marker `*`, if `end` is the offset right after it, and no tag names
+-- its termination
 abbrev pub unfinished_at : ℕ → PgnEnd
 unfinished_at end = record { outcome = Unfinished; termination = None; offset = end }
 

@@ -44,7 +44,8 @@ PgnIsReadBack =
     → IsReadBack s (termination_of tags.ended (outcome_now s)) (length (before ++ pgn [] tags s))
     (pgn_read draws limit (before ++ pgn [] tags s ++ after) (length before))
 
--- the last tag Result in the written text of a playable game names its outcome
+-- whatever text comes before and after the text that is written of a playable game: of the tags that are read there as
+-- the game's own, the last tag Result exists and names the game's outcome
 abbrev pub ResultIsWritten : Type 0
 ResultIsWritten =
     (limit : ℕ) → (tags : Tags) → (s : State) → (before after : List ℕ) → AreTagTexts tags
@@ -52,7 +53,7 @@ ResultIsWritten =
     (tokens : List (ℕ × Token)) → IsSplit text (after_byte_order_mark text (length before)) tokens
     → option_and_then (λ tag. tag.outcome) (result_tag_of (length text) tokens) ≡ Some (outcome_now s)
 
--- the last tag Variant in the written text of a playable game, if there is one, names a known variant
+-- likewise the last of these tags Variant, if there is one, names a known variant
 abbrev pub VariantIsWritten : Type 0
 VariantIsWritten =
     (limit : ℕ) → (tags : Tags) → (s : State) → (before after : List ℕ) → AreTagTexts tags

@@ -1,5 +1,6 @@
--- For proofs about lines: what lies between two squares of a line, which rank and file decide in the definition, is the
--- same by the squares' numbers; and their order makes no difference.
+-- For proofs about lines. The definition `is_between` asks for ranks and files. Here a square is between two squares of a
+-- line exactly if it is on that line and its number is between theirs (between_on_line: one kind of line after the
+-- other, by arithmetic). The order of the two squares makes no difference.
 use Rattle.std.proofs.Common.{◌≡◌, ℕ, ◌<◌, ◌*◌, ◌+◌, nat_lt, ◌-◌, inl, inr, Bool, true, false, ◌&&◌, ◌||◌, not, ◌==◌, is_none, refl, sym, ap, ◌∙◌, arith}
 use Rattle.std.proofs.{lemmas.Bool.Decides.nat_tests, lemmas.Bool.cases_order, lemmas.Bool.eqb-true}
 use Rattle.std.specs.Int.{abs_diff}
@@ -102,7 +103,7 @@ inside_down m n x h = grind (arith, nat_tests)
 inside_none : (m n x : ℕ) → m ≡ n → is_strictly_between m n x ≡ false
 inside_none m n x h = grind (arith, nat_tests)
 
--- over files and ranks: up and down a diagonal, and an antidiagonal
+-- over files and ranks, up a diagonal: what is between, by the squares' numbers
 up_diagonal : (f r g q h t : ℕ) → f < 8 → g < 8 → h < 8 → r + g ≡ q + f → f < g
     → (abs_diff f h == abs_diff r t && abs_diff h g == abs_diff t q && is_strictly_between r q t
     && is_strictly_between f g h)

@@ -1,5 +1,5 @@
--- A written game is read back, since its positions are sound and its FEN is read back (the laws that are called;
--- PgnWhole).
+-- PgnWhole proves the three laws. The first needs that a game's positions are sound and a written FEN is read back (the
+-- two laws that are called), and that the initial position is sound.
 use Rattle.std.proofs.Common.{subst, ◌∙◌}
 use Rattle.chess_base.specs.Sound.{IsSound}
 use Rattle.chess_pgn_laws.proofs.PgnWhole.{pgn_law, result_law, variant_law}

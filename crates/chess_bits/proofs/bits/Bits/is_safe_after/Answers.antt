@@ -1,4 +1,5 @@
--- A move that is neither the king's nor en passant changes its two squares alone (StepsPlainly).
+-- A pseudo-legal move that passes the test `steps_plainly` is neither the king's nor en passant, so it has the property
+-- StepsPlainly, for which `is_safe_plain` answers rightly.
 use Rattle.std.proofs.Common.{not, ◌&&◌, sym, ◌∙◌}
 use Rattle.std.proofs.lemmas.Bool.{and_parts, not-true}
 use Rattle.chess_base.specs.{Men.is_man, Men.man_at, Squares.is_at, declared.man.Kind.TheVariants.King, declared.man.Kind.TheVariants.Pawn}
