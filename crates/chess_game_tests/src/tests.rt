@@ -54,8 +54,8 @@ fn count_up(count: &Cell<u32>) {
     count.set(count.get().wrapping_add(1));
 }
 
-/// The plain board with 0 as the hash of each position. A game then has to compare positions to find whether they differ.
-/// It counts the calls that change it, and those that ask for its hash.
+/// The plain board with 0 as the hash of each position. A game then has to compare positions to find whether they
+/// differ. It counts the calls that change it, and those that ask for its hash.
 #[derive(Drop)]
 struct ZeroHashBoard<'a> {
     plain: Plain,

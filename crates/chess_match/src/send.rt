@@ -56,7 +56,8 @@ fn note_and_put<T: MatchTable>(table: &mut T, text: &[u8], side: Colour) -> bool
 
 /// `block` has the answers (`accepted`, `rejected`) to the items of this side's `feature` line, if the event was one.
 /// Appends what else this side is sent (`given` says what), notes it all, sends it with one call of the table, and
-/// empties `block`. If there is nothing, nothing is noted or sent, and nothing can fail. Returns whether sending failed.
+/// empties `block`. If there is nothing, nothing is noted or sent, and nothing can fail. Returns whether sending
+/// failed.
 pub(crate) fn note_and_send<T: MatchTable, G: MatchGame>(
     table: &mut T,
     core: &MatchState,

@@ -256,7 +256,8 @@ abbrev pub others_moves : Rules → Colour → List Item → List Move → List 
 others_moves r O items ms = texts_from r (takes (codes "san") items) (other O) r.start.side [] ms
 
 -- the blocks for each side `O`, also one that could not be sent, have the other side's moves, each once and in order,
--- but for `rest`: at most the last. While the `pong` after the last move is awaited (`is_owed_move`), no block has it yet
+-- but for `rest`: at most the last. While the `pong` after the last move is awaited (`is_owed_move`), no block has it
+-- yet
 abbrev pub MovesAreSent : Rules → List Act → Match → Type 0
 MovesAreSent r H m = (O : Colour) → (rest : List (List ℕ)) × (length rest ≤ 1)
     × (is_owed_move m.phase O ≡ true → length rest ≡ 1)
@@ -407,8 +408,8 @@ abbrev pub OverstepsTime : Rules → List Act → Colour → Type 0
 OverstepsTime r H S = (before : List Act) × (act : Act) × (after : List Act) × (H ≡ before ++ act ∷ after)
     × (let m = match_after r beginning.after before in shows_fallen r m m.phase S act ≡ true)
 
--- the last event of `H` showed the flag of the side `S` fallen (`shows_fallen`); after it there are only blocks, sent or
--- not
+-- the last event of `H` showed the flag of the side `S` fallen (`shows_fallen`); after it there are only blocks, sent
+-- or not
 abbrev pub EndsOverstepped : Rules → List Act → Colour → Type 0
 EndsOverstepped r H S = (before : List Act) × (act : Act) × (after : List Act) × (H ≡ before ++ act ∷ after)
     × (only_sends after ≡ true)

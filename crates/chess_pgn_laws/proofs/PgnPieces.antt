@@ -1,6 +1,7 @@
 -- What reading does with each part of a written game's text (a number, a move in SAN, a termination marker, a line of a
 -- tag). Each is one token, besides dots and the line's end, whose step in the reader is computed: it takes the state to
--- the state with that part (Takes, TakesLine), or ends the game (outcome_ends). PgnMoves and PgnWhole put them together.
+-- the state with that part (Takes, TakesLine), or ends the game (outcome_ends). PgnMoves and PgnWhole put them
+-- together.
 use Rattle.std.proofs.Common.{◌≡◌, ℕ, suc, ◌+◌, ◌-◌, ◌<◌, ◌≤◌, Bool, true, false, eqb, List, [], ◌∷◌, ◌++◌, length, Option, Some, None, refl, ap, subst, ◌∙◌, append_assoc, arith, bytes_eq, Ok, is_some, codes, decimal, IsTrue, nat_lt}
 use Rattle.std.specs.List.{list_all}
 use Rattle.std.proofs.{lemmas.Bool.and_parts, lemmas.Bool.Decides.nat_tests}

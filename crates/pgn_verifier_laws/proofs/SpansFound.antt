@@ -1,7 +1,7 @@
 -- The spans of reports are found one after another in the text: a report's span begins where its game does and ends
--- after that, within the text (game_there; of a fault fault_there, and `there` in text_made), and the next begins at its
--- end or later (placed_next). So they make up the text (text_made), and those of its pieces too (collection_made). All
--- rests on the law that a text is read token by token, given as an argument (`TokenByToken`).
+-- after that, within the text (game_there; of a fault fault_there, and `there` in text_made), and the next begins at
+-- its end or later (placed_next). So they make up the text (text_made), and those of its pieces too (collection_made).
+-- All rests on the law that a text is read token by token, given as an argument (`TokenByToken`).
 use Rattle.std.proofs.Common.{◌≡◌, ℕ, zero, suc, ◌+◌, ◌-◌, ◌<◌, ◌≤◌, eqb, Bool, true, false, List, [], ◌∷◌, ◌++◌, length, take, drop, Option, Some, None, IfSome, Result, Ok, Err, IfOk, refl, sym, ap, subst, ◌∙◌, append_assoc, append-nil, length-append, arith, nat_le, if◌then◌else◌, drop-drop, length-drop, length-take-le, take-append-drop}
 use Rattle.std.specs.{List.concat, List.flat_map, Option.option_map_or}
 use Rattle.std.proofs.{Math.Seq.drop-length, lemmas.Bool.Decides.nat_tests, lemmas.List.Folds.concat-append, lemmas.List.Sums.prefix_len-le-length}

@@ -1,5 +1,5 @@
--- A move captures exactly if an enemy piece is on its end square, or by en passant (captures_is). It resets the halfmove
--- clock exactly if a pawn moves or an enemy piece is on its end square (resets_clock_is).
+-- A move captures exactly if an enemy piece is on its end square, or by en passant (captures_is). It resets the
+-- halfmove clock exactly if a pawn moves or an enemy piece is on its end square (resets_clock_is).
 
 -- no piece attacks its own square
 pub use Rattle.chess_base.proofs.Rays.{could_capture-itself}

@@ -1,5 +1,6 @@
 -- The loop's invariant: all lines so far were answered, and none of them ended the server (RunLemmas.SoFar). An answer
--- more keeps that (RunLemmas.go_on), and each way out has a lemma on what passed at the devices (RunLemmas.by_line and those after it).
+-- more keeps that (RunLemmas.go_on), and each way out has a lemma on what passed at the devices (RunLemmas.by_line and
+-- those after it).
 use Rattle.std.proofs.{Common.[], Common.subst, Common.sym, lemmas.Result.err_from_is_err_and}
 use Rattle.text_lines.specs.Lines.{Held}
 use Rattle.byte_devices.specs.declared.traits.ReadFault.{ReadFault}
