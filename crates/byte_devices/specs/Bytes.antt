@@ -25,11 +25,11 @@ space = byte " "
 
 -- ---- kinds of bytes
 
--- c is a letter, A to Z or a to z
+-- byte c is a letter, A to Z or a to z
 abbrev pub is_letter : ℕ → Bool
 is_letter c = (nat_le (byte "A") c && nat_le c (byte "Z")) || (nat_le (byte "a") c && nat_le c (byte "z"))
 
--- c is a digit, 0 to 9
+-- byte c is a digit, `0` to `9`
 abbrev pub is_digit : ℕ → Bool
 is_digit c = nat_le (byte "0") c && nat_le c (byte "9")
 
@@ -43,16 +43,16 @@ is_name_byte c = is_letter c || (is_digit c || c == byte "_")
 
 -- ---- texts
 
--- a byte as it is shown: `?` for all but printable ASCII (32 to 126)
+-- a byte as tags and logs show it: `?` for all but printable ASCII (32 to 126)
 abbrev pub shown_byte : ℕ → ℕ
 shown_byte c = if nat_lt c 32 || nat_lt 126 c then byte "?" else c
 
--- the text after its first byte if that byte is `b`, otherwise `None`
+-- the rest of a text after its first byte `b`; `None` if it doesn't begin with `b`
 abbrev pub after_byte : ℕ → List ℕ → Option (List ℕ)
 after_byte b [] = None
 after_byte b (c ∷ rest) = if c == b then Some rest else None
 
--- where reading a text from index `at` begins: 3 if `at` is 0 and the text begins with a byte order mark (EF BB BF),
+-- the index where reading from `at` begins: 3 if `at` is 0 and the text begins with a byte order mark (EF BB BF),
 -- otherwise `at`
 abbrev pub after_byte_order_mark : List ℕ → ℕ → ℕ
 after_byte_order_mark text at = if (at == 0) && bytes_eq (take 3 text) (239 ∷ 187 ∷ 191 ∷ []) then 3 else at

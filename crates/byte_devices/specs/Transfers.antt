@@ -8,8 +8,8 @@ use Rattle.byte_devices.specs.Devices.{InputState, OutputState, saturating_incre
 pub record FromInput : Type 0 where
   -- all bytes read
   pub text : List ℕ
-  -- `text` without the bytes that the last successful read gave: `e4` after reads of `e4` and `\nd`, and all of `text`
-  -- if that read reported the end
+  -- `text` without what the last successful read gave: `e4` after reads of `e4` and `\nd`; all of `text` if this read
+  -- reported the end
   pub early : List ℕ
   -- whether the end of the input was reported after `text`
   pub ended : Bool
@@ -22,7 +22,7 @@ pub record FromInput : Type 0 where
 pub record ToOutput : Type 0 where
   -- the bytes written and flushed
   pub flushed : List ℕ
-  -- the bytes written after those, not flushed
+  -- the bytes written after `flushed`, not flushed
   pub left : List ℕ
   -- whether a flush succeeded, even of no bytes
   pub any_flush : Bool
@@ -52,8 +52,8 @@ pub record OutputTook (w w' : OutputState) (o : ToOutput) : Type 0 where
   pub unflushed : w'.unflushed ≡ saturating_add (if o.any_flush then 0 else w.unflushed) (length o.left)
   pub failures : w'.failure_count ≡ (if o.failed then saturating_increment w.failure_count else w.failure_count)
 
--- a run took the devices from the states `d` to `d'`: for what the input gave (`i`) and what the output took (`o`) the
--- claim `P i o` holds. There may have been waits in which nothing came
+-- a run took the devices from the states `d` to `d'`, and `P i o` holds of some `i` that the input gave and some `o`
+-- that the output took. There may have been waits in which nothing came
 abbrev pub RanWithWaits : (FromInput → ToOutput → Type 0) → Devices → Devices → Type 0
 RanWithWaits P d d' =
     (i : FromInput) × (o : ToOutput) × InputGave d.input d'.input i × OutputTook d.output d'.output o × P i o
@@ -74,12 +74,12 @@ IsWhole i = (i.ended ≡ true) × (i.failed ≡ false)
 abbrev pub nothing : ToOutput
 nothing = record { flushed = []; left = []; any_flush = false; failed = false }
 
--- this text, maybe empty, was written and flushed, and nothing failed
+-- this text was written and flushed, and nothing failed; even if it is empty, a flush succeeded
 abbrev pub all_of : List ℕ → ToOutput
 all_of text = record { flushed = text; left = []; any_flush = true; failed = false }
 
--- this text was written and flushed, and nothing failed. `flushes`: whether a flush succeeded; without one the text
--- must be empty
+-- this text was written and flushed, and nothing failed. `flushes`: whether a flush succeeded; if none did, the text
+-- is empty by `OutputTook`
 abbrev pub all_flushed : Bool → List ℕ → ToOutput
 all_flushed flushes text = record { flushed = text; left = []; any_flush = flushes; failed = false }
 
@@ -87,7 +87,7 @@ all_flushed flushes text = record { flushed = text; left = []; any_flush = flush
 abbrev pub all_unflushed : List ℕ → ToOutput
 all_unflushed text = record { flushed = []; left = text; any_flush = false; failed = false }
 
--- `o` is `before`, then a prefix of `text`, written but not flushed; then a write or a flush failed
+-- `o` is `before`, then a prefix of `text`, maybe empty or all of it, not flushed; then a write or a flush failed
 abbrev pub BreaksOffIn : ToOutput → List ℕ → ToOutput → Type 0
 BreaksOffIn before text o =
     (start : List ℕ) × Begins start text × (o ≡ record before { left = before.left ++ start; failed = true })

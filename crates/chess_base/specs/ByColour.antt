@@ -8,7 +8,7 @@ abbrev pub by_colour : {A : Type 0} → A → A → Colour → A
 by_colour white black White = white
 by_colour white black Black = black
 
--- the given colour's value
+-- of `values`, White's and Black's, the given colour's
 abbrev pub of_colour : {A : Type 0} → ByColour A → Colour → A
 of_colour values = by_colour values.white values.black
 

@@ -29,7 +29,7 @@ by_side king_side queen_side QueenSide = queen_side
 abbrev pub home_square : Colour → ℕ → ℕ
 home_square c f = 8 * first_rank c + f
 
--- normal chess: the king begins on the e-file (2.3)
+-- normal chess: the king's initial file, e (4) (2.3)
 abbrev pub king_home_file : ℕ
 king_home_file = 4
 
@@ -59,11 +59,11 @@ rights_by f = record {
   black = record { king_side = f Black KingSide; queen_side = f Black QueenSide };
 }
 
--- the square of colour c's king, if any: the first from a1 to h8
+-- the square of colour c's king, if any; of several, the first from a1 to h8
 unfoldable pub king_square : Men → Colour → Option ℕ
 king_square men c = position (λ o. is_man c King o) men
 
--- square s is on side w of square `king` of its rank: towards file h (king side) or a (queen side)
+-- square s is on side w of square `king`: towards file h (king side) or a (queen side), if both are on one rank
 abbrev pub is_to_side : CastlingSide → ℕ → ℕ → Bool
 is_to_side w king s = by_side (nat_lt king s) (nat_lt s king) w
 
@@ -90,8 +90,8 @@ names_castling_with Normal c m w rook = (m.from == home_square c king_home_file)
     && (m.to == home_square c (castled_king_file w))
 names_castling_with Fischerandom c m w rook = (rank m.from == rank rook) && (m.to == rook)
 
--- move m is written as castling to side w, legal or not: the king of the side on move makes it, that side has this
--- right, and m's squares name this castling
+-- move m is written as castling to side w, legal or not: a king of the colour on move makes it, this colour has the
+-- right on side w, and m's squares name this castling
 unfoldable pub is_castling_to : Setup → Move → CastlingSide → Bool
 is_castling_to p m w = is_man p.side King (man_at p.men m.from)
     && option_map_or (names_castling_with p.variant p.side m w) (right_of p.rights p.side w) false
@@ -128,17 +128,17 @@ unfoldable pub castling_needs_empty : Castle → ℕ → Bool
 castling_needs_empty k x = (is_on_way k.king_from k.king_to x || is_on_way k.rook_from k.rook_to x)
     && not (x == k.king_from) && not (x == k.rook_from)
 
--- each square that castling k needs empty is empty (3.8.2.2.2)
+-- each square that castling k needs empty is empty (3.8.2.2.2, Guidelines II)
 unfoldable pub castling_way_is_empty : Men → Castle → Bool
 castling_way_is_empty men k = each_square (λ x. not (castling_needs_empty k x) || is_none (man_at men x))
 
--- before colour c's castling k, no square that the king starts on, crosses or ends on is attacked (3.8.2.2.1)
+-- before colour c's castling k, the other attacks no square that the king starts on, crosses or ends on (3.8.2.2.1)
 unfoldable pub castling_way_is_safe : Men → Colour → Castle → Bool
 castling_way_is_safe men c k = each_square
     (λ x. not (is_on_way k.king_from k.king_to x) || not (is_attacked men x (other c)))
 
--- castling k, as which move m is written, is pseudo-legal. Whether the king is in check after it, since in Chess960 the
--- rook may uncover an attack, is for `is_legal`
+-- castling k, as which move m is written, is pseudo-legal: no promotion, an empty and a safe way. In Chess960 the
+-- rook may uncover an attack on the king; this is for `is_legal`
 unfoldable pub castles : Setup → Move → Castle → Bool
 castles p m k = is_none m.promotion && castling_way_is_empty p.men k && castling_way_is_safe p.men p.side k
 

@@ -13,8 +13,8 @@ use Rattle.chess_base.specs.Squares.{file, rank}
 abbrev pub byte : Text → ℕ
 byte text = slice_index_or (codes text) 0 0
 
--- the capital letter of a kind of piece: White's in FEN (PGN standard of 1994, section 16.1.3.1), both colours' in SAN
--- (8.2.3.2)
+-- the capital letter of a kind of piece: White's in FEN (PGN, section 16.1.3.1), both colours' in SAN (8.2.3.2),
+-- where a pawn's is omitted
 abbrev pub white_letter : Kind → ℕ
 white_letter Pawn = byte "P"
 white_letter Knight = byte "N"
@@ -35,7 +35,7 @@ letter m = letter_by m.colour m.kind
 abbrev pub kinds : List Kind
 kinds = King ∷ Queen ∷ Rook ∷ Bishop ∷ Knight ∷ Pawn ∷ []
 
--- the twelve pieces
+-- the twelve pieces: White's six kinds, then Black's
 abbrev pub all_men : List Man
 all_men = map (λ k. record { colour = White; kind = k }) kinds ++ map (λ k. record { colour = Black; kind = k }) kinds
 
