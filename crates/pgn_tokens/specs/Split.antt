@@ -12,7 +12,8 @@ use Rattle.pgn_tokens.specs.Tokens.{Token, Skip, Tag, Word, Bad_tag, Unclosed_co
 abbrev pub lacks : ℕ → List ℕ → Bool
 lacks b text = list_all (λ c. not (c == b)) text
 
--- whether a line is skipped from the byte c on: c is `;` (section 5), or a `%` that begins the line (section 6)
+-- whether a line is skipped from the byte c on: c is `;` (section 5), or a `%` that begins it (`line_begins`, section
+-- 6)
 abbrev pub skips_line : Bool → ℕ → Bool
 skips_line line_begins c = line_begins && c == byte "%" || c == byte ";"
 
@@ -40,7 +41,7 @@ pub data IsInside : Bool → List ℕ → Type 0 where
 -- the text may be between two parts of a tag: white space and `%` lines, or nothing. `b`: its first byte begins a line
 pub data IsGap : Bool → List ℕ → Type 0 where
   nothing : {b : Bool} → IsGap b []
-  -- white space, then more
+  -- a byte of white space, then more
   blank : {b : Bool} {c : ℕ} {more : List ℕ} → is_white_space c ≡ true → IsGap (c == new_line) more → IsGap b (c ∷ more)
   -- a `%` line with its `\n`, then more
   line : (text : List ℕ) {more : List ℕ} → lacks new_line text ≡ true → IsGap true more
@@ -65,6 +66,7 @@ pub data IsString : List ℕ → Type 0 where
 
 -- the whole text is this token. `b`: its first byte begins a line; `left`: how many bytes of the game's text follow it
 pub data IsToken (b : Bool) (left : ℕ) : List ℕ → Token → Type 0 where
+  -- a byte of white space, or a dot
   blank : {c : ℕ} → (is_white_space c || c == byte ".") ≡ true → IsToken b left (c ∷ []) Skip
   -- a `%` line or `;` comment, without its `\n`
   line : {c : ℕ} {text : List ℕ} → skips_line b c ≡ true → lacks new_line text ≡ true → IsToken b left (c ∷ text) Skip
@@ -90,6 +92,7 @@ IsTokenAt text at front t =
 -- the text after a variation's `(` has an unclosed comment; the number counts the bytes from its `{` to the text's end,
 -- 2 in `d4 {a`. Before the comment are only whole parts (`IsInside`) and `(`s
 pub data HasOpenComment : List ℕ → ℕ → Type 0 where
+  -- after whole parts, a comment without its `}`
   here : {parts : List ℕ} (text : List ℕ) → IsInside false parts → lacks (byte "}") text ≡ true
       → HasOpenComment (parts ++ byte "{" ∷ text) (length (byte "{" ∷ text))
   -- the comment is in a variation after whole parts

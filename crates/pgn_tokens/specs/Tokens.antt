@@ -9,24 +9,25 @@ use Rattle.text_lines.specs.Lines.{parts}
 
 -- a token (section 7). `to_end` counts the bytes from where its case says to the text's end
 pub data Token : Type 0 where
-  -- white space, a dot, a comment, a `%` line, a glyph such as `$1`, or a variation
+  -- a byte of white space, a dot, a comment, a `%` line, a glyph such as `$1`, or a variation
   Skip : Token
   -- a name, the bytes between the quotes as they are, and `to_end` from after the first quote: `[Event "a"]` at a
   -- text's end is `Tag Event a 3`
   Tag : (name : List ℕ) (text : List ℕ) (to_end : ℕ) → Token
-  -- such as a move, a number or a result
+  -- `*`, or bytes such as a move's, a number's or a result's
   Word : (bytes : List ℕ) → Token
   -- a `[` that begins no tag
   Bad_tag : Token
   -- a comment without its `}`; `to_end` counts from its `{`
   Unclosed_comment : (to_end : ℕ) → Token
+  -- a variation without its `)`, its comments closed
   Unclosed_variation : Token
   -- a byte that begins no token
   Bad : Token
 
 -- ---- bytes
 
--- whether a byte is white space
+-- whether a byte is a space, a tab, `\n` or `\r`
 abbrev pub is_white_space : ℕ → Bool
 is_white_space c = c == space || (c == tab || (c == new_line || c == carriage_return))
 
