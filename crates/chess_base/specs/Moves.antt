@@ -33,8 +33,7 @@ is_double_advance p m = is_man p.side Pawn (man_at p.men m.from) && (rank m.from
 unfoldable pub is_en_passant : Setup → Move → Bool
 is_en_passant p m = is_man p.side Pawn (man_at p.men m.from) && attacks p.men m.from m.to && is_at p.target m.to
 
--- a pawn goes straight ahead to an empty square: by one, or from its home rank by two across an empty one (3.7.1,
--- 3.7.2)
+-- a pawn goes straight ahead to an empty square: by one, or from its home rank by two over an empty one (3.7.1, 3.7.2)
 unfoldable pub pawn_advances : Setup → Move → Bool
 pawn_advances p m = is_none (man_at p.men m.to)
     && ((m.to == forward p.side m.from) || (is_double_advance p m && is_none (man_at p.men (forward p.side m.from))))

@@ -12,8 +12,7 @@ use Rattle.pgn_tokens.specs.Tokens.{Token, Skip, Tag, Word, Bad_tag, Unclosed_co
 abbrev pub lacks : ℕ → List ℕ → Bool
 lacks b text = list_all (λ c. not (c == b)) text
 
--- whether a line is skipped from the byte c on: c is `;` (section 5), or a `%` that begins it (`line_begins`, section
--- 6)
+-- whether a line is skipped from byte c on: c is `;` (section 5), or `%` and begins it (`line_begins`, section 6)
 abbrev pub skips_line : Bool → ℕ → Bool
 skips_line line_begins c = line_begins && c == byte "%" || c == byte ";"
 

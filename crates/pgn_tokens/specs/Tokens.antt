@@ -14,7 +14,7 @@ pub data Token : Type 0 where
   -- a name, the bytes between the quotes as they are, and `to_end` from after the first quote: `[Event "a"]` at a
   -- text's end is `Tag Event a 3`
   Tag : (name : List ℕ) (text : List ℕ) (to_end : ℕ) → Token
-  -- `*`, or bytes such as a move's, a number's or a result's
+  -- such as a move, a number or a result
   Word : (bytes : List ℕ) → Token
   -- a `[` that begins no tag
   Bad_tag : Token

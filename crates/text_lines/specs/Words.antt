@@ -5,7 +5,7 @@ use Rattle.std.specs.Str.Parse.{digits_value}
 use Rattle.byte_devices.specs.Bytes.{is_blank, is_digit}
 use Rattle.text_lines.specs.Lines.{without_front_blanks}
 
--- a text's first word: its bytes before the first space or tab, or all; maybe none
+-- a text's first word: its bytes before the first space or tab, or else all; maybe none
 abbrev pub word_of : List ℕ → List ℕ
 word_of [] = []
 word_of (c ∷ cs) = if is_blank c then [] else c ∷ word_of cs
