@@ -52,8 +52,7 @@ pub data OpensTag (name : List ℕ) : List ℕ → Type 0 where
   opens : {before after : List ℕ} → IsGap false before → 0 < length name → list_all is_name_byte name ≡ true
       → IsGap false after → OpensTag name (byte "[" ∷ (before ++ (name ++ (after ++ codes "\""))))
 
--- the text may be between a string's quotes (section 7), as `a\"b`, where a backslash keeps the next byte from ending
--- the string
+-- the text may be between a string's quotes (section 7), as `a\"b`; a backslash keeps the next byte from ending it
 pub data IsString : List ℕ → Type 0 where
   nothing : IsString []
   -- a backslash and the byte that it keeps, not `\n`
