@@ -17,7 +17,7 @@ use Rattle.chess_base.specs.Men.{Men, man_at, is_of, is_man, same_colour, same_k
 use Rattle.chess_base.specs.Attacks.{attacks, is_in_check}
 use Rattle.chess_base.specs.Castling.{right_of, rights_by, castle_of, castling_rook_to, castles, mover_end}
 
--- a pawn's move names a promotion, to a queen, rook, bishop or knight, exactly if it ends on the last rank (`last`)
+-- a pawn's move may name this promotion: on the last rank (`last`) a queen, rook, bishop or knight, elsewhere none
 -- (3.7.3.3)
 abbrev pub promotion_fits : Bool → Option Kind → Bool
 promotion_fits last None = not last
@@ -33,7 +33,7 @@ is_double_advance p m = is_man p.side Pawn (man_at p.men m.from) && (rank m.from
 unfoldable pub is_en_passant : Setup → Move → Bool
 is_en_passant p m = is_man p.side Pawn (man_at p.men m.from) && attacks p.men m.from m.to && is_at p.target m.to
 
--- a pawn goes straight ahead to an empty square: one, or two from its home rank across an empty one (3.7.1, 3.7.2)
+-- a pawn goes straight ahead to an empty square: by one, or from its home rank by two over an empty one (3.7.1, 3.7.2)
 unfoldable pub pawn_advances : Setup → Move → Bool
 pawn_advances p m = is_none (man_at p.men m.to)
     && ((m.to == forward p.side m.from) || (is_double_advance p m && is_none (man_at p.men (forward p.side m.from))))
@@ -47,8 +47,8 @@ unfoldable pub pawn_moves : Setup → Move → Bool
 pawn_moves p m =
     promotion_fits (rank m.to == first_rank (other p.side)) m.promotion && (pawn_advances p m || pawn_captures p m)
 
--- move m of a piece other than a pawn, not castling, goes to a square that the piece attacks, without an own piece
--- (3.1), and names no promotion
+-- move m, not a pawn's and not castling, goes to a square that its piece attacks and where no own piece is (3.1), and
+-- names no promotion
 unfoldable pub man_moves : Setup → Move → Bool
 man_moves p m = is_none m.promotion && attacks p.men m.from m.to && not (is_of p.side (man_at p.men m.to))
 
@@ -58,8 +58,8 @@ moves_as p m None = false
 moves_as p m (Some x) = same_colour p.side x.colour
     && (if same_kind Pawn x.kind then pawn_moves p m else option_map_or (castles p m) (castle_of p m) (man_moves p m))
 
--- move m is pseudo-legal: a piece of the side on move can make it (3.1 to 3.8), even if this leaves its king in check.
--- Castling out of check, or across or onto an attacked square, is not
+-- move m is pseudo-legal: a piece of the side on move can make it on the 64 squares (3.1 to 3.8), even if this leaves
+-- its king in check. Castling is not if the king is in check, or crosses or reaches an attacked square
 unfoldable pub is_pseudo_legal : Setup → Move → Bool
 is_pseudo_legal p m = nat_lt m.from 64 && nat_lt m.to 64 && moves_as p m (man_at p.men m.from)
 
@@ -67,14 +67,14 @@ is_pseudo_legal p m = nat_lt m.from 64 && nat_lt m.to 64 && moves_as p m (man_at
 abbrev pub arriving_man : Option Man → Option Kind → Option Man
 arriving_man o k = option_map (λ (x : Man). record x { kind = unwrap_or k x.kind }) o
 
--- the square of the piece that move m captures, if any: m.to, or en passant a step back from it (e5 if White captures
+-- the square of the piece that move m captures, if any: m.to, or en passant a step back from m.to (e5 if White captures
 -- on e6)
 unfoldable pub captured_square : Setup → Move → Option ℕ
 captured_square p m = if is_en_passant p m then Some (forward (other p.side) m.to)
     else if is_of (other p.side) (man_at p.men m.to) then Some m.to
     else None
 
--- what is on square s after move m, which is castling k. If m is legal, it has no promotion
+-- what is on square s after move m, which is castling k: king and rook have moved. If legal, m has no promotion
 abbrev pub after_castling : Setup → Move → Castle → ℕ → Option Man
 after_castling p m k s = if s == k.king_to then arriving_man (man_at p.men m.from) m.promotion
     else if s == k.rook_to then Some (record { colour = p.side; kind = Rook })
@@ -87,7 +87,7 @@ after_moving p m s = if s == m.to then arriving_man (man_at p.men m.from) m.prom
     else if (s == m.from) || is_at (captured_square p m) s then None
     else man_at p.men s
 
--- the pieces on all 64 squares after move m
+-- what is on each of the 64 squares after move m
 unfoldable pub men_after : Setup → Move → Men
 men_after p m = map (λ s. option_map_or (λ k. after_castling p m k s) (castle_of p m) (after_moving p m s)) squares
 
@@ -101,19 +101,19 @@ rights_after p m = rights_by (λ c w. option_and_then
 unfoldable pub target_after : Setup → Move → Option ℕ
 target_after p m = if is_double_advance p m then Some (forward p.side m.from) else None
 
--- the move sets the halfmove clock to 0: a pawn moves or a piece is captured (9.3)
+-- move m sets the halfmove clock to 0: it moves a pawn or captures a piece (9.3)
 unfoldable pub resets_clock : Setup → Move → Bool
 resets_clock p m = is_man p.side Pawn (man_at p.men m.from) || is_some (captured_square p m)
 
--- the halfmove clock after a move: 0 or one more, at most 999,999
+-- the halfmove clock after move m: 0 if m resets it, else one more, at most 999,999
 unfoldable pub halfmove_after : Setup → Move → ℕ
 halfmove_after p m = if resets_clock p m then 0 else min (p.halfmove + 1) COUNTER_LIMIT
 
--- the fullmove number after a move of colour c, n before it: one more after Black's, at most 999,999
+-- the fullmove number after a move of colour c, n before it: n after White's, n + 1 after Black's, at most 999,999
 abbrev pub fullmove_after : Colour → ℕ → ℕ
 fullmove_after c n = by_colour n (min (n + 1) COUNTER_LIMIT) c
 
--- the position after move m of position p, legal or not
+-- the position after move m in position p, legal or not
 unfoldable pub after : Setup → Move → Setup
 after p m = record {
   variant = p.variant;
@@ -125,7 +125,7 @@ after p m = record {
   fullmove = fullmove_after p.side p.fullmove;
 }
 
--- move m is legal in position p: pseudo-legal, and the mover's king is not attacked after it (3.9.2)
+-- move m is legal in position p: pseudo-legal, and its side's king is not attacked after it (3.9.2)
 unfoldable pub is_legal : Setup → Move → Bool
 is_legal p m = is_pseudo_legal p m && not (is_in_check (after p m).men p.side)
 

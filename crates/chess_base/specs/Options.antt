@@ -2,7 +2,7 @@
 use Rattle.std.specs.Prelude.{Bool, if◌then◌else◌, List, [], Option, option_and_then}
 
 infixl 10 ◌>>=◌
--- `f` of the value in `o`; `None` if `o` has none
+-- `f` of the value in `o`; `None` if `o` is `None`
 abbrev pub ◌>>=◌ : {A B : Type 0} → Option A → (A → Option B) → Option B
 o >>= f = option_and_then f o
 

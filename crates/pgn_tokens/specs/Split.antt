@@ -12,7 +12,7 @@ use Rattle.pgn_tokens.specs.Tokens.{Token, Skip, Tag, Word, Bad_tag, Unclosed_co
 abbrev pub lacks : ℕ → List ℕ → Bool
 lacks b text = list_all (λ c. not (c == b)) text
 
--- whether a line is skipped from the byte c on: c is `;` (section 5), or a `%` that begins the line (section 6)
+-- whether a line is skipped from byte c on: c is `;` (section 5), or `%` and begins it (`line_begins`, section 6)
 abbrev pub skips_line : Bool → ℕ → Bool
 skips_line line_begins c = line_begins && c == byte "%" || c == byte ";"
 
@@ -40,7 +40,7 @@ pub data IsInside : Bool → List ℕ → Type 0 where
 -- the text may be between two parts of a tag: white space and `%` lines, or nothing. `b`: its first byte begins a line
 pub data IsGap : Bool → List ℕ → Type 0 where
   nothing : {b : Bool} → IsGap b []
-  -- white space, then more
+  -- a byte of white space, then more
   blank : {b : Bool} {c : ℕ} {more : List ℕ} → is_white_space c ≡ true → IsGap (c == new_line) more → IsGap b (c ∷ more)
   -- a `%` line with its `\n`, then more
   line : (text : List ℕ) {more : List ℕ} → lacks new_line text ≡ true → IsGap true more
@@ -52,8 +52,7 @@ pub data OpensTag (name : List ℕ) : List ℕ → Type 0 where
   opens : {before after : List ℕ} → IsGap false before → 0 < length name → list_all is_name_byte name ≡ true
       → IsGap false after → OpensTag name (byte "[" ∷ (before ++ (name ++ (after ++ codes "\""))))
 
--- the text may be between a string's quotes (section 7), as `a\"b`, where a backslash keeps the next byte from ending
--- the string
+-- the text may be between a string's quotes (section 7), as `a\"b`; a backslash keeps the next byte from ending it
 pub data IsString : List ℕ → Type 0 where
   nothing : IsString []
   -- a backslash and the byte that it keeps, not `\n`
@@ -65,6 +64,7 @@ pub data IsString : List ℕ → Type 0 where
 
 -- the whole text is this token. `b`: its first byte begins a line; `left`: how many bytes of the game's text follow it
 pub data IsToken (b : Bool) (left : ℕ) : List ℕ → Token → Type 0 where
+  -- a byte of white space, or a dot
   blank : {c : ℕ} → (is_white_space c || c == byte ".") ≡ true → IsToken b left (c ∷ []) Skip
   -- a `%` line or `;` comment, without its `\n`
   line : {c : ℕ} {text : List ℕ} → skips_line b c ≡ true → lacks new_line text ≡ true → IsToken b left (c ∷ text) Skip
@@ -90,6 +90,7 @@ IsTokenAt text at front t =
 -- the text after a variation's `(` has an unclosed comment; the number counts the bytes from its `{` to the text's end,
 -- 2 in `d4 {a`. Before the comment are only whole parts (`IsInside`) and `(`s
 pub data HasOpenComment : List ℕ → ℕ → Type 0 where
+  -- after whole parts, a comment without its `}`
   here : {parts : List ℕ} (text : List ℕ) → IsInside false parts → lacks (byte "}") text ≡ true
       → HasOpenComment (parts ++ byte "{" ∷ text) (length (byte "{" ∷ text))
   -- the comment is in a variation after whole parts

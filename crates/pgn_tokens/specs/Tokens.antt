@@ -9,7 +9,7 @@ use Rattle.text_lines.specs.Lines.{parts}
 
 -- a token (section 7). `to_end` counts the bytes from where its case says to the text's end
 pub data Token : Type 0 where
-  -- white space, a dot, a comment, a `%` line, a glyph such as `$1`, or a variation
+  -- a byte of white space, a dot, a comment, a `%` line, a glyph such as `$1`, or a variation
   Skip : Token
   -- a name, the bytes between the quotes as they are, and `to_end` from after the first quote: `[Event "a"]` at a
   -- text's end is `Tag Event a 3`
@@ -20,13 +20,14 @@ pub data Token : Type 0 where
   Bad_tag : Token
   -- a comment without its `}`; `to_end` counts from its `{`
   Unclosed_comment : (to_end : ℕ) → Token
+  -- a variation without its `)`, its comments closed
   Unclosed_variation : Token
   -- a byte that begins no token
   Bad : Token
 
 -- ---- bytes
 
--- whether a byte is white space
+-- whether a byte is a space, a tab, `\n` or `\r`
 abbrev pub is_white_space : ℕ → Bool
 is_white_space c = c == space || (c == tab || (c == new_line || c == carriage_return))
 

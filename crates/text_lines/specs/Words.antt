@@ -5,7 +5,7 @@ use Rattle.std.specs.Str.Parse.{digits_value}
 use Rattle.byte_devices.specs.Bytes.{is_blank, is_digit}
 use Rattle.text_lines.specs.Lines.{without_front_blanks}
 
--- a text's first word: its bytes before the first space or tab, maybe none
+-- a text's first word: its bytes before the first space or tab, or else all; maybe none
 abbrev pub word_of : List ℕ → List ℕ
 word_of [] = []
 word_of (c ∷ cs) = if is_blank c then [] else c ∷ word_of cs
@@ -14,7 +14,7 @@ word_of (c ∷ cs) = if is_blank c then [] else c ∷ word_of cs
 unfoldable pub argument_of : List ℕ → List ℕ
 argument_of text = without_front_blanks (drop (length (word_of text)) text)
 
--- the number that 1 to `most` decimal digits denote, leading zeros or not; `None` for any other text
+-- the number that a text of 1 to `most` decimal digits denotes, as 7 for `007`; `None` for any other text
 abbrev pub short_number : ℕ → List ℕ → Option ℕ
 short_number most text = if nat_lt 0 (length text) && nat_le (length text) most
     && list_all is_digit text then Some (digits_value 10 text) else None
