@@ -26,11 +26,12 @@ abbrev pub side_of : List ℕ → Option Colour
 side_of (c ∷ []) = if c == byte "w" then Some White else (if c == byte "b" then Some Black else None)
 side_of _ = None
 
--- the conditions of a sound position, each as its fault and whether p meets it; `letters`: its FEN's castling field
+-- the conditions of a sound position, each as its fault and whether p meets it; `letters`: the castling field of p's
+-- FEN
 abbrev pub conditions_of : List ℕ → Setup → List (FenFault × Bool)
 conditions_of letters p = conditions_if (names_rights_well p.variant p.men letters) p
 
--- the sound position that six fields denote as a FEN of variant v; or the first fault: `Fields` if they aren't six,
+-- the sound position that the fields denote as a FEN of variant v, or the first fault: `Fields` if they aren't six,
 -- then that of the first field that denotes nothing, then of the first condition that fails
 abbrev pub reading_in : Variant → List (List ℕ) → Result Setup FenFault
 reading_in v (placement ∷ side ∷ castling ∷ target ∷ halfmove ∷ fullmove ∷ []) = do

@@ -25,8 +25,8 @@ all_rights = (White, KingSide) ∷ (White, QueenSide) ∷ (Black, KingSide) ∷ 
 abbrev pub side_letter : Colour → CastlingSide → ℕ
 side_letter c = by_side (letter_by c King) (letter_by c Queen)
 
--- the letter written for colour c's right on side w, with the rook on square s: in normal chess side w's, in Chess960
--- the rook's file's (H for h1)
+-- the letter written for colour c's right on side w, with the rook on square s: in normal chess for side w (K), in
+-- Chess960 for the rook's file (H for h1)
 abbrev pub right_letter : Variant → Colour → CastlingSide → ℕ → ℕ
 right_letter Normal c w s = side_letter c w
 right_letter Fischerandom c w s = first_letter c + file s
@@ -38,7 +38,7 @@ abbrev pub from_edge : Colour → CastlingSide → List ℕ
 from_edge c w = map (home_square c)
     (by_side (7 ∷ 6 ∷ 5 ∷ 4 ∷ 3 ∷ 2 ∷ 1 ∷ 0 ∷ []) (0 ∷ 1 ∷ 2 ∷ 3 ∷ 4 ∷ 5 ∷ 6 ∷ 7 ∷ []) w)
 
--- square s is on the given side of square `king` of its rank: the queen side if nearer to file a, otherwise the king
+-- square s is on the given side of `king`, a square of its rank: the queen side if nearer to file a, otherwise the king
 -- side, also if they are equal or without a king
 abbrev pub is_towards : CastlingSide → Option ℕ → ℕ → Bool
 is_towards QueenSide king s = option_map_or (λ k. nat_lt s k) king false
@@ -66,8 +66,7 @@ pub data NamedRight : Type 0 where
   -- only in Chess960: several letters name it, or a side's letter without a rook on that colour's first rank
   Wrong : NamedRight
 
--- a castling right of Chess960, from what `rook_by` gives for each letter that names it: `Wrong` if several do, or for
--- `None`
+-- a castling right of Chess960, from what `rook_by` gives for each letter that names it: `Wrong` for several or `None`
 abbrev pub right_by : List (Option ℕ) → NamedRight
 right_by [] = Absent
 right_by (Some s ∷ []) = At s
@@ -76,7 +75,7 @@ right_by _ = Wrong
 -- ---- both
 
 -- what the letters of a castling field say of colour c's right on side w. Normal chess: `At` the corner if c's letter
--- of side w is among them, otherwise `Absent`. Chess960: what `right_by` gives for those that name it
+-- of side w is among them, otherwise `Absent`. Chess960: what `right_by` gives for the letters that name it
 abbrev pub right_in : Variant → Men → List ℕ → Colour → CastlingSide → NamedRight
 right_in Normal men letters c w = if occurs (side_letter c w) letters then At (home_square c (rook_file w)) else Absent
 right_in Fischerandom men letters c w = right_by (map (rook_by men c w) (filter (names_right men c w) letters))

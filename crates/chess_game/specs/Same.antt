@@ -38,8 +38,8 @@ same_rights r q = same_colour_rights r.white q.white && same_colour_rights r.bla
 unfoldable pub legal_en_passant_square : Setup → Option ℕ
 legal_en_passant_square p = if list_any (λ m. is_en_passant p m) (moves p) then p.target else None
 
--- two positions are the same: in side on move, pieces, castling rights and the target of a legal capture en passant,
--- but not necessarily in variant, halfmove clock and fullmove number
+-- two positions are the same: in side on move, pieces, castling rights and the target of a legal capture en passant;
+-- variant, halfmove clock and fullmove number may differ
 unfoldable pub is_same_position : Setup → Setup → Bool
 is_same_position p q = same_colour p.side q.side && same_men p.men q.men && same_rights p.rights q.rights
     && same_square (legal_en_passant_square p) (legal_en_passant_square q)

@@ -24,10 +24,10 @@ named_tag name (Tag other text to_end) = if bytes_eq other name then Some (text,
 named_tag name _ = None
 
 -- a game's tag section, with all its tags: its tokens before the first that can't be read or is a word other than marks
--- (a number, move or outcome). A FEN tag with a faulty FEN doesn't end it
+-- (a number, move or outcome). A faulty FEN in a FEN tag doesn't end it
 abbrev pub tag_section : List (ℕ × Token) → List (ℕ × Token)
 tag_section tokens = take_while (λ t. may_precede_tags t.1) tokens
 
--- the last tag with this name among the tokens, as `named_tag` gives it; `None` without one
+-- the last tag with this name among these tokens, as `named_tag` gives it; `None` without one
 abbrev pub last_tag : List ℕ → List (ℕ × Token) → Option (List ℕ × ℕ)
 last_tag name tags = last_or None (filter_map (λ t. named_tag name t.1) tags)
