@@ -16,22 +16,22 @@ use Rattle.chess_fen.specs.RightNames.{names_rights_well, rights_in}
 use Rattle.chess_fen.specs.Texts.{placement_of, is_castling_field, target_of, fields_of}
 
 infixl 10 ◌>>=◌
--- f of a result's value, or its error. In a `do`, a line `x ← r` and those below it are `r >>= (λ x. ..)`: the first
--- error is the result
+-- f of a result's value, or its error. It joins the lines of a `do`: the first error is the result
 abbrev pub ◌>>=◌ : {A B E : Type 0} → Result A E → (A → Result B E) → Result B E
 (Ok x) >>= f = f x
 (Err e) >>= f = Err e
 
--- the side that a FEN's second field denotes, if it is w or b
+-- the side that a FEN's second field denotes by w or b; otherwise `None`
 abbrev pub side_of : List ℕ → Option Colour
 side_of (c ∷ []) = if c == byte "w" then Some White else (if c == byte "b" then Some Black else None)
 side_of _ = None
 
--- the conditions of a sound position p, each with its fault; `letters` are its FEN's castling field
+-- the conditions of a sound position, each as its fault and whether p meets it; `letters`: the castling field of p's
+-- FEN
 abbrev pub conditions_of : List ℕ → Setup → List (FenFault × Bool)
 conditions_of letters p = conditions_if (names_rights_well p.variant p.men letters) p
 
--- the sound position that six fields denote as a FEN of variant v; or the first fault: `Fields` if they aren't six,
+-- the sound position that the fields denote as a FEN of variant v, or the first fault: `Fields` if they aren't six,
 -- then that of the first field that denotes nothing, then of the first condition that fails
 abbrev pub reading_in : Variant → List (List ℕ) → Result Setup FenFault
 reading_in v (placement ∷ side ∷ castling ∷ target ∷ halfmove ∷ fullmove ∷ []) = do
@@ -53,7 +53,8 @@ reading_in v (placement ∷ side ∷ castling ∷ target ∷ halfmove ∷ fullmo
   option_map_or Err (first_failing (conditions_of castling p)) (Ok p)
 reading_in v _ = Err faults.Fields
 
--- the sound position that a text denotes as a FEN of variant v, or its first fault. Missing counters are 0 and 1
+-- the sound position that a text denotes as a FEN of variant v, or its first fault. With just four fields, the counters
+-- are 0 and 1
 abbrev pub fen_reading_as : Variant → List ℕ → Result Setup FenFault
 fen_reading_as v text = let fields = fields_of text in
     reading_in v (if length fields == 4 then fields ++ (codes "0" ∷ codes "1" ∷ []) else fields)

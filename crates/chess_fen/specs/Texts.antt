@@ -27,7 +27,8 @@ abbrev pub all_there : {A : Type 0} → List (Option A) → Option (List A)
 all_there [] = Some []
 all_there (o ∷ os) = option_and_then (λ x. option_map (λ xs. x ∷ xs) (all_there os)) o
 
--- the eight squares that a rank's text denotes, from file a to h, as "4P3"; `None` if it denotes none, or not eight
+-- the eight squares that a rank's text denotes, from file a to h, as "4P3"; `None` if a byte denotes none or they
+-- aren't eight
 abbrev pub rank_of : List ℕ → Option (List (Option Man))
 rank_of text = option_and_then (λ row. if length row == 8 then Some row else None)
     (option_map (λ parts. flat_map (λ squares. squares) parts) (all_there (map squares_of text)))
@@ -59,7 +60,7 @@ first_letter = by_colour (byte "A") (byte "a")
 abbrev pub names_file : Colour → ℕ → Bool
 names_file c letter = nat_le (first_letter c) letter && nat_lt letter (first_letter c + 8)
 
--- the letter may name a castling right: it is K, Q, k or q, or in Chess960 a file's
+-- the letter may name a castling right: it is K, Q, k or q, or in Chess960 that of a file
 unfoldable pub may_name_right : Variant → ℕ → Bool
 may_name_right Normal letter = occurs letter (codes "KQkq")
 may_name_right Fischerandom letter = occurs letter (codes "KQkq") || names_file White letter || names_file Black letter
@@ -72,8 +73,8 @@ is_castling_field v text = bytes_eq text (codes "-")
 
 -- ---- target
 
--- the en passant target that a FEN's fourth field denotes: none by a dash (`Some None`), a square of rank 3 or 6 by its
--- name (`Some (Some 20)` by e3); otherwise `None`
+-- the en passant target that a FEN's fourth field denotes: no target by a dash (`Some None`), a square of rank 3 or 6
+-- by its name (`Some (Some 20)` by e3); otherwise `None`
 abbrev pub target_of : List ℕ → Option (Option ℕ)
 target_of (c ∷ []) = if c == byte "-" then Some None else None
 target_of (f ∷ r ∷ []) = if nat_le (byte "a") f && nat_le f (byte "h")

@@ -37,7 +37,7 @@ placement_text men = join_with_byte (byte "/")
 abbrev pub side_text : Colour → List ℕ
 side_text = by_colour (codes "w") (codes "b")
 
--- a FEN's third field: the letters of the castling rights, in normal chess KQkq, in Chess960 the rooks' files; or a
+-- a FEN's third field: the rights' letters, in normal chess KQkq, in Chess960 the rooks' files in the same order; or a
 -- dash
 abbrev pub rights_text : Variant → Rights → List ℕ
 rights_text v rights =

@@ -27,12 +27,12 @@ use Rattle.chess_game.specs.declared.verdicts.DrawClaim.TheVariants.{Threefold, 
 abbrev pub is_kind : Kind → Option Man → Bool
 is_kind k o = option_map_or (λ x. same_kind k x.kind) o false
 
--- some bishop, of either side, is on a square of one colour (2.1): black (as a1) for parity 0, white for 1
+-- some bishop, of either side, is on a black square (as a1) for parity 0, on a white one for 1 (2.1)
 unfoldable pub has_bishop_on : ℕ → Men → Bool
 has_bishop_on parity men = some_square (λ s. ((file s + rank s) % 2 == parity) && is_kind Bishop (man_at men s))
 
--- besides the kings there is at most one bishop or knight, or there are only bishops, all on squares of one colour: no
--- moves lead to mate (5.2.2). Other dead positions are not found
+-- besides the kings there is at most one bishop or knight in all, or there are only bishops, on squares of one colour:
+-- no moves lead to mate (5.2.2). Other dead positions are not found
 unfoldable pub has_insufficient_material : Men → Bool
 has_insufficient_material men = not (list_any (λ o. is_kind Pawn o || is_kind Rook o || is_kind Queen o) men)
     && (nat_le (count_by (λ o. is_kind Bishop o || is_kind Knight o) men) 1 || (not (list_any (is_kind Knight) men)
@@ -40,7 +40,7 @@ has_insufficient_material men = not (list_any (λ o. is_kind Pawn o || is_kind R
 
 -- why the board ends the game from `start` by the moves ms: the first that holds of mate (5.1.1) or stalemate (5.2.1),
 -- insufficient material (5.2.2), fivefold repetition (9.6.1), and 75 moves of each side without a pawn move or capture
--- (9.6.2), by the halfmove clock, which continues from that of `start`
+-- (9.6.2), by the halfmove clock, which continues from that of `start`; otherwise `None`
 unfoldable pub verdict : Setup → List Move → Option Verdict
 verdict start ms = let p = position_after start ms in
     if length (moves p) == 0
@@ -54,7 +54,7 @@ verdict start ms = let p = position_after start ms in
 unfoldable pub result_text : Declared → List ℕ
 result_text d = outcome_text d.outcome ++ (codes " {" ++ (d.comment ++ codes "}"))
 
--- a verdict's result, with its comment
+-- a verdict's result: outcome and comment
 abbrev pub verdict_result : Verdict → Declared
 verdict_result WhiteMates = record { outcome = WhiteWins; comment = codes "White mates" }
 verdict_result BlackMates = record { outcome = BlackWins; comment = codes "Black mates" }
@@ -72,7 +72,7 @@ claims start ms = record {
   fifty_moves = nat_le 100 (position_after start ms).halfmove;
 }
 
--- the claim by which a draw is declared, if any holds
+-- the claim by which a draw is declared, threefold repetition first; `None` if none holds
 abbrev pub draw_claim : Claims → Option DrawClaim
 draw_claim c = if c.threefold then Some Threefold else if c.fifty_moves then Some FiftyMoves else None
 

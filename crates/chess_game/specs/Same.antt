@@ -25,7 +25,7 @@ same_men men others = each_square (λ s. same_man (man_at men s) (man_at others 
 abbrev pub same_square : Option ℕ → Option ℕ → Bool
 same_square o r = option_eq (λ s t. s == t) o r
 
--- one colour's castling rights r and q are equal
+-- the castling rights r and q of one colour are equal, on both sides
 abbrev pub same_colour_rights : ColourRights → ColourRights → Bool
 same_colour_rights r q = same_square r.king_side q.king_side && same_square r.queen_side q.queen_side
 
@@ -33,16 +33,17 @@ same_colour_rights r q = same_square r.king_side q.king_side && same_square r.qu
 unfoldable pub same_rights : Rights → Rights → Bool
 same_rights r q = same_colour_rights r.white q.white && same_colour_rights r.black q.black
 
--- the en passant target of p if some legal move captures en passant: only then can it make positions differ (9.2.3.1)
+-- the en passant target of p if some legal move captures en passant, which makes positions differ (9.2.3.1); otherwise
+-- `None`
 unfoldable pub legal_en_passant_square : Setup → Option ℕ
 legal_en_passant_square p = if list_any (λ m. is_en_passant p m) (moves p) then p.target else None
 
--- two positions are the same: in side on move, pieces, castling rights and the target of a legal capture en passant,
--- but not necessarily in variant, halfmove clock and fullmove number
+-- two positions are the same: in side on move, pieces, castling rights and the target of a legal capture en passant;
+-- variant, halfmove clock and fullmove number may differ
 unfoldable pub is_same_position : Setup → Setup → Bool
 is_same_position p q = same_colour p.side q.side && same_men p.men q.men && same_rights p.rights q.rights
     && same_square (legal_en_passant_square p) (legal_en_passant_square q)
 
--- how often the position after the moves ms from `start` has occurred: 1 for a new one
+-- how often the position after the moves ms has occurred in the game from `start`: 1 if it is new
 unfoldable pub repetition_count : Setup → List Move → ℕ
 repetition_count start ms = count_by (λ p. is_same_position p (position_after start ms)) (positions_of start ms)

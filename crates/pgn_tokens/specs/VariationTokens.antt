@@ -4,11 +4,11 @@ use Rattle.std.specs.List.{list_any}
 use Rattle.byte_devices.specs.Bytes.{byte}
 use Rattle.pgn_tokens.specs.Tokens.{Token, Skip}
 
--- whether a token at the offset `at` of the text is a variation: it is skipped, and begins with `(`
+-- whether a token at the offset `at` of the text is a variation: it is `Skip`, and the text has `(` there
 abbrev pub is_variation : List ℕ → ℕ → Token → Bool
 is_variation text at Skip = slice_index text at == byte "("
 is_variation text at _ = false
 
--- whether one of these tokens of the text, each paired with how many bytes are left at it, is a variation
+-- whether one of the text's tokens, each paired with the length of the text from it on, is a variation
 abbrev pub has_variation : List ℕ → List (ℕ × Token) → Bool
 has_variation text tokens = list_any (λ t. is_variation text (length text - t.0) t.1) tokens
