@@ -8,13 +8,13 @@ use Rattle.pgn_tokens.specs.Tokens.{Token, Tag, Word}
 use Rattle.pgn_writer.specs.Outcomes.{outcome_of}
 
 -- the offset at which a token after a game's tags ends the game: after a termination marker, or before the next game's
--- tag; `None` for any other token. `left` of the text's `total` bytes are left at the token
+-- tag; `None` for any other token, even a bad tag. `left` of the text's `total` bytes are left at the token
 abbrev pub ends_at : ℕ → ℕ × Token → Option ℕ
 ends_at total (left, Word word) = option_map (λ outcome. total - left + length word) (outcome_of word)
 ends_at total (left, Tag name text to_end) = Some (total - left)
 ends_at total _ = None
 
 -- the offset at which the game with these tokens ends in a text of `total` bytes, by the first token after its tags
--- that ends it; `None` if the text ends, or can't be read, before that
+-- that ends it; `None` if the text ends, or can't be read, before such a token
 abbrev pub game_end : ℕ → List (ℕ × Token) → Option ℕ
 game_end total tokens = slice_get (filter_map (ends_at total) (drop (length (tag_section tokens)) tokens)) 0
