@@ -33,7 +33,7 @@ pub record Seen : Type 0 where
 abbrev pub current : State → Setup
 current s = position_after s.start s.moves
 
--- why the board ends the game, such as mate, or `None`; a declared result doesn't matter
+-- why the board ends the game, or `None`; a declared result doesn't matter
 abbrev pub verdict_now : State → Option Verdict
 verdict_now s = verdict s.start s.moves
 
@@ -46,7 +46,7 @@ abbrev pub outcome_now : State → Outcome
 outcome_now s =
     option_map_or (λ d. d.outcome) (option_or (option_map verdict_result (verdict_now s)) s.declared) Unfinished
 
--- a new game from this position: no moves, nothing declared
+-- a game from this start: no moves, nothing declared
 abbrev pub from_start : Setup → State
 from_start start = record { start = start; moves = []; declared = None }
 

@@ -8,7 +8,7 @@ use Rattle.pgn_tokens.specs.Tokens.{Token, Tag, Word}
 use Rattle.pgn_writer.specs.Outcomes.{outcome_of}
 
 -- the offset at which a token after a game's tags ends the game: after a termination marker, or before the next game's
--- tag; `None` for any other token, even a bad tag. `left` of the text's `total` bytes are left at the token
+-- tag; `None` for any other token. `left` of the text's `total` bytes are left at the token
 abbrev pub ends_at : ℕ → ℕ × Token → Option ℕ
 ends_at total (left, Word word) = option_map (λ outcome. total - left + length word) (outcome_of word)
 ends_at total (left, Tag name text to_end) = Some (total - left)

@@ -21,8 +21,8 @@ use Rattle.chess_pgn.specs.Words.{word_gives}
 
 -- the first fault, if any, among these tokens of a line, or in a variation among them. `tags`: whether tags are passed
 -- over, as in a game's own line, or are bad tokens. `inside start at`: the first fault of the variation whose `(` is at
--- the offset `at`, and whose moves begin in `start`. `before`: the position before the line's last move, or `None`
--- before its first: then a variation is a fault. `p`: the position reached. A token's offset is `length text - left`
+-- the offset `at`, and whose moves begin in `start`. `before`: the position before the line's last move; `None` before
+-- its first, where a variation is a bad token. `p`: the position reached. A token's offset is `length text - left`
 abbrev pub line_fault : Bool → List ℕ → (Setup → ℕ → Option PgnFault) → Option Setup → Setup → List (ℕ × Token)
     → Option PgnFault
 line_fault tags text inside before p [] = None
@@ -46,14 +46,15 @@ line_fault tags text inside before p ((left, _) ∷ more) = Some (record { kind 
 
 -- the first fault, if any, of the variation whose `(` is at the offset `at` of the text, and whose moves begin in
 -- `start`. `tokens` gives a text's tokens from an offset on. The second argument: how deep variations may be nested,
--- this one included; with 0 this one is the fault
+-- this one included; with 0 this one is the fault (`TooLong`)
 unfoldable pub variation_fault : (List ℕ → ℕ → List (ℕ × Token)) → ℕ → List ℕ → Setup → ℕ → Option PgnFault
 variation_fault tokens zero text start at = Some (record { kind = TooLong; offset = at })
 variation_fault tokens (suc depth) text start at =
     line_fault false text (λ p from. variation_fault tokens depth text p from) None start (tokens text (at + 1))
 
 -- the first fault, if any, in the variations of a game without other faults, from the offset `at` to the end of `text`.
--- `start`: the game's start; `tokens` is as in `variation_fault`. At most 64 variations (`MOST_NESTED`) may be open
+-- `start`: the game's start; `tokens` is as in `variation_fault`. At most 64 variations (`MOST_NESTED`) may be open at
+-- once
 abbrev pub variations_fault : (List ℕ → ℕ → List (ℕ × Token)) → List ℕ → Setup → ℕ → Option PgnFault
 variations_fault tokens text start at = if has_variation text (tokens text at)
     then line_fault true text (λ p from. variation_fault tokens MOST_NESTED text p from) None start (tokens text at)

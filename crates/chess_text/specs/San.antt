@@ -56,7 +56,7 @@ piece_text rivals d =
 unfoldable pub check_mark : Setup → List ℕ
 check_mark p = list_if (is_in_check p.men p.side) (if length (moves p) == 0 then codes "#" else codes "+")
 
--- the SAN of legal move m in position p, with `+` or `#` for check or mate: Nf3, exd5, Qh4#; empty from an empty square
+-- the SAN of legal move m in position p, with `+` or `#` for check or mate: Nf3, exd5, O-O, Qh4#
 unfoldable pub san : Setup → Move → List ℕ
 san p m = option_map_or (λ d. option_map_or castling_text d.castles (piece_text (rival_starts p (moves p) d) d)
     ++ check_mark (after p m)) (described p m) []

@@ -17,8 +17,8 @@ use Rattle.pgn_writer.specs.Written.{tag_line, ended, lines_of}
 -- ---- tags
 
 -- the tag lines of the game `s`; `t` has what `s` doesn't, such as the players. First the seven of each game (section
--- 8.1.1); then, sorted by name: FEN and SetUp (section 9.7), if this is Chess960 or begins elsewhere than at the
--- initial position; Termination; and, for Chess960, Variant
+-- 8.1.1); then, sorted by name: FEN and SetUp (section 9.7), except for normal chess from the initial position;
+-- Termination; and, for Chess960, Variant
 abbrev pub tag_lines : Tags → State → List (List ℕ)
 tag_lines t s = tag_line (codes "Event") t.event ∷ tag_line (codes "Site") t.site ∷ tag_line (codes "Date") t.date
     ∷ tag_line (codes "Round") t.round ∷ tag_line (codes "White") t.white ∷ tag_line (codes "Black") t.black

@@ -8,7 +8,7 @@ use Rattle.chess_game.specs.declared.tags.HowEnded.TheVariants as how
 use Rattle.pgn_writer.specs.declared.termination.Termination.{Termination}
 use Rattle.pgn_writer.specs.declared.termination.Termination.TheVariants.{Abandoned, Adjudication, Death, Emergency, Normal, RulesInfraction, TimeForfeit, Unterminated}
 
--- the text of a value of the tag Termination, such as `time forfeit`
+-- the text of the tag Termination, such as `time forfeit`
 abbrev pub termination_text : Termination → List ℕ
 termination_text Abandoned = codes "abandoned"
 termination_text Adjudication = codes "adjudication"
@@ -19,7 +19,7 @@ termination_text RulesInfraction = codes "rules infraction"
 termination_text TimeForfeit = codes "time forfeit"
 termination_text Unterminated = codes "unterminated"
 
--- the value of Termination that a text names, in capital or small letters; `None` for any other text
+-- the value that a text names, in capital or small letters; `None` for any other text
 unfoldable pub termination_named : List ℕ → Option Termination
 termination_named text = find (λ t. str_eq_ignore_ascii_case text (termination_text t))
     (Abandoned ∷ Adjudication ∷ Death ∷ Emergency ∷ Normal ∷ RulesInfraction ∷ TimeForfeit ∷ Unterminated ∷ [])

@@ -22,7 +22,7 @@ lines_of tokens = reverse (fold with_token [] tokens)
 abbrev pub escaped : List ℕ → List ℕ
 escaped text = flat_map (λ c. if c == byte "\"" || c == byte "\\" then byte "\\" ∷ c ∷ [] else c ∷ []) text
 
--- the line, without `\n`, of the tag with this name and this text, which is escaped: `[Event "a"]`
+-- the line of the tag with this name and this text, escaped, such as `[Event "a"]`, without `\n`
 abbrev pub tag_line : List ℕ → List ℕ → List ℕ
 tag_line name text = codes "[" ++ name ++ codes " \"" ++ escaped text ++ codes "\"]"
 
