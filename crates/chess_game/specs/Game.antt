@@ -18,7 +18,7 @@ use Rattle.chess_game.specs.declared.game.PlayRefusal.TheVariants.{Over, TooLong
 use Rattle.chess_game.specs.declared.game.NoMove.{NoMove}
 use Rattle.chess_game.specs.declared.game.BoardSaysOtherwise.{BoardSaysOtherwise}
 
--- a game: its start position, its moves but those taken back, and the declared result, if any, such as by resignation
+-- a game: its start position, its moves, without those taken back, and the declared result, if any, as by resignation
 pub record State : Type 0 where
   pub start : Setup
   pub moves : List Move

@@ -35,8 +35,8 @@ use Rattle.chess_pgn.specs.Words.{word_gives}
 
 -- ---- what is read in the end
 
--- `state`: the game as far as it was read; only its start, if a tag is at fault; the initial position without a game.
--- `answer`: the game's end, `None` if the text has no more games, or the first fault
+-- what is read of a game. `state`: the game as far as it was read; only its start, if a tag is at fault; the initial
+-- position without a game. `answer`: the game's end, `None` if the text has no more games, or the first fault
 pub record GameRead : Type 0 where
   pub state : State
   pub answer : Result (Option PgnEnd) PgnFault
@@ -47,7 +47,7 @@ abbrev pub declared_after : Bool → Outcome → Option Declared
 declared_after is_decided o =
     if is_decided || same_outcome o Unfinished then None else Some (record { outcome = o; comment = [] })
 
--- the game `s` was read up to a fault of this kind at the offset `at`
+-- the game `s`, read up to a fault of this kind at the offset `at`
 abbrev pub failed : State → PgnFaultKind → ℕ → GameRead
 failed s kind at = record { state = s; answer = Err (record { kind = kind; offset = at }) }
 
@@ -72,7 +72,7 @@ closed_by draws limit s = if is_some (ending draws s) then Some AfterEnd
 
 -- ---- after the tags
 
--- what is read of a game from these tokens, after its tags and first moves (`s`). `draws`: whether the draws of 2014
+-- what is read of a game from these tokens; `s` is the game so far, after its tags. `draws`: whether the draws of 2014
 -- end it; `limit`: its most half-moves; `total`: the text's length, so a token is at the offset `total - left`;
 -- `cause`: what the tag Termination names, if anything
 abbrev pub moves_read : Bool → ℕ → ℕ → Option Termination → State → List (ℕ × Token) → GameRead
@@ -111,8 +111,8 @@ known_variant text = let is_any = list_any (λ name. str_eq_ignore_ascii_case te
     else if is_any (codes "normal" ∷ codes "standard" ∷ codes "chess" ∷ codes "classical" ∷ codes "from position" ∷ [])
     then Some Normal else None
 
--- the variant that the last tag Variant names; normal chess if it names no known one, as `Atomic`, or if there is no
--- such tag
+-- the variant that the last tag Variant names; normal chess if it names no known one, such as `Atomic`, or without such
+-- a tag
 abbrev pub tagged_variant : List (ℕ × Token) → Variant
 tagged_variant tags = option_map_or (λ t. unwrap_or (known_variant t.0) Normal) (last_tag (codes "Variant") tags) Normal
 

@@ -53,8 +53,7 @@ variation_fault tokens (suc depth) text start at =
     line_fault false text (λ p from. variation_fault tokens depth text p from) None start (tokens text (at + 1))
 
 -- the first fault, if any, in the variations of a game without other faults, from the offset `at` to the end of `text`.
--- `start`: the game's start; `tokens` is as in `variation_fault`. At most 64 variations (`MOST_NESTED`) may be open at
--- once
+-- `start`: the game's start; `tokens` is as in `variation_fault`. At most 64 variations (`MOST_NESTED`) may be open
 abbrev pub variations_fault : (List ℕ → ℕ → List (ℕ × Token)) → List ℕ → Setup → ℕ → Option PgnFault
 variations_fault tokens text start at = if has_variation text (tokens text at)
     then line_fault true text (λ p from. variation_fault tokens MOST_NESTED text p from) None start (tokens text at)

@@ -8,9 +8,8 @@ use Rattle.chess_pgn.specs.declared.read.PgnFaultKind.{PgnFaultKind}
 use Rattle.chess_pgn.specs.declared.read.PgnFaultKind.TheVariants.{BadToken, IllegalMove, AmbiguousMove}
 
 -- what a word that should be a move gives, by its reading (the last argument): `made m` if it is a legal move m and a
--- move may come here (`closed` is `None`), otherwise `failed` of its fault: `BadToken` without a move's shape, such as
--- `Nf9`; otherwise the one in `closed`, such as `AfterEnd` after mate; without it, that the word is ambiguous or
--- illegal
+-- move may come here (`closed` is `None`), otherwise `failed` of its fault. This is `BadToken` without a move's shape,
+-- as in `Nf9`; otherwise that in `closed`, such as `AfterEnd` after mate; without it `AmbiguousMove` or `IllegalMove`
 abbrev pub word_gives : {A : Type 0} → Option PgnFaultKind → (Move → A) → (PgnFaultKind → A) → Reading → A
 word_gives closed made failed reads.NotAMove = failed BadToken
 word_gives closed made failed (reads.Move m) = option_map_or failed closed (made m)

@@ -46,7 +46,7 @@ described p m =
 abbrev pub start_texts : ℕ → List (List ℕ)
 start_texts from = [] ∷ file_text (file from) ∷ rank_text (rank from) ∷ square_text from ∷ []
 
--- what may be written before the end square: nothing, or, if the move captures, `x`
+-- what may be written before the end square: nothing, or, for a capture, `x`
 abbrev pub capture_texts : Bool → List (List ℕ)
 capture_texts captures = [] ∷ list_if captures (codes "x" ∷ [])
 

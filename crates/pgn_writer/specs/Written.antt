@@ -12,7 +12,7 @@ with_token [] token = token ∷ []
 with_token (line ∷ earlier) token =
     if nat_le (length (line ++ space ∷ token)) 79 then (line ++ space ∷ token) ∷ earlier else token ∷ line ∷ earlier
 
--- these tokens put into lines by `with_token`, in order
+-- the lines of these tokens, in order (`with_token`)
 abbrev pub lines_of : List (List ℕ) → List (List ℕ)
 lines_of tokens = reverse (fold with_token [] tokens)
 
@@ -22,7 +22,7 @@ lines_of tokens = reverse (fold with_token [] tokens)
 abbrev pub escaped : List ℕ → List ℕ
 escaped text = flat_map (λ c. if c == byte "\"" || c == byte "\\" then byte "\\" ∷ c ∷ [] else c ∷ []) text
 
--- the line of the tag with this name and this text, escaped, such as `[Event "a"]`, without `\n`
+-- the line, without `\n`, of the tag with this name and this text, escaped: `[Event "a"]`
 abbrev pub tag_line : List ℕ → List ℕ → List ℕ
 tag_line name text = codes "[" ++ name ++ codes " \"" ++ escaped text ++ codes "\"]"
 
