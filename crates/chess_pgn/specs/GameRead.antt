@@ -76,7 +76,7 @@ closed_by draws limit s = if is_some (ending draws s) then Some AfterEnd
 -- end it; `limit`: its most half-moves; `total`: the text's length, so a token is at the offset `total - left`;
 -- `cause`: what the tag Termination names, if anything
 abbrev pub moves_read : Bool → ℕ → ℕ → Option Termination → State → List (ℕ × Token) → GameRead
--- the text ends without an outcome
+-- no outcome came
 moves_read draws limit total cause s [] = failed s NoResult total
 moves_read draws limit total cause s ((left, Skip) ∷ ts) = moves_read draws limit total cause s ts
 -- an outcome such as `1-0` ends the game after its last byte. Numbers and marks such as `!?` are passed over; any other

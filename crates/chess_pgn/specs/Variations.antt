@@ -38,7 +38,7 @@ line_fault tags text inside before p ((left, Word word) ∷ more) =
     then line_fault tags text inside before p more
     else word_gives None (λ m. line_fault tags text inside (Some p) (after p m) more)
     (λ kind. Some (record { kind = kind; offset = length text - left })) (reading p word)
--- a `)` ends a variation
+-- a `)` ends a variation; another byte is a fault
 line_fault tags text inside before p ((left, Bad) ∷ more) = let at = length text - left in
     if bytes_eq (take 1 (drop at text)) (codes ")") then None else Some (record { kind = BadToken; offset = at })
 -- a `[` that begins no tag, or an unclosed comment or variation

@@ -46,7 +46,7 @@ described p m =
 abbrev pub start_texts : ℕ → List (List ℕ)
 start_texts from = [] ∷ file_text (file from) ∷ rank_text (rank from) ∷ square_text from ∷ []
 
--- what may be written before the end square: nothing, or, for a capture, `x`
+-- what may be written before the end square: nothing, for a capture also `x`
 abbrev pub capture_texts : Bool → List (List ℕ)
 capture_texts captures = [] ∷ list_if captures (codes "x" ∷ [])
 
@@ -87,8 +87,8 @@ unfoldable pub denotes_described : List ℕ → Described → Bool
 denotes_described text d = list_any (bytes_eq (unmarked text))
     (option_map_or castling_texts d.castles [] ++ (texts_by_squares d ++ (texts_by_letter d ++ texts_of_pawn d)))
 
--- all descriptions of moves, possible or not: each kind of piece, start, end, promotion or none, capture or not, side
--- of castling or none
+-- all descriptions of moves, possible or not: each kind of piece, start, end, promotion or none, capture or not,
+-- castling side or none
 unfoldable pub all_described : List Described
 all_described = flat_map (λ man. flat_map (λ m. flat_map (λ takes. map (λ castles.
     record { man = man; from = m.from; to = m.to; promotion = m.promotion; captures = takes; castles = castles })

@@ -10,7 +10,7 @@ breaks_line c = (c == 10) || (c == 13)
 abbrev pub line_ends : List ℕ → ℕ
 line_ends text = count_by (λ c. c == 10) text
 
--- the line of the byte at this offset of a text: one more than the `\n` before it
+-- the line of the byte at this offset of a text: 1 plus the number of `\n` before it
 abbrev pub line_of : List ℕ → ℕ → ℕ
 line_of text offset = count_by (λ c. c == 10) (take offset text) + 1
 
