@@ -18,30 +18,30 @@ use Rattle.chess_game.specs.declared.game.PlayRefusal.TheVariants.{Over, TooLong
 use Rattle.chess_game.specs.declared.game.NoMove.{NoMove}
 use Rattle.chess_game.specs.declared.game.BoardSaysOtherwise.{BoardSaysOtherwise}
 
--- a game's start, its current moves (those not taken back), and the declared result, if any, as after a resignation
+-- a game: its start position, its moves, without those taken back, and the declared result, if any, as by resignation
 pub record State : Type 0 where
   pub start : Setup
   pub moves : List Move
   pub declared : Option Declared
 
--- a game: the most half-moves that it may have, and its state
+-- a `Game` in contracts: the most half-moves that it may have, and its state
 pub record Seen : Type 0 where
   pub limit : ℕ
   pub state : State
 
--- the present position of the game
+-- the position after all moves of the game s
 abbrev pub current : State → Setup
 current s = position_after s.start s.moves
 
--- why the board ends the game, if it does; a declared result doesn't matter
+-- why the board ends the game, or `None`; a declared result doesn't matter
 abbrev pub verdict_now : State → Option Verdict
 verdict_now s = verdict s.start s.moves
 
--- the game is over: by a verdict, such as mate, or a declared result
+-- the game is over: by a verdict, such as mate, or a declared result, even `*`
 abbrev pub is_over : State → Bool
 is_over s = is_some (verdict_now s) || is_some s.declared
 
--- the outcome: the verdict's, else the declared result's, else `Unfinished`
+-- the verdict's outcome, without one the declared result's, without both `Unfinished` (`*`)
 abbrev pub outcome_now : State → Outcome
 outcome_now s =
     option_map_or (λ d. d.outcome) (option_or (option_map verdict_result (verdict_now s)) s.declared) Unfinished
@@ -54,11 +54,11 @@ from_start start = record { start = start; moves = []; declared = None }
 abbrev pub played : State → Move → State
 played s m = record s { moves = s.moves ++ m ∷ [] }
 
--- the state s without its last n moves (without any if it has fewer) and without a declared result
+-- the state s without its last n moves (with none if it has fewer) and without a declared result
 abbrev pub taken_back : State → ℕ → State
 taken_back s n = record s { moves = take (length s.moves - n) s.moves; declared = None }
 
--- the game g with the state s
+-- the game g with s as its state
 abbrev pub with_state : Seen → State → Seen
 with_state g s = record g { state = s }
 

@@ -15,6 +15,6 @@ ends_at total (left, Tag name text to_end) = Some (total - left)
 ends_at total _ = None
 
 -- the offset at which the game with these tokens ends in a text of `total` bytes, by the first token after its tags
--- that ends it; `None` if the text ends, or can't be read, before that
+-- that ends it; `None` if the text ends, or can't be read, before such a token
 abbrev pub game_end : ℕ → List (ℕ × Token) → Option ℕ
 game_end total tokens = slice_get (filter_map (ends_at total) (drop (length (tag_section tokens)) tokens)) 0

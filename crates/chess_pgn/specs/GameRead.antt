@@ -35,47 +35,48 @@ use Rattle.chess_pgn.specs.Words.{word_gives}
 
 -- ---- what is read in the end
 
--- `state`: the game as far as it was read; its start, if a tag is at fault; the initial position, if there is no game.
--- `answer`: the game's end, `None` if the text has no more games, or the first fault
+-- what is read of a game. `state`: the game as far as it was read; only its start, if a tag is at fault; the initial
+-- position without a game. `answer`: the game's end, `None` if the text has no more games, or the first fault
 pub record GameRead : Type 0 where
   pub state : State
   pub answer : Result (Option PgnEnd) PgnFault
 
--- what a game's termination marker declares (section 8.2.6): its outcome `o`, with an empty comment; `None` if that is
--- `*`, or if the board has a verdict (`is_decided`), whose outcome is then the game's
+-- what a game's termination marker declares (section 8.2.6): its outcome `o`, with an empty comment; `None` if `o` is
+-- `*`, or if the board has a verdict (`is_decided`), which then gives the outcome
 abbrev pub declared_after : Bool → Outcome → Option Declared
 declared_after is_decided o =
     if is_decided || same_outcome o Unfinished then None else Some (record { outcome = o; comment = [] })
 
--- the game `s` was read up to a fault of this kind at the offset `at`
+-- the game `s`, read up to a fault of this kind at the offset `at`
 abbrev pub failed : State → PgnFaultKind → ℕ → GameRead
 failed s kind at = record { state = s; answer = Err (record { kind = kind; offset = at }) }
 
 -- ---- the end by the board
 
--- a verdict, but `None` for the *draws of 2014*, in the Laws of Chess only since then: fivefold repetition (9.6.1) and
--- 75 moves (9.6.2)
+-- a verdict, but `None` for the *draws of 2014*, in the Laws since that year: fivefold repetition (9.6.1) and 75 moves
+-- (9.6.2)
 abbrev pub not_of_2014 : Verdict → Option Verdict
 not_of_2014 FivefoldRepetition = None
 not_of_2014 SeventyFiveMoves = None
 not_of_2014 v = Some v
 
--- the verdict that ends the game `s` for its reader: no move may follow. `draws`: whether the draws of 2014 end a game
+-- the verdict, if any, after which a move of the game `s` is a fault. `draws`: whether the draws of 2014 end a game
 abbrev pub ending : Bool → State → Option Verdict
 ending draws s = if draws then verdict_now s else option_and_then not_of_2014 (verdict_now s)
 
--- the fault of a further move of the game `s`: `AfterEnd` if a verdict has ended it, or `TooLong` if it has `limit`
--- half-moves; `None` if a move may come. `draws`: whether the draws of 2014 end it
+-- the fault of a further move of the game `s`: `AfterEnd` if it has ended (`ending`, which explains `draws`), or
+-- `TooLong` if it has `limit` half-moves; `None` if a move may come
 abbrev pub closed_by : Bool → ℕ → State → Option PgnFaultKind
 closed_by draws limit s = if is_some (ending draws s) then Some AfterEnd
     else if nat_lt (length s.moves) limit then None else Some TooLong
 
 -- ---- after the tags
 
--- what is read of the game `s`, whose tags and first moves were read, from the tokens after them. `draws`: whether the
--- draws of 2014 end it; `limit`: its most half-moves; `total`: the text's length, so a token is at the offset
--- `total - left`; `cause`: what the tag Termination names
+-- what is read of a game from these tokens; `s` is the game so far, after its tags. `draws`: whether the draws of 2014
+-- end it; `limit`: its most half-moves; `total`: the text's length, so a token is at the offset `total - left`;
+-- `cause`: what the tag Termination names, if anything
 abbrev pub moves_read : Bool → ℕ → ℕ → Option Termination → State → List (ℕ × Token) → GameRead
+-- no outcome came
 moves_read draws limit total cause s [] = failed s NoResult total
 moves_read draws limit total cause s ((left, Skip) ∷ ts) = moves_read draws limit total cause s ts
 -- an outcome such as `1-0` ends the game after its last byte. Numbers and marks such as `!?` are passed over; any other
@@ -95,8 +96,8 @@ moves_read draws limit total cause s ((left, _) ∷ ts) = failed s NoResult (tot
 
 -- ---- the tags
 
--- the position that a tag FEN (its text, and how many bytes are left where that begins) denotes in the variant `v`, or
--- its fault, at the byte after the tag's first quote. `total`: the text's length
+-- the position that a tag FEN denotes in the variant `v`, or `BadFen` at the byte after the tag's first quote. `tag`:
+-- the FEN, and how many of the text's `total` bytes are left after that quote
 abbrev pub fen_read : ℕ → Variant → List ℕ × ℕ → Result Setup PgnFault
 fen_read total v tag = result_map_both (λ start. start)
     (λ fault. record { kind = BadFen fault; offset = total - tag.1 }) (fen_reading_as v tag.0)
@@ -110,25 +111,25 @@ known_variant text = let is_any = list_any (λ name. str_eq_ignore_ascii_case te
     else if is_any (codes "normal" ∷ codes "standard" ∷ codes "chess" ∷ codes "classical" ∷ codes "from position" ∷ [])
     then Some Normal else None
 
--- the variant that the last tag Variant names; normal chess if it names no known one, as `Atomic`, or if there is no
--- such tag
+-- the variant that the last tag Variant names; normal chess if it names no known one, such as `Atomic`, or without such
+-- a tag
 abbrev pub tagged_variant : List (ℕ × Token) → Variant
 tagged_variant tags = option_map_or (λ t. unwrap_or (known_variant t.0) Normal) (last_tag (codes "Variant") tags) Normal
 
 -- ---- the game
 
--- what is read of the game `s`, which is at its start, from the tokens after its tag section `tags`: if the first of
--- them is a bad tag, that is the fault; otherwise they are read as its moves. `draws`, `limit` and `total` are as in
--- `moves_read`. The last tag Termination counts, even if it names no value of the standard
+-- what is read of a game after its tag section `tags`. `s`: the game at its start; the last argument: the tokens left.
+-- If the first of these is a bad tag, it is the fault; otherwise `moves_read` reads them, and explains `draws`, `limit`
+-- and `total`. The last tag Termination counts, even if it names no value of the standard
 abbrev pub read_after_tags : Bool → ℕ → ℕ → State → List (ℕ × Token) → List (ℕ × Token) → GameRead
 read_after_tags draws limit total s tags ((to_end, Bad_tag) ∷ rest) = failed s BadTag (total - to_end)
 read_after_tags draws limit total s tags rest = moves_read draws limit total
     (option_and_then (λ tag. termination_named tag.0) (last_tag (codes "Termination") tags)) s rest
 
--- what is read of the game at the front of these tokens. `draws`, `limit` and `total` are as in `moves_read`. There is
--- no game if all tokens are skipped or marks. The last tag Variant gives the variant, and the last FEN the start,
--- otherwise the variant's initial position. The first FEN that denotes no position is the fault, and then the last FEN
--- before it, if any, gives the start
+-- what is read of a game from these tokens, its tags first. `draws`, `limit` and `total` are as in `moves_read`. There
+-- is no game if all tokens are `Skip` or marks such as `!?`. The last tag Variant gives the variant, the last tag FEN
+-- the start; without a FEN this is the variant's initial position. The first FEN that denotes no position is the fault;
+-- then the last FEN before it, if any, gives the start
 abbrev pub read_of_split : Bool → ℕ → ℕ → List (ℕ × Token) → GameRead
 read_of_split draws limit total tokens = let tags = tag_section tokens in let v = tagged_variant tags in
     let fens = map (fen_read total v) (filter_map (λ t. named_tag (codes "FEN") t.1) tags) in

@@ -4,8 +4,8 @@ use Rattle.pgn_tokens.specs.LastTags.{tag_section, last_tag}
 use Rattle.pgn_tokens.specs.Tokens.{Token}
 use Rattle.chess_pgn.specs.GameRead.{known_variant}
 
--- if the last tag Variant of a game with these tokens names no known variant, as `atomic`: the offset of the text
--- between its quotes, in a text of `total` bytes; otherwise `None`
+-- the offset, in a text of `total` bytes, of the string of the last tag Variant of a game with these tokens, if that
+-- tag names no known variant, such as `atomic`; otherwise `None`
 abbrev pub unknown_variant_in : ℕ → List (ℕ × Token) → Option ℕ
 unknown_variant_in total ts = option_and_then (λ t. if is_some (known_variant t.0) then None else Some (total - t.1))
     (last_tag (codes "Variant") (tag_section ts))

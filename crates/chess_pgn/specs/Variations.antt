@@ -21,8 +21,8 @@ use Rattle.chess_pgn.specs.Words.{word_gives}
 
 -- the first fault, if any, among these tokens of a line, or in a variation among them. `tags`: whether tags are passed
 -- over, as in a game's own line, or are bad tokens. `inside start at`: the first fault of the variation whose `(` is at
--- the offset `at`, and whose moves begin in `start`. `before`: the position before the line's last move, or `None`
--- before its first: then a variation is a fault. `p`: the position reached. A token's offset is `length text - left`
+-- the offset `at`, and whose moves begin in `start`. `before`: the position before the line's last move; `None` before
+-- its first, where a variation is a bad token. `p`: the position reached. A token's offset is `length text - left`
 abbrev pub line_fault : Bool → List ℕ → (Setup → ℕ → Option PgnFault) → Option Setup → Setup → List (ℕ × Token)
     → Option PgnFault
 line_fault tags text inside before p [] = None
@@ -38,7 +38,7 @@ line_fault tags text inside before p ((left, Word word) ∷ more) =
     then line_fault tags text inside before p more
     else word_gives None (λ m. line_fault tags text inside (Some p) (after p m) more)
     (λ kind. Some (record { kind = kind; offset = length text - left })) (reading p word)
--- a `)` ends a variation
+-- a `)` ends a variation; another byte is a fault
 line_fault tags text inside before p ((left, Bad) ∷ more) = let at = length text - left in
     if bytes_eq (take 1 (drop at text)) (codes ")") then None else Some (record { kind = BadToken; offset = at })
 -- a `[` that begins no tag, or an unclosed comment or variation
@@ -46,7 +46,7 @@ line_fault tags text inside before p ((left, _) ∷ more) = Some (record { kind 
 
 -- the first fault, if any, of the variation whose `(` is at the offset `at` of the text, and whose moves begin in
 -- `start`. `tokens` gives a text's tokens from an offset on. The second argument: how deep variations may be nested,
--- this one included; with 0 this one is the fault
+-- this one included; with 0 this one is the fault (`TooLong`)
 unfoldable pub variation_fault : (List ℕ → ℕ → List (ℕ × Token)) → ℕ → List ℕ → Setup → ℕ → Option PgnFault
 variation_fault tokens zero text start at = Some (record { kind = TooLong; offset = at })
 variation_fault tokens (suc depth) text start at =

@@ -7,9 +7,9 @@ use Rattle.chess_text.specs.declared.reading.Reading.TheVariants as reads
 use Rattle.chess_pgn.specs.declared.read.PgnFaultKind.{PgnFaultKind}
 use Rattle.chess_pgn.specs.declared.read.PgnFaultKind.TheVariants.{BadToken, IllegalMove, AmbiguousMove}
 
--- what a word gives that is taken as a move, by what it is read as (the last argument): a legal move m gives `made m`,
--- any other word `failed` of its fault. `closed`: the fault of any move here, as after mate (`None`: a move may come),
--- which comes before the word's own; but a word without a move's shape, as `Nf9`, is always a bad token
+-- what a word that should be a move gives, by its reading (the last argument): `made m` if it is a legal move m and a
+-- move may come here (`closed` is `None`), otherwise `failed` of its fault. This is `BadToken` without a move's shape,
+-- as in `Nf9`; otherwise that in `closed`, such as `AfterEnd` after mate; without it `AmbiguousMove` or `IllegalMove`
 abbrev pub word_gives : {A : Type 0} → Option PgnFaultKind → (Move → A) → (PgnFaultKind → A) → Reading → A
 word_gives closed made failed reads.NotAMove = failed BadToken
 word_gives closed made failed (reads.Move m) = option_map_or failed closed (made m)

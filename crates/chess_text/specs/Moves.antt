@@ -26,8 +26,8 @@ use Rattle.chess_text.specs.Parts.{unmarked, kind_text, file_text, rank_text, �
 
 -- ---- described moves
 
--- what a text can say of move m of position p, legal or not: its piece's kind (`man`), both squares, its promotion,
--- whether it captures, and to which side it castles; `None` if no piece is on its start square
+-- move m of position p, legal or not, as texts can describe it: its piece's kind (`man`), both squares, promotion and
+-- side of castling (`None` without), and whether it captures, also en passant. `None` if its start square is empty
 unfoldable pub described : Setup → Move → Option Described
 described p m =
     option_map (λ x. record {
@@ -50,14 +50,13 @@ start_texts from = [] ∷ file_text (file from) ∷ rank_text (rank from) ∷ sq
 abbrev pub capture_texts : Bool → List (List ℕ)
 capture_texts captures = [] ∷ list_if captures (codes "x" ∷ [])
 
--- the texts of a promotion to k: each of `signs` with k's letter, capital or small (=Q, =q for the sign `=`); without a
+-- the texts of a promotion to k: each of `signs` (such as `=`), then k's letter, capital or small: =Q, =q; without a
 -- promotion (`None`) only the empty text
 abbrev pub promotion_texts : List (List ℕ) → Option Kind → List (List ℕ)
 promotion_texts signs None = [] ∷ []
 promotion_texts signs (Some k) = signs · (kind_text k ∷ small_letter_text k ∷ [])
 
--- the texts of move d by its two squares: g1f3, e7e8q, e7e8Q, castling as e1g1, or in Chess960, where the end square is
--- the rook's, e1h1
+-- the texts of move d by its two squares: g1f3, e7e8q, e7e8Q, castling e1g1, and in Chess960, to the rook, e1h1
 abbrev pub texts_by_squares : Described → List (List ℕ)
 texts_by_squares d = (square_text d.from ∷ []) · (square_text d.to ∷ []) · promotion_texts ([] ∷ []) d.promotion
 
@@ -66,9 +65,9 @@ abbrev pub texts_by_letter : Described → List (List ℕ)
 texts_by_letter d = if same_kind d.man Pawn || is_some d.castles then []
     else (kind_text d.man ∷ []) · start_texts d.from · capture_texts d.captures · (square_text d.to ∷ [])
 
--- what may be written before the end square of a pawn's move d: its start file or start square, for a capture also with
--- `x`; and nothing, if it stays on its file. So e2e4 may be e4, ee4 or e2e4, and the capture e4d5 may be ed5, exd5,
--- e4d5 or e4xd5
+-- what may be written before the end square of a pawn's move d: its start file or start square, each for a capture also
+-- with `x`; if it stays on its file, also nothing. So e2e4 may be e4, ee4 or e2e4, and the capture e4d5 may be ed5,
+-- exd5, e4d5 or e4xd5
 abbrev pub pawn_starts : Described → List (List ℕ)
 pawn_starts d = list_if (file d.from == file d.to) ([] ∷ [])
     ++ (file_text (file d.from) ∷ square_text d.from ∷ []) · capture_texts d.captures
@@ -79,7 +78,7 @@ abbrev pub texts_of_pawn : Described → List (List ℕ)
 texts_of_pawn d = list_if (same_kind Pawn d.man)
     (pawn_starts d · (square_text d.to ∷ []) · promotion_texts ([] ∷ codes "=" ∷ []) d.promotion)
 
--- the texts of castling to this side, with the letter O (O-O, O-O-O) or the digit 0 (0-0, 0-0-0)
+-- the texts of castling, with the letter O or the digit 0: O-O, 0-0 to the king's side, O-O-O, 0-0-0 to the queen's
 abbrev pub castling_texts : CastlingSide → List (List ℕ)
 castling_texts = by_side (codes "O-O" ∷ codes "0-0" ∷ []) (codes "O-O-O" ∷ codes "0-0-0" ∷ [])
 
@@ -89,31 +88,31 @@ denotes_described text d = list_any (bytes_eq (unmarked text))
     (option_map_or castling_texts d.castles [] ++ (texts_by_squares d ++ (texts_by_letter d ++ texts_of_pawn d)))
 
 -- all descriptions of moves, possible or not: each kind of piece, start, end, promotion or none, capture or not,
--- castling or none
+-- castling side or none
 unfoldable pub all_described : List Described
 all_described = flat_map (λ man. flat_map (λ m. flat_map (λ takes. map (λ castles.
     record { man = man; from = m.from; to = m.to; promotion = m.promotion; captures = takes; castles = castles })
     (None ∷ Some KingSide ∷ Some QueenSide ∷ [])) (false ∷ true ∷ [])) all_moves) kinds
 
--- the text has a move's shape, as Nf3 has and Nf9 has not: it denotes one of `all_described`
+-- the text has a move's shape, such as Nf3, not Nf9: it denotes one of `all_described`
 unfoldable pub shape : List ℕ → Bool
 shape text = list_any (λ d. denotes_described text d) all_described
 
 -- the text denotes move m, legal or not, in position p: Nf3, Ng1f3, g1f3 and Nf3+ all denote g1f3 in the initial
--- position
+-- position. No text denotes a move from an empty square
 unfoldable pub denotes : Setup → List ℕ → Move → Bool
 denotes p text m = option_map_or (denotes_described text) (described p m) false
 
 -- ---- reading
 
--- the reading of a text that denotes these legal moves: one as itself, several as `Ambiguous`, none as `NoSuch`
+-- the reading of a text that denotes just these legal moves: `Move` for one, `Ambiguous` for several, `NoSuch` for none
 abbrev pub one_of : List Move → Reading
 one_of [] = reads.NoSuch
 one_of (m ∷ []) = reads.Move m
 one_of (m ∷ n ∷ ms) = reads.Ambiguous
 
--- what the text is read as in position p: `NotAMove` if it has no move's shape; otherwise `one_of` the legal moves that
--- it denotes
+-- what the text is read as in position p: `NotAMove` without a move's shape; otherwise `one_of` the legal moves that it
+-- denotes
 unfoldable pub reading : Setup → List ℕ → Reading
 reading p text = if shape text then one_of (filter (λ m. denotes p text m) (moves p)) else reads.NotAMove
 

@@ -17,8 +17,8 @@ use Rattle.pgn_writer.specs.Written.{tag_line, ended, lines_of}
 -- ---- tags
 
 -- the tag lines of the game `s`; `t` has what `s` doesn't, such as the players. First the seven of each game (section
--- 8.1.1); then, sorted by name, FEN and SetUp (section 9.7), but not for normal chess from the initial position;
--- Termination; and for Chess960 Variant
+-- 8.1.1); then, sorted by name: FEN and SetUp (section 9.7), except for normal chess from the initial position;
+-- Termination; and, for Chess960, Variant
 abbrev pub tag_lines : Tags → State → List (List ℕ)
 tag_lines t s = tag_line (codes "Event") t.event ∷ tag_line (codes "Site") t.site ∷ tag_line (codes "Date") t.date
     ∷ tag_line (codes "Round") t.round ∷ tag_line (codes "White") t.white ∷ tag_line (codes "Black") t.black
@@ -37,8 +37,8 @@ move_tokens p [] = []
 move_tokens p (m ∷ ms) =
     list_if (same_colour p.side White) ((decimal p.fullmove ++ codes ".") ∷ []) ++ san p m ∷ move_tokens (after p m) ms
 
--- the tokens of a game: its moves with their numbers, and the outcome. If Black moves first, that move has a number
--- too, such as `12...`
+-- the tokens of a game: its moves with their numbers, and the outcome. A first move by Black has a number too, such as
+-- `12...`
 abbrev pub game_tokens : State → List (List ℕ)
 game_tokens s = list_if (same_colour s.start.side Black && not (length s.moves == 0))
     ((decimal s.start.fullmove ++ codes "...") ∷ [])
@@ -46,7 +46,7 @@ game_tokens s = list_if (same_colour s.start.side Black && not (length s.moves =
 
 -- ---- the whole text
 
--- the text of the game `s`: its tags, an empty line, the moves and the outcome, an empty line; each line, even an empty
--- one, after `prefix` (`# ` in a session, nothing in a match)
+-- the text of the game `s`: its tags (`t` as in `tag_lines`), an empty line, the moves and the outcome, an empty line;
+-- `prefix` before each line, even an empty one (`# ` in a session, nothing in a match)
 unfoldable pub pgn : List ℕ → Tags → State → List ℕ
 pgn prefix t s = ended prefix (tag_lines t s ++ [] ∷ lines_of (game_tokens s) ++ [] ∷ [])

@@ -3,7 +3,7 @@ use Rattle.std.specs.Prelude.{codes}
 use Rattle.chess_game.specs.declared.tags.HowEnded.TheVariants.{Normal}
 use Rattle.pgn_writer.specs.declared.tags.Tags.{Tags}
 
--- the tags of a game of which nothing is known, with a normal end
+-- the tags, all but Result, of a game of which nothing is known, with a normal end
 abbrev pub default_tags : Tags
 default_tags = record {
   event = codes "?";

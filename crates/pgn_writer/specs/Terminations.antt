@@ -24,7 +24,7 @@ unfoldable pub termination_named : List ℕ → Option Termination
 termination_named text = find (λ t. str_eq_ignore_ascii_case text (termination_text t))
     (Abandoned ∷ Adjudication ∷ Death ∷ Emergency ∷ Normal ∷ RulesInfraction ∷ TimeForfeit ∷ Unterminated ∷ [])
 
--- the tag Termination of a game: `unterminated` if its outcome is `*`, otherwise the value named like `ended`
+-- a written game's Termination: `unterminated` if its outcome is `*`, otherwise the value with the name of `ended`
 abbrev pub termination_of : HowEnded → Outcome → Termination
 termination_of ended Unfinished = Unterminated
 termination_of how.Normal _ = Normal
