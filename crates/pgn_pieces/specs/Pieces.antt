@@ -40,7 +40,7 @@ abbrev pub begins_tag : List ℕ → Bool
 begins_tag front = bytes_eq (take 1 front) (codes "[") && nat_lt 0 (length (tag_name front))
     && bytes_eq (take 1 (after_name front)) (codes "\"")
 
--- whether a line is a tag line, such as `[Event "a"]`: its front begins as a tag
+-- whether a line is a tag line, such as `[Event "a"]`: its front begins as a tag does
 abbrev pub is_tag_line : List ℕ → Bool
 is_tag_line line = begins_tag (front_of line)
 
@@ -66,7 +66,7 @@ after_string text = drop_while is_blank (drop 1 (from_quote false (drop 1 (after
 
 -- a text after the tag, comment (`{x}`), glyph (`$1`), dot or mark (`!` or `?`) at its front, and any spaces and tabs:
 -- `e4` in `[a "b"] e4`. `None` if it begins with none of these, the tag has no `]` after its string, or the comment
--- isn't closed
+-- no `}`
 abbrev pub after_part : List ℕ → Option (List ℕ)
 after_part text = option_map (drop_while is_blank) (if begins_tag text then after_byte (byte "]") (after_string text)
     else (if bytes_eq (take 1 text) (codes "{") then after_byte (byte "}") (drop_while (λ c. not (c == byte "}")) text)
@@ -85,13 +85,13 @@ ends_in_tag text = bytes_eq (take 1 text) (codes "[")
     && ((length (after_name text) == 0) || begins_tag text && (length (after_string text) == 0))
 
 -- whether a tag line has more than tags: `rest`, its front after the parts (`after_parts`), begins with a byte that
--- neither ends the line nor begins a comment, such as a move's. `ended`: whether the line's end is in its front; if
--- not, a tag in which the front ends doesn't count
+-- neither ends the line nor begins a comment. `ended`: whether the line's end is in its front; if not, a tag in which
+-- the front ends doesn't count
 abbrev pub has_more : Bool → List ℕ → Bool
 has_more ended rest = list_any (λ c. not (list_any (λ k. c == k) (codes "\r\n{;"))) (take 1 rest)
     && (ended || not (ends_in_tag rest))
 
--- whether a line counts as one of moves. Either it is neither a tag line nor empty, as `1. e4`, words inside a `{`
+-- whether a line counts as one of moves. Either it is neither a tag line nor empty, as `1. e4`, words in a `{`
 -- comment, or `[ Event "x" ]`; or it is a tag line with more than tags, as `[White "a"] {x} 1. e4`, or `[White "a` and
 -- then a line end. A front has at most 256 parts
 abbrev pub is_moves_line : List ℕ → Bool

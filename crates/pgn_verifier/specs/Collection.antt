@@ -34,7 +34,7 @@ CollectionEnds text expected (Err InputTooLong) i o =
 
 -- what verifying a collection reads (`i`) and writes (`o`), by its result. To be written are the lines of the reports
 -- on its pieces, numbered from 1, and after the input's end the line of counts. If the end wasn't reached, the last
--- piece, which may go on, is left out (`known_pieces`)
+-- piece, which may continue, is left out (`known_pieces`)
 abbrev pub VerifiesCollection : VerifyOptions → Result Verified VerifyFault → FromInput → ToOutput → Type 0
 VerifiesCollection options result i o = (reports : List Placed)
     × AreCollectionReports options.strict 0 (known_pieces i.ended i.text) reports

@@ -79,7 +79,7 @@ explanation s kind reason = (if has_position kind then codes " | " ++ fen (curre
     ++ option_map_or (λ why. codes " | " ++ why) reason []
 
 -- the line that explains a fault by this text, such as `# line 2 column 4 Ke3`. Line and column are those of the wrong
--- part, which begins at the offset `begin` of `input`, all that was read
+-- part's offset, `begin`, in `input`, all that was read
 unfoldable pub explanation_line : List ℕ → ℕ → List ℕ → List ℕ
 explanation_line input begin text = codes "# line " ++ (decimal (line_of input begin) ++ (codes " column "
     ++ (decimal (column_of input begin) ++ (codes " " ++ (text ++ new_line ∷ [])))))

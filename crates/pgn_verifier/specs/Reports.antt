@@ -58,7 +58,7 @@ abbrev pub shown_tag : List (ℕ × Token) → List ℕ → List ℕ
 shown_tag tokens name =
     option_map_or (λ tag. map shown_byte (take 40 tag.0)) (last_tag name (tag_section tokens)) (codes "?")
 
--- what names a game in a line: ` | White - Black, Event Date`, with its last tags of these names
+-- what names a game in a line: ` | White - Black, Event Date`, with its last values of these tags
 abbrev pub names_of : List (ℕ × Token) → List ℕ
 names_of tokens = codes " | " ++ (shown_tag tokens (codes "White") ++ (codes " - " ++ (shown_tag tokens (codes "Black")
     ++ (codes ", " ++ (shown_tag tokens (codes "Event") ++ (codes " " ++ shown_tag tokens (codes "Date")))))))

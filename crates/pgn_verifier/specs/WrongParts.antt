@@ -26,7 +26,7 @@ field_at number fen = take_while (λ c. not (c == space)) (from_field number fen
 
 -- the number of the field shown for this fault of a FEN, 0 for the first. For bad counters the field is the halfmove
 -- clock or, if the clock is a number of 1 to 6 digits, the fullmove number. For a bad placement, and a fault of no
--- single field (two kings, three fields), it is the placement
+-- single field (no king, three fields), it is the placement
 abbrev pub field_number : FenFault → List ℕ → ℕ
 field_number Side fen = 1
 field_number Castling fen = 2
