@@ -21,7 +21,7 @@ becomes s = says s []
 abbrev pub Server : Type 0 → Type 0
 Server S = S → LineSeen → Response S
 
--- two responses as one: `first` to a line, `next` to the lines after it; just `first` if the server ends with it
+-- two responses as one, with both texts: `first` to a line, `next` to later lines; just `first` if it ends the server
 abbrev pub and_then : {S : Type 0} → Response S → Response S → Response S
 and_then first next = if first.ends then first else record next { text = first.text ++ next.text }
 

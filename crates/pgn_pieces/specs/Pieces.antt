@@ -22,8 +22,8 @@ lines_of (c ∷ cs) = if breaks_line c then (c ∷ []) ∷ lines_of cs else onto
 abbrev pub drop_while : (ℕ → Bool) → List ℕ → List ℕ
 drop_while test text = drop (prefix_len test text) text
 
--- a line's front, which (but for a `%`) decides its kind: its first 256 bytes, without a byte order mark (EF BB BF)
--- and then without spaces and tabs at their beginning
+-- a line's front, which (but for a `%`) decides its kind: its first 256 bytes, without a byte order mark and then
+-- without spaces and tabs at their beginning
 abbrev pub front_of : List ℕ → List ℕ
 front_of line = let first = take 256 line in drop_while is_blank (drop (after_byte_order_mark first 0) first)
 
