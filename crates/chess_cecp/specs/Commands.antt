@@ -8,8 +8,8 @@ use Rattle.chess_cecp.specs.declared.command.Command.{Command}
 use Rattle.chess_cecp.specs.declared.command.Command.TheVariants.{New, SetBoard, UserMove, BareMove, Undo, Remove, Declare, Claim, Ping, Protover, Variant, Go, ShowFen, ShowMoves, ShowState, ShowPgn, Quit, Silent, BadNumber, Unknown}
 use Rattle.text_lines.specs.Words.{word_of, argument_of, command_number}
 
--- the commands without an effect or an answer, as they concern only an engine that plays: how it plays (`xboard` to
--- `?`), its opponent (`computer` to `draw`), clocks and limits of search (`level` to `otim`)
+-- the commands without an effect or an answer, as the arbiter doesn't play: of protocol and modes (`xboard` to `?`),
+-- the opponent (`computer` to `draw`), clocks and limits of search (`level` to `otim`)
 abbrev pub ignored_commands : List (List ℕ)
 ignored_commands =
     codes "xboard" ∷ codes "accepted" ∷ codes "rejected" ∷ codes "force" ∷ codes "random" ∷ codes "hard" ∷ codes "easy"
@@ -21,7 +21,7 @@ unfoldable pub is_ignored : List ℕ → Bool
 is_ignored word = list_any (bytes_eq word) ignored_commands
 
 -- the commands that are not ignored: each name, with the command of a line of this name with `argument` after it.
--- `usermove` needs an argument; a number (of `ping`, `protover`) has 1 to 9 digits
+-- `usermove` without one is `Unknown`; `ping` or `protover` without a number of 1 to 9 digits is `BadNumber`
 abbrev pub commands : List ℕ → List (List ℕ × Command)
 commands argument =
     (codes "new", New) ∷ (codes "setboard", SetBoard)

@@ -21,21 +21,21 @@ result_comment text = if length text == 0 then Some []
     else None
 
 -- the result that `argument`, what follows `result` in a line, declares: an outcome (`1-0`, `0-1`, `1/2-1/2` or `*`),
--- then nothing or a comment in braces, cut to 60 bytes, with `?` for each brace in it and each byte that is no
--- printable ASCII (`cut_comment`); otherwise `None`
+-- then nothing or a comment in braces, cut to 60 bytes, with `?` for inner braces and all but printable ASCII
+-- (`cut_comment`); otherwise `None`
 unfoldable pub read_result : List ℕ → Option Declared
 read_result argument = do
   outcome ← outcome_of (word_of argument)
   comment ← result_comment (argument_of argument)
   Some (record { outcome = outcome; comment = cut_comment comment })
 
--- which draws can be claimed, as `showstate` writes it
+-- which draws can be claimed, as `showstate` writes them
 abbrev pub claims_text : Claims → List ℕ
 claims_text c = if c.threefold then (if c.fifty_moves then codes "threefold+50" else codes "threefold")
     else (if c.fifty_moves then codes "50" else codes "none")
 
--- what `showstate` writes after `# state ply`: half-moves, how often the position occurred, halfmove clock and so on,
--- as in `0 rep 1 clock 0 claims none verdict none declared none`
+-- what `showstate` writes after `# state ply `: half-moves, how often the position occurred, halfmove clock, draws to
+-- claim, verdict and declared result, as in `0 rep 1 clock 0 claims none verdict none declared none`
 unfoldable pub state_text : State → List ℕ
 state_text s = decimal (length s.moves)
     ++ (codes " rep " ++ (decimal (repetition_count s.start s.moves)

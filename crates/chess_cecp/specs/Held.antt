@@ -15,6 +15,6 @@ pub record SessionSeen : Type 0 where
 abbrev pub game_held : SessionSeen → game.Seen
 game_held s = record { limit = s.limit; state = s.state }
 
--- a session when it opens, at the initial position of normal chess
+-- a session with these tags and this limit when it opens, at the initial position of normal chess
 abbrev pub opened_session : Tags → ℕ → SessionSeen
 opened_session tags limit = record { tags = tags; limit = limit; state = from_start initial_setup }

@@ -9,19 +9,19 @@ pub record Response (S : Type 0) : Type 0 where
   pub state : S
   pub ends : Bool
 
--- writes this text, and continues in the state `s`
+-- the response that writes this text, and continues in the state `s`
 abbrev pub says : {S : Type 0} → S → List ℕ → Response S
 says s text = record { text = text; state = s; ends = false }
 
--- writes nothing, and continues in the state `s`
+-- the response that writes nothing, and continues in the state `s`
 abbrev pub becomes : {S : Type 0} → S → Response S
 becomes s = says s []
 
--- how a server responds to a line, by its state; `S` is the type of its states
+-- a server with states of type `S`: how it responds to a line, by its state
 abbrev pub Server : Type 0 → Type 0
 Server S = S → LineSeen → Response S
 
--- two responses as one: `first` to a line, `next` to the lines after it; just `first` if the server ends with it
+-- two responses as one, with both texts: `first` to a line, `next` to later lines; just `first` if it ends the server
 abbrev pub and_then : {S : Type 0} → Response S → Response S → Response S
 and_then first next = if first.ends then first else record next { text = first.text ++ next.text }
 

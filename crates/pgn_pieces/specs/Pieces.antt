@@ -12,26 +12,26 @@ use Rattle.pgn_pieces.specs.declared.pieces.PieceFault.TheVariants.{ReadFailed, 
 
 -- ---- the lines of a text
 
--- a text's lines, each with the `\n` or `\r` that ends it, if any. The `\n` of `\r\n` is a line of its own, which
--- counts as empty: `a\r\nb` has the lines `a\r`, `\n` and `b`
+-- a text's lines, each with the `\n` or `\r` that ends it, if any. The `\n` of `\r\n` is a line of its own:
+-- `a\r\nb` has the lines `a\r`, `\n` and `b`
 abbrev pub lines_of : List ℕ → List (List ℕ)
 lines_of [] = []
 lines_of (c ∷ cs) = if breaks_line c then (c ∷ []) ∷ lines_of cs else onto_first c (lines_of cs)
 
--- a text after the bytes at its front that pass the test
+-- a text from its first byte on that fails the test; empty without one
 abbrev pub drop_while : (ℕ → Bool) → List ℕ → List ℕ
 drop_while test text = drop (prefix_len test text) text
 
--- a line's front, which decides its kind: its first 256 bytes, without a byte order mark (EF BB BF) and then without
--- spaces and tabs at their beginning
+-- a line's front, which (but for a `%`) decides its kind: its first 256 bytes, without a byte order mark and then
+-- without spaces and tabs at their beginning
 abbrev pub front_of : List ℕ → List ℕ
 front_of line = let first = take 256 line in drop_while is_blank (drop (after_byte_order_mark first 0) first)
 
--- the name in a line's front after its first byte, `[`: `Event` in `[Event "x"]`; maybe empty
+-- the letters, digits and `_` right after a text's first byte, maybe none: `Event` in `[Event "x"]`
 abbrev pub tag_name : List ℕ → List ℕ
 tag_name front = take_while is_name_byte (drop 1 front)
 
--- a line's front after the name and any spaces and tabs: `"x"]` in `[Event "x"]`
+-- a text after its first byte, `tag_name`, and any spaces and tabs: `"x"]` in `[Event "x"]`
 abbrev pub after_name : List ℕ → List ℕ
 after_name front = drop_while is_blank (drop (length (tag_name front)) (drop 1 front))
 
@@ -40,7 +40,7 @@ abbrev pub begins_tag : List ℕ → Bool
 begins_tag front = bytes_eq (take 1 front) (codes "[") && nat_lt 0 (length (tag_name front))
     && bytes_eq (take 1 (after_name front)) (codes "\"")
 
--- whether a line is a tag line, such as `[Event "Oslo"]`
+-- whether a line is a tag line, such as `[Event "a"]`: its front begins as a tag does
 abbrev pub is_tag_line : List ℕ → Bool
 is_tag_line line = begins_tag (front_of line)
 
@@ -53,8 +53,8 @@ abbrev pub is_empty_line : List ℕ → Bool
 is_empty_line line = bytes_eq (take 1 line) (codes "%") || bytes_eq (take 1 (front_of line)) (codes ";")
     || list_all (λ c. is_blank c || (c == 13) || (c == 10)) (front_of line)
 
--- a text from the first quote on that no backslash keeps from closing a string: `"]` of `a\"b"]`; empty without one.
--- `kept`: a backslash before the text keeps its first byte from closing the string
+-- a text from its first quote on that no backslash escapes: `"]` of `a\"b"]`; empty without one. `kept`: whether
+-- a backslash before the text escapes its first byte
 abbrev pub from_quote : Bool → List ℕ → List ℕ
 from_quote kept [] = []
 from_quote kept (c ∷ rest) = if not kept && c == byte "\"" then c ∷ rest else from_quote (not kept && c == byte "\\") rest
@@ -65,33 +65,34 @@ abbrev pub after_string : List ℕ → List ℕ
 after_string text = drop_while is_blank (drop 1 (from_quote false (drop 1 (after_name text))))
 
 -- a text after the tag, comment (`{x}`), glyph (`$1`), dot or mark (`!` or `?`) at its front, and any spaces and tabs:
--- `e4` in `[a "b"] e4`. `None` if it begins with none of these, or the tag or comment isn't closed
+-- `e4` in `[a "b"] e4`. `None` if it begins with none of these, the tag has no `]` after its string, or the comment
+-- no `}`
 abbrev pub after_part : List ℕ → Option (List ℕ)
 after_part text = option_map (drop_while is_blank) (if begins_tag text then after_byte (byte "]") (after_string text)
     else (if bytes_eq (take 1 text) (codes "{") then after_byte (byte "}") (drop_while (λ c. not (c == byte "}")) text)
     else (if bytes_eq (take 1 text) (codes "$") then Some (drop_while is_digit (drop 1 text))
     else (if list_any (λ c. list_any (λ k. c == k) (codes ".!?")) (take 1 text) then Some (drop 1 text) else None))))
 
--- a text after the parts (as of `after_part`) at its front; the first argument is the most that are passed over
+-- a text after the tags, comments and so on at its front (the parts that `after_part` skips), at most this many
 unfoldable pub after_parts : ℕ → List ℕ → List ℕ
 after_parts zero text = text
 after_parts (suc more) text = option_map_or (after_parts more) (after_part text) text
 
--- whether a text that begins with `[` ends before a tag there is closed: in the name (perhaps empty, as in `[ `), in
+-- whether a text begins with `[`, and ends before a tag there is closed: in the name (perhaps empty, as in `[ `), in
 -- the string, or in the spaces and tabs after either
 abbrev pub ends_in_tag : List ℕ → Bool
 ends_in_tag text = bytes_eq (take 1 text) (codes "[")
     && ((length (after_name text) == 0) || begins_tag text && (length (after_string text) == 0))
 
--- whether a tag line has more than tags, by what comes after its parts (`after_parts`): a byte that neither ends the
--- line nor begins a comment, such as a move's. `ended`: the line's end is in its front; if not, a tag in which the
--- front ends doesn't count
+-- whether a tag line has more than tags: `rest`, its front after the parts (`after_parts`), begins with a byte that
+-- neither ends the line nor begins a comment. `ended`: whether the line's end is in its front; if not, a tag in which
+-- the front ends doesn't count
 abbrev pub has_more : Bool → List ℕ → Bool
 has_more ended rest = list_any (λ c. not (list_any (λ k. c == k) (codes "\r\n{;"))) (take 1 rest)
     && (ended || not (ends_in_tag rest))
 
--- whether a line counts as one of moves: neither a tag line nor empty, so also one inside a `{` comment, and
--- `[ Event "x" ]`, which is no tag line; or a tag line with more than tags: `[White "a"] {x} 1. e4`, or `[White "a` and
+-- whether a line counts as one of moves. Either it is neither a tag line nor empty, as `1. e4`, words in a `{`
+-- comment, or `[ Event "x" ]`; or it is a tag line with more than tags, as `[White "a"] {x} 1. e4`, or `[White "a` and
 -- then a line end. A front has at most 256 parts
 abbrev pub is_moves_line : List ℕ → Bool
 is_moves_line line = let front = front_of line in
@@ -105,7 +106,7 @@ abbrev pub begins_piece : List (List ℕ) → List ℕ → Bool
 begins_piece piece line = is_tag_line line
     && (list_any is_moves_line piece || (is_event_line line && list_any is_event_line piece))
 
--- these pieces (lists of lines, the last piece first) with one line more, which begins a piece or is added to the last
+-- these pieces (lists of lines, the last piece first) and one line more, which begins a piece or is added to the last
 abbrev pub with_line : List (List (List ℕ)) → List ℕ → List (List (List ℕ))
 with_line [] line = (line ∷ []) ∷ []
 with_line (last ∷ before) line =

@@ -9,8 +9,8 @@ use Rattle.verify_options.specs.declared.options.VerifyOptions.{VerifyOptions}
 use Rattle.pgn_verifier.specs.declared.tally.Verified.{Verified}
 use Rattle.pgn_verifier.specs.Reports.{Placed, AreReportsIn, report_lines, counts_line, counts_of, verified}
 
--- the reports on these pieces, in order. The number is the input's offset at which the first piece begins; each other
--- begins where the one before ends
+-- the reports on these pieces, in order. The number is the first piece's offset in the input; each other begins where
+-- the one before ends. `strict`: which faults are looked for
 pub data AreCollectionReports (strict : Strictness) : ℕ → List (List ℕ) → List Placed → Type 0 where
   no_piece : {offset : ℕ} → AreCollectionReports strict offset [] []
   next_piece : {offset : ℕ} {piece : List ℕ} {pieces : List (List ℕ)} (reports : List Placed) {more : List Placed}
@@ -32,9 +32,9 @@ CollectionEnds text expected (Err NoMemory) i o = (i.ended ≡ false) × (i.fail
 CollectionEnds text expected (Err InputTooLong) i o =
     (i.ended ≡ false) × (i.failed ≡ false) × (2 ^ 63 ≤ length i.text + 2 ^ 16) × (o ≡ all_unflushed text)
 
--- what verifying a collection reads (`i`) and writes (`o`), by its result: the lines of the reports on its pieces,
--- numbered from 1, and after the input's end the line of counts. If the end wasn't reached, the last piece, which may
--- go on, is left out (`known_pieces`)
+-- what verifying a collection reads (`i`) and writes (`o`), by its result. To be written are the lines of the reports
+-- on its pieces, numbered from 1, and after the input's end the line of counts. If the end wasn't reached, the last
+-- piece, which may continue, is left out (`known_pieces`)
 abbrev pub VerifiesCollection : VerifyOptions → Result Verified VerifyFault → FromInput → ToOutput → Type 0
 VerifiesCollection options result i o = (reports : List Placed)
     × AreCollectionReports options.strict 0 (known_pieces i.ended i.text) reports

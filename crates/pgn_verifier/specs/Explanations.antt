@@ -27,8 +27,8 @@ shown text = shown_word (take_while (λ c. not (is_white_space c)) (take 40 text
 
 -- ---- the part that is wrong
 
--- the wrong part of a text, by the fault's kind: its offset, and what is shown of it. `at` and `begin`: the offsets of
--- the fault and of its game
+-- the wrong part of a text, by the fault's kind: its offset, and what is shown of it. `begin` and `at`: the offsets
+-- of the game and of its fault
 abbrev pub wrong_part : FaultKind → List ℕ → (begin at : ℕ) → ℕ × List ℕ
 -- of a bad FEN: a field, at most 80 bytes of it. The FEN ends at the next quote, even one after a backslash
 wrong_part (Pgn (BadFen fault)) text begin at =
@@ -41,8 +41,8 @@ wrong_part _ text begin at = (at, shown (drop at text))
 
 -- ---- the reason
 
--- the reason given for a fault of this kind, if any. `text`: all from the fault's byte on; `verdict`: what ended the
--- game where reading stopped, if anything
+-- the `reason` given for a fault of this kind, if any. `text`: all from the fault's byte on; `verdict`: why the board
+-- ends the game where reading stopped, if it does
 abbrev pub IsReason : FaultKind → List ℕ → Option Verdict → Option (List ℕ) → Type 0
 IsReason (Pgn BadTag) text verdict reason = IsTagReason text reason
 IsReason (Pgn (BadFen fault)) text verdict reason = reason ≡ Some (fen_reason fault)
@@ -50,7 +50,7 @@ IsReason (Pgn BadToken) text verdict reason = reason ≡ Some (token_reason text
 -- the word `0-0` is castling, but may be meant as a result
 IsReason (Pgn IllegalMove) text verdict reason = reason ≡ (if bytes_eq (take_while is_word_byte text) (codes "0-0")
     then Some (codes "castling, and no result of PGN") else None)
--- the verdict that ended the game, such as `0-1 {Black mates}`
+-- here and for `BoardSaysOtherwise`: the verdict, such as `0-1 {Black mates}`
 IsReason (Pgn AfterEnd) text verdict reason = reason ≡ option_map (λ v. result_text (verdict_result v)) verdict
 IsReason (InVariation BadToken) text verdict reason = reason ≡ Some (token_reason text)
 IsReason UnknownVariant text verdict reason =
@@ -73,13 +73,13 @@ has_position UnknownVariant = false
 has_position _ = true
 
 -- what explains a fault besides the wrong part, each after ` | `: the FEN of the position in which reading stopped, if
--- its kind shows one, and the reason, if any. `s`: the game as far as it was read
+-- `has_position`, and the reason, if any. `s`: the game as far as it was read
 abbrev pub explanation : State → FaultKind → Option (List ℕ) → List ℕ
 explanation s kind reason = (if has_position kind then codes " | " ++ fen (current s) else [])
     ++ option_map_or (λ why. codes " | " ++ why) reason []
 
--- the line that explains a fault by this text, such as `# line 2 column 4 Ke3`. Line and column are those of the offset
--- `begin` of `input`, all that was read
+-- the line that explains a fault by this text, such as `# line 2 column 4 Ke3`. Line and column are those of the wrong
+-- part's offset, `begin`, in `input`, all that was read
 unfoldable pub explanation_line : List ℕ → ℕ → List ℕ → List ℕ
 explanation_line input begin text = codes "# line " ++ (decimal (line_of input begin) ++ (codes " column "
     ++ (decimal (column_of input begin) ++ (codes " " ++ (text ++ new_line ∷ [])))))

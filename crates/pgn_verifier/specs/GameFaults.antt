@@ -25,7 +25,7 @@ use Rattle.pgn_verifier.specs.declared.game_fault.GameFault.{GameFault}
 -- ---- at a game's end
 
 -- the fault of a game whose last tag Result (`tag`, if any) names no outcome, or another than its termination marker
--- (`end`), at the first byte between the tag's quotes; otherwise `None`
+-- (`end`), at the byte after the tag's first quote; otherwise `None`
 abbrev pub result_differs : Option ResultTag → PgnEnd → Option GameFault
 result_differs None end = None
 result_differs (Some tag) end = if option_eq same_outcome tag.outcome (Some end.outcome) then None
@@ -40,9 +40,9 @@ board_says_otherwise verdict end = if contradicts_verdict verdict end.outcome
 -- ---- a game
 
 -- what is reported of a game, by how reading it ended (last argument): no game (`Ok None`), a fault of reading (`Err`),
--- or the game's end (`Some end`). If a game read to its end has a fault that `strict` asks for, the first of these is
--- reported instead: one in its variations (`variation end`); an unknown variant, named at the offset `unknown`; a
--- marker that contradicts the last tag Result (`tag`); one that contradicts the board's `verdict`
+-- or the game's end (`Ok (Some end)`). Instead of the end the game's first fault that `strict` asks for is reported, in
+-- this order: one in a variation (`variation end`); an unknown variant, named at the offset `unknown`; a last tag
+-- Result (`tag`) that differs from the marker; a marker that differs from the board's `verdict`
 abbrev pub judged : Strictness → (PgnEnd → Option PgnFault) → Option ℕ → Option ResultTag → Option Verdict
     → Result (Option PgnEnd) PgnFault → Result (Option PgnEnd) GameFault
 judged strict variation unknown tag verdict (Ok None) = Ok None

@@ -33,12 +33,12 @@ pub data Report : Type 0 where
   -- a game without a fault: its half-moves, the outcome of its termination marker, and the value of its last tag
   -- Termination (`None` if missing or not one of the standard's)
   Game : (plies : ℕ) (outcome : Outcome) (termination : Option Termination) → Report
-  -- a fault, at its offset in the input. `names`: the game's players, event and date, empty for a piece that is too
+  -- a fault, with its offset in the input. `names`: the game's players, event and date, empty for a piece that is too
   -- long; `wrong_at`, `part`: the wrong part's offset in the input, and what is shown of it; `why`: what else explains
   -- the fault; `is_unread`: whether to say that from the fault's byte on the text isn't read
   Faulty : (fault : GameFault) (names : List ℕ) (wrong_at : ℕ) (part why : List ℕ) (is_unread : Bool) → Report
 
--- a report with its span: the input from the offset `begin` on, before `end`
+-- a report and its span: the input's bytes from the offset `begin` on, before the offset `end`
 pub record Placed : Type 0 where
   pub begin : ℕ
   pub end : ℕ
@@ -58,14 +58,14 @@ abbrev pub shown_tag : List (ℕ × Token) → List ℕ → List ℕ
 shown_tag tokens name =
     option_map_or (λ tag. map shown_byte (take 40 tag.0)) (last_tag name (tag_section tokens)) (codes "?")
 
--- what names a game in a line, by its last tags of these names: ` | White - Black, Event Date`
+-- what names a game in a line: ` | White - Black, Event Date`, with its last values of these tags
 abbrev pub names_of : List (ℕ × Token) → List ℕ
 names_of tokens = codes " | " ++ (shown_tag tokens (codes "White") ++ (codes " - " ++ (shown_tag tokens (codes "Black")
     ++ (codes ", " ++ (shown_tag tokens (codes "Event") ++ (codes " " ++ shown_tag tokens (codes "Date")))))))
 
 -- ---- the reports on the games of a text
 
--- the reports on the games of `text` from the offset on that the number gives. The text begins at the input's offset
+-- the reports on the games of `text` from an offset (the number) on. The text begins at the input's offset
 -- `start`; reports have offsets in the input. `strict`: which faults are looked for; `goes_on`: whether the text is
 -- read on after a fault
 pub data AreReports (goes_on : Bool) (strict : Strictness) (start : ℕ) (text : List ℕ) : ℕ → List Placed → Type 0 where
@@ -78,8 +78,8 @@ pub data AreReports (goes_on : Bool) (strict : Strictness) (start : ℕ) (text :
       (Game (length s.moves) end.outcome end.termination) ∷ reports)
   -- the next game has a fault: `part` is the wrong part, `reason` why, `next` where the game ends (`None` if no end is
   -- found, or if not `goes_on`). The span ends at `next`, or for `None` at the text's end, and reading goes on there.
-  -- If `goes_on`, but no end is found, the report says that the text isn't read from the fault's byte on, unless that
-  -- is the text's end
+  -- If `goes_on`, but no end is found, the report says that the text isn't read from the fault's byte on, unless the
+  -- fault is at the text's end
   next_fault : {at : ℕ} {s : State} {fault : GameFault} {reports : List Placed} (part : ℕ × List ℕ)
       (reason : Option (List ℕ)) (next : Option ℕ) (game : IsJudged strict text at s (Err fault))
       → part ≡ wrong_part fault.kind text (game_begin text at) fault.offset
@@ -103,7 +103,7 @@ AreReportsIn strict offset piece reports =
 
 -- ---- their lines
 
--- a report's line, such as `game 2: illegal move at byte 39`
+-- the line of a report with this number and text: `game 2: illegal move at byte 39`
 unfoldable pub report_line : ℕ → List ℕ → List ℕ
 report_line number text = codes "game " ++ (decimal number ++ (codes ": " ++ (text ++ new_line ∷ [])))
 
@@ -116,12 +116,12 @@ span_text options p =
 -- what is written of `placed`, whose report is also the last argument. `input`: all that was read; `number`: the
 -- report's number
 abbrev pub written_line : VerifyOptions → List ℕ → ℕ → Placed → Report → List ℕ
--- a game's line, such as `game 3: 4 half-moves, 0-1, time forfeit`, unless `options.quiet` leaves it out
+-- a game's line, such as `game 3: 4 half-moves, 0-1, time forfeit`; nothing if `options.quiet`
 written_line options input number placed (Game plies outcome termination) =
     if options.quiet then [] else report_line number (decimal plies ++ (codes " half-moves, " ++ (outcome_text outcome
     ++ (option_map_or (λ t. codes ", " ++ termination_text t) termination [] ++ span_text options placed))))
 -- a fault's line, such as `game 2: illegal move at byte 39`, with the span and, if `options.names`, what names the
--- game. If `options.explain`, a line follows that explains it, and may end with the bytes not read, such as
+-- game. If `options.explain`, a line follows that explains it; if `is_unread`, it ends with the bytes not read, as
 -- ` | bytes 151 to 606 not read`: from the byte 151 on, before 606
 written_line options input number placed (Faulty fault names wrong_at part why is_unread) =
     report_line number (fault_name fault.kind ++ (codes " at byte " ++ (decimal fault.offset
@@ -149,7 +149,7 @@ abbrev pub plies_of : Report → ℕ
 plies_of (Game plies outcome termination) = plies
 plies_of (Faulty fault names wrong_at part why is_unread) = 0
 
--- the counts of these reports
+-- the counts of these reports, as `counts_line` writes them
 abbrev pub counts_of : List Placed → Tally
 counts_of reports = record {
   games = count_by (λ placed. is_game placed.report) reports;
@@ -157,12 +157,11 @@ counts_of reports = record {
   faults = count_by (λ placed. not (is_game placed.report)) reports;
 }
 
--- how verifying ended, by the counts of all reports
+-- how verifying ended, with a fault or not, by the counts of all reports
 abbrev pub verified : Tally → Verified
 verified t = if t.faults == 0 then EachGame else FaultReported
 
--- the last line for a collection, such as `games 2 half-moves 6 faults 1`: games without a fault, their half-moves,
--- and faults
+-- the last line for a collection, `games 2 half-moves 6 faults 1`: games without a fault, their half-moves, and faults
 unfoldable pub counts_line : Tally → List ℕ
 counts_line t = codes "games " ++ (decimal t.games ++ (codes " half-moves " ++ (decimal t.half_moves
     ++ (codes " faults " ++ (decimal t.faults ++ new_line ∷ [])))))

@@ -11,11 +11,11 @@ use Rattle.pgn_verifier.specs.Reports.{Placed, AreReports, report_lines, counts_
 -- what verifying a text reads (`i`) and writes (`o`), by its result. The text is the whole input, of at most 16,777,216
 -- bytes (`PIECE_LEN`). After a game with a fault no other is read (`false`). Lines are numbered from 1
 abbrev pub Verifies : VerifyOptions → Result Verified VerifyFault → FromInput → ToOutput → Type 0
--- all was read; the lines of the games up to the first fault were written (perhaps none), and then all was flushed
+-- all was read; the lines (maybe none) of the games up to the first fault were written, and then all was flushed
 Verifies options (Ok summary) i o = IsWhole i × (length i.text ≤ PIECE_LEN)
     × ((reports : List Placed) × AreReports false options.strict 0 i.text 0 reports
     × (o ≡ all_of (report_lines options i.text 1 reports)) × (summary ≡ verified (counts_of reports)))
--- all was read; then a write or the flush failed. A beginning of the same lines, maybe nothing or all, was written,
+-- all was read; then a write or the flush failed. A beginning of what `Ok` writes, maybe nothing or all, was written,
 -- nothing flushed
 Verifies options (Err WriteFailed) i o = IsWhole i × (length i.text ≤ PIECE_LEN)
     × ((reports : List Placed) × AreReports false options.strict 0 i.text 0 reports

@@ -14,19 +14,19 @@ use Rattle.pgn_pieces.specs.Pieces.{drop_while}
 
 -- ---- the fields of a FEN
 
--- a FEN from this field on, 0 for the first; empty without it. One or more spaces separate fields. From field 4 of
--- `8/8 w - - 0 1` on it is `0 1`
+-- a FEN from the field with this number on, 0 for the first; empty if there is none. One or more spaces separate
+-- fields: from field 4 on `8/8 w - - 0 1` is `0 1`
 unfoldable pub from_field : ℕ → List ℕ → List ℕ
 from_field zero fen = drop_while (λ c. c == space) fen
 from_field (suc number) fen = from_field number (drop_while (λ c. not (c == space)) (drop_while (λ c. c == space) fen))
 
--- this field of a FEN; empty without it
+-- just the field with this number of a FEN; empty if there is none
 abbrev pub field_at : ℕ → List ℕ → List ℕ
 field_at number fen = take_while (λ c. not (c == space)) (from_field number fen)
 
--- the number of the field shown for this fault of a FEN, 0 for the first. Of the counters it is the halfmove clock, or
--- if that is a number of 1 to 6 digits, the fullmove number. For a fault of the placement, or of no single field, such
--- as two kings, it is the first
+-- the number of the field shown for this fault of a FEN, 0 for the first. For bad counters the field is the halfmove
+-- clock or, if the clock is a number of 1 to 6 digits, the fullmove number. For a bad placement, and a fault of no
+-- single field (no king, three fields), it is the placement
 abbrev pub field_number : FenFault → List ℕ → ℕ
 field_number Side fen = 1
 field_number Castling fen = 2
@@ -34,8 +34,8 @@ field_number EnPassant fen = 3
 field_number Counters fen = if is_some (short_number 6 (field_at 4 fen)) then 5 else 4
 field_number _ fen = 0
 
--- the reason for a bad FEN: the name of its fault; for castling also how a FEN is read, since a tag Variant with an
--- unknown name counts as normal chess
+-- the reason given for a bad FEN: the name of its fault, such as `kings`; for castling also by which rules it was
+-- read (those of normal chess for an unknown Variant)
 abbrev pub fen_reason : FenFault → List ℕ
 fen_reason Castling = codes "castling, as in normal chess unless the tag Variant names Chess960"
 fen_reason fault = fen_fault_name fault
@@ -52,7 +52,7 @@ HasName text = (gap : List ℕ) × (c : ℕ) × (rest : List ℕ) × IsGap false
 abbrev pub HasOpening : List ℕ → List ℕ → Type 0
 HasOpening text rest = (name opening : List ℕ) × OpensTag name opening × (text ≡ opening ++ rest)
 
--- the text, which comes after a tag's opening quote, begins with the tag's value, maybe empty, and a quote: `a"`
+-- the text, which comes after a tag's first quote, begins with a value on one line, maybe empty, and a quote: `a"`
 abbrev pub HasString : List ℕ → Type 0
 HasString text = (string rest : List ℕ) × IsString string × (text ≡ string ++ byte "\"" ∷ rest)
 
@@ -71,13 +71,13 @@ pub data IsTagReason (text : List ℕ) : Option (List ℕ) → Type 0 where
 -- the reason for a bad token; `text`: all from its first byte on
 abbrev pub token_reason : List ℕ → List ℕ
 token_reason text =
-    -- a draw written in another way: `1/2`, or `½`, which is the bytes C2 BD
+    -- a draw written in another way: `1/2`, or `½`, the bytes C2 BD
     if bytes_eq (take_while is_word_byte text) (codes "1/2") || bytes_eq (take 2 text) (194 ∷ 189 ∷ [])
     then codes "a draw is written 1/2-1/2"
-    -- an en dash, the bytes E2 80 93, as in `1–0`
+    -- an en dash, the bytes E2 80 93, as after the `1` of `1–0`
     else if bytes_eq (take 3 text) (226 ∷ 128 ∷ 147 ∷ []) then codes "an en dash, where results have a hyphen"
     else if list_any (bytes_eq (take_while is_word_byte text)) (codes "--" ∷ codes "Z0" ∷ [])
     then codes "a null move, which chess does not have"
     else if bytes_eq (take 1 text) (codes "(") then codes "no move that this variation replaces"
-    -- the last reason also for a `[` in a variation, where no tag can be
+    -- `begins no token` also for a `[` in a variation, where no tag can be
     else if list_any is_word_byte (take 1 text) then codes "not a move" else codes "begins no token"
