@@ -26,8 +26,8 @@ abbrev pub AnswersAll : {S : Type 0} → Server S → S → S → Bool → FromI
 AnswersAll respond s s' ends i o = let due = responses respond s (lines_read i) in
     (o ≡ all_flushed (nat_lt 0 (length (lines_read i))) due.text) × (s' ≡ due.state) × (due.ends ≡ ends)
 
--- the server `respond` answered the lines `before`, ends with none of them, and flushed their answers (without such
--- lines no flush succeeded). In the answer to `line` a write or a flush failed: nothing, a beginning or all of it was
+-- the server `respond` answered the lines `before`, none of which ends it, and flushed the answers (without such
+-- lines no flush succeeded). In the answer to `line` a write or flush failed: nothing, a beginning or all of it was
 -- written, and not flushed. `o` is what was written, `s` the first state, `s'` that after `line`
 abbrev pub BreaksOffAt : {S : Type 0} → Server S → S → S → List LineSeen → LineSeen → ToOutput → Type 0
 BreaksOffAt respond s s' before line o = let due = responses respond s before in let last = respond due.state line in
@@ -42,7 +42,7 @@ Served respond s s' (Ok Quit) i o = (i.failed ≡ false) × AnswersAll respond s
 Served respond s s' (Ok InputEnded) i o = IsWhole i × AnswersAll respond s s' false i o
 -- a read failed before the input's end; the server answered all lines that `\n` ended
 Served respond s s' (Err Read) i o = (i.ended ≡ false) × (i.failed ≡ true) × AnswersAll respond s s' false i o
--- no read failed; a write or a flush failed in the answer to `line`, which the last read completed, after `n` lines
+-- no read failed; a write or flush failed in the answer to `line`, which `n` lines precede and the last read completed
 Served respond s s' (Err Write) i o =
     (i.failed ≡ false) × ((n : ℕ) × (line : LineSeen) × (slice_get (lines_read i) n ≡ Some line)
     × (length (lines_before_last_read i) ≤ n) × BreaksOffAt respond s s' (take n (lines_read i)) line o)

@@ -32,7 +32,7 @@ abbrev pub rules_of : Setup → (Colour → LevelSeen) → Patience → Draws �
 rules_of start level patience draws limit =
     record { start = start; level = level; patience = patience; draws = draws; limit = limit }
 
--- the FEN sent by `setboard`; `None` for the initial position of normal chess, which `new` sets up
+-- the FEN sent by `setboard`; `None` for normal chess from the initial position, which `new` sets up
 unfoldable pub start_fen : Setup → Option (List ℕ)
 start_fen start = if is_initial start && not (is_fischerandom start.variant) then None else Some (fen start)
 
