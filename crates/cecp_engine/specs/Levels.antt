@@ -10,8 +10,8 @@ use Rattle.chess_base.specs.Options.{◌>>=◌}
 use Rattle.cecp_engine.specs.declared.level_fault.LevelFault.{LevelFault}
 use Rattle.cecp_engine.specs.declared.level_fault.LevelFault.TheVariants.{Words, Moves, Base, Increment}
 
--- a time control: `moves` per session (0: one session for the whole game), the `base` time of each session and the
--- `increment` per move, in milliseconds. The base of `level 40 5 0`, 5 minutes, is 300,000
+-- a time control: `moves` per period (0: one period for the whole game); in milliseconds, the `base` time of each
+-- period and the `increment` per move. The base of `level 40 5 0`, 5 minutes, is 300,000
 pub record LevelSeen : Type 0 where
   pub moves : ℕ
   pub base : ℕ
@@ -32,14 +32,14 @@ milliseconds_of most text = let point = position_or_len (λ c. c == byte ".") te
   Some (1000 * seconds + thousandths)
 
 -- the base time that a text denotes, in milliseconds: minutes of 1 to 3 digits (`5` is 300,000), perhaps with a colon
--- and seconds below 60 of 1 or 2 digits (`1:5` is 65,000), perhaps with decimals (`0:08.5` is 8,500); otherwise `None`
+-- and seconds below 60 of 1 or 2 digits (`1:5` is 65,000; with decimals, `0:08.5` is 8,500); otherwise `None`
 unfoldable pub base_of : List ℕ → Option ℕ
 base_of text = let colon = position_or_len (λ c. c == byte ":") text in do
   minutes ← short_number 3 (take colon text)
   milliseconds ← if colon == length text then Some 0 else milliseconds_of 2 (drop (colon + 1) text)
   if nat_lt milliseconds 60000 then Some (60000 * minutes + milliseconds) else None
 
--- the time control of these parts, or the fault of the first that is `None`: its text denotes none
+-- the time control of these parts, or the fault of the first that is `None`: its text is malformed
 abbrev pub level_with : Option ℕ → Option ℕ → Option ℕ → Result LevelSeen LevelFault
 level_with None base increment = Err Moves
 level_with (Some moves) None increment = Err Base
@@ -47,8 +47,8 @@ level_with (Some moves) (Some base) None = Err Increment
 level_with (Some moves) (Some base) (Some increment) =
     Ok (record { moves = moves; base = base; increment = increment })
 
--- the time control that three words denote, such as `40 5 0` or `0 0:10 0.1`: moves per session (1 to 3 digits), base
--- time, and increment in seconds; otherwise the first fault, `Words` if they aren't three
+-- the time control that three words denote, such as `40 5 0` or `0 0:10 0.1`: moves per period (1 to 3 digits), base
+-- time, and increment in seconds; otherwise the first fault, `Words` if there aren't three
 unfoldable pub level_reading : List ℕ → Result LevelSeen LevelFault
 level_reading text = let first = without_front_blanks text in let second = argument_of first in
     let third = argument_of second in
@@ -95,7 +95,7 @@ level_text level =
 
 -- ---- time
 
--- a side's milliseconds in all, after `k` of its moves: the base time for each session begun, and the increment for
--- each move. By `level 40 5 0`: 300,000 after 39 moves, 600,000 after 40
+-- the milliseconds given to a side in all, after `k` of its moves: the base time for each period begun, and the
+-- increment for each move. By `level 40 5 0`: 300,000 after 39 moves, 600,000 after 40
 unfoldable pub allotted : LevelSeen → ℕ → ℕ
 allotted level k = level.base * (if level.moves == 0 then 1 else 1 + k / level.moves) + level.increment * k

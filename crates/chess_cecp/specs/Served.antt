@@ -1,5 +1,4 @@
--- What a server of lines, such as a session, reads and writes, by how it ends: with a line such as `quit`, the input's
--- end, a failed read, or a failed write or flush.
+-- What a server of lines, such as a session, reads and writes, by how it ends.
 use Rattle.std.specs.Prelude.{◌≡◌, ◌≤◌, ℕ, nat_lt, Bool, true, false, List, length, take, slice_get, Some, Result, Ok, Err}
 use Rattle.byte_devices.specs.Transfers.{FromInput, ToOutput, IsWhole, all_flushed, BreaksOffIn}
 use Rattle.text_lines.specs.Lines.{LineSeen, stream_lines}
@@ -15,20 +14,20 @@ use Rattle.chess_cecp.specs.declared.session.TheConstants.{COMMAND_LEN}
 abbrev pub lines_read : FromInput → List LineSeen
 lines_read i = stream_lines COMMAND_LEN i.ended i.text
 
--- the lines in what was read (`i`) that were complete before the last successful read. A server answers them before
--- that read, so it ends or fails with none of them
+-- the lines in what was read (`i`) that `\n` had ended before the last successful read. A server answers them before
+-- that read, so it ends or fails at a later line, if at all
 abbrev pub lines_before_last_read : FromInput → List LineSeen
 lines_before_last_read i = stream_lines COMMAND_LEN false i.early
 
--- the server `respond` answered the lines read (`i`): all if it ends with none (`ends` is false), otherwise those up to
--- the first with which it ends. Just their answers were written and flushed (`o`), and no write or flush failed; a
--- flush succeeded just if a line was read. `s` and `s'` are the states before and after
+-- the server `respond` answered the lines read (`i`): all if none ends it (`ends` is false), otherwise all up to the
+-- first that ends it. Just their answers were written and flushed (`o`), and no write or flush failed; a flush
+-- succeeded if and only if a line was read. `s` and `s'` are the states before and after
 abbrev pub AnswersAll : {S : Type 0} → Server S → S → S → Bool → FromInput → ToOutput → Type 0
 AnswersAll respond s s' ends i o = let due = responses respond s (lines_read i) in
     (o ≡ all_flushed (nat_lt 0 (length (lines_read i))) due.text) × (s' ≡ due.state) × (due.ends ≡ ends)
 
--- the server `respond` answered the lines `before`, ends with none of them, and flushed their answers (without such
--- lines no flush succeeded). In the answer to `line` a write or a flush failed: nothing, a beginning or all of it was
+-- the server `respond` answered the lines `before`, none of which ends it, and flushed the answers (without such
+-- lines no flush succeeded). In the answer to `line` a write or flush failed: nothing, a beginning or all of it was
 -- written, and not flushed. `o` is what was written, `s` the first state, `s'` that after `line`
 abbrev pub BreaksOffAt : {S : Type 0} → Server S → S → S → List LineSeen → LineSeen → ToOutput → Type 0
 BreaksOffAt respond s s' before line o = let due = responses respond s before in let last = respond due.state line in
@@ -36,14 +35,14 @@ BreaksOffAt respond s s' before line o = let due = responses respond s before in
 
 -- what the server `respond` reads (`i`) and writes (`o`) from the state `s` to `s'`, by the result of the run
 abbrev pub Served : {S : Type 0} → Server S → S → S → Result End Fault → FromInput → ToOutput → Type 0
--- no read failed; the server answered all lines up to one with which it ends, which the last read completed
+-- no read failed; the server answered all lines up to the first that ends it, which the last read completed
 Served respond s s' (Ok Quit) i o = (i.failed ≡ false) × AnswersAll respond s s' true i o
     × ((responses respond s (lines_before_last_read i)).ends ≡ false)
 -- the input was read to its end, and no read failed; the server answered all lines
 Served respond s s' (Ok InputEnded) i o = IsWhole i × AnswersAll respond s s' false i o
--- a read failed before the input's end; the server answered all complete lines
+-- a read failed before the input's end; the server answered all lines that `\n` ended
 Served respond s s' (Err Read) i o = (i.ended ≡ false) × (i.failed ≡ true) × AnswersAll respond s s' false i o
--- a write or a flush failed in the answer to `line`, which the last read completed, after `n` others; no read failed
+-- no read failed; a write or flush failed in the answer to `line`, which `n` lines precede and the last read completed
 Served respond s s' (Err Write) i o =
     (i.failed ≡ false) × ((n : ℕ) × (line : LineSeen) × (slice_get (lines_read i) n ≡ Some line)
     × (length (lines_before_last_read i) ≤ n) × BreaksOffAt respond s s' (take n (lines_read i)) line o)

@@ -33,7 +33,7 @@ use Rattle.chess_game.specs.declared.results.Outcome.TheVariants.{Draw}
 use Rattle.chess_cecp.specs.declared.command.Command.{Command}
 use Rattle.chess_cecp.specs.declared.command.Command.TheVariants.{New, SetBoard, UserMove, BareMove, Undo, Remove, Declare, Claim, Ping, Protover, Variant, Go, ShowFen, ShowMoves, ShowState, ShowPgn, Quit, Silent, BadNumber, Unknown}
 
--- answers with the line of `front` and `text`, such as `Illegal move: e5`; the game `s` does not change
+-- answers with one line, `front` and then `text`, as in `Illegal move: e5`; the game stays `s`
 abbrev pub answers : State → List ℕ → List ℕ → Response State
 answers s front text = says s (front ++ (text ++ new_line ∷ []))
 
@@ -41,11 +41,11 @@ answers s front text = says s (front ++ (text ++ new_line ∷ []))
 abbrev pub becomes_judged : State → Response State
 becomes_judged s = says s (option_map_or (λ v. result_text (verdict_result v) ++ new_line ∷ []) (verdict_now s) [])
 
--- what `showmoves` writes after `# moves` for these moves of the position `p`, as in `20 b1a3 b1c3 ..`
+-- what `showmoves` writes after `# moves ` for these moves of position `p`: number and texts, `20 b1a3 b1c3 ..`
 unfoldable pub moves_text : Setup → List Move → List ℕ
 moves_text p ms = decimal (length ms) ++ flat_map (λ m. space ∷ shown_move p m) ms
 
--- the answer to `setboard` in the game `s`, by how its FEN was read
+-- the answer to `setboard` in the game `s`: a new game from the position read from its FEN
 abbrev pub setboard_row : State → Result Setup FenFault → Response State
 setboard_row s (Ok start) = becomes_judged (from_start start)
 -- refused with the fault's name, as in `tellusererror Illegal position (kings)`
@@ -56,13 +56,14 @@ unfoldable pub features_line : List ℕ
 features_line =
     codes "feature ping=1 setboard=1 playother=0 san=0 usermove=1 time=1 draw=1 sigint=0 sigterm=0 reuse=1 analyze=0 colors=0 debug=1 myname=\"CECP arbiter\" variants=\"normal,fischerandom\" done=1\n"
 
--- the answer to a move's text, by what it denotes in the current position
+-- the answer to a move's text in the game `s`, by its reading in the current position
 abbrev pub reading_row : State → List ℕ → Reading → Response State
 reading_row s text (reads.Move m) = becomes_judged (played s m)
 reading_row s text reads.Ambiguous = answers s (codes "Error (ambiguous move): ") text
+-- no legal move, or no move's shape
 reading_row s text _ = answers s (codes "Illegal move: ") text
 
--- the answer to a move's text, such as `e4`, in a game of at most `limit` half-moves
+-- the answer to a move's text, such as `e4`, in the game `s` of at most `limit` half-moves
 abbrev pub move_row : ℕ → State → List ℕ → Response State
 move_row limit s text = if is_over s then answers s (codes "Illegal move (game over): ") text
     else if nat_le limit (length s.moves) then answers s (codes "Error (game too long): ") text
@@ -74,10 +75,10 @@ abbrev pub take_back_row : ℕ → List ℕ → State → Response State
 take_back_row n name s = if nat_le n (length s.moves) then becomes (taken_back s n)
     else answers s (codes "Error (command not legal now): ") name
 
--- the answer to `result` in the game `s`, by the result that its argument declares; `text` is the whole line
+-- the answer to `result` in the game `s`, by the result that its argument declares, if any; `text` is the whole line
 abbrev pub result_row : State → List ℕ → Option Declared → Response State
 result_row s text None = answers s (codes "Error (bad result): ") text
--- `d` replaces any earlier result, unless the board has a verdict with another outcome
+-- `d` replaces any earlier result; refused if the board has a verdict with another outcome
 result_row s text (Some d) =
     if contradicts_verdict (verdict_now s) d.outcome then answers s (codes "Error (the board says otherwise): ") text
     else becomes (record s { declared = Some d })
@@ -86,15 +87,15 @@ result_row s text (Some d) =
 abbrev pub declares : State → Declared → Response State
 declares s d = says (record s { declared = Some d }) (result_text d ++ new_line ∷ [])
 
--- the answer to `claim`: the draw that can be claimed (Laws, articles 9.2.2 and 9.3.2) is declared; refused if the game
--- is over, or if there is none
+-- the answer to `claim`: the draw that can be claimed (Laws, article 9.2.2, otherwise 9.3.2) is declared; refused if
+-- the game is over, or if no draw can be
 abbrev pub claim_row : State → Response State
 claim_row s = if is_over s then answers s (codes "Error (command not legal now): ") (codes "claim")
     else option_map_or (λ claim. declares s (record { outcome = Draw; comment = claim_comment claim }))
     (draw_claim (claims s.start s.moves)) (answers s (codes "Error (no claim): ") (codes "claim"))
 
 -- the answer to `variant` (`text` is the whole line): `fischerandom` starts a game of Chess960 at the initial position
--- of normal chess; `normal` starts one of normal chess if `s` is of Chess960, otherwise changes nothing
+-- of normal chess; `normal` starts one of normal chess, unless `s` is one already; other arguments are refused
 abbrev pub variant_row : State → List ℕ → List ℕ → Response State
 variant_row s text argument =
     if bytes_eq argument (codes "fischerandom") then becomes (from_start (initial_setup_of Fischerandom))
@@ -102,8 +103,8 @@ variant_row s text argument =
     then becomes (if is_fischerandom s.start.variant then from_start initial_setup else s)
     else answers s (codes "Error (unsupported variant): ") text
 
--- the table of commands: what a session does in the game `s` with a line of this command. `text` is the whole line,
--- `argument` what follows its first word
+-- the table of commands: what a session with these tags and this limit does in the game `s` with a line of this
+-- command. `text` is the whole line, `argument` what follows its first word
 abbrev pub row : Tags → ℕ → State → List ℕ → List ℕ → Command → Response State
 row tags limit s text argument New = becomes (from_start initial_setup)
 row tags limit s text argument SetBoard = setboard_row s (fen_reading_as s.start.variant argument)
@@ -114,7 +115,7 @@ row tags limit s text argument Remove = take_back_row 2 (codes "remove") s
 row tags limit s text argument Declare = result_row s text (read_result argument)
 row tags limit s text argument Claim = claim_row s
 row tags limit s text argument (Ping n) = answers s (codes "pong ") (decimal n)
--- version 1 has no features
+-- versions below 2 have no features
 row tags limit s text argument (Protover n) = if nat_lt n 2 then becomes s else says s features_line
 row tags limit s text argument Variant = variant_row s text argument
 row tags limit s text argument Go = answers s (codes "Error (the arbiter plays no side): ") (codes "go")
@@ -127,7 +128,7 @@ row tags limit s text argument Silent = becomes s
 row tags limit s text argument BadNumber = answers s (codes "Error (bad number): ") text
 row tags limit s text argument Unknown = answers s (codes "Error (unknown command): ") text
 
--- how the session `seen` responds to a line; one that is too long is refused with its first bytes
+-- how the session `seen` responds to a line; one that is too long is refused with its first 64 bytes
 unfoldable pub session_response : SessionSeen → LineSeen → Response SessionSeen
 session_response seen line =
     let r = if line.too_long then answers seen.state (codes "Error (line too long): ") line.text

@@ -11,7 +11,9 @@ pub data Event : Type 0 where
   Opened : (side : Colour) → (moment : ℕ) → Event
   -- a look for a line of that side's engine found no whole line
   Silent : (side : Colour) → (moment : ℕ) → Event
+  -- the engine's output ended
   OutputEnds : (side : Colour) → Event
+  -- a read of that side's engine failed
   FailsToRead : (side : Colour) → Event
   -- a write or flush to that side's engine failed
   FailsToWrite : (side : Colour) → Event
@@ -22,5 +24,5 @@ pub record Seat : Type 0 where
   pub items : List Item
   -- the milliseconds that each of its moves took, in order
   pub used : List ℕ
-  -- whether its draw offer is open: made, and not lapsed by a move of the other side
+  -- whether its draw offer is open: made, and the other side has not moved since
   pub offers : Bool

@@ -12,7 +12,7 @@ use Rattle.chess_text.specs.San.{is_fischerandom}
 pub data SentLine : Type 0 where
   -- this text as it is
   Says : (text : List ℕ) → SentLine
-  -- a move's text, such as `e2e4` or, in SAN, `Nf3`; `prefixed`: after `usermove `
+  -- a move's text, such as `e2e4` or, in SAN, `Nf3`; if `prefixed`, after `usermove `
   MoveSent : (prefixed : Bool) → (text : List ℕ) → SentLine
   -- `time N`: the centiseconds this engine has left
   Time : (centiseconds : ℕ) → SentLine
@@ -35,7 +35,7 @@ bytes_of (l ∷ ls) = text_of l ++ new_line ∷ bytes_of ls
 abbrev pub ping : ℕ → SentLine
 ping n = Says (codes "ping " ++ decimal n)
 
--- the lines that set `S`'s engine up for a game by the rules `r`, up to `ping 1`
+-- the lines that set `S`'s engine up for a game by the rules `r`, up to `ping 1`; `setboard` only if required
 unfoldable pub setup_lines : Rules → Colour → List SentLine
 setup_lines r S =
     Says (codes "new") ∷ (list_if (is_fischerandom r.start.variant) (Says (codes "variant fischerandom") ∷ [])

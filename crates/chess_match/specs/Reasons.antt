@@ -38,8 +38,8 @@ fault_comment NoHandshake = codes " sent no done=1 (a UCI engine needs polyglot)
 fault_comment NoAnswer = codes " did not answer"
 
 -- how a match that ended for this reason is reported: outcome; comment, without braces; and how it ended, for the tag
--- Termination, which is always `unterminated` for the outcome `*`. `c` is the side that loses, but in `Faulted` the one
--- whose engine or device failed
+-- Termination (always `unterminated` for the outcome `*`). `c` is the side that loses, but in `Faulted` the one whose
+-- engine or device failed
 abbrev pub reported : Reason → Outcome × List ℕ × HowEnded
 reported (Decided v) = ((verdict_result v).outcome, (verdict_result v).comment, Normal)
 reported (Claimed claim) = (Draw, claim_comment claim, Normal)
@@ -76,18 +76,18 @@ abbrev pub reported_reason : Option Verdict → Reason → Reason
 reported_reason (Some v) _ = Decided v
 reported_reason None reason = reason
 
--- the side and fault reported of a match that ended for this reason: those of `Faulted`; otherwise, if writing the last
--- lines failed (`failed` says to which sides), `Write` and that side, or White if to both
+-- the side and fault, if any, reported of a match that ended for this reason: those of `Faulted`; otherwise, if writing
+-- the last lines failed (`failed` says to which sides), `Write` and that side, or White if to both
 abbrev pub reported_fault : Reason → (Colour → Bool) → Option (Colour × MatchFault)
 reported_fault (Faulted c f) failed = Some (c, f)
 reported_fault _ failed = option_map (λ side. (side, Write)) (find failed (White ∷ Black ∷ []))
 
--- the result declared in the game when the match ends for this reason, unless the board has a verdict
+-- the result declared in the game when the match ends for this reason; `None` if the board has a verdict
 abbrev pub declared_at : Option Verdict → Reason → Option Declared
 declared_at (Some v) reason = None
 declared_at None reason = Some (result_of reason)
 
--- whether this reason is a failed write to the side `S`
+-- whether this reason is a failed write or flush to the side `S`
 abbrev pub is_write_fault_of : Reason → Colour → Bool
 is_write_fault_of (Faulted c Write) S = same_colour c S
 is_write_fault_of _ S = false

@@ -32,12 +32,12 @@ abbrev pub rules_of : Setup → (Colour → LevelSeen) → Patience → Draws �
 rules_of start level patience draws limit =
     record { start = start; level = level; patience = patience; draws = draws; limit = limit }
 
--- the FEN sent by `setboard`; `None` for the initial position of normal chess, which `new` sets up
+-- the FEN sent by `setboard`; `None` for normal chess from the initial position, which `new` sets up
 unfoldable pub start_fen : Setup → Option (List ℕ)
 start_fen start = if is_initial start && not (is_fischerandom start.variant) then None else Some (fen start)
 
--- the last of the moves `played` from `start`, or empty without moves: in SAN if `as_san`, such as `Nf3`; otherwise by
--- its squares (`g1f3`), or as `O-O` or `O-O-O` for castling of Chess960
+-- the text of the last of the moves `played` from `start`: in SAN if `as_san` (`Nf3`), otherwise by its two squares
+-- (`g1f3`), but castling in Chess960 as `O-O` or `O-O-O`; empty without moves
 abbrev pub text_of_last : Bool → Setup → List Move → List ℕ
 text_of_last as_san start played = let before = position_after start (take (length played - 1) played) in
     option_map_or (λ move. if as_san then san before move else shown_move before move) (last_or None played) []
