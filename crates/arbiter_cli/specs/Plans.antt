@@ -154,9 +154,9 @@ IsReadAs kinds said (Err f) = (kinds ≡ []) × (said.command ≡ codes "match")
 
 -- ---- by the grammar
 
--- what the arguments say if they have no fault; without a subcommand it is `session`. `p`: the subcommand's name and
--- its options as `clap` matches them, of which the first value counts; positional arguments are named `words`.
--- `names`: the values that `--variant` and `--draws` accept
+-- what the arguments say by the grammar with these `names`, if they have no fault; without a subcommand it is
+-- `session`. `p`: the subcommand's name and its options as `clap` matches them, of which the first value counts;
+-- positional arguments are named `words`
 abbrev pub said_by : OptionNames → List Text → Said
 said_by names arguments = let p = unwrap_or (subcommand_of (arbiter_app names) arguments) (codes "session", []) in
     record { command = p.0; value = λ name. first_of name p.1; replies = unwrap_or (all_of (codes "words") p.1) [] }

@@ -32,7 +32,7 @@ abbrev pub is_silence_of : Colour → Act → Bool
 is_silence_of S (Happens (Silent side moment)) = same_colour side S
 is_silence_of S _ = false
 
--- how this act ended a look for a line of `S`'s engine: the list of `true` by a silence; of `false` by a line, the
+-- how this act ended a look for a line of `S`'s engine: a list of `true` for a silence, of `false` for a line, the
 -- output's end or a failed read; empty if it ended none
 abbrev pub look : Colour → Act → List Bool
 look S (Happens (Silent side moment)) = list_if (same_colour side S) (true ∷ [])
@@ -50,7 +50,7 @@ moment_shown _ = []
 
 -- ---- what was written
 
--- the lines that this act sent to the side `S`; empty if it sent none, or failed to
+-- the lines that this act sent to the side `S`; none if sending failed
 abbrev pub lines_to : Colour → Act → List SentLine
 lines_to S (Sends block) = list_if (same_colour block.to S) block.lines
 lines_to S _ = []

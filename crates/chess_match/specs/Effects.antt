@@ -55,10 +55,11 @@ pub record Match : Type 0 where
   pub seat : Colour → Seat
   -- the moves so far
   pub played : List Move
-  -- how many lines came in this side's handshake, or were ignored in its setup or turn; meaningless at the end
+  -- how many lines came in the present handshake, or were ignored in the present setup or turn; meaningless at the end
   pub count : ℕ
-  -- the moment from which the time for a reply runs. These lines restart it: in a handshake `feature`, in a setup `pong
-  -- 1`, in a turn any up to the move. Before the first of them it is the first silence's moment; `None` before both
+  -- the moment from which the time for a reply runs. These lines restart it: in a handshake `feature`, in a setup
+  -- `pong 1`, in a turn any up to the move. Before the first of them it is the first silence's moment; `None` before
+  -- both
   pub since : Option ℕ
 
 -- the match after an event, and the lines that each side is then sent (`to`)
@@ -68,7 +69,7 @@ pub record Effect : Type 0 where
 
 -- ---- what is asked of a match
 
--- the milliseconds that the side `S` has left, at least 0; a move's are taken off once it is made
+-- the milliseconds that the side `S` has left, at least 0; a move's time is taken off once it is made
 abbrev pub clock : Rules → Match → Colour → ℕ
 clock r m S = allotted (r.level S) (length (m.seat S).used) - sum (m.seat S).used
 
@@ -113,7 +114,8 @@ move_line r m S = MoveSent (takes (codes "usermove") (m.seat S).items)
     (text_of_last (takes (codes "san") (m.seat S).items) r.start m.played)
 
 -- the lines that open a turn of the side `S`: in its first turn the last move, if any, the clocks and `go`; later the
--- clocks and the last move. The clocks (its own first; in centiseconds, rounded down) are omitted if its `time` is off
+-- clocks and the last move. The clocks (`S`'s first; in centiseconds, rounded down) are omitted if its feature `time`
+-- is off
 abbrev pub opening : Rules → Match → Colour → List SentLine
 opening r m S = let last = list_if (nat_lt 0 (length m.played)) (move_line r m S ∷ []) in
     let times = Time (clock r m S / 10) ∷ Otim (clock r m (other S) / 10) ∷ [] in
@@ -162,7 +164,8 @@ unless_over r m otherwise = option_map_or (λ reason. ends r reason m) (over_by_
 -- ---- a line in a turn
 
 -- a draw offer of the side `S`: if an offer of the other side is open, the draw is agreed; if one of `S` is, the line
--- is ignored; otherwise the offer of `S` is now open, and the other side is sent `draw`, unless its `draw` is off
+-- is ignored; otherwise the offer of `S` is now open, and the other side is sent `draw`, unless its feature `draw` is
+-- off
 abbrev pub offer_row : Rules → Colour → Match → Effect
 offer_row r S m = if (m.seat (other S)).offers then ends r Agreed m
     else if (m.seat S).offers then ignores r S m
@@ -228,7 +231,7 @@ reply_row r S fault moment m = let since = unwrap_or m.since moment in
     if option_map_or (λ limit. nat_lt limit (moment - since)) r.patience.reply false then ends r (Faulted S fault) m
     else sends_nothing (awaited_since since m)
 
--- what a silence does in this phase: no line of the side `S`, whose line it awaits, had come at this moment
+-- what a silence of the side `S`, whose line this phase awaits, does at this moment
 abbrev pub silence_row : Rules → Phase → Colour → ℕ → Match → Effect
 silence_row r (Handshake side) S moment m = reply_row r S NoHandshake moment m
 silence_row r (Setup side) S moment m = reply_row r S NoAnswer moment m
@@ -280,7 +283,7 @@ setup_done r Black m = unless_over r m (begins_turn r r.start.side m)
 -- ---- one event
 
 -- what a line of this kind does in this phase; it came at `moment` from the side `S` that the phase waits for. If it
--- restarts the time for a reply (see `since` in `Match`), `since` becomes `moment`, unless the flag has fallen
+-- restarts the time for a reply (see `Match`), `since` becomes `moment`, unless the flag has fallen
 abbrev pub line_row : Rules → Phase → LineKind → ℕ → Match → Effect
 line_row r (Handshake S) (Features text) moment m = handshake_row r S (items_of text) (awaited_since moment m)
 line_row r (Handshake S) kind _ m = handshake_row r S [] m

@@ -7,7 +7,7 @@ use Rattle.chess_match.specs.Events.{Event}
 pub data Note : Type 0 where
   -- of failed writes, only the one that ended the match
   Happened : (event : Event) → Note
-  -- these bytes, a whole block, are about to be sent to that side's engine; sending them may fail
+  -- that side's engine is to be sent these bytes, a whole block; this may fail
   Gives : (side : Colour) → (text : List ℕ) → Note
 
 -- what contracts see of a witness: that it may have held this text at first, and been given just these notes since.

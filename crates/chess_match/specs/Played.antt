@@ -44,8 +44,8 @@ pub record SaidBy (S : Colour) (H : List Act) (i : FromInput) : Type 0 where
   -- so too if the last look for a line of `S` found none
   pub all_if_silent : last_or None (flat_map (look S) H) ≡ Some true → engine_lines i.text ≡ flat_map (line_read S) H
 
--- `o` is what went to an engine's input, if it was sent the lines `sent`, and then the blocks of the second list, at
--- most one, failed
+-- `o` is what went to an engine's input, if it was sent the lines `sent`, and then the block of the second list, if
+-- any, failed
 abbrev pub WasSent : List SentLine → List (List SentLine) → ToOutput → Type 0
 -- no block failed: all lines were written and flushed (without lines, no flush)
 WasSent sent [] o = o ≡ all_flushed (nat_lt 0 (length sent)) (bytes_of sent)
