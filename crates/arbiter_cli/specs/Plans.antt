@@ -102,8 +102,7 @@ levels_asked value = do
 abbrev pub is_date : Text → Bool
 is_date text = nat_le (length text) 60 && list_all (λ b. nat_le 32 b && nat_le b 126) text
 
--- the time controls of a match's engines (first that of `--white`), its games' start and date; or the first fault, in
--- this order
+-- the time controls of a match's engines (first that of `--white`), its games' start and date; or the first fault
 abbrev pub levels_start_and_date : Values → Result ((LevelSeen × LevelSeen) × Setup × Text) WordsFault
 levels_start_and_date value = let date = unwrap_or (value (codes "date")) (codes "????.??.??") in do
   levels ← result_map_both (λ levels. levels) BadLevel (levels_asked value)

@@ -5,7 +5,7 @@ use Rattle.chess_match.specs.Events.{Event}
 
 -- what a witness is given at one time
 pub data Note : Type 0 where
-  -- of failed writes, only the one that ended the match
+  -- this event; a failed write only if it ended the match
   Happened : (event : Event) → Note
   -- that side's engine is to be sent these bytes, a whole block; this may fail
   Gives : (side : Colour) → (text : List ℕ) → Note

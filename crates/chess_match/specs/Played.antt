@@ -68,7 +68,7 @@ pub record ReportedAs (r : Rules) (H : List Act) (final : Match) (reason : Reaso
   pub ended : final.phase ≡ Over reason
   -- outcome, comment and kind of end are by the board's verdict after the moves played, otherwise by the reason
   pub report : reported (reported_reason (verdict r.start final.played) reason) ≡ (end.outcome, end.comment, end.ended)
-  -- each engine's name is the last `myname` of its handshake, as `cut_tag` keeps it (60 bytes); empty without one
+  -- each engine's name is the last `myname` of its handshake, cut to 60 bytes (`cut_tag`); empty without one
   pub name : (S : Colour) → by_colour end.white_name end.black_name S
       ≡ cut_tag (last_said (λ v. v.text) [] (codes "myname") (final.seat S).items)
   -- the fault that ended the match; otherwise a failed write after the end, White's if both failed
