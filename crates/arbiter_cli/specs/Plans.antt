@@ -24,8 +24,8 @@ use Rattle.cecp_engine.specs.declared.level_fault.LevelFault.{LevelFault}
 
 -- ---- what arguments say
 
--- the values of options by their names, without `--`; `None` if not given. That of a flag is
--- `true` if given, otherwise `false` or `None`
+-- the values of options by their names, without `--`; `None` if not given. That of a flag is `true` if given, otherwise
+-- `false` or `None`
 abbrev pub Values : Type 0
 Values = Text → Option Text
 
@@ -111,6 +111,7 @@ levels_start_and_date value = let date = unwrap_or (value (codes "date")) (codes
 
 -- the plan of a match with these options, each as given or by default; `--white` and `--black` have no default
 pub record IsMatchPlan (value : Values) (plan : GamesPlan) : Type 0 where
+  -- the engines' commands
   pub white : value (codes "white") ≡ Some plan.white.now
   pub black : value (codes "black") ≡ Some plan.black.now
   -- the time controls, the start and the date
@@ -148,7 +149,7 @@ IsReadAs kinds said (Err (Words e)) = IsAmong (kind_of e) kinds
 IsReadAs kinds said (Err NoMemory) = ⊤
 -- `--ignore` names something that it may not ignore
 IsReadAs kinds said (Err BadKind) = (kinds ≡ []) × (said.command ≡ codes "verify") × (ignores_kinds said.value ≡ false)
--- `f`: the first fault of the levels, the FEN and the date of a match
+-- `f`: the first fault of a match's levels, FEN and date
 IsReadAs kinds said (Err f) = (kinds ≡ []) × (said.command ≡ codes "match") × (levels_start_and_date said.value ≡ Err f)
 
 -- ---- by the grammar
@@ -160,8 +161,8 @@ abbrev pub said_by : OptionNames → List Text → Said
 said_by names arguments = let p = unwrap_or (subcommand_of (arbiter_app names) arguments) (codes "session", []) in
     record { command = p.0; value = λ name. first_of name p.1; replies = unwrap_or (all_of (codes "words") p.1) [] }
 
--- `result` is right for these arguments, without the program's name, by the grammar with some `OptionNames`, wherever
--- in memory. For plain arguments the law `plain_arguments_are_read` says it without the grammar
+-- `result` is right (`IsReadAs`) for these arguments, without the program's name, by the grammar with some
+-- `OptionNames`. For plain arguments the law `plain_arguments_are_read` says it without the grammar
 abbrev pub IsReading : List Text → Result Plan WordsFault → Type 0
 IsReading arguments result =
     (names : OptionNames) × IsReadAs (fault_of (arbiter_app names) arguments) (said_by names arguments) result

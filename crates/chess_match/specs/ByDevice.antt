@@ -62,7 +62,7 @@ broken_block S _ = []
 
 -- ---- what was noted
 
--- the notes that a witness, such as the log, is given of this act of a match that ended for this reason
+-- the notes that a witness is given of this act of a match that ended for this reason
 abbrev pub notes_of : Reason → Act → List Note
 notes_of reason (Sends block) = Gives block.to (bytes_of block.lines) ∷ []
 -- the failure is noted only if the match ended by it

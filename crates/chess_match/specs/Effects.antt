@@ -96,7 +96,7 @@ abbrev pub over_by_position : Rules → List Move → Option Reason
 over_by_position r ms = option_or (option_map (λ v. Decided v) (verdict r.start ms))
     (option_map (λ claim. Claimed claim) (if_automatic r.draws (draw_claim (claims r.start ms))))
 
--- whether the side `S` is not yet sent the last move: the other side made it, and that side's turn goes on
+-- whether the side `S` is not yet sent the last move: the other side made it, and that side's turn continues
 abbrev pub is_owed_move : Phase → Colour → Bool
 is_owed_move (AfterMove side) S = same_colour (other side) S
 is_owed_move _ S = false

@@ -66,12 +66,12 @@ pub record Passed (r : Rules) (H : List Act) (final : Match) (w w' : World) : Ty
 -- `end` reports a match of the acts `H` by the rules `r` that ended for this reason in the state `final`
 pub record ReportedAs (r : Rules) (H : List Act) (final : Match) (reason : Reason) (end : MatchEnd) : Type 0 where
   pub ended : final.phase ≡ Over reason
-  -- outcome, comment and kind of end are by the board's verdict after the moves played, otherwise by the reason
+  -- outcome, comment and kind of end are by the board's verdict after the moves played, if any; otherwise by the reason
   pub report : reported (reported_reason (verdict r.start final.played) reason) ≡ (end.outcome, end.comment, end.ended)
   -- each engine's name is the last `myname` of its handshake, cut to 60 bytes (`cut_tag`); empty without one
   pub name : (S : Colour) → by_colour end.white_name end.black_name S
       ≡ cut_tag (last_said (λ v. v.text) [] (codes "myname") (final.seat S).items)
-  -- the fault that ended the match; otherwise a failed write after the end, White's if both failed
+  -- the fault that ended the match, with its side; otherwise a failed write after the end, if any (White's, if both)
   pub fault : end.fault ≡ reported_fault reason (λ S. nat_lt 0 (length (flat_map (broken_block S) H)))
 
 -- a match of the acts `H`, which ended for this reason, was played as `setup` says, from the world `w` to `w'`, and
