@@ -24,8 +24,8 @@ use Rattle.cecp_engine.specs.declared.level_fault.LevelFault.{LevelFault}
 
 -- ---- what arguments say
 
--- the values of options by their names, without `--`. A flag that was given has the value `true`, otherwise `false` or
--- `None`
+-- the values of options by their names, without `--`; `None` if not given. That of a flag is `true` if given, otherwise
+-- `false` or `None`
 abbrev pub Values : Type 0
 Values = Text → Option Text
 
@@ -44,13 +44,13 @@ has_value name text value = option_map_or (λ given. bytes_eq given text) (value
 abbrev pub is_set : Text → Values → Bool
 is_set name value = has_value name (codes "true") value
 
--- the number that a value denotes in decimal, perhaps after a `+`
+-- the number that a value, decimal digits perhaps after a `+`, denotes
 abbrev pub number_of : Text → ℕ
 number_of text = digits_value 10 (without_leading_plus text)
 
 -- ---- of `verify`
 
--- the names between the commas (byte 44) of `--ignore`, such as `result,board`, empty ones too
+-- the names between the commas (byte 44) of `--ignore`, such as `result,board`, empty ones too; none without the option
 abbrev pub ignored_in : Values → List Text
 ignored_in value = option_map_or (slice_split (λ b. b == 44)) (value (codes "ignore")) []
 
@@ -90,7 +90,7 @@ start_asked value = let v = if has_value (codes "variant") (codes "fischerandom"
     option_map_or (fen_reading_as v) (value (codes "fen")) (Ok (initial_setup_of v))
 
 -- the time controls of the engines of `--white` and `--black`: each its own, if given, otherwise the common one, by
--- default 40 moves in 5 minutes; or the first fault. The common one is read even if each engine has its own
+-- default 40 moves in 5 minutes; or the first fault. The common one must be valid even if each engine has its own
 abbrev pub levels_asked : Values → Result (LevelSeen × LevelSeen) LevelFault
 levels_asked value = do
   level ← level_reading (unwrap_or (value (codes "level")) (codes "40 5 0"))
@@ -102,7 +102,7 @@ levels_asked value = do
 abbrev pub is_date : Text → Bool
 is_date text = nat_le (length text) 60 && list_all (λ b. nat_le 32 b && nat_le b 126) text
 
--- the time controls of a match's engines (first that of `--white`), its games' start and date; or their first fault
+-- the time controls of a match's engines (first that of `--white`), its games' start and date; or the first fault
 abbrev pub levels_start_and_date : Values → Result ((LevelSeen × LevelSeen) × Setup × Text) WordsFault
 levels_start_and_date value = let date = unwrap_or (value (codes "date")) (codes "????.??.??") in do
   levels ← result_map_both (λ levels. levels) BadLevel (levels_asked value)
@@ -111,6 +111,7 @@ levels_start_and_date value = let date = unwrap_or (value (codes "date")) (codes
 
 -- the plan of a match with these options, each as given or by default; `--white` and `--black` have no default
 pub record IsMatchPlan (value : Values) (plan : GamesPlan) : Type 0 where
+  -- the engines' commands
   pub white : value (codes "white") ≡ Some plan.white.now
   pub black : value (codes "black") ≡ Some plan.black.now
   -- the time controls, the start and the date
@@ -148,21 +149,20 @@ IsReadAs kinds said (Err (Words e)) = IsAmong (kind_of e) kinds
 IsReadAs kinds said (Err NoMemory) = ⊤
 -- `--ignore` names something that it may not ignore
 IsReadAs kinds said (Err BadKind) = (kinds ≡ []) × (said.command ≡ codes "verify") × (ignores_kinds said.value ≡ false)
--- a level, the FEN or the date of a match is invalid
+-- `f`: the first fault of a match's levels, FEN and date
 IsReadAs kinds said (Err f) = (kinds ≡ []) × (said.command ≡ codes "match") × (levels_start_and_date said.value ≡ Err f)
 
 -- ---- by the grammar
 
--- what the arguments say if they have no fault; no subcommand says `session`. `p` is what `clap` matches: the
--- subcommand's name and its options, of which the first value counts; `words` are the positional arguments. `names`:
--- those that `--variant` and `--draws` take
+-- what the arguments say by the grammar with these `names`, if they have no fault; without a subcommand it is
+-- `session`. `p`: the subcommand's name and its options as `clap` matches them, of which the first value counts;
+-- positional arguments are named `words`
 abbrev pub said_by : OptionNames → List Text → Said
 said_by names arguments = let p = unwrap_or (subcommand_of (arbiter_app names) arguments) (codes "session", []) in
     record { command = p.0; value = λ name. first_of name p.1; replies = unwrap_or (all_of (codes "words") p.1) [] }
 
--- for some place in memory of the texts that `--variant` and `--draws` take (`names`), `result` is a right reading of
--- these arguments, without the program's name, by the grammar. For plain arguments the law `plain_arguments_are_read`
--- says it without the grammar
+-- `result` is right (`IsReadAs`) for these arguments, without the program's name, by the grammar with some
+-- `OptionNames`. For plain arguments the law `plain_arguments_are_read` says it without the grammar
 abbrev pub IsReading : List Text → Result Plan WordsFault → Type 0
 IsReading arguments result =
     (names : OptionNames) × IsReadAs (fault_of (arbiter_app names) arguments) (said_by names arguments) result

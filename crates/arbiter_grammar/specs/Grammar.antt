@@ -13,7 +13,7 @@ use Rattle.clap.specs.declared.builder.action.ArgAction.TheVariants.{Append, Set
 abbrev pub option_rule : Text → Rule
 option_rule name = record (new_rule name) { long = Some name; value_names = 1 }
 
--- the option `--NAME TEXT`, whose text `parser` accepts
+-- the option `--NAME TEXT`, with a TEXT that `parser` accepts
 abbrev pub checked_rule : Text → ValueParser → Rule
 checked_rule name parser = record (option_rule name) { parser = Some parser }
 
@@ -21,14 +21,14 @@ checked_rule name parser = record (option_rule name) { parser = Some parser }
 abbrev pub flag_rule : Text → Rule
 flag_rule name = record (new_rule name) { long = Some name; action = Some SetTrue }
 
--- the names that `--variant` and `--draws` take, anywhere in memory
+-- the values that `--variant` and `--draws` accept, anywhere in memory
 pub record OptionNames : Type 0 where
   pub variants : Bor (List (Bor Text))
   pub draws : Bor (List (Bor Text))
   pub variants_are : map (λ n. n.now) variants.now ≡ codes "normal" ∷ codes "fischerandom" ∷ []
   pub draws_are : map (λ n. n.now) draws.now ≡ codes "claimed" ∷ codes "automatic" ∷ []
 
--- the subcommand `match`. `Unsigned a b` takes the numbers from a to b, both included
+-- the subcommand `match`. `Unsigned a b` accepts the numbers from a to b, both included; `Names` only these names
 abbrev pub match_app : OptionNames → App
 match_app names = fold with_rule (new_app (codes "match")) (
     record (option_rule (codes "white")) { required = true } ∷ record (option_rule (codes "black")) { required = true }
@@ -43,7 +43,7 @@ verify_app = fold with_rule (new_app (codes "verify"))
     (map flag_rule (codes "keep-going" ∷ codes "quiet" ∷ codes "strict" ∷ codes "explain" ∷ codes "spans"
     ∷ codes "names" ∷ codes "variations" ∷ []) ++ option_rule (codes "ignore") ∷ [])
 
--- the subcommand `stub`, with any number of positional arguments, `words` to `clap`
+-- the subcommand `stub`, with any number of positional arguments, named `words` in `clap`
 abbrev pub stub_app : App
 stub_app =
     with_rule (new_app (codes "stub")) (record (new_rule (codes "words")) { action = Some Append; value_names = 1 })

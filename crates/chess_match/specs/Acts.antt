@@ -10,7 +10,7 @@ use Rattle.chess_match.specs.Lines.{SentLine}
 use Rattle.chess_match.specs.declared.patience.Patience.{Patience}
 use Rattle.chess_match.specs.Effects.{Match, Phase, Handshake, Setup, Opening, BeforeMove, AfterMove, Over, Effect, clock, effect, beginning}
 
--- all lines that the engine of the side `to` is sent at one event, or when the match begins
+-- all lines that the engine of the side `to` is to be sent at one event, or when the match begins
 pub record Block : Type 0 where
   pub to : Colour
   pub lines : List SentLine
@@ -27,7 +27,7 @@ pub data Act : Type 0 where
 
 -- ---- what is due
 
--- the block of these lines for this side; none without lines
+-- the block of these lines for this side; without lines an empty list
 abbrev pub block_of : Colour → List SentLine → List Block
 block_of S [] = []
 block_of S (l ∷ ls) = record { to = S; lines = l ∷ ls } ∷ []
@@ -88,8 +88,8 @@ due_after (Line S text moment) done = blocks_from (if is_over done.after.phase t
 due_after event done = blocks_from White done.to
 
 -- the match, and the blocks then due, when a block for this side could not be sent in the match `m`; `due` are the
--- other blocks. If `m` was over, these are still due; otherwise the failure ends it, and only the last lines for the
--- other side are due
+-- blocks after it. If `m` was over, these are still due; otherwise the failure ends it, and due is only what `ends`
+-- sends the other side
 abbrev pub after_failed_send : Rules → Match → List Block → Colour → Match × List Block
 after_failed_send r m due side = let done = effect r m (FailsToWrite side) in
     if is_over m.phase then (m, due) else (done.after, blocks_from White done.to)
@@ -97,6 +97,7 @@ after_failed_send r m due side = let done = effect r m (FailsToWrite side) in
 -- these acts are the rest of a match by the rules `r`, now `m` with the blocks `due` still to be sent, and `final` at
 -- its end. While a block is due, nothing is read
 abbrev pub IsMatchFrom : Rules → Match → List Block → List Act → Match → Type 0
+-- the first block due is sent
 IsMatchFrom r m (block ∷ due) (Sends sent ∷ H) final = (block ≡ sent) × IsMatchFrom r m due H final
 -- sending the first block due fails
 IsMatchFrom r m (block ∷ due) (SendFails sent ∷ H) final =
@@ -106,6 +107,7 @@ IsMatchFrom r m [] (Happens event ∷ H) final = let done = effect r m event in
     MayCome r.patience m.phase event × IsMatchFrom r done.after (due_after event done) H final
 -- no act is left: no block is due, and the match is over
 IsMatchFrom r m [] [] final = (is_over m.phase ≡ true) × (final ≡ m)
+-- nothing else may happen
 IsMatchFrom r m due H final = ⊥
 
 -- these acts are a whole match by the rules `r`, which is `final` at its end

@@ -1,5 +1,5 @@
 -- What each event does: the match after it, and the lines that each side is then sent. A definition `.._row` is the
--- effect of a line or silence, or of one in some case.
+-- effect of certain lines or silences.
 use Rattle.std.specs.Prelude.{ℕ, ◌+◌, ◌-◌, ◌/◌, ◌==◌, ◌&&◌, nat_le, nat_lt, Bool, true, false, not, if◌then◌else◌, List, [], ◌∷◌, ◌++◌, length, codes, sum, Option, None, Some, is_some, option_map, unwrap_or, map}
 use Rattle.std.specs.List.{list_any}
 use Rattle.std.specs.Option.{option_map_or, option_or}
@@ -39,13 +39,13 @@ pub data Phase : Type 0 where
   Handshake : (side : Colour) → Phase
   -- that side's `pong 1`, which ends its setup
   Setup : (side : Colour) → Phase
-  -- the moment when that side's turn begins, once the lines that open it are sent
+  -- a reading of the clock, once the lines that open that side's turn are sent
   Opening : (side : Colour) → Phase
-  -- that side's move; its turn began at `opened`, in milliseconds by the clock
+  -- that side's move; its time runs from `opened`, in milliseconds by the clock
   BeforeMove : (side : Colour) → (opened : ℕ) → Phase
   -- that side's `pong` after its move; only then the other side is sent the move
   AfterMove : (side : Colour) → Phase
-  -- nothing: the match has ended
+  -- nothing: the match has ended for this reason
   Over : (reason : Reason) → Phase
 
 -- the state of a match
@@ -55,10 +55,10 @@ pub record Match : Type 0 where
   pub seat : Colour → Seat
   -- the moves so far
   pub played : List Move
-  -- how many lines came in this handshake, or were ignored in this setup or turn; meaningless at the end
+  -- how many lines came in the present handshake, or were ignored in the present setup or turn; meaningless at the end
   pub count : ℕ
-  -- the moment from which the time for a reply runs: that of the last line that counted (in a handshake `feature`, in a
-  -- setup `pong 1`, in a turn any up to the move); before the first such line, that of the first silence; `None` before
+  -- the moment from which the time for a reply runs. These lines restart it: in a handshake `feature`, in a setup
+  -- `pong 1`, in a turn any up to the move. Before the first of them it is the first silence's moment; `None` before
   -- both
   pub since : Option ℕ
 
@@ -69,11 +69,11 @@ pub record Effect : Type 0 where
 
 -- ---- what is asked of a match
 
--- the milliseconds that the side `S` has left, at least 0; the time of a turn that goes on is not yet taken off
+-- the milliseconds that the side `S` has left, at least 0; a move's time is taken off once it is made
 abbrev pub clock : Rules → Match → Colour → ℕ
 clock r m S = allotted (r.level S) (length (m.seat S).used) - sum (m.seat S).used
 
--- the number of the `ping` sent to the side `S` after its latest move: n + 1 after its n-th; 1 in its setup
+-- the number of the latest `ping` for the side `S`: n + 1 after its n-th move; 1 in its setup
 abbrev pub ping_number : Match → Colour → ℕ
 ping_number m S = length (m.seat S).used + 1
 
@@ -85,7 +85,7 @@ missing r items = if not (takes (codes "ping") items) then Some NoPing
     else if is_fischerandom r.start.variant && not (plays_fischerandom items) then Some NoVariant
     else None
 
--- the draw `claim`, if draws end a match without being claimed; otherwise `None`
+-- the draw that may be claimed (`claim`), if draws end a match without being claimed; otherwise `None`
 abbrev pub if_automatic : Draws → Option DrawClaim → Option DrawClaim
 if_automatic Automatic claim = claim
 if_automatic _ claim = None
@@ -96,7 +96,7 @@ abbrev pub over_by_position : Rules → List Move → Option Reason
 over_by_position r ms = option_or (option_map (λ v. Decided v) (verdict r.start ms))
     (option_map (λ claim. Claimed claim) (if_automatic r.draws (draw_claim (claims r.start ms))))
 
--- whether the side `S` is not yet sent the last move: the other side, which made it, owes `pong`
+-- whether the side `S` is not yet sent the last move: the other side made it, and that side's turn continues
 abbrev pub is_owed_move : Phase → Colour → Bool
 is_owed_move (AfterMove side) S = same_colour (other side) S
 is_owed_move _ S = false
@@ -114,7 +114,8 @@ move_line r m S = MoveSent (takes (codes "usermove") (m.seat S).items)
     (text_of_last (takes (codes "san") (m.seat S).items) r.start m.played)
 
 -- the lines that open a turn of the side `S`: in its first turn the last move, if any, the clocks and `go`; later the
--- clocks and the last move. The clocks (centiseconds, rounded down) are omitted if `time` is off
+-- clocks and the last move. The clocks (`S`'s first; in centiseconds, rounded down) are omitted if its feature `time`
+-- is off
 abbrev pub opening : Rules → Match → Colour → List SentLine
 opening r m S = let last = list_if (nat_lt 0 (length m.played)) (move_line r m S ∷ []) in
     let times = Time (clock r m S / 10) ∷ Otim (clock r m (other S) / 10) ∷ [] in
@@ -135,7 +136,7 @@ sends_to side lines m = record { after = m; to = λ S. list_if (same_colour side
 abbrev pub with_seat : Colour → (Seat → Seat) → Match → Match
 with_seat S change m = record m { seat = λ side. if same_colour side S then change (m.seat side) else m.seat side }
 
--- the match `m` ends for this reason. Each side is sent the last move, if owed; the result, such as
+-- the match `m` ends for this reason. Each side is sent the last move, if `is_owed_move`; the result, such as
 -- `result 1-0 {Black resigns}`, by the board's verdict, if any, otherwise by the reason; and `quit`. A side to which a
 -- failed write ended the match is sent nothing
 abbrev pub ends : Rules → Reason → Match → Effect
@@ -162,8 +163,9 @@ unless_over r m otherwise = option_map_or (λ reason. ends r reason m) (over_by_
 
 -- ---- a line in a turn
 
--- `offer draw` of the side `S`: if an offer of the other side is open, the draw is agreed; if one of `S` is, the line
--- is ignored; otherwise the offer of `S` is now open, and the other side is sent `draw`, unless it has that feature off
+-- a draw offer of the side `S`: if an offer of the other side is open, the draw is agreed; if one of `S` is, the line
+-- is ignored; otherwise the offer of `S` is now open, and the other side is sent `draw`, unless its feature `draw` is
+-- off
 abbrev pub offer_row : Rules → Colour → Match → Effect
 offer_row r S m = if (m.seat (other S)).offers then ends r Agreed m
     else if (m.seat S).offers then ignores r S m
@@ -183,6 +185,7 @@ turn_row r S (ClaimsWin winner) m = ends r (if same_colour winner S then ClaimsF
 -- `Illegal move`: `S` loses, as the move it was sent is legal; ignored if the other side has made none
 turn_row r S Rejects m =
     if nat_lt 0 (length (m.seat (other S)).used) then ends r (RejectsLegalMove S) m else ignores r S m
+-- any other line
 turn_row r S _ m = ignores r S m
 
 -- the match `m` after this move of the side `S`, which took `used` milliseconds: an open offer of the other side
@@ -221,14 +224,14 @@ abbrev pub awaited_since : ℕ → Match → Match
 awaited_since moment m = record m { since = Some moment }
 
 -- what a silence at this moment does, if the side `S` owes a reply other than a move. If it has owed it for more than
--- `r.patience.reply` milliseconds, the match ends by this fault; otherwise the reply's time runs from now on, unless it
--- runs already
+-- `r.patience.reply` milliseconds (`None`: no limit), the match ends by this fault; otherwise the reply's time runs
+-- from this moment, unless it runs already
 abbrev pub reply_row : Rules → Colour → MatchFault → ℕ → Match → Effect
 reply_row r S fault moment m = let since = unwrap_or m.since moment in
     if option_map_or (λ limit. nat_lt limit (moment - since)) r.patience.reply false then ends r (Faulted S fault) m
     else sends_nothing (awaited_since since m)
 
--- what a silence does in this phase: no line of the side `S`, for which it waits, had come at this moment
+-- what a silence of the side `S`, whose line this phase awaits, does at this moment
 abbrev pub silence_row : Rules → Phase → Colour → ℕ → Match → Effect
 silence_row r (Handshake side) S moment m = reply_row r S NoHandshake moment m
 silence_row r (Setup side) S moment m = reply_row r S NoAnswer moment m
@@ -241,7 +244,7 @@ silence_row r _ _ _ m = sends_nothing m
 
 -- ---- a line before the game
 
--- what follows both handshakes; the options are what White's engine lacks, and what Black's lacks
+-- what follows both handshakes, by what White's engine lacks and what Black's lacks, if anything
 abbrev pub judged : Rules → Option MatchFault → Option MatchFault → Match → Effect
 judged r (Some fault) _ m = ends r (Faulted White fault) (record m { count = 0 })
 judged r None (Some fault) m = ends r (Faulted Black fault) (record m { count = 0 })
@@ -263,7 +266,7 @@ abbrev pub with_answers : Colour → List Item → Effect → Effect
 with_answers side items e = record e { to = λ S. list_if (same_colour side S) (answers_to items) ++ e.to S }
 
 -- what a line of the side `S` does in its handshake. Its `items`, none if it is no `feature` line, are answered and
--- added to those of `S`. `done=1` ends the handshake; the 1,000th line, of any kind, without it ends the match
+-- added to those of `S`. `done=1` ends the handshake; the 1,000th line, if it doesn't, ends the match
 abbrev pub handshake_row : Rules → Colour → List Item → Match → Effect
 handshake_row r S items m = let m' = with_seat S (λ s. record s { items = s.items ++ items }) m in
     with_answers S items
@@ -271,7 +274,8 @@ handshake_row r S items m = let m' = with_seat S (λ s. record s { items = s.ite
     else if nat_le 1000 (m.count + 1) then ends r (Faulted S NoDone) m'
     else sends_nothing (record m' { count = m.count + 1 }))
 
--- what follows this side's setup: after White's comes Black's, then the first turn, unless the start ends the match
+-- what follows this side's setup: after White's comes Black's, then the first turn, unless the starting position ends
+-- the match
 abbrev pub setup_done : Rules → Colour → Match → Effect
 setup_done r White m = sends_to Black (setup_lines r Black) (record m { phase = Setup Black; count = 0 })
 setup_done r Black m = unless_over r m (begins_turn r r.start.side m)
@@ -279,7 +283,7 @@ setup_done r Black m = unless_over r m (begins_turn r r.start.side m)
 -- ---- one event
 
 -- what a line of this kind does in this phase; it came at `moment` from the side `S` that the phase waits for. If it
--- counts (see `since` in `Match`), `since` becomes `moment`, unless the flag has fallen
+-- restarts the time for a reply (see `Match`), `since` becomes `moment`, unless the flag has fallen
 abbrev pub line_row : Rules → Phase → LineKind → ℕ → Match → Effect
 line_row r (Handshake S) (Features text) moment m = handshake_row r S (items_of text) (awaited_since moment m)
 line_row r (Handshake S) kind _ m = handshake_row r S [] m
@@ -295,6 +299,7 @@ line_row r (BeforeMove S opened) kind moment m =
 line_row r (AfterMove S) (Moves text) _ m = ends r (MovesOutOfTurn S) m
 -- `pong N`: with the latest `ping`'s number it gives the other side its turn, otherwise it is ignored
 line_row r (AfterMove S) (Answers n) _ m = if n == ping_number m S then begins_turn r (other S) m else ignores r S m
+-- any other line
 line_row r (AfterMove S) kind _ m = turn_row r S kind m
 -- other phases await no line
 line_row r _ _ _ m = sends_nothing m

@@ -3,10 +3,11 @@ use Rattle.std.specs.Prelude.{ℕ, List, ◌++◌}
 use Rattle.chess_base.specs.declared.man.Colour.{Colour}
 use Rattle.chess_match.specs.Events.{Event}
 
--- a note that a witness is given
+-- what a witness is given at one time
 pub data Note : Type 0 where
+  -- this event; a failed write only if it ended the match
   Happened : (event : Event) → Note
-  -- that side's engine is sent these bytes of a whole block, even if sending it then fails
+  -- that side's engine is to be sent these bytes, a whole block; this may fail
   Gives : (side : Colour) → (text : List ℕ) → Note
 
 -- what contracts see of a witness: that it may have held this text at first, and been given just these notes since.

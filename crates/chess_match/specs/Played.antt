@@ -25,14 +25,14 @@ use Rattle.chess_game.specs.Ends.{verdict}
 pub record World : Type 0 where
   -- each engine's devices: `input` is its output, which is read, and `output` its input
   pub engines : Colour → Devices
-  -- the moment that each reading of the clock will give, from reading 0 on; `None`: unknown
+  -- the moment that each later reading of the clock will give, from reading 0 on; `None`: unknown
   pub coming : ℕ → Option ℕ
   -- the game in which the match is played, and whose state it replaces
   pub game : game.Seen
 
 -- `i` is what came from the engine of the side `S` in the acts `H`, perhaps with more lines than were read
 pub record SaidBy (S : Colour) (H : List Act) (i : FromInput) : Type 0 where
-  -- the lines read come first in these bytes; `rest` are the others
+  -- the lines read come first in these bytes; `rest` are those that came but were not read
   pub lines : (rest : List (Option (List ℕ))) × (engine_lines i.text ≡ flat_map (line_read S) H ++ rest)
   -- whether its end was read, and whether a read failed, is as in the acts
   pub ended : i.ended ≡ list_any (is_end_of S) H
@@ -44,7 +44,8 @@ pub record SaidBy (S : Colour) (H : List Act) (i : FromInput) : Type 0 where
   -- so too if the last look for a line of `S` found none
   pub all_if_silent : last_or None (flat_map (look S) H) ≡ Some true → engine_lines i.text ≡ flat_map (line_read S) H
 
--- `o` is what went to an engine's input, if it was sent the lines `sent`, and then the second list's blocks failed
+-- `o` is what went to an engine's input, if it was sent the lines `sent`, and then the block of the second list, if
+-- any, failed
 abbrev pub WasSent : List SentLine → List (List SentLine) → ToOutput → Type 0
 -- no block failed: all lines were written and flushed (without lines, no flush)
 WasSent sent [] o = o ≡ all_flushed (nat_lt 0 (length sent)) (bytes_of sent)
@@ -65,12 +66,12 @@ pub record Passed (r : Rules) (H : List Act) (final : Match) (w w' : World) : Ty
 -- `end` reports a match of the acts `H` by the rules `r` that ended for this reason in the state `final`
 pub record ReportedAs (r : Rules) (H : List Act) (final : Match) (reason : Reason) (end : MatchEnd) : Type 0 where
   pub ended : final.phase ≡ Over reason
-  -- outcome, comment and kind of end are by the board's verdict after the moves played, otherwise by the reason
+  -- outcome, comment and kind of end are by the board's verdict after the moves played, if any; otherwise by the reason
   pub report : reported (reported_reason (verdict r.start final.played) reason) ≡ (end.outcome, end.comment, end.ended)
-  -- each engine's name is the last `myname` of its handshake, as a PGN tag keeps it; empty without one
+  -- each engine's name is the last `myname` of its handshake, cut to 60 bytes (`cut_tag`); empty without one
   pub name : (S : Colour) → by_colour end.white_name end.black_name S
       ≡ cut_tag (last_said (λ v. v.text) [] (codes "myname") (final.seat S).items)
-  -- the fault that ended the match; otherwise a failed write after the end, White's first
+  -- the fault that ended the match, with its side; otherwise a failed write after the end, if any (White's, if both)
   pub fault : end.fault ≡ reported_fault reason (λ S. nat_lt 0 (length (flat_map (broken_block S) H)))
 
 -- a match of the acts `H`, which ended for this reason, was played as `setup` says, from the world `w` to `w'`, and
