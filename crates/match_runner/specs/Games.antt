@@ -46,8 +46,8 @@ engine_command plan number side = if same_colour side (first_side number) then p
 abbrev pub engine_level : GamesPlan → ℕ → Colour → LevelSeen
 engine_level plan number side = if same_colour side (first_side number) then plan.white_level else plan.black_level
 
--- what the game of this number is played by: the plan's start, patience and draws (whether some must be claimed), and
--- each side's time control
+-- what the game of this number is played by: the plan's start, waiting for engines (`patience`) and draws (whether some
+-- must be claimed), and each side's time control
 abbrev pub setup_of : GamesPlan → ℕ → Setup
 setup_of plan number = record {
   start = plan.start;
@@ -91,7 +91,7 @@ report_of (Err fault) = codes "arbiter: " ++ fault_text fault ++ new_line ∷ []
 
 -- a game that was played
 pub record GameRecord : Type 0 where
-  -- before it: the engines' pipes, the clock's readings to come, and a `game` whose limit of half-moves alone counts
+  -- before it: the engines' pipes, the clock's readings to come, and a `game`, of which only the limit counts
   pub before : World
   -- pipes, readings to come and `game` after it, `game` with this game's start, moves and result
   pub after : World

@@ -24,8 +24,8 @@ pub data HostStep : Type 0 where
   Starts : (white : List ℕ) → (black : List ℕ) → (limit : Option ℕ) → (engines : Colour → Devices) → HostStep
   -- starting engines with these commands failed with `fault`, and neither runs
   StartFails : (white : List ℕ) → (black : List ℕ) → (limit : Option ℕ) → (fault : GamesFault) → HostStep
-  -- the engines with these pipes were ended: their inputs were closed, and those that had not ended after `limit`
-  -- milliseconds (`None`: no limit) were killed, as `killed` says
+  -- the inputs of the engines with these pipes were closed; `killed` says which were killed, not having ended after
+  -- `limit` milliseconds (`None`: no limit)
   Finishes : (engines : Colour → Devices) → (limit : Option ℕ) → (killed : ByColour Bool) → HostStep
 
 -- the step of starting engines with these commands, White's first, by its result; `engines` gives their pipes
