@@ -45,51 +45,52 @@ abbrev pub Serves : {S : Type 0} → Server S → S → Devices → Devices → 
 Serves {S} respond s d d' status =
     (result : Result End Fault) × (s' : S) × Ran (Served respond s s' result) d d' × (status ≡ status_of result)
 
--- the exit status of `verify`, by its result: 0 if all was verified and no fault was found, otherwise 1
+-- the exit status of `verify`, by its result: 0 if all was verified and no fault was reported, otherwise 1
 abbrev pub verify_status : Result Verified VerifyFault → ℕ
 verify_status (Ok EachGame) = 0
 verify_status _ = 1
 
--- some text (which is not said) was written to the output, which went from `w` to `w'`. With the exit status 0 all of
--- it was written and flushed. With 1 a write or a flush failed after a beginning of it, maybe nothing or all; or the
--- output is as before, as when memory ran out
+-- some text (which is not said) was to be written to the output, which went from `w` to `w'`. Status 0: all of it was
+-- written and flushed. Status 1: a write or a flush failed after a beginning, maybe nothing or all; or the output is as
+-- before, as when memory ran out
 abbrev pub WritesHelp : OutputState → OutputState → ℕ → Type 0
 WritesHelp w w' status = ((status ≡ 0) × (text : List ℕ) × OutputTook w w' (all_of text))
     ⊎ ((status ≡ 1) × ((w' ≡ w) ⊎ ((text : List ℕ) × (o : ToOutput) × OutputTook w w' o × BreaksOffIn nothing text o)))
 
--- what is done with arguments that give no plan, by the fault that says why: the output goes from `w` to `w'`, and
--- `status` is the exit status. What is written to the error output is not said
+-- what is done with arguments that give no plan, by the fault that says why: the output goes from `w` to `w'` (only
+-- help or the version is written), and `status` is the exit status. What is written to the error output is not said
 abbrev pub ReportsArguments : WordsFault → OutputState → OutputState → ℕ → Type 0
 -- an error of `clap`, the parser of arguments; a request for help or the version counts as one
 ReportsArguments (faults.Words e) w w' status =
     (((kind_of e ≡ DisplayHelp) ⊎ (kind_of e ≡ DisplayVersion)) × WritesHelp w w' status)
     ⊎ ((kind_of e ≢ DisplayHelp) × (kind_of e ≢ DisplayVersion) × (w' ≡ w) × (status ≡ 2))
+-- memory ran out
 ReportsArguments faults.NoMemory w w' status = (w' ≡ w) × (status ≡ 1)
 -- an invalid level, FEN or date of a match, or kind to ignore
 ReportsArguments _ w w' status = (w' ≡ w) × (status ≡ 2)
 
--- this text was written to a log's output, even if the log was broken before, or a beginning of it, if a write or flush
--- `failed`. The log went from `l` to `l'`, and is broken just if it was
+-- this text was written to a log's output, even if the log was broken; if a write or flush failed (`failed`), only a
+-- beginning, maybe nothing or all. The log went from `l` to `l'`, and is broken just if it was before
 abbrev pub Reports : List ℕ → LogSeen → LogSeen → Type 0
 Reports text l l' = (l'.broken ≡ l.broken)
     × ((failed : Bool) × Logged (record l { broken = false }) (record l' { broken = failed }) text)
 
 -- the program's input, output and error output
 pub record Surroundings : Type 0 where
-  -- input and output
   pub devices : Devices
   -- its error output, as a log (an output, and whether it is broken), since a match writes its log there
   pub errors : LogSeen
 
 -- the program did what its plan says, or what the fault calls for if there is no plan (`Err`). `s` and `s'` are its
--- surroundings before and after, `steps` the steps at its host, which starts engines and has the clock, `status` its
--- exit status. What happens to the error output is said only for a match
+-- surroundings before and after, `steps` the steps at its host, which starts engines, `status` its exit status. What
+-- happens to the error output is said only for a match
 abbrev pub Does : Result Plan WordsFault → Surroundings → Surroundings → List HostStep → ℕ → Type 0
 -- a session ran, with the tags of a game of which nothing is known and at most 20,000 half-moves. Or nothing was read
 -- or written, as when memory ran out
 Does (Ok Session) s s' steps status = (steps ≡ []) × (Serves session_response (opened_session default_tags MOST_MOVES)
     s.devices s'.devices status ⊎ ((s'.devices ≡ s.devices) × (status ≡ 1)))
--- the input's games were verified, with `--keep-going` piece by piece, otherwise as one text, up to its first fault
+-- the input's games were verified as `options` say, with `--keep-going` piece by piece, otherwise as one text, up to
+-- its first fault
 Does (Ok (Verify keep_going options)) s s' steps status = (steps ≡ [])
     × ((result : Result Verified VerifyFault) × (status ≡ verify_status result)
     × Ran ((cond keep_going VerifiesCollection Verifies) options result) s.devices s'.devices)
@@ -97,11 +98,12 @@ Does (Ok (Verify keep_going options)) s s' steps status = (steps ≡ [])
 Does (Ok (Stub arguments)) s s' steps status =
     (steps ≡ []) × Serves stub_response (waiting arguments.items) s.devices s'.devices status
 -- the games of a match were played, written and logged (`PlaysGamesWith`); then a fault, if any, was reported on the
--- error output, which was `logged` by then
+-- error output, whose state before that is `logged`
 Does (Ok (Match plan)) s s' steps status = (s'.devices.input ≡ s.devices.input)
     × ((result : Result (Unit {0}) GamesFault) × (logged : LogSeen) × PlaysGamesWith plan result steps
     (record { output = s.devices.output; log = s.errors }) (record { output = s'.devices.output; log = logged })
     × (status ≡ status_of result) × Reports (report_of result) logged s'.errors)
+-- nothing was read
 Does (Err fault) s s' steps status = (steps ≡ [])
     × (s'.devices.input ≡ s.devices.input) × ReportsArguments fault s.devices.output s'.devices.output status
 

@@ -38,15 +38,16 @@ use Rattle.chess_game.specs.declared.game.TheConstants.{MOST_MOVES}
 abbrev pub first_side : ℕ → Colour
 first_side number = if number % 2 == 1 then White else Black
 
--- the command of this side's engine in the game of this number
+-- the command of this side's engine in the game of this number; `plan.white` is `--white`'s
 abbrev pub engine_command : GamesPlan → ℕ → Colour → List ℕ
 engine_command plan number side = if same_colour side (first_side number) then plan.white.now else plan.black.now
 
--- the time control of this side's engine in the game of this number
+-- the time control of this side's engine in the game of this number; `plan.white_level` is `--white`'s
 abbrev pub engine_level : GamesPlan → ℕ → Colour → LevelSeen
 engine_level plan number side = if same_colour side (first_side number) then plan.white_level else plan.black_level
 
--- what the game of this number begins from: the plan's start, patience and draws, and each side's time control
+-- what the game of this number is played by: the plan's start, waiting for engines (`patience`) and draws (whether some
+-- must be claimed), and each side's time control
 abbrev pub setup_of : GamesPlan → ℕ → Setup
 setup_of plan number = record {
   start = plan.start;
@@ -55,14 +56,13 @@ setup_of plan number = record {
   draws = plan.draws;
 }
 
--- an engine's name in the tag White or Black: the name from its feature `myname` or, if it is empty, the engine's
--- command; cut to 60 bytes, with `?` for each that is not printable ASCII
+-- an engine's name in the tag White or Black: `name`, from its feature `myname`, or `command` if `name` is empty; cut
+-- to 60 bytes, with `?` for all but printable ASCII
 abbrev pub player_name : List ℕ → List ℕ → List ℕ
 player_name name command = cut_tag (if length name == 0 then command else name)
 
--- the PGN tags of the game of this number, and how it ended (`ended`, for the tag Termination). Site stays `?`.
--- `cut_tag`: at most 60 bytes, with `?` for each that isn't printable ASCII. `pgn` adds the tags that depend on start,
--- outcome and `ended`, such as FEN, Result and Termination
+-- the PGN tags of the game of this number, which ended as `end` says. Site stays `?`. `cut_tag`: at most 60 bytes, with
+-- `?` for all but printable ASCII. `pgn` adds FEN, Result, Termination and the like, by start, outcome and `ended`
 abbrev pub tags_of : GamesPlan → ℕ → MatchEnd → Tags
 tags_of plan number end = record default_tags {
   event = codes "CECP match";
@@ -91,9 +91,9 @@ report_of (Err fault) = codes "arbiter: " ++ fault_text fault ++ new_line ∷ []
 
 -- a game that was played
 pub record GameRecord : Type 0 where
-  -- before it: the engines' pipes, the clock's readings to come, and a game of which only the limit counts
+  -- before it: the engines' pipes, the clock's readings to come, and a `game`, of which only the limit counts
   pub before : World
-  -- the same after it, with this game's start, moves and result
+  -- pipes, readings to come and `game` after it, `game` with this game's start, moves and result
   pub after : World
   -- how it ended
   pub end : MatchEnd
@@ -102,13 +102,13 @@ pub record GameRecord : Type 0 where
   -- by side, whether its engine was killed, as it had not ended in time after its input was closed
   pub killed : ByColour Bool
 
--- no engine was killed
+-- `killed` if no engine was killed
 abbrev pub none_killed : ByColour Bool
 none_killed = record { white = false; black = false }
 
 -- `played` was played as the plan says for the game of this number, with at most 20,000 half-moves; without a limit for
--- replies no engine was killed. Some acts `H` of the arbiter, with the record's notes, led from `before` to `after` and
--- ended as `end` says (`PlayedBy`). `steps_by` (GamesTable) says which engines played
+-- replies no engine was killed. The notes are those of some acts `H` of the arbiter, which led from `before` to `after`
+-- and ended as `end` says (`PlayedBy`). `steps_by` (GamesTable) says which engines played
 abbrev pub IsOfPlan : GamesPlan → ℕ → GameRecord → Type 0
 IsOfPlan plan number played = (played.before.game.limit ≡ MOST_MOVES)
     × (plan.patience.reply ≡ None → played.killed ≡ none_killed)
@@ -119,7 +119,7 @@ IsOfPlan plan number played = (played.before.game.limit ≡ MOST_MOVES)
 abbrev pub game_text : GamesPlan → ℕ → GameRecord → List ℕ
 game_text plan number played = pgn [] (tags_of plan number played.end) played.after.game.state
 
--- an engine with the command `first` or `second` could not be started, or memory ran out
+-- `fault`: an engine with the command `first` or `second` could not be started, or memory ran out
 abbrev pub IsStartFault : List ℕ → List ℕ → GamesFault → Type 0
 IsStartFault first second (CanNotStart command) = (command.now ≡ first) ⊎ (command.now ≡ second)
 IsStartFault first second fault = fault ≡ NoMemory
@@ -136,7 +136,7 @@ abbrev pub FaultlessGames : GamesPlan → List GameRecord → Type 0
 FaultlessGames plan games =
     AllByRecursion (λ g. IsOfPlan plan g.0 g.1 × (g.1.end.fault ≡ None)) (enumerate_from 1 games)
 
--- what `f` gives for each game's number, from 1 on, and record, one after another
+-- the lists that `f` gives for each game's number, from 1 on, and record, joined in order
 abbrev pub game_by_game : {A : Type 0} → (ℕ → GameRecord → List A) → List GameRecord → List A
 game_by_game f games = flat_map (λ g. f g.0 g.1) (enumerate_from 1 games)
 
@@ -144,7 +144,7 @@ game_by_game f games = flat_map (λ g. f g.0 g.1) (enumerate_from 1 games)
 abbrev pub game_texts : GamesPlan → List GameRecord → List ℕ
 game_texts plan games = game_by_game (game_text plan) games
 
--- the line on a killed engine, by the game's number and its side, such as
+-- the line on a killed engine, by the game's number and the engine's side, such as
 -- `arbiter: game 3: White did not exit, and was killed`
 abbrev pub killed_line : ℕ → Colour → List ℕ
 killed_line number side = codes "arbiter: game " ++ decimal number ++ codes ": " ++ colour_name side
@@ -161,7 +161,8 @@ abbrev pub game_log : GamesPlan → ℕ → GameRecord → List ℕ
 game_log plan number played = list_if plan.log (log_from (first_side number) 0 played.notes)
     ++ killed_lines number played.killed
 
--- these games, numbered from 1, were logged as one text, from `l` to `l'`; a write may have failed (`Logged`)
+-- these games, numbered from 1, were logged (`game_log`) as one text: the log went from `l` to `l'`; a write may have
+-- failed (`Logged`)
 abbrev pub LogsGames : GamesPlan → LogSeen → LogSeen → List GameRecord → Type 0
 LogsGames plan l l' games = Logged l l' (game_by_game (game_log plan) games)
 
@@ -170,7 +171,8 @@ LogsGames plan l l' games = Logged l l' (game_by_game (game_log plan) games)
 abbrev pub count_of : (ℕ → Outcome) → List GameRecord → ℕ
 count_of wanted games = count_by (λ g. same_outcome g.1.end.outcome (wanted g.0)) (enumerate_from 1 games)
 
--- a match's last line, such as `score first 1 second 0 drawn 2 unfinished 0`. `--white`'s engine is the first
+-- a match's last line, such as `score first 1 second 0 drawn 2 unfinished 0`. `--white`'s engine is the first; outcomes
+-- `*` are unfinished
 abbrev pub score_line : List GameRecord → List ℕ
 score_line games = codes "score first " ++ decimal (count_of (λ number. win_of (first_side number)) games)
     ++ codes " second " ++ decimal (count_of (λ number. win_of (other (first_side number))) games)
@@ -178,7 +180,7 @@ score_line games = codes "score first " ++ decimal (count_of (λ number. win_of 
     ++ codes " unfinished " ++ decimal (count_of (λ number. Unfinished) games) ++ new_line ∷ []
 
 -- `games` are all games of a match: as many as planned, or those up to and with the first in which an engine had a
--- fault. The last argument is that fault (the game's number, the engine's side, the fault), or `None`
+-- fault. The last argument: that game's number, the engine's side and the fault, or `None`
 abbrev pub AreAllGames : GamesPlan → List GameRecord → Option (ℕ × Colour × MatchFault) → Type 0
 AreAllGames plan games None = FaultlessGames plan games × (length games ≡ plan.games)
 -- in the last game the engine of `side` had this fault; before it there was none

@@ -22,10 +22,10 @@ pub data HostStep : Type 0 where
   -- engines with these commands were started, and `engines` are their pipes. A write to them waits for at most `limit`
   -- milliseconds (`None`: as long as it takes)
   Starts : (white : List ℕ) → (black : List ℕ) → (limit : Option ℕ) → (engines : Colour → Devices) → HostStep
-  -- starting engines with these commands failed, and neither runs
+  -- starting engines with these commands failed with `fault`, and neither runs
   StartFails : (white : List ℕ) → (black : List ℕ) → (limit : Option ℕ) → (fault : GamesFault) → HostStep
-  -- the engines with these pipes were ended: their inputs were closed, and those that had not ended after `limit`
-  -- milliseconds (`None`: no limit) were killed, as `killed` says
+  -- the inputs of the engines with these pipes were closed; `killed` says which were killed, not having ended after
+  -- `limit` milliseconds (`None`: no limit)
   Finishes : (engines : Colour → Devices) → (limit : Option ℕ) → (killed : ByColour Bool) → HostStep
 
 -- the step of starting engines with these commands, White's first, by its result; `engines` gives their pipes
@@ -40,7 +40,7 @@ pub data GamesStep : Type 0 where
   AtHost : (step : HostStep) → GamesStep
   -- the started engines played this game; in its record none is killed yet
   Plays : (played : GameRecord) → GamesStep
-  -- this text was written and flushed
+  -- this text, a PGN, was written and flushed
   Writes : (text : List ℕ) → GamesStep
   -- a write or flush of this text failed
   WriteFails : (text : List ℕ) → GamesStep
@@ -49,12 +49,12 @@ pub data GamesStep : Type 0 where
 abbrev pub writing : Bool → List ℕ → GamesStep
 writing failed text = if failed then WriteFails text else Writes text
 
--- the host's step in a table's step, as a list of one; empty for any other step
+-- a table's step, if it is one of the host, as a list of one; otherwise the empty list
 abbrev pub of_host : GamesStep → List HostStep
 of_host (AtHost step) = step ∷ []
 of_host _ = []
 
--- the host's steps among these
+-- the host's steps among these of a table
 abbrev pub at_host : List GamesStep → List HostStep
 at_host steps = flat_map of_host steps
 
@@ -72,9 +72,9 @@ anything steps = ⊤
 abbrev pub GamesFuture : Type 1
 GamesFuture = List GamesStep → Type 0
 
--- `steps` passed, in this order. `old` holds of the lists that may come from before them on, `new` of those that may
--- come after them; each list of `new`, with `steps` in front, is one of `old`. So if each holds of just one list, that
--- of `old` is `steps` followed by that of `new`; if `old` is `anything`, nothing is claimed
+-- `steps` passed, in this order. `old` claims of a list of steps that it may come from before them on, `new` that it
+-- may come after them. If `new` holds of a list, `old` holds of `steps` followed by it. So if each holds of just one
+-- list, `old`'s is `steps` followed by `new`'s; if `old` is `anything`, nothing is claimed
 pub record StepsPass {S : Type 0} (old new : List S → Type 0) (steps : List S) : Type 0 where
   pub extends : (after : List S) → new after → old (steps ++ after)
 
@@ -89,7 +89,7 @@ steps_by write plan number played =
     ∷ Plays (record played { killed = none_killed }) ∷ write (game_text plan number played)
     ∷ AtHost (Finishes played.after.engines plan.patience.reply played.killed) ∷ []
 
--- the one step of the game of this number if its engines can't be started
+-- the one step of the game of this number if its engines can't be started (`fault` says why)
 abbrev pub unstarted_steps : GamesPlan → ℕ → GamesFault → List GamesStep
 unstarted_steps plan number fault =
     AtHost (StartFails (engine_command plan number White) (engine_command plan number Black) plan.patience.reply fault)
@@ -130,7 +130,7 @@ ComeInTurn coming (played ∷ games) = BeginsAt coming played × ComeInTurn play
 
 -- ---- a match
 
--- what contracts see of where a match writes: its output (games and score) and its log
+-- a match's output (games and score) and log, as contracts see them
 pub record Outputs : Type 0 where
   pub output : OutputState
   pub log : LogSeen
@@ -154,8 +154,7 @@ abbrev pub PlaysGamesAt : GamesPlan → Result (Unit {0}) GamesFault → (ℕ �
 PlaysGamesAt plan result coming p p' d d' = PlaysBy plan result coming (StepsPass p p') d d'
 
 -- a match was played with a host (`PlaysBy`), at which just `steps` passed: a clock was opened, whose reading n would
--- show `c n`, and then came those of the table's steps that are the host's. Or memory ran out before, and nothing was
--- done
+-- show `c n`, and then came the table's steps that are the host's. Or memory ran out before, and nothing was done
 abbrev pub PlaysGamesWith : GamesPlan → Result (Unit {0}) GamesFault → List HostStep → Outputs → Outputs → Type 0
 PlaysGamesWith plan result steps d d' =
     ((c : ℕ → Option ℕ) × PlaysBy plan result c (λ at_table. steps ≡ OpensClock c ∷ at_host at_table) d d')

@@ -13,13 +13,14 @@ use Rattle.match_runner.specs.declared.log.Log.{Log}
 
 -- ---- one line
 
--- a log's name of the engine of `side`: `first : ` is the engine of `--white`, which has the side `first_side`
+-- a log's name of the engine of `side`: `first : ` for that of `--white`, which has the side `first_side`, or
+-- `second: `
 abbrev pub engine_name : Colour → Colour → List ℕ
 engine_name first_side side = if same_colour side first_side then codes "first : " else codes "second: "
 
--- a line such as `312 <first : move e2e4`: the moment `now` in milliseconds; `mark`, which is `<` if the engine sent
--- the text, `>` if the arbiter sent it to the engine (even if that failed), `!` if it says what happened; the engine's
--- name; and `text`, with `?` for each byte that is not printable ASCII
+-- a line such as `312 <first : move e2e4`: the moment `now` in milliseconds, `mark`, the engine's name, and `text` with
+-- `?` for all but printable ASCII. `<` marks a text that the engine sent, `>` one that it was sent (even if that
+-- failed), `!` one that says what happened
 abbrev pub log_line : ℕ → ℕ → List ℕ → List ℕ → List ℕ
 log_line now mark engine text = decimal now ++ (byte " " ∷ mark ∷ []) ++ engine ++ map shown_byte text ++ new_line ∷ []
 
@@ -30,8 +31,8 @@ abbrev pub lines_in : List ℕ → List (List ℕ)
 lines_in [] = []
 lines_in (b ∷ bs) = if b == new_line then [] ∷ lines_in bs else onto_first b (lines_in bs)
 
--- what is logged for a note: an event, or the bytes that an engine was given (`Gives`). `engine c` is the name of the
--- engine of the side `c`; `moment` is what the clock showed last before it, or 0
+-- what is logged for a note: a line for an event (none for `Opened`), or one for each line that an engine is sent
+-- (`Gives`). `engine c` is the name of side `c`'s engine; `moment` is what the clock showed last before the note, or 0
 abbrev pub note_text : (Colour → List ℕ) → ℕ → Note → List ℕ
 note_text engine moment (Happened (Line c (Some text) now)) = log_line now (byte "<") (engine c) text
 note_text engine moment (Happened (Line c None now)) = log_line now (byte "!") (engine c) (codes "line too long")
@@ -42,15 +43,15 @@ note_text engine moment (Happened (FailsToRead c)) = log_line moment (byte "!") 
 note_text engine moment (Happened (FailsToWrite c)) = log_line moment (byte "!") (engine c) (codes "write failed")
 note_text engine moment (Gives c bytes) = flat_map (log_line moment (byte ">") (engine c)) (lines_in bytes)
 
--- what the clock showed last at this note; `moment` is what it showed last before
+-- what the clock showed last at or before this note: the note's moment or, without one, `moment`, the last before it
 abbrev pub moment_after : ℕ → Note → ℕ
 moment_after moment (Happened (Line c text now)) = now
 moment_after moment (Happened (Opened c now)) = now
 moment_after moment (Happened (Silent c now)) = now
 moment_after moment _ = moment
 
--- the lines for these notes; `first_side` is the side of `--white`'s engine. `moment` is what the clock showed last
--- before them, or 0
+-- the lines for these notes. `first_side` is the side of `--white`'s engine, `moment` what the clock showed last before
+-- the notes, or 0
 abbrev pub log_from : Colour → ℕ → List Note → List ℕ
 log_from first_side moment [] = []
 log_from first_side moment (n ∷ notes) =
@@ -69,10 +70,11 @@ pub record LogSeen : Type 0 where
 abbrev pub log_seen : OutputState → Bool → LogSeen
 log_seen o broken = record { output = o; broken = broken }
 
--- `o` is what a log's output took of `text`, by whether the log is broken afterwards: if not, all of it, flushed, or
--- nothing if it is empty; if so, a beginning, maybe nothing or all, before a write or flush failed
+-- `o` is what a log's output took of `text`, by whether the log is broken afterwards
 abbrev pub LogsText : Bool → List ℕ → ToOutput → Type 0
+-- all was written and flushed (an empty text without a flush)
 LogsText false text o = o ≡ all_flushed (nat_lt 0 (length text)) text
+-- a write or flush failed after a beginning, maybe nothing or all
 LogsText true text o = Begins (o.flushed ++ o.left) text × (o.failed ≡ true)
 
 -- a log was given this text, and went from `l` to `l'`: it wrote the text, or broke while it did so (`LogsText`). If it

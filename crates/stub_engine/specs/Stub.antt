@@ -30,7 +30,7 @@ playing arguments = record { arguments = arguments; plays = true }
 
 -- ---- a turn
 
--- the line for the argument `offer` or `claim` (of a draw), sent after a move
+-- the line for the argument `offer` or `claim` (of a draw), sent after a move; `None` for any other
 abbrev pub remark : List ℕ → Option (List ℕ)
 remark argument = if bytes_eq argument (codes "offer") then Some (codes "offer draw\n")
     else if bytes_eq argument (codes "claim") then Some (codes "1/2-1/2 {Draw by repetition}\n")
@@ -55,8 +55,8 @@ played_text argument = (if bytes_eq argument (codes "resign") then [] else codes
 -- a stub's turn, with these arguments left; without any it resigns
 abbrev pub turn : Arguments → Response StubState
 turn [] = says (playing []) (codes "resign\n")
--- `end` ends the stub in the middle of a line. Any other argument is played, even `offer` (as `move offer`), with the
--- remarks right after it
+-- `end`: it writes `mov`, without `\n`, and ends. Any other argument is played, even `offer` (as `move offer`), with
+-- the remarks for arguments right after it
 turn (argument ∷ arguments) =
     if bytes_eq argument.now (codes "end") then record (says (playing arguments) (codes "mov")) { ends = true }
     else says (playing (after_remarks arguments)) (played_text argument.now ++ remarks arguments)
