@@ -10,8 +10,8 @@ use Rattle.chess_base.specs.Options.{◌>>=◌}
 use Rattle.cecp_engine.specs.declared.level_fault.LevelFault.{LevelFault}
 use Rattle.cecp_engine.specs.declared.level_fault.LevelFault.TheVariants.{Words, Moves, Base, Increment}
 
--- a time control: `moves` per period (0: one period for the whole game); in milliseconds, the `base` time of each
--- period and the `increment` per move. The base of `level 40 5 0`, 5 minutes, is 300,000
+-- a time control: `moves` per session (0: one session for the whole game); in milliseconds, the `base` time of each
+-- session and the `increment` per move. The base of `level 40 5 0`, 5 minutes, is 300,000
 pub record LevelSeen : Type 0 where
   pub moves : ℕ
   pub base : ℕ
@@ -47,7 +47,7 @@ level_with (Some moves) (Some base) None = Err Increment
 level_with (Some moves) (Some base) (Some increment) =
     Ok (record { moves = moves; base = base; increment = increment })
 
--- the time control that three words denote, such as `40 5 0` or `0 0:10 0.1`: moves per period (1 to 3 digits), base
+-- the time control that three words denote, such as `40 5 0` or `0 0:10 0.1`: moves per session (1 to 3 digits), base
 -- time, and increment in seconds; otherwise the first fault, `Words` if there aren't three
 unfoldable pub level_reading : List ℕ → Result LevelSeen LevelFault
 level_reading text = let first = without_front_blanks text in let second = argument_of first in
@@ -95,7 +95,7 @@ level_text level =
 
 -- ---- time
 
--- the milliseconds given to a side in all, after `k` of its moves: the base time for each period begun, and the
+-- the milliseconds given to a side in all, after `k` of its moves: the base time for each session begun, and the
 -- increment for each move. By `level 40 5 0`: 300,000 after 39 moves, 600,000 after 40
 unfoldable pub allotted : LevelSeen → ℕ → ℕ
 allotted level k = level.base * (if level.moves == 0 then 1 else 1 + k / level.moves) + level.increment * k
