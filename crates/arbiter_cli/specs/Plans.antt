@@ -121,7 +121,7 @@ pub record IsMatchPlan (value : Values) (plan : GamesPlan) : Type 0 where
   pub games_range : (1 ≤ plan.games) × (plan.games ≤ 1000)
   pub log : plan.log ≡ is_set (codes "log") value
   pub flag : plan.patience.flag ≡ is_set (codes "flag") value
-  -- in milliseconds, but `--reply-timeout` in seconds
+  -- in milliseconds, of `--reply-timeout` in seconds; without it no limit (`None`)
   pub reply : plan.patience.reply ≡ option_map (λ text. number_of text * 1000) (value (codes "reply-timeout"))
   -- `claimed`, the other value of `--draws`, is the default
   pub draws : plan.draws ≡ (if has_value (codes "draws") (codes "automatic") value then Automatic else Claimed)

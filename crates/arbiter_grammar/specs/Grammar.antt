@@ -9,7 +9,7 @@ use Rattle.clap.specs.declared.builder.value_parser.ValueParser.{ValueParser}
 use Rattle.clap.specs.declared.builder.value_parser.ValueParser.TheVariants.{Names, Unsigned}
 use Rattle.clap.specs.declared.builder.action.ArgAction.TheVariants.{Append, SetTrue}
 
--- the option `--NAME TEXT`
+-- the option `--NAME TEXT`: `long` is its name after `--`, and by `value_names` one value follows
 abbrev pub option_rule : Text → Rule
 option_rule name = record (new_rule name) { long = Some name; value_names = 1 }
 
@@ -17,11 +17,11 @@ option_rule name = record (new_rule name) { long = Some name; value_names = 1 }
 abbrev pub checked_rule : Text → ValueParser → Rule
 checked_rule name parser = record (option_rule name) { parser = Some parser }
 
--- the option `--NAME`, without a text
+-- the option `--NAME`, without a text; its value is `true` if it is given
 abbrev pub flag_rule : Text → Rule
 flag_rule name = record (new_rule name) { long = Some name; action = Some SetTrue }
 
--- the values that `--variant` and `--draws` accept, anywhere in memory
+-- the values that `--variant` and `--draws` accept, as references, wherever they are in memory
 pub record OptionNames : Type 0 where
   pub variants : Bor (List (Bor Text))
   pub draws : Bor (List (Bor Text))

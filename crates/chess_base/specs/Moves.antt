@@ -59,7 +59,7 @@ moves_as p m (Some x) = same_colour p.side x.colour
     && (if same_kind Pawn x.kind then pawn_moves p m else option_map_or (castles p m) (castle_of p m) (man_moves p m))
 
 -- move m is pseudo-legal: a piece of the side on move can make it on the 64 squares (3.1 to 3.8), even if this leaves
--- its king in check. Castling is not if the king is in check, or crosses or reaches an attacked square
+-- its king in check. Castling isn't pseudo-legal if the king is in check, or crosses or reaches an attacked square
 unfoldable pub is_pseudo_legal : Setup → Move → Bool
 is_pseudo_legal p m = nat_lt m.from 64 && nat_lt m.to 64 && moves_as p m (man_at p.men m.from)
 

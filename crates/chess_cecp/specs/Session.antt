@@ -45,7 +45,8 @@ becomes_judged s = says s (option_map_or (λ v. result_text (verdict_result v) +
 unfoldable pub moves_text : Setup → List Move → List ℕ
 moves_text p ms = decimal (length ms) ++ flat_map (λ m. space ∷ shown_move p m) ms
 
--- the answer to `setboard` in the game `s`: a new game from the position read from its FEN
+-- the answer to `setboard` in the game `s`, by the reading of its FEN: a new game from this position, whose verdict, if
+-- any, is answered
 abbrev pub setboard_row : State → Result Setup FenFault → Response State
 setboard_row s (Ok start) = becomes_judged (from_start start)
 -- refused with the fault's name, as in `tellusererror Illegal position (kings)`

@@ -63,7 +63,7 @@ pub data NamedRight : Type 0 where
   Absent : NamedRight
   -- it is named, with the rook's square; `right_is_sound` asks whether a rook is there
   At : (rook : ℕ) → NamedRight
-  -- only in Chess960: several letters name it, or a side's letter without a rook on that colour's first rank
+  -- only in Chess960: several letters name it, or a side's letter without a rook on its colour's first rank
   Wrong : NamedRight
 
 -- a castling right of Chess960, from what `rook_by` gives for each letter that names it: `Wrong` for several or `None`

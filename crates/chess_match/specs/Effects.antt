@@ -172,8 +172,8 @@ offer_row r S m = if (m.seat (other S)).offers then ends r Agreed m
     else sends_to (other S) (list_if (takes (codes "draw") (m.seat (other S)).items) (Says (codes "draw") ∷ []))
     (with_seat S (λ s. record s { offers = true }) m)
 
--- what a line of the side `S` does in its turn, by its kind: before the move any but `move` (see `before_move`); after
--- the move any but `move` and `pong` (see `line_row`)
+-- what a line of the side `S` does in its turn, by its kind. `move` (`before_move`, `line_row`) and, after the move,
+-- `pong` (`line_row`) don't come here
 abbrev pub turn_row : Rules → Colour → LineKind → Match → Effect
 turn_row r S Resigns m = ends r (over_by.Resigns S) m
 turn_row r S OffersDraw m = offer_row r S m
@@ -209,6 +209,7 @@ abbrev pub before_move : Rules → Colour → ℕ → LineKind → Match → Eff
 -- `move M`: the match ends if the game has reached its limit of half-moves, whatever M is
 before_move r S used (Moves text) m = if nat_le r.limit (length m.played) then ends r GameTooLong m
     else move_row r S used (reading (position_after r.start m.played) text) m
+-- any other line
 before_move r S used kind m = turn_row r S kind m
 
 -- the flag of the side `S` has fallen: it loses, but draws if the other side has only its king. Other positions in

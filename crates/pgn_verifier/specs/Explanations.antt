@@ -64,7 +64,8 @@ IsReason _ text verdict reason = reason ≡ None
 
 -- ---- the explanation
 
--- whether the explanation of a fault of this kind shows a position
+-- whether the explanation of a game's fault of this kind shows a position (for a piece that is too long, see
+-- `AreReportsIn`)
 abbrev pub has_position : FaultKind → Bool
 has_position (Pgn BadTag) = false
 has_position (Pgn (BadFen fault)) = false

@@ -116,12 +116,12 @@ span_text options p =
 -- what is written of `placed`, whose report is also the last argument. `input`: all that was read; `number`: the
 -- report's number
 abbrev pub written_line : VerifyOptions → List ℕ → ℕ → Placed → Report → List ℕ
--- a game's line, such as `game 3: 4 half-moves, 0-1, time forfeit`; nothing if `options.quiet`
+-- a game's line, such as `game 3: 4 half-moves, 0-1, time forfeit`, with its `span_text`; nothing if `options.quiet`
 written_line options input number placed (Game plies outcome termination) =
     if options.quiet then [] else report_line number (decimal plies ++ (codes " half-moves, " ++ (outcome_text outcome
     ++ (option_map_or (λ t. codes ", " ++ termination_text t) termination [] ++ span_text options placed))))
--- a fault's line, such as `game 2: illegal move at byte 39`, with the span and, if `options.names`, what names the
--- game. If `options.explain`, a line follows that explains it; if `is_unread`, it ends with the bytes not read, as
+-- a fault's line, such as `game 2: illegal move at byte 39`, with its `span_text` and, if `options.names`, what names
+-- the game. If `options.explain`, a line follows that explains it; if `is_unread`, it ends with the bytes not read, as
 -- ` | bytes 151 to 606 not read`: from the byte 151 on, before 606
 written_line options input number placed (Faulty fault names wrong_at part why is_unread) =
     report_line number (fault_name fault.kind ++ (codes " at byte " ++ (decimal fault.offset

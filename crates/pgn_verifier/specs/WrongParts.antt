@@ -52,7 +52,8 @@ HasName text = (gap : List ℕ) × (c : ℕ) × (rest : List ℕ) × IsGap false
 abbrev pub HasOpening : List ℕ → List ℕ → Type 0
 HasOpening text rest = (name opening : List ℕ) × OpensTag name opening × (text ≡ opening ++ rest)
 
--- the text, which comes after a tag's first quote, begins with a value on one line, maybe empty, and a quote: `a"`
+-- the text, which comes after a tag's first quote, begins with a string (`IsString`), maybe empty, and the quote that
+-- ends it: `a"`
 abbrev pub HasString : List ℕ → Type 0
 HasString text = (string rest : List ℕ) × IsString string × (text ≡ string ++ byte "\"" ∷ rest)
 
