@@ -26,7 +26,7 @@ abbrev pub side_letter : Colour → CastlingSide → ℕ
 side_letter c = by_side (letter_by c King) (letter_by c Queen)
 
 -- the letter written for colour c's right on side w, with the rook on square s: in normal chess for side w (K), in
--- Chess960 for the rook's file (H for h1)
+-- Chess960 for the rook's file (H for h1, h for h8)
 abbrev pub right_letter : Variant → Colour → CastlingSide → ℕ → ℕ
 right_letter Normal c w s = side_letter c w
 right_letter Fischerandom c w s = first_letter c + file s

@@ -35,7 +35,7 @@ rank_of text = option_and_then (λ row. if length row == 8 then Some row else No
 
 -- ---- placement
 
--- the squares of ranks given from the highest down, as one list from the lowest up (a1 to h8)
+-- what is on the squares of ranks, given from the highest down, as one list from the lowest up (a1 to h8)
 abbrev pub from_top : List (List (Option Man)) → List (Option Man)
 from_top [] = []
 from_top (row ∷ rows) = from_top rows ++ row

@@ -54,7 +54,7 @@ from_start start = record { start = start; moves = []; declared = None }
 abbrev pub played : State → Move → State
 played s m = record s { moves = s.moves ++ m ∷ [] }
 
--- the state s without its last n moves (with none if it has fewer) and without a declared result
+-- the state s without its last n moves (without any move if it has fewer) and without a declared result
 abbrev pub taken_back : State → ℕ → State
 taken_back s n = record s { moves = take (length s.moves - n) s.moves; declared = None }
 

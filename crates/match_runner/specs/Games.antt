@@ -136,7 +136,7 @@ abbrev pub FaultlessGames : GamesPlan → List GameRecord → Type 0
 FaultlessGames plan games =
     AllByRecursion (λ g. IsOfPlan plan g.0 g.1 × (g.1.end.fault ≡ None)) (enumerate_from 1 games)
 
--- the lists that `f` gives for each game's number, from 1 on, and record, joined in order
+-- `f` of each game's number, from 1 on, and its record is a list: these lists, joined in order
 abbrev pub game_by_game : {A : Type 0} → (ℕ → GameRecord → List A) → List GameRecord → List A
 game_by_game f games = flat_map (λ g. f g.0 g.1) (enumerate_from 1 games)
 

@@ -62,7 +62,8 @@ pub data IsString : List ℕ → Type 0 where
 
 -- ---- tokens
 
--- the whole text is this token. `b`: its first byte begins a line; `left`: how many bytes of the game's text follow it
+-- these bytes, all of them, are this token (that no longer one is there, `IsSplit` asks). `b`: the first begins a line;
+-- `left`: how many bytes follow, to the end of the text that is split
 pub data IsToken (b : Bool) (left : ℕ) : List ℕ → Token → Type 0 where
   -- a byte of white space, or a dot
   blank : {c : ℕ} → (is_white_space c || c == byte ".") ≡ true → IsToken b left (c ∷ []) Skip

@@ -57,8 +57,8 @@ HasOpening text rest = (name opening : List ℕ) × OpensTag name opening × (te
 abbrev pub HasString : List ℕ → Type 0
 HasString text = (string rest : List ℕ) × IsString string × (text ≡ string ++ byte "\"" ∷ rest)
 
--- the second argument is the reason for a bad tag, by what it lacks first: a name, a quote after it, a quote that ends
--- the value, or the `]`. `text`: all from the tag's `[` on, where no tag can be read
+-- the second argument is the reason for a bad tag, never `None`, by what it lacks first: a name, a quote after it, a
+-- quote that ends the value on its line, or the `]`. `text`: all from the tag's `[` on, where no tag can be read
 pub data IsTagReason (text : List ℕ) : Option (List ℕ) → Type 0 where
   no_name : (HasName text → ⊥) → IsTagReason text (Some (codes "no name"))
   no_value : HasName text → ((rest : List ℕ) → HasOpening text rest → ⊥) → IsTagReason text (Some (codes "no value"))
