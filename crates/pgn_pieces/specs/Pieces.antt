@@ -84,16 +84,16 @@ abbrev pub ends_in_tag : List ℕ → Bool
 ends_in_tag text = bytes_eq (take 1 text) (codes "[")
     && ((length (after_name text) == 0) || begins_tag text && (length (after_string text) == 0))
 
--- whether a tag line has more than tags and comments: `rest`, its front after all parts (`after_parts`), begins with a
--- byte that neither ends the line nor begins a comment. `ended`: whether the line's end is in its front; if not, a tag
+-- whether a tag line has more than parts and a comment: `rest`, its front after all parts (`after_parts`), begins with
+-- a byte that neither ends the line nor begins a comment. `ended`: whether the line's end is in its front; if not, a tag
 -- in which the front ends doesn't count
 abbrev pub has_more : Bool → List ℕ → Bool
 has_more ended rest = list_any (λ c. not (list_any (λ k. c == k) (codes "\r\n{;"))) (take 1 rest)
     && (ended || not (ends_in_tag rest))
 
--- whether a line counts as one of moves. Either it is neither a tag line nor empty, as `1. e4`, words in a `{`
--- comment, or `[ Event "x" ]`; or it is a tag line with more than tags and comments (`has_more`), as
--- `[White "a"] {x} 1. e4`, or `[White "a` and then a line end. A front has at most 256 bytes, so no more parts
+-- whether a line counts as one of moves. One that is no tag line does unless it is empty, as `1. e4`, words in a `{`
+-- comment, or `[ Event "x" ]`. A tag line does if more than parts is on it (`has_more`): moves, as in
+-- `[White "a"] {x} 1. e4`, or a tag that isn't closed, as in `[White "a`. A front has no more than 256 parts
 abbrev pub is_moves_line : List ℕ → Bool
 is_moves_line line = let front = front_of line in
     if is_tag_line line then has_more (list_any breaks_line front) (after_parts 256 front) else not (is_empty_line line)
