@@ -1,6 +1,7 @@
--- The reserve after a legal move: it never grows, and a capture or a pawn move lowers it. It is a sum of the weights of
--- all squares, so CountsAfter says what it is after a move (`Spends`); and the mover weighs no more where it lands than
--- where it was (`Lands`).
+-- The reserve after a legal move of a sound position: it never grows (never_grows), and is lower if the halfmove clock
+-- is then 0, so after a capture or a pawn's move (falls_for_good). It is a sum of the weights of all squares, so
+-- CountsAfter says what goes and what lands (`Spends`). The mover weighs no more where it lands than where it was
+-- (`Lands`), and a pawn less, as it has fewer ranks to go.
 use Rattle.std.proofs.Common.{◌≡◌, ◌≢◌, ℕ, ◌+◌, ◌<◌, ◌≤◌, ◌⊎◌, inl, inr, length, set, Bool, false, true, ◌||◌, cond, min, Option, None, Some, is_none, arith, refl, sym, ◌∙◌, length-set, get_or-set_other, get_or-set_same, ◌==◌, sum, ext_get_or}
 use Rattle.std.proofs.lemmas.Bool.{and_parts, or_cases, or_parts, or_left, or_right, both_ways, cases_eq, cond_both, eq-eqb, not-true}
 use Rattle.std.proofs.lemmas.List.Sums.{sum_by-set}
