@@ -104,7 +104,7 @@ impl Position {
         &self.setup
     }
 
-    /// Whether castling goes by normal chess or by Chess960.
+    /// Whether castling follows the rules of normal chess or of Chess960.
     pub fn variant(&self) -> Variant
         ensures { result ≡ self.now.variant }
     {

@@ -1,6 +1,6 @@
--- The list of legal moves rises by start square, end square and promotion (`ComesBefore`). `all_moves` joins lists by
--- start square, each of which joins lists by end square, each of which has the five promotions. So the order is shown
--- from the inside out, by `pairs-over` at both joinings; leaving out the illegal moves keeps it.
+-- The list of legal moves rises by start square, end square and promotion (moves_rise; `ComesBefore`). `all_moves`
+-- joins lists by start square, each of which joins lists by end square, each of which has the five promotions. So the
+-- order is shown from the inside out, by `pairs-over` at both joinings; leaving out the illegal moves keeps it.
 use Rattle.std.proofs.Common.{◌≡◌, ℕ, zero, suc, ◌+◌, ◌<◌, ◌++◌, List, [], ◌∷◌, map, Option, arith, refl, slice_index_or, flat_map, All, AllPairs}
 use Rattle.std.proofs.{lemmas.List.Concat.flat_map-cons, lemmas.List.Elements.All-append, lemmas.List.Elements.All-map, lemmas.List.Kept.AllPairs-cons, lemmas.List.Kept.AllPairs-filter}
 use Rattle.chess_base.specs.{declared.man.Kind.Kind, declared.setup.Setup.Setup, Moves.is_legal, Squares.squares, shared.Below.from_below}

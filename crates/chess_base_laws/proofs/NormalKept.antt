@@ -1,6 +1,7 @@
--- On positions of normal chess the rules for both variants agree with those for normal chess alone (specs/Normal). The
--- two differ only in how a move names its castling (`says_kept`); each lemma after it carries this on to the next
--- definition: the castling, its squares, pseudo-legal moves, the position after a move, legal moves.
+-- On positions of normal chess the rules for both variants agree with those for normal chess alone (normal_kept;
+-- specs/Normal). The two differ only in how a move names its castling (`says_kept`); each lemma after it carries this
+-- on to the next definition: the castling (castling_kept), its squares, pseudo-legal moves, the position after a move,
+-- legal moves.
 use Rattle.std.proofs.Common.{◌≡◌, ℕ, Bool, true, false, ◌&&◌, cond, ◌==◌, nat_lt, Option, Some, None, is_some, map, refl, ap, ◌∙◌, arith}
 use Rattle.chess_base.specs.{declared.man.Colour.Colour, declared.man.CastlingSide.CastlingSide, declared.man.CastlingSide.TheVariants.KingSide, declared.man.CastlingSide.TheVariants.QueenSide, declared.man.Kind.TheVariants.King, declared.man.Kind.TheVariants.Pawn, declared.man.Man.Man, declared.man.Move.Move, declared.man.Variant.TheVariants.Normal, declared.setup.Setup.Setup, shared.Splits.castles_or_moves, shared.Splits.names_castling, shared.Splits.right_is_sound_at, Before.castle_by, Squares.squares}
 use Rattle.chess_base.specs.Men.{Men, man_at, is_man, same_colour, same_kind, other}

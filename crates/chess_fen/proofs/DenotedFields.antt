@@ -1,5 +1,5 @@
--- A FEN's field is read as a value exactly where it denotes it, by the pairs of lemmas denoted-X and X-denoted: for the
--- pieces, the side and the en passant target.
+-- A FEN's field is read as a value exactly where it denotes this value, by the pairs of lemmas denoted-X and X-denoted:
+-- for the pieces (by their ranks, DenotedRanks), the side and the en passant target (by their bytes).
 use Rattle.std.proofs.Common.{◌≡◌, ℕ, ◌+◌, ◌-◌, ◌*◌, ◌/◌, ◌%◌, ◌≤◌, ◌⊎◌, true, eqb, leb, ◌&&◌, ◌||◌, List, [], ◌∷◌, length, map, Option, Some, None, refl, sym, ap, subst, ◌∙◌, arith, IfSome, option_map}
 use Rattle.std.specs.List.{slice_split}
 use Rattle.std.proofs.lemmas.Bool.Decides.{nat_tests}

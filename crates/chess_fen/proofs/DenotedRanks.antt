@@ -1,5 +1,5 @@
--- A rank's text is read as eight squares exactly where it denotes them (denoted-rank, rank-of_denoted), byte by byte
--- (denoted_squares, squares-denoted).
+-- A rank's text is read as eight squares exactly where it denotes them (denoted-rank, rank-of_denoted). So it is for
+-- each byte (denoted_squares, squares-denoted), and for a list of bytes by induction (there-zip, zip-there).
 use Rattle.std.proofs.Common.{◌≡◌, ℕ, suc, ◌-◌, ◌≤◌, inl, inr, Bool, true, false, cond, eqb, leb, ◌&&◌, List, [], ◌∷◌, length, map, Option, Some, None, refl, sym, ap, subst, ◌∙◌, arith, option_map, replicate, option_and_then, find}
 use Rattle.std.specs.List.{AllZip, flat_map}
 use Rattle.std.proofs.lemmas.Bool.Decides.{nat_tests}

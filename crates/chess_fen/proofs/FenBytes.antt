@@ -1,5 +1,7 @@
--- The bytes of a FEN that is written: no field has a space (32), and no rank a slash (47), since the fields' bytes are
--- from 45 on and the ranks' from 48 on (`Plain`). All are ASCII.
+-- The bytes of the FEN of a sound position: each is ASCII from the space on (fen_plain), so the FEN is UTF-8
+-- (fen_is_utf8). No field has a space (32), as a field's bytes are from 45 on (fields_plain), and no rank a slash (47),
+-- as a rank's are from 48 on (rows_plain). By the letters, digits and squares that are written; a sound position's
+-- counters have at most six digits (counters_fit), its target is on rank 3 or 6 (target_fits).
 use Rattle.std.proofs.Common.{sym, ◌≡◌, ℕ, zero, suc, ◌+◌, ◌*◌, ◌/◌, ◌%◌, ◌<◌, ◌≤◌, ◌⊎◌, true, List, [], ◌∷◌, ◌++◌, length, take, drop, map, Option, Some, None, subst, arith, rules, ◌∙◌, decimal, IfSome, IsAscii, IsUtf8, append-nil, length-take}
 use Rattle.std.specs.{List.AllByRecursion, Str.Parse.digits_value}
 use Rattle.std.proofs.{lemmas.Bool.Decides.nat_tests, lemmas.Fmt.digits_decimal, lemmas.Str.IsUtf8-from_ascii, lemmas.Str.Parse.IsNumeralModel, lemmas.Str.Parse.IsDigitsTest, lemmas.Str.Parse.numerals_by_value}

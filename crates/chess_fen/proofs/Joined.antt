@@ -1,5 +1,6 @@
--- Texts that were joined by a byte come back when the result is cut at that byte, if none of them has it
--- (slice_split-join); so do fields joined by spaces (fields_of-join).
+-- Texts that were joined by a byte are given back when the result is cut at that byte, if none of them has it
+-- (slice_split-join); so are fields that were joined by spaces (fields_of-join). By induction over the texts, whose
+-- bytes are all above that byte (`Plain`); plain texts joined by a plain byte are plain (Plain-join).
 use Rattle.std.proofs.Common.{◌≡◌, ◌≢◌, ℕ, suc, ◌<◌, ◌≤◌, true, false, eqb, ltb, List, [], ◌∷◌, ◌++◌, length, refl, ap, ◌∙◌, arith}
 use Rattle.std.specs.List.{slice_split, join_with_byte, AllByRecursion, filter}
 use Rattle.std.proofs.lemmas.Bool.Decides.{nat_tests}

@@ -1,5 +1,6 @@
--- Only the initial position of normal chess has its FEN: a FEN of Chess960 never has the castling field KQkq
--- (other_letters), and in normal chess reading this FEN gives that position (only).
+-- A sound position has the FEN of normal chess's initial position exactly if it is that position (one_initial). A FEN
+-- of Chess960 never has the castling field KQkq (other_letters), and in normal chess reading this FEN gives that
+-- position only (only).
 use Rattle.std.proofs.Common.{◌≡◌, ℕ, ◌+◌, ◌%◌, true, [], ◌∷◌, ◌++◌, get_or, Option, Some, None, refl, sym, ap, ◌∙◌, arith, ◌↔◌, Ok}
 use Rattle.std.proofs.lemmas.Slice.Eq.{bytes_eq-Decides}
 use Rattle.chess_base.specs.{declared.man.CastlingSide.TheVariants.KingSide, declared.man.CastlingSide.TheVariants.QueenSide, declared.man.Colour.TheVariants.White, declared.man.Colour.TheVariants.Black, declared.man.Variant.Variant, declared.man.Variant.TheVariants.Normal, declared.man.Variant.TheVariants.Fischerandom, declared.setup.Setup.Setup, Initial.initial_setup, Initial.initial_setup_of, Sound.IsSound}

@@ -1,6 +1,6 @@
 -- What the letters of a castling field say of a right, as an option of an option: `None` for `Wrong`, `Some None` for
--- `Absent`, `Some (Some s)` for `At s`. Proofs about rights use this form; here it is shown to say the same as
--- `right_in`.
+-- `Absent`, `Some (Some s)` for `At s`. Proofs about rights use this form. It says the same as `right_in`: of the rook
+-- of one right (rook_is), of all rights (rights_as_options), and whether none is wrong (wells_as_options).
 use Rattle.std.proofs.Common.{◌≡◌, ℕ, Bool, true, false, ◌&&◌, List, [], ◌∷◌, map, Option, Some, None, if◌then◌else◌, refl, ap, ◌∙◌, is_some}
 use Rattle.std.specs.{Bool.then_some, List.filter, List.list_all, Option.option_flatten}
 use Rattle.chess_base.specs.{declared.man.CastlingSide.CastlingSide, declared.man.CastlingSide.TheVariants.KingSide, declared.man.CastlingSide.TheVariants.QueenSide, declared.man.Colour.Colour, declared.man.Colour.TheVariants.White, declared.man.Colour.TheVariants.Black, declared.man.Rights.Rights, declared.man.Variant.Variant, declared.man.Variant.TheVariants.Normal, declared.man.Variant.TheVariants.Fischerandom, Castling.home_square, Castling.rook_file, Castling.rights_by, Men.Men}

@@ -1,6 +1,6 @@
--- The table `RUNS` of what each byte of a rank denotes agrees with the definition `squares_of` at each of the 256
--- bytes. That each entry fits is computed (all_fit); that an entry which fits denotes the squares is proved
--- (stands_by).
+-- The table `RUNS` of what each byte of a rank denotes agrees with the definition `squares_of` at each of the 256 bytes
+-- (run_stands), and each entry has at least one square (run_some). That each entry fits is computed (all_fit); that an
+-- entry which fits denotes the squares is proved (stands_by).
 use Rattle.std.proofs.Common.{◌≡◌, ℕ, zero, suc, ◌-◌, ◌<◌, ◌≤◌, Bool, true, false, cond, eqb, leb, ◌&&◌, List, [], ◌∷◌, get_or, Option, Some, None, refl, sym, ap, ◌∙◌, arith, option_map, is_none, replicate}
 use Rattle.std.proofs.lemmas.Bool.{and_parts, agree_below, agree_below_at, eqb-true}
 use Rattle.std.proofs.lemmas.Bool.Decides.{nat_tests}

@@ -1,5 +1,5 @@
--- Two positions of one variant with equal FENs are equal, since reading the FEN gives each of them back
--- (same_position).
+-- Two sound positions of one variant with equal FENs are equal, since reading the FEN gives each of them back
+-- (same_position). The test of `Fen` for equal variants passes exactly for equal ones (variants_equal, variant_equal).
 use Rattle.std.proofs.Common.{◌≡◌, true, refl, sym, ap, ◌∙◌}
 use Rattle.chess_base.specs.{declared.man.Variant.Variant, declared.man.Variant.TheVariants.Normal, declared.man.Variant.TheVariants.Fischerandom, declared.setup.Setup.Setup, Sound.IsSound, contracts.man.VariantPartialEq.TheImpl.eq-value}
 use Rattle.chess_fen.specs.{Reading.fen_reading_as, Writing.fen}

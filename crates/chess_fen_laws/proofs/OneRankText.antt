@@ -1,6 +1,6 @@
--- The text that is written for a rank has no two digits side by side (rank_text_is), and is the only such text that
--- denotes the rank (only_rank_text). In `row_text n row` n is the number of empty squares that come before the squares
--- `row`.
+-- The text that is written for a rank has no two digits side by side (rank_text_is; by induction over the squares), and
+-- is the only such text that denotes the rank (only_rank_text; by induction over the text's bytes). In `row_text n row`
+-- n is the number of empty squares that come before the squares `row`.
 use Rattle.std.proofs.Common.{◌≡◌, ℕ, zero, suc, ◌+◌, ◌<◌, ◌≤◌, true, false, not, List, [], ◌∷◌, ◌++◌, length, Option, Some, None, refl, sym, ap, subst, ◌∙◌, inl, inr, arith, ◌&&◌, replicate}
 use Rattle.std.specs.List.{AllZip}
 use Rattle.std.proofs.{lemmas.Bool.and_parts, lemmas.Bool.Decides.nat_tests}

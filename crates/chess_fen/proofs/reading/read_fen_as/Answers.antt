@@ -1,5 +1,6 @@
--- The result is what the definition `fen_reading_as` reads. DenotedFen says that this is the sound position that the
--- text denotes, if there is one, and else the one fault that is true of the text.
+-- The result is what the definition `fen_reading_as` reads. If this is a position, the text denotes it (clause found;
+-- denoted-reading of DenotedFen) and it is the one that the text denotes (clause only; reading-denoted); if a fault, it
+-- is true of the text (clause fault; faulty), and a fault that is true is this one (clause refused; fault-read).
 use Rattle.std.proofs.Common.{◌≡◌, Result, Ok, Err, List, ℕ, sym, ◌∙◌, IfOk, IfErr}
 use Rattle.chess_base.specs.{declared.man.Variant.Variant, declared.setup.Setup.Setup, Sound.IsSound, declared.fen_fault.FenFault.FenFault}
 use Rattle.chess_fen.specs.{Reading.fen_reading_as, Denotation.DenotesFenAs, FenFaults.IsFaultAs}
