@@ -233,6 +233,7 @@ lands_by p m sound moves (PawnMoves man fits kind) = let less = pawn_lands p m s
 
 -- the laws
 
+-- no legal move of a sound position raises the reserve
 pub never_grows : (p : Setup) (m : Move) → IsSound p → is_legal p m ≡ true → reserve (after p m).men ≤ reserve p.men
 unfolding is_legal after Spends Lands
 never_grows p m sound legal =
@@ -272,6 +273,7 @@ clock_was_reset p m e = reset_by (resets_clock p m) e
     reset_by true e' = refl
     reset_by false e' = absurd (omega arith)
 
+-- a legal move of a sound position after which the halfmove clock is 0 lowers it
 pub falls_for_good : (p : Setup) (m : Move) → IsSound p → is_legal p m ≡ true → (after p m).halfmove ≡ 0
     → reserve (after p m).men < reserve p.men
 unfolding is_legal after

@@ -42,7 +42,7 @@ impl Model for Position {
 
 impl Position {
     /// The setup as a position, if it is sound; otherwise the first condition that fails, in the order counters, kings,
-    /// pawns, pieces, castling, target, check.
+    /// pawns, number of pieces, castling, target, check.
     pub fn new(setup: Setup) -> Result<Self, FenFault>
         ensures sound { IsOk result ↔ IsSound setup }
         ensures value { IfOk result (λ p. p ≡ setup) }

@@ -102,6 +102,7 @@ all_triples_rise =
     from_one_rise
     (λ a b m n l e f. ByStart (rw (e, f) l)) 64 (λ s. s) (λ i j l. l)
 
+-- each legal move comes before all that follow it in the list
 pub moves_rise : (p : Setup) → AllPairs ComesBefore (moves p)
 unfolding moves
 moves_rise p = AllPairs-filter ComesBefore (λ m. is_legal p m) all_moves all_triples_rise

@@ -34,6 +34,7 @@ says_kept : (p : Setup) → p.variant ≡ Normal → (m : Move) (w : CastlingSid
 unfolding is_castling_to normal_says_castling
 says_kept p e m w = rw e (says_by p.side m w (is_man p.side King (man_at p.men m.from)) (right_of p.rights p.side w))
 
+-- in normal chess a move castles to the same side by both definitions
 pub castling_kept : (p : Setup) → p.variant ≡ Normal → (m : Move) → castling p m ≡ normal_castling p m
 unfolding castling normal_castling
 castling_kept p e m = rw (says_kept p e m KingSide, says_kept p e m QueenSide) refl
@@ -96,5 +97,6 @@ unfolding right_is_sound
 stands_kept p e c w = ap (λ v. right_is_sound_at v p.men c w (right_of p.rights c w)) e
     ∙ stands_by p.men c w (right_of p.rights c w)
 
+-- in normal chess the definitions agree on sound rights, legal moves and the position after a move
 pub normal_kept : (p : Setup) → p.variant ≡ Normal → NormalIsKept p
 normal_kept p e = record { stands = stands_kept p e; legal = legal_kept p e; after = after_kept p e }

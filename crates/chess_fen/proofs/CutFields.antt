@@ -7,6 +7,7 @@ use Rattle.std.specs.List.{position_or_len, before_first, slice_split}
 use Rattle.std.proofs.{lemmas.Bool.Decides.nat_tests, lemmas.Bool.cases_lt, lemmas.List.nil_from_length}
 use Rattle.chess_fen.specs.Texts.{fields_of}
 
+-- the index of the first element that passes, or the length if none does, is at most the length
 pub place_le : {A : Type 0} (p : A → Bool) (xs : List A) → position_or_len p xs ≤ length xs
 place_le p [] = omega arith
 place_le p (x ∷ xs) = grind (arith, place_le p xs)

@@ -187,5 +187,6 @@ ascii [] p i = omega arith
 ascii (c ∷ cs) p zero = p.0.1
 ascii (c ∷ cs) p (suc i) = ascii cs p.1 i
 
+-- a sound position's FEN is UTF-8, since it is ASCII
 pub fen_is_utf8 : (p : Setup) → IsSound p → IsUtf8 (fen p)
 fen_is_utf8 p h = IsUtf8-from_ascii (fen p) (ascii (fen p) (fen_plain p h))

@@ -53,6 +53,7 @@ only p sound initial e =
     ∙ ap (λ v. fen_reading_as v (fen initial_setup)) variant ∙ read_back initial_setup initial in
     cc
 
+-- a sound position has the initial position's FEN exactly if it is the initial position
 pub one_initial : (p : Setup) → IsSound p → IsSound initial_setup → (is_initial p ≡ true) ↔ (p ≡ initial_setup)
 one_initial p sound initial =
     (only p sound initial, λ e. (bytes_eq-Decides (fen p) (fen initial_setup)).1 (ap fen e))

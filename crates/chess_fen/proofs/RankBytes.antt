@@ -9,6 +9,7 @@ use Rattle.chess_base.specs.declared.man.Man.{Man}
 use Rattle.chess_fen.specs.{declared.letters.Run.Run, Texts.squares_of}
 use Rattle.chess_fen.specs.ties.Runs.{squares_in, at_lower, last_rank, placing, from_space, RankIsRead, NoRankIsRead}
 
+-- the content of an empty square
 abbrev pub no_man : Option Man
 no_man = None
 

@@ -30,6 +30,7 @@ options_are_well v men letters = list_all (λ r. is_some (option_in v men letter
 abbrev pub rights_by_options : Variant → Men → List ℕ → Rights
 rights_by_options v men letters = rights_by (λ c w. option_flatten (option_in v men letters c w))
 
+-- in Chess960 a right in this form is by the rooks of the letters that name it
 pub in_chess960 : (men : Men) (c : Colour) (w : CastlingSide) (letters : List ℕ)
     → option_in Fischerandom men letters c w ≡ option_by (map (rook_by men c w) (filter (names_right men c w) letters))
 in_chess960 men c w letters = refl
@@ -65,6 +66,7 @@ rook_as_option Absent = refl
 rook_as_option (At s) = refl
 rook_as_option Wrong = refl
 
+-- the rook of a right, if it is named rightly, by this form
 pub rook_is : (v : Variant) (men : Men) (letters : List ℕ) (c : Colour) (w : CastlingSide)
     → rook_of (right_in v men letters c w) ≡ option_flatten (option_in v men letters c w)
 rook_is v men letters c w = rook_as_option (right_in v men letters c w)
@@ -84,6 +86,7 @@ same_rights f g h =
     ∙ ap (λ (o : Option ℕ). four_rights (g White KingSide) (g White QueenSide) o (f Black QueenSide)) (h Black KingSide)
     ∙ ap (λ (o : Option ℕ). four_rights (g White KingSide) (g White QueenSide) (g Black KingSide) o) (h Black QueenSide)
 
+-- the four rights that letters name, by this form
 pub rights_as_options : (v : Variant) (men : Men) (letters : List ℕ)
     → rights_in v men letters ≡ rights_by_options v men letters
 rights_as_options v men letters = same_rights (λ c w. rook_of (right_in v men letters c w))
@@ -111,6 +114,7 @@ same_tests f g h =
     ∙ ap (λ (b : Bool). g White KingSide && (g White QueenSide && (g Black KingSide && (b && true))))
     (h Black QueenSide)
 
+-- whether no right is named wrongly, by this form
 pub wells_as_options : (v : Variant) (men : Men) (letters : List ℕ)
     → names_rights_well v men letters ≡ options_are_well v men letters
 wells_as_options v men letters = same_tests (λ c w. is_named_well (right_in v men letters c w))

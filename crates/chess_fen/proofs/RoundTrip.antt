@@ -219,6 +219,7 @@ rights_back : (p : Setup) → ReadBack p.variant p.men p.rights → (c : Colour)
 rights_back p back c w = rook_is p.variant p.men (rights_text p.variant p.rights) c w
     ∙ ap (λ (o : Option (Option ℕ)). option_flatten o) (back.rights c w)
 
+-- the fields of a sound position's FEN are read as the position
 pub written-fen : (p : Setup) → IsSound p → denoted_in p.variant (fields_of (fen p)) ≡ Ok p
 written-fen p h =
     let fit = counters_fit p h in
@@ -240,6 +241,7 @@ written-fen p h =
       t Black QueenSide,
     ) refl
 
+-- the castling field of a sound position's FEN names no right wrongly
 pub written-well : (p : Setup) → IsSound p → names_rights_well p.variant p.men (third (fields_of (fen p))) ≡ true
 written-well p h =
     let t = (read_back p h).rights in

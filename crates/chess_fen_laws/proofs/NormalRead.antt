@@ -83,6 +83,7 @@ unfolding may_name_right
 fields_kept a b c d h f =
     steps_kept c (placement_of a) (side_of b) (is_castling_field Normal c) (target_of d) (short_number 6 h) (short_number 6 f)
 
+-- each text is read as the same position, or fault, by both definitions
 pub reading_kept : (text : List ℕ) → fen_reading_as Normal text ≡ normal_fen_reading text
 reading_kept text = reading-steps Normal (fields_of text) ∙ by_fields (fields_of text)
   where
