@@ -50,6 +50,7 @@ abbrev index_at : ℕ → ℕ
 index_at zero = 0
 index_at (suc i) = 2 + i
 
+-- the promotion with index i in the list has the number `index_at i` in the order
 promotion_at : (i : ℕ) (d : Option Kind) → i < 5 → promotion_index (slice_index_or promotions i d) ≡ index_at i
 promotion_at zero d h = refl
 promotion_at (suc zero) d h = refl
@@ -58,11 +59,13 @@ promotion_at (suc (suc (suc zero))) d h = refl
 promotion_at (suc (suc (suc (suc zero)))) d h = refl
 promotion_at (suc (suc (suc (suc (suc n))))) d h = absurd (omega arith)
 
+-- these numbers rise
 index_rises : (i j : ℕ) → i < j → index_at i < index_at j
 index_rises i zero l = absurd (omega arith)
 index_rises zero (suc j) l = omega arith
 index_rises (suc i) (suc j) l = omega arith
 
+-- so the list of promotions rises
 promotions_rise : AllPairs (λ j k. promotion_index j < promotion_index k) promotions
 promotions_rise = λ i j d l h.
     let late : j < 5 = h in

@@ -43,6 +43,7 @@ as_option Absent = Some None
 as_option (At s) = Some (Some s)
 as_option Wrong = None
 
+-- a right by the rooks of its letters, in this form
 by_option : (os : List (Option ℕ)) → as_option (right_by os) ≡ option_by os
 by_option [] = refl
 by_option (Some s ∷ []) = refl
@@ -50,10 +51,12 @@ by_option (None ∷ []) = refl
 by_option (Some s ∷ o ∷ os) = refl
 by_option (None ∷ o ∷ os) = refl
 
+-- a right of normal chess, in this form
 normal_option : (b : Bool) (s : ℕ) → as_option (if b then At s else Absent) ≡ Some (then_some b s)
 normal_option true s = refl
 normal_option false s = refl
 
+-- so what letters say of a right, in this form
 option_is : (v : Variant) (men : Men) (letters : List ℕ) (c : Colour) (w : CastlingSide)
     → as_option (right_in v men letters c w) ≡ option_in v men letters c w
 option_is Normal men letters c w = normal_option (occurs (side_letter c w) letters) (home_square c (rook_file w))
@@ -61,6 +64,7 @@ option_is Fischerandom men letters c w = by_option (map (rook_by men c w) (filte
 
 -- ---- all rights
 
+-- the rook of a right, from this form
 rook_as_option : (n : NamedRight) → rook_of n ≡ option_flatten (as_option n)
 rook_as_option Absent = refl
 rook_as_option (At s) = refl
@@ -92,11 +96,13 @@ pub rights_as_options : (v : Variant) (men : Men) (letters : List ℕ)
 rights_as_options v men letters = same_rights (λ c w. rook_of (right_in v men letters c w))
     (λ c w. option_flatten (option_in v men letters c w)) (rook_is v men letters)
 
+-- whether a right is not wrong, from this form
 well_as_option : (n : NamedRight) → is_named_well n ≡ is_some (as_option n)
 well_as_option Absent = refl
 well_as_option (At s) = refl
 well_as_option Wrong = refl
 
+-- so whether letters name a right not wrongly
 well_is : (v : Variant) (men : Men) (letters : List ℕ) (c : Colour) (w : CastlingSide)
     → is_named_well (right_in v men letters c w) ≡ is_some (option_in v men letters c w)
 well_is v men letters c w = well_as_option (right_in v men letters c w)

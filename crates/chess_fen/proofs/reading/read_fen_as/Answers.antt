@@ -7,11 +7,13 @@ use Rattle.chess_fen.specs.{Reading.fen_reading_as, Denotation.DenotesFenAs, Fen
 use Rattle.chess_fen.proofs.DenotedFen.{denoted-reading, faulty, fault-read, reading-denoted}
 use Rattle.chess_fen.proofs.reading.read_fen_as.Goals as goal
 
+-- a position that is read is denoted by the text, and sound
 read : (v : Variant) (text : List ℕ) (r : Result Setup FenFault) → r ≡ fen_reading_as v text → IfOk r IsSound
     → IfOk r (λ p. DenotesFenAs v text p × IsSound p)
 read v text (Ok p) e h = (denoted-reading v text p (sym e), h)
 read v text (Err f) e h = tt
 
+-- a fault that is read is true of the text
 said : (v : Variant) (text : List ℕ) (r : Result Setup FenFault) → r ≡ fen_reading_as v text
     → IfErr r (IsFaultAs v text)
 said v text (Ok p) e = tt
