@@ -1,5 +1,7 @@
--- Walking along a line from square to square, and what is then known of the squares between two of its squares. The
--- loop of `is_clear_above` walks so from `low` up to `high`, and keeps `IsWalkedTo`.
+-- Between two squares of one line the way is clear exactly if each square of the line between them is empty (clear_by,
+-- not_clear_by; from between_on_line of shared/Geometry). The loop of `is_clear_above` walks so from `low` up to
+-- `high`: `IsWalkedTo`, its invariant, holds at first (walk_begins) and after an empty square (walk_goes_on); it ends
+-- on a clear way (walk_ends) or at a piece (walk_stops). Before these are lemmas of a step to the next square.
 use Rattle.std.proofs.Common.{◌≡◌, ℕ, ◌+◌, ◌<◌, ◌≤◌, inl, inr, Bool, true, false, ◌||◌, not, is_none, refl, sym, ◌∙◌, arith}
 use Rattle.std.proofs.lemmas.Bool.{and_parts, and_from, cases_order, eqb-true, eq-eqb}
 use Rattle.std.proofs.lemmas.Bool.Decides.{nat_tests}

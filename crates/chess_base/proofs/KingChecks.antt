@@ -1,5 +1,7 @@
--- Where a colour has one king, the attacks on his square decide whether it is in check: no other square has a king of
--- this colour.
+-- For `is_king_attacked`: where a colour has one king, it is in check exactly if the king's square is attacked, as no
+-- other square has a king of this colour (check_at_king); a colour without a king is not in check
+-- (no_check_without_king). For `nearest_king`: if no square counted from a colour's side has its king, none of the
+-- board has (none_from_side).
 use Rattle.std.proofs.Common.{◌≡◌, ℕ, ◌<◌, ◌-◌, length, true, false, ◌&&◌, sym, ap, ◌∙◌, arith}
 use Rattle.chess_base.specs.{declared.man.Colour.Colour, declared.man.Colour.TheVariants.White, declared.man.Colour.TheVariants.Black, declared.man.Kind.TheVariants.King, Attacks.is_attacked, Attacks.is_in_check, Sound.has_one_king, ties.Lines.square_from_side}
 use Rattle.chess_base.specs.Men.{Men, man_at, is_man, other}

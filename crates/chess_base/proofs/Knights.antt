@@ -1,5 +1,7 @@
--- A knight attacks b from one of eight squares. The definition looks at all 64; the code looks at these eight by their
--- numbers, four below b and four above, where the board has them (`attacked_by_knight_is`).
+-- A knight attacks b exactly if it is on one of eight squares, which the code finds by their numbers, four below b and
+-- four above (attacked_by_knight_is); the definition looks at all 64. First the eight are taken by file and rank, both
+-- counted from 2, so that none is below 0 (by_eight); then each by its number, with the test whether the board has it
+-- (knight_by).
 use Rattle.std.proofs.Common.{◌≡◌, ℕ, ◌+◌, ◌-◌, ◌*◌, ◌<◌, ◌≤◌, ◌⊎◌, inl, inr, Bool, true, false, ◌&&◌, ◌||◌, ◌==◌, nat_le, nat_lt, refl, sym, ◌∙◌, arith}
 use Rattle.std.proofs.lemmas.Bool.{and_parts, and_from, cases_Bool, leb-true, ltb-true, or_cases, or_parts}
 use Rattle.std.proofs.lemmas.Bool.Decides.{nat_tests}

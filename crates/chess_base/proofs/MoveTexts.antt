@@ -1,6 +1,6 @@
--- A text is parsed as the square or the move that is written so, and as no other. Each time there are two lemmas: what
--- is read from a text is written so (`square_named`, `move_named`), and what is written so is read (`square_read`,
--- `move_read`).
+-- A text is parsed as the square or the move that is written so, and as no other (parses_square, parses_move). Each is
+-- made of two lemmas: what is read from a text is written so (square_named, move_named), and what is written so is read
+-- (square_read, move_read). By cases of the text's bytes.
 use Rattle.std.proofs.Common.{◌≡◌, ◌≢◌, ℕ, zero, suc, ◌+◌, ◌-◌, ◌*◌, ◌/◌, ◌%◌, ◌<◌, ◌≤◌, Bool, true, false, cond, eqb, leb, ◌&&◌, List, [], ◌∷◌, ◌++◌, Option, Some, None, refl, sym, ap, subst, ◌∙◌, arith, Contains, option_map, ok_or, find, IfSome, option_and_then, slice_index_or, ◌==◌}
 use Rattle.std.proofs.lemmas.Bool.Decides.{nat_tests}
 use Rattle.chess_base.specs.{declared.man.Colour.TheVariants.Black, declared.man.Kind.Kind, declared.man.Move.Move, shared.Parts.optional, MoveList.promotions, MoveList.move_of, ties.MoveTexts.promotion_with_letter, ties.MoveTexts.promotion_of_text, ties.MoveTexts.move_of_text}

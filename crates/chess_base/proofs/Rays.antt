@@ -1,6 +1,7 @@
--- Along a line only the first piece can attack a square b, so the code walks from b along each line, up and down, and
--- looks at the first piece alone. Attacks along the four kinds of lines and those of knights are all attacks
--- (`attacked_is`).
+-- All attacks on a square b are those that the code finds (attacked_is): along four kinds of lines, up and down, and by
+-- knights. On a line the first piece from b hides the others, so it decides (first_decides). The loops keep that all
+-- squares so far are empty (`HasRisen`, `HasFallen`); from this follow their ends (rise_stops, rise_ends, fall_stops,
+-- fall_ends). Nothing else attacks: what captures is on a line with b, or a knight (lined).
 use Rattle.std.proofs.Common.{◌≡◌, ℕ, ◌+◌, ◌-◌, ◌<◌, ◌≤◌, ◌⊎◌, inl, inr, Bool, true, false, ◌&&◌, ◌||◌, not, ◌==◌, nat_le, nat_lt, is_none, Option, Some, None, refl, sym, ap, ◌∙◌, arith}
 use Rattle.std.proofs.lemmas.Bool.{and_parts, and_from, and_right, cases_order, eqb-true, eq-eqb, ltb-true, or_cases}
 use Rattle.std.proofs.{Math.Bool.and-false, lemmas.Bool.Decides.nat_tests}

@@ -1,5 +1,6 @@
--- What a piece attacks along a line with no piece between is decided by its kind and the kind of line, for king and
--- pawn also by the squares' distance (`reaches`).
+-- If squares a and b are on one line with no piece between them, colour c attacks b from a exactly if a has a piece of
+-- c that reaches b (attacked_from_by): decided by its kind and the kind of line, for king and pawn also by the squares'
+-- distance (`reaches`). By cases of the kind of piece and of line.
 use Rattle.std.proofs.Common.{◌≡◌, ◌≢◌, ℕ, ◌+◌, ◌*◌, ◌<◌, Bool, true, false, ◌&&◌, ◌||◌, not, ◌==◌, nat_le, Option, Some, None, refl, sym, ap, ◌∙◌, arith, eqb-true, ne_eqb}
 use Rattle.std.proofs.lemmas.Bool.Decides.{nat_tests}
 use Rattle.std.specs.Int.{abs_diff}

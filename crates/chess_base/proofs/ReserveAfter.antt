@@ -1,6 +1,7 @@
--- The reserve after a legal move: it never grows, and a capture or a pawn move lowers it. It is a sum of the weights of
--- all squares, so CountsAfter says what it is after a move (`Spends`); and the mover weighs no more where it lands than
--- where it was (`Lands`).
+-- The reserve after a legal move of a sound position: it never grows (never_grows), and is lower if the halfmove clock
+-- is then 0, so after a capture or a pawn's move (falls_for_good). It is a sum of the weights of all squares, so
+-- CountsAfter says what goes and what lands (`Spends`). The mover weighs no more where it lands than where it was
+-- (`Lands`), and a pawn less, as it has fewer ranks to go.
 use Rattle.std.proofs.Common.{◌≡◌, ◌≢◌, ℕ, ◌+◌, ◌<◌, ◌≤◌, ◌⊎◌, inl, inr, length, set, Bool, false, true, ◌||◌, cond, min, Option, None, Some, is_none, arith, refl, sym, ◌∙◌, length-set, get_or-set_other, get_or-set_same, ◌==◌, sum, ext_get_or}
 use Rattle.std.proofs.lemmas.Bool.{and_parts, or_cases, or_parts, or_left, or_right, both_ways, cases_eq, cond_both, eq-eqb, not-true}
 use Rattle.std.proofs.lemmas.List.Sums.{sum_by-set}
@@ -53,6 +54,7 @@ weights_below-set n men s v l h =
     (omega (arith, length-from_below n here)) in
     rw (weights-set n men s v l h) (rw (get_or-from_below n here s 0 h) at sums)
 
+-- so does the reserve
 reserve-set : (men : Men) (s : ℕ) (v : Option Man) → length men ≡ 64 → s < 64
     → reserve (set men s v) + weight s (man_at men s) ≡ reserve men + weight s v
 unfolding reserve weights_below
@@ -125,6 +127,7 @@ Spends p m =
 reserved : IsSum reserve weight
 reserved = record { none = λ s. refl; write = reserve-set }
 
+-- by the three forms of the sum after a move
 spends_by : (p : Setup) (m : Move) → CountsAs reserve weight p m → Spends p m
 unfolding Spends
 spends_by p m (CountAlone walk e) =
@@ -138,6 +141,7 @@ spends_by p m (CountCastled s r rook no_enemy e) =
     let none = none_taken m.to (man_at p.men m.to) (is_of (other p.side) (man_at p.men m.to)) no_enemy in
     omega (arith, e, left, none)
 
+-- so it is for each change by a move of a sound position
 spends : (p : Setup) (m : Move) → IsSound p → Change p m → Spends p m
 spends p m sound h = spends_by p m (counts_by reserve weight reserved p m sound.board h h.rest)
 
@@ -158,6 +162,7 @@ pawn_off_ends_at men c s man e =
     of_some_colour White h = or_left _ _ h
     of_some_colour Black h = or_right _ _ h
 
+-- so a pawn that moves starts on neither
 pawn_off_ends : (p : Setup) (m : Move) → IsSound p → Moves p m → is_man p.side Pawn (man_at p.men m.from) ≡ true
     → (rank m.from ≢ 0) × (rank m.from ≢ 7)
 unfolding no_pawn_on_end_ranks
@@ -217,6 +222,7 @@ pawn_lands p m sound moves man kind =
     let ahead = goes_ahead p m sound moves man kind in
     rw (lands_on_to p m (pawn_no_castling p m man)) (omega (arith, before, lands, ahead))
 
+-- castling promotes nothing
 castles_plainly : (p : Setup) (m : Move) (k : Castle) → castles p m k ≡ true → is_none m.promotion ≡ true
 unfolding castles
 castles_plainly p m k e = (and_parts _ _ (and_parts _ _ e).0).0
@@ -232,6 +238,7 @@ lands_by p m sound moves (PawnMoves man fits kind) = let less = pawn_lands p m s
 
 -- the laws
 
+-- no legal move of a sound position raises the reserve
 pub never_grows : (p : Setup) (m : Move) → IsSound p → is_legal p m ≡ true → reserve (after p m).men ≤ reserve p.men
 unfolding is_legal after Spends Lands
 never_grows p m sound legal =
@@ -252,6 +259,7 @@ pawn_falls p m sound h man (PawnMoves man' fits kind) =
     let lands = pawn_lands p m sound h.moves man kind in
     omega (arith, spent, lands)
 
+-- a capture on the end square lowers the reserve, since what is captured weighs 1 at least
 capture_falls : (p : Setup) (m : Move) → IsSound p → Change p m → is_of (other p.side) (man_at p.men m.to) ≡ true
     → reserve (men_after p m) < reserve p.men
 unfolding Spends Lands
@@ -271,6 +279,7 @@ clock_was_reset p m e = reset_by (resets_clock p m) e
     reset_by true e' = refl
     reset_by false e' = absurd (omega arith)
 
+-- a legal move of a sound position after which the halfmove clock is 0 lowers it
 pub falls_for_good : (p : Setup) (m : Move) → IsSound p → is_legal p m ≡ true → (after p m).halfmove ≡ 0
     → reserve (after p m).men < reserve p.men
 unfolding is_legal after

@@ -42,7 +42,7 @@ impl Model for Position {
 
 impl Position {
     /// The setup as a position, if it is sound; otherwise the first condition that fails, in the order counters, kings,
-    /// pawns, pieces, castling, target, check.
+    /// pawns, number of pieces, castling, target, check.
     pub fn new(setup: Setup) -> Result<Self, FenFault>
         ensures sound { IsOk result ↔ IsSound setup }
         ensures value { IfOk result (λ p. p ≡ setup) }
@@ -104,7 +104,7 @@ impl Position {
         &self.setup
     }
 
-    /// Whether castling goes by normal chess or by Chess960.
+    /// Whether castling follows the rules of normal chess or of Chess960.
     pub fn variant(&self) -> Variant
         ensures { result ≡ self.now.variant }
     {

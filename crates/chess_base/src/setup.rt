@@ -13,7 +13,7 @@ pub const MOST_MOVES: u32 = 20_000;
 /// What a position holds (the six fields of FEN, PGN standard of 1994, section 16.1, and the variant), sound or not.
 #[derive(Clone, Copy, Debug, PartialEq, Eq)]
 pub struct Setup {
-    /// Whether castling goes by normal chess or by Chess960.
+    /// Whether castling follows the rules of normal chess or of Chess960.
     pub variant: Variant,
     /// The pieces, by the number of their square.
     pub men: [Option<Man>; 64],

@@ -1,6 +1,6 @@
--- The list of legal moves rises by start square, end square and promotion (`ComesBefore`). `all_moves` joins lists by
--- start square, each of which joins lists by end square, each of which has the five promotions. So the order is shown
--- from the inside out, by `pairs-over` at both joinings; leaving out the illegal moves keeps it.
+-- The list of legal moves rises by start square, end square and promotion (moves_rise; `ComesBefore`). `all_moves`
+-- joins lists by start square, each of which joins lists by end square, each of which has the five promotions. So the
+-- order is shown from the inside out, by `pairs-over` at both joinings; leaving out the illegal moves keeps it.
 use Rattle.std.proofs.Common.{◌≡◌, ℕ, zero, suc, ◌+◌, ◌<◌, ◌++◌, List, [], ◌∷◌, map, Option, arith, refl, slice_index_or, flat_map, All, AllPairs}
 use Rattle.std.proofs.{lemmas.List.Concat.flat_map-cons, lemmas.List.Elements.All-append, lemmas.List.Elements.All-map, lemmas.List.Kept.AllPairs-cons, lemmas.List.Kept.AllPairs-filter}
 use Rattle.chess_base.specs.{declared.man.Kind.Kind, declared.setup.Setup.Setup, Moves.is_legal, Squares.squares, shared.Below.from_below}
@@ -50,6 +50,7 @@ abbrev index_at : ℕ → ℕ
 index_at zero = 0
 index_at (suc i) = 2 + i
 
+-- the promotion with index i in the list has the number `index_at i` in the order
 promotion_at : (i : ℕ) (d : Option Kind) → i < 5 → promotion_index (slice_index_or promotions i d) ≡ index_at i
 promotion_at zero d h = refl
 promotion_at (suc zero) d h = refl
@@ -58,11 +59,13 @@ promotion_at (suc (suc (suc zero))) d h = refl
 promotion_at (suc (suc (suc (suc zero)))) d h = refl
 promotion_at (suc (suc (suc (suc (suc n))))) d h = absurd (omega arith)
 
+-- these numbers rise
 index_rises : (i j : ℕ) → i < j → index_at i < index_at j
 index_rises i zero l = absurd (omega arith)
 index_rises zero (suc j) l = omega arith
 index_rises (suc i) (suc j) l = omega arith
 
+-- so the list of promotions rises
 promotions_rise : AllPairs (λ j k. promotion_index j < promotion_index k) promotions
 promotions_rise = λ i j d l h.
     let late : j < 5 = h in
@@ -102,6 +105,7 @@ all_triples_rise =
     from_one_rise
     (λ a b m n l e f. ByStart (rw (e, f) l)) 64 (λ s. s) (λ i j l. l)
 
+-- each legal move comes before all that follow it in the list
 pub moves_rise : (p : Setup) → AllPairs ComesBefore (moves p)
 unfolding moves
 moves_rise p = AllPairs-filter ComesBefore (λ m. is_legal p m) all_moves all_triples_rise

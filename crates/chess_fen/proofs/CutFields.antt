@@ -1,10 +1,13 @@
--- Cutting a text into its fields (`fields_of`), one at a time: spaces before a field are skipped, and the field goes up
--- to the next space or the text's end (no_fields, next_fields).
+-- What `fields_of` gives of a text, one field at a time: spaces at the front don't count (fields_of-skip; by
+-- induction); if nothing is left after them, there is no field (no_fields); otherwise the first field goes up to the
+-- next space or the text's end, and the others are those of the rest (next_fields). For this, a list is cut at its
+-- first element that passes a test, or is left whole (cut).
 use Rattle.std.proofs.Common.{◌≡◌, ℕ, suc, ◌+◌, ◌<◌, ◌≤◌, Bool, true, false, cond, eqb, ltb, List, [], ◌∷◌, length, drop, refl, sym, ap, ◌∙◌, arith, inl, inr, not, ◌⊎◌, position, unwrap_or}
 use Rattle.std.specs.List.{position_or_len, before_first, slice_split}
 use Rattle.std.proofs.{lemmas.Bool.Decides.nat_tests, lemmas.Bool.cases_lt, lemmas.List.nil_from_length}
 use Rattle.chess_fen.specs.Texts.{fields_of}
 
+-- the index of the first element that passes, or the length if none does, is at most the length
 pub place_le : {A : Type 0} (p : A → Bool) (xs : List A) → position_or_len p xs ≤ length xs
 place_le p [] = omega arith
 place_le p (x ∷ xs) = grind (arith, place_le p xs)

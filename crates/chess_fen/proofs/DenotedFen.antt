@@ -1,5 +1,7 @@
 -- A text is read as a position (`fen_reading_as`) exactly where it denotes this position and the position is sound
--- (denoted-reading, reading-denoted), and with a fault exactly where this fault is true of it (faulty, fault-read).
+-- (denoted-reading, reading-denoted), and with a fault exactly where this fault is true of it (faulty, fault-read). By
+-- the number of fields, then by the cases of `steps` (Steps), one for each field, then by the first condition that
+-- fails. What is read is of the variant asked for (reading_in_variant).
 use Rattle.std.proofs.Common.{◌≡◌, ◌≢◌, ℕ, ◌⊎◌, inl, inr, Bool, true, false, List, [], ◌∷◌, ◌++◌, length, take, drop, Option, Some, None, Result, Ok, Err, refl, sym, ap, subst, ◌∙◌, arith, codes, max, IfOk}
 use Rattle.chess_base.specs.{declared.man.Colour.Colour, declared.man.Rights.Rights, declared.man.Variant.Variant, declared.setup.Setup.Setup, Men.Men, Sound.IsSound, declared.fen_fault.FenFault.FenFault}
 use Rattle.chess_base.specs.Faults.{conditions, conditions_if, first_failing, setup_fault}

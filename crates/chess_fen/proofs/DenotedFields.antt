@@ -1,5 +1,5 @@
--- A FEN's field is read as a value exactly where it denotes it, by the pairs of lemmas denoted-X and X-denoted: for the
--- pieces, the side and the en passant target.
+-- A FEN's field is read as a value exactly where it denotes this value, by the pairs of lemmas denoted-X and X-denoted:
+-- for the pieces (by their ranks, DenotedRanks), the side and the en passant target (by their bytes).
 use Rattle.std.proofs.Common.{◌≡◌, ℕ, ◌+◌, ◌-◌, ◌*◌, ◌/◌, ◌%◌, ◌≤◌, ◌⊎◌, true, eqb, leb, ◌&&◌, ◌||◌, List, [], ◌∷◌, length, map, Option, Some, None, refl, sym, ap, subst, ◌∙◌, arith, IfSome, option_map}
 use Rattle.std.specs.List.{slice_split}
 use Rattle.std.proofs.lemmas.Bool.Decides.{nat_tests}
@@ -30,6 +30,7 @@ denoted-placement text men e =
         let zip = there-zip rank_of DenotesRank denoted-rank ranks rows is in
         (rows, sym (zip-length DenotesRank ranks rows zip) ∙ eight, zip, sym whole)
 
+-- a board that a text denotes is read of it
 pub placement-denoted : (text : List ℕ) (men : List (Option Man)) → DenotesPlacement text men
     → placement_of text ≡ Some men
 placement-denoted text men s =
@@ -39,20 +40,24 @@ placement-denoted text men s =
 
 -- ---- side
 
+-- the letter of a side is read as that side
 pub side-text : (colour : Colour) → side_of (side_text colour) ≡ Some colour
 side-text White = refl
 side-text Black = refl
 
+-- a text that is read as a side is its letter
 pub denoted-side : (text : List ℕ) (colour : Colour) → side_of text ≡ Some colour → text ≡ side_text colour
 denoted-side [] colour e = absurd cc
 denoted-side (c ∷ []) colour e = grind (arith, nat_tests, e)
 denoted-side (c ∷ d ∷ cs) colour e = absurd cc
 
+-- and back
 pub side-denoted : (text : List ℕ) (colour : Colour) → text ≡ side_text colour → side_of text ≡ Some colour
 side-denoted text colour e = ap side_of e ∙ side-text colour
 
 -- ---- target
 
+-- a text that is read as a target, or as none, denotes it
 pub denoted-target : (text : List ℕ) (target : Option ℕ) → target_of text ≡ Some target → DenotesTarget text target
 denoted-target [] target e = absurd cc
 denoted-target (c ∷ []) target e =
@@ -85,5 +90,6 @@ target-text None h = refl
 target-text (Some t) h = target_read (97 + t % 8) (49 + t / 8) t (omega arith) (omega arith) (grind (arith, h))
     (omega arith)
 
+-- a target that a text denotes, or none, is read of it
 pub target-denoted : (text : List ℕ) (target : Option ℕ) → DenotesTarget text target → target_of text ≡ Some target
 target-denoted text target s = ap target_of s.0 ∙ target-text target s.1

@@ -1,5 +1,5 @@
--- A rank's text is read as eight squares exactly where it denotes them (denoted-rank, rank-of_denoted), byte by byte
--- (denoted_squares, squares-denoted).
+-- A rank's text is read as eight squares exactly where it denotes them (denoted-rank, rank-of_denoted). So it is for
+-- each byte (denoted_squares, squares-denoted), and for a list of bytes by induction (there-zip, zip-there).
 use Rattle.std.proofs.Common.{◌≡◌, ℕ, suc, ◌-◌, ◌≤◌, inl, inr, Bool, true, false, cond, eqb, leb, ◌&&◌, List, [], ◌∷◌, length, map, Option, Some, None, refl, sym, ap, subst, ◌∙◌, arith, option_map, replicate, option_and_then, find}
 use Rattle.std.specs.List.{AllZip, flat_map}
 use Rattle.std.proofs.lemmas.Bool.Decides.{nat_tests}
@@ -26,6 +26,7 @@ squares-letter_by Black Rook = refl
 squares-letter_by Black Queen = refl
 squares-letter_by Black King = refl
 
+-- a piece's letter is read as one square with that piece
 pub squares-letter : (man : Man) → squares_of (letter man) ≡ Some (Some man ∷ [])
 squares-letter man = squares-letter_by man.colour man.kind
 
@@ -90,6 +91,7 @@ zip-there f P each (x ∷ xs) (y ∷ ys) h =
     ap (option_and_then (λ z. option_map (λ zs. z ∷ zs) (all_there (map f xs)))) (each x y h.0)
     ∙ ap (option_map (λ zs. y ∷ zs)) (zip-there f P each xs ys h.1)
 
+-- lists that are related element by element are of one length
 pub zip-length : {A B : Type 0} (P : A → B → Type 0) (xs : List A) (ys : List B) → AllZip P xs ys
     → length xs ≡ length ys
 zip-length P [] [] h = refl
@@ -122,6 +124,7 @@ denoted-rank text row e = by_parts (all_there (map squares_of text)) refl e
           ap length (sym whole) ∙ count,
         )
 
+-- a row that a rank's text denotes is read of it
 pub rank-of_denoted : (text : List ℕ) (row : List (Option Man)) → DenotesRank text row → rank_of text ≡ Some row
 rank-of_denoted text row s =
     ap (λ o. eight (option_map joined o)) (zip-there squares_of StandsFor squares-denoted text s.0.0 s.0.1)

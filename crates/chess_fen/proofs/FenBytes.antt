@@ -1,5 +1,7 @@
--- The bytes of a FEN that is written: no field has a space (32), and no rank a slash (47), since the fields' bytes are
--- from 45 on and the ranks' from 48 on (`Plain`). All are ASCII.
+-- The bytes of the FEN of a sound position: each is ASCII from the space on (fen_plain), so the FEN is UTF-8
+-- (fen_is_utf8). No field has a space (32), as a field's bytes are from 45 on (fields_plain), and no rank a slash (47),
+-- as a rank's are from 48 on (rows_plain). By the letters, digits and squares that are written; a sound position's
+-- counters have at most six digits (counters_fit), its target is on rank 3 or 6 (target_fits).
 use Rattle.std.proofs.Common.{sym, ◌≡◌, ℕ, zero, suc, ◌+◌, ◌*◌, ◌/◌, ◌%◌, ◌<◌, ◌≤◌, ◌⊎◌, true, List, [], ◌∷◌, ◌++◌, length, take, drop, map, Option, Some, None, subst, arith, rules, ◌∙◌, decimal, IfSome, IsAscii, IsUtf8, append-nil, length-take}
 use Rattle.std.specs.{List.AllByRecursion, Str.Parse.digits_value}
 use Rattle.std.proofs.{lemmas.Bool.Decides.nat_tests, lemmas.Fmt.digits_decimal, lemmas.Str.IsUtf8-from_ascii, lemmas.Str.Parse.IsNumeralModel, lemmas.Str.Parse.IsDigitsTest, lemmas.Str.Parse.numerals_by_value}
@@ -34,6 +36,7 @@ says_bytes = record { empty = tt; parts = λ c cs p. (search rules, p.1); more =
 own_bytes : IsNumeralModel DigitBytes (digits_value 10)
 own_bytes = numerals_by_value _ says_bytes
 
+-- digits are plain from 45 on
 digits_plain : (ds : List ℕ) → DigitBytes ds → Plain 45 ds
 digits_plain [] p = tt
 digits_plain (c ∷ cs) p =
@@ -51,6 +54,7 @@ decimal_plain n h = digits_plain (decimal n) (digits_decimal own_bytes n (omega 
 pub white_range : (kind : Kind) → (66 ≤ white_letter kind) × (white_letter kind ≤ 82)
 white_range k = (grind arith, grind arith)
 
+-- a piece's letter is plain from 48 on
 letter_plain : (colour : Colour) (kind : Kind) → IsPlain 48 (letter_by colour kind)
 letter_plain White kind =
     let range = white_range kind in
@@ -88,10 +92,12 @@ placement_plain men = Plain-join 47 45 (map fen_rank (ranks_down 8 men)) (low 45
 
 -- ---- side, rights and target
 
+-- the text of the side is plain from 45 on
 side_plain : (colour : Colour) → Plain 45 (side_text colour)
 side_plain White = (high 45 119 (omega arith) (omega arith) (omega arith), tt)
 side_plain Black = (high 45 98 (omega arith) (omega arith) (omega arith), tt)
 
+-- so is the letter of a right
 right_letter_plain : (v : Variant) (c : Colour) (w : CastlingSide) (s : ℕ) → IsPlain 45 (right_letter v c w s)
 right_letter_plain Normal White KingSide s = low 45 75 (omega arith) (omega arith) (omega arith)
 right_letter_plain Normal White QueenSide s = low 45 81 (omega arith) (omega arith) (omega arith)
@@ -100,6 +106,7 @@ right_letter_plain Normal Black QueenSide s = high 45 113 (omega arith) (omega a
 right_letter_plain Fischerandom White w s = low 45 (65 + s % 8) (omega arith) (omega arith) (omega arith)
 right_letter_plain Fischerandom Black w s = high 45 (97 + s % 8) (omega arith) (omega arith) (omega arith)
 
+-- so is the text of a right, a letter or nothing
 right_plain : (v : Variant) (c : Colour) (w : CastlingSide) (right : Option ℕ) → Plain 45 (right_text v c w right)
 right_plain v c w (Some s) = (right_letter_plain v c w s, tt)
 right_plain v c w None = tt
@@ -113,6 +120,7 @@ dash_plain : (text : List ℕ) → Plain 45 text → Plain 45 (or_dash text)
 dash_plain [] p = dash
 dash_plain (c ∷ cs) p = p
 
+-- so is the text of all rights
 rights_plain : (v : Variant) (r : Rights) → Plain 45 (rights_text v r)
 rights_plain v r =
     let P = IsPlain 45 in
@@ -136,6 +144,7 @@ target_rank men c (Some t) e = grind (arith, nat_tests, e)
 pub target_fits : (p : Setup) → IsSound p → IfSome p.target (λ square. (square / 8 ≡ 2) ⊎ (square / 8 ≡ 5))
 target_fits p h = target_rank p.men p.side p.target (sym (target_is_sound_is p) ∙ h.target)
 
+-- so is the text of the target
 target_plain : (target : Option ℕ) → IfSome target (λ square. (square / 8 ≡ 2) ⊎ (square / 8 ≡ 5))
     → Plain 45 (target_text target)
 target_plain None h = dash
@@ -180,10 +189,12 @@ pub fen_plain : (p : Setup) → IsSound p → Plain 32 (fen p)
 fen_plain p h = Plain-join 32 32 (fields p) (omega arith, omega arith, (λ e. omega (arith, e)), (λ e. omega (arith, e)))
     (each_weaker 32 45 (fields p) (omega arith) (fields_plain p h))
 
+-- plain texts are ASCII
 ascii : (text : List ℕ) → Plain 32 text → IsAscii text
 ascii [] p i = omega arith
 ascii (c ∷ cs) p zero = p.0.1
 ascii (c ∷ cs) p (suc i) = ascii cs p.1 i
 
+-- a sound position's FEN is UTF-8, since it is ASCII
 pub fen_is_utf8 : (p : Setup) → IsSound p → IsUtf8 (fen p)
 fen_is_utf8 p h = IsUtf8-from_ascii (fen p) (ascii (fen p) (fen_plain p h))

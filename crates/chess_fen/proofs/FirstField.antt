@@ -1,5 +1,7 @@
--- The reader reads the pieces of a FEN while it looks for the first field's end. So the field that it reads, at the
--- front of the text without its first spaces, is the first of the text's fields.
+-- For `read_setup`, which reads the pieces while it looks for the first field's end: the field at the front of the
+-- text, without its first spaces, is the text's first field, if its pieces were read (fields-read) and if it denotes
+-- none (first_is_menless). Then the six fields are read as the other five with these pieces (setup-with), or as the
+-- fault `Placement` (setup-menless).
 use Rattle.std.proofs.Common.{◌≡◌, ℕ, ◌<◌, not, eqb, List, [], ◌∷◌, length, drop, Option, Some, None, Err, refl, sym, ap, ◌∙◌, arith, inl, inr}
 use Rattle.std.specs.List.{position_or_len, before_first}
 use Rattle.std.proofs.{lemmas.Bool.cases_lt, lemmas.List.nil_from_length}

@@ -1,5 +1,6 @@
--- Texts that were joined by a byte come back when the result is cut at that byte, if none of them has it
--- (slice_split-join); so do fields joined by spaces (fields_of-join).
+-- Texts that were joined by a byte are given back when the result is cut at that byte, if none of them has it
+-- (slice_split-join); so are fields that were joined by spaces (fields_of-join). By induction over the texts, whose
+-- bytes are all above that byte (`Plain`); plain texts joined by a plain byte are plain (Plain-join).
 use Rattle.std.proofs.Common.{◌≡◌, ◌≢◌, ℕ, suc, ◌<◌, ◌≤◌, true, false, eqb, ltb, List, [], ◌∷◌, ◌++◌, length, refl, ap, ◌∙◌, arith}
 use Rattle.std.specs.List.{slice_split, join_with_byte, AllByRecursion, filter}
 use Rattle.std.proofs.lemmas.Bool.Decides.{nat_tests}
@@ -13,6 +14,7 @@ IsPlain k b = (k ≤ b) × (b < 128) × (b ≢ 34) × (b ≢ 92)
 abbrev pub Plain : ℕ → List ℕ → Type 0
 Plain k text = AllByRecursion (IsPlain k) text
 
+-- what holds of all elements of two lists holds of all elements of the lists joined
 pub all_append : (P : ℕ → Type 0) (xs ys : List ℕ) → AllByRecursion P xs → AllByRecursion P ys → AllByRecursion P (xs ++ ys)
 all_append P [] ys p q = q
 all_append P (x ∷ xs) ys p q = (p.0, all_append P xs ys p.1 q)
@@ -24,6 +26,7 @@ Plain-weaker j k (x ∷ xs) h p =
     let at : k ≤ x = p.0.0 in
     ((omega arith, p.0.1, p.0.2, p.0.3), Plain-weaker j k xs h p.1)
 
+-- the same for each of several texts
 pub each_weaker : (j k : ℕ) (texts : List (List ℕ)) → j ≤ k → AllByRecursion (Plain k) texts
     → AllByRecursion (Plain j) texts
 each_weaker j k [] h p = tt
@@ -54,6 +57,7 @@ split_first c (x ∷ xs) rest p =
     let other : eqb x c ≡ false = grind (arith, nat_tests) in
     rw (other, split_first c xs rest p.1) refl
 
+-- texts that are joined by c, with all their bytes above c, are the parts of the result when it is cut at c
 pub slice_split-join : (c : ℕ) (x : List ℕ) (texts : List (List ℕ)) → AllByRecursion (Plain (suc c)) (x ∷ texts)
     → slice_split (λ b. eqb b c) (join_with_byte c (x ∷ texts)) ≡ x ∷ texts
 slice_split-join c x [] p = split_whole c x p.0

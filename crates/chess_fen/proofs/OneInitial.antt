@@ -1,5 +1,6 @@
--- Only the initial position of normal chess has its FEN: a FEN of Chess960 never has the castling field KQkq
--- (other_letters), and in normal chess reading this FEN gives that position (only).
+-- A sound position has the FEN of normal chess's initial position exactly if it is that position (one_initial). A FEN
+-- of Chess960 never has the castling field KQkq (other_letters), and in normal chess reading this FEN gives that
+-- position only (only).
 use Rattle.std.proofs.Common.{◌≡◌, ℕ, ◌+◌, ◌%◌, true, [], ◌∷◌, ◌++◌, get_or, Option, Some, None, refl, sym, ap, ◌∙◌, arith, ◌↔◌, Ok}
 use Rattle.std.proofs.lemmas.Slice.Eq.{bytes_eq-Decides}
 use Rattle.chess_base.specs.{declared.man.CastlingSide.TheVariants.KingSide, declared.man.CastlingSide.TheVariants.QueenSide, declared.man.Colour.TheVariants.White, declared.man.Colour.TheVariants.Black, declared.man.Variant.Variant, declared.man.Variant.TheVariants.Normal, declared.man.Variant.TheVariants.Fischerandom, declared.setup.Setup.Setup, Initial.initial_setup, Initial.initial_setup_of, Sound.IsSound}
@@ -52,6 +53,7 @@ only p sound initial e =
     ∙ ap (λ v. fen_reading_as v (fen initial_setup)) variant ∙ read_back initial_setup initial in
     cc
 
+-- a sound position has the initial position's FEN exactly if it is the initial position
 pub one_initial : (p : Setup) → IsSound p → IsSound initial_setup → (is_initial p ≡ true) ↔ (p ≡ initial_setup)
 one_initial p sound initial =
     (only p sound initial, λ e. (bytes_eq-Decides (fen p) (fen initial_setup)).1 (ap fen e))

@@ -1,5 +1,7 @@
 -- Reading a placement byte by byte, up to the first space, gives the board that the definition reads of the text before
--- that space. Shown by the text's first byte: a space ends the text, a slash a rank, and another byte adds its squares.
+-- that space (placing-read): by the text's first byte, a space, a slash or another. `Placing`, the invariant of
+-- `read_placement`, is kept by a rank and a slash (placed_on); after the last rank the board is whole (placed_whole). A
+-- missing rank or slash, or more text after the last rank, makes it no board (no_rank, no_more, too_many).
 use Rattle.std.proofs.Common.{◌≡◌, ℕ, zero, suc, ◌+◌, ◌-◌, ◌*◌, ◌<◌, ◌≤◌, Bool, true, false, cond, eqb, List, [], ◌∷◌, ◌++◌, length, map, get_or, take, drop, Option, Some, None, refl, sym, ap, ◌∙◌, ◌≢◌, append_assoc, append-nil, arith, length-append, option_map, replicate, option_and_then}
 use Rattle.std.specs.List.{slice_split, onto_first, position_or_len, before_first}
 use Rattle.std.proofs.{lemmas.Bool.Decides.nat_tests, lemmas.List.Splits.length-slice_split}

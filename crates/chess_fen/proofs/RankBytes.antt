@@ -1,5 +1,6 @@
--- Reading a rank byte by byte (`read_rank`): the loop's invariant `RowSoFar`, its step (more), and how it ends: with
--- eight squares (whole), with too many (overfull), or at the text's end (cut_short).
+-- Reading a rank byte by byte (`read_rank`): a byte's squares are put after those so far, which keeps the loop's
+-- invariant `RowSoFar` (more). The loop ends with a whole rank at eight squares (whole), and with none at more than
+-- eight (overfull), or where the text ends before (cut_short).
 use Rattle.std.proofs.Common.{◌≡◌, ℕ, zero, suc, ◌+◌, ◌-◌, ◌<◌, ◌≤◌, Bool, true, false, cond, eqb, leb, List, [], ◌∷◌, ◌++◌, length, get_or, set, take, drop, Option, Some, None, refl, sym, ap, ◌∙◌, arith, length-append, replicate, option_and_then}
 use Rattle.std.proofs.{Math.Seq.take-length, Math.Seq.take-add, lemmas.Bool.Decides.nat_tests}
 use Rattle.std.specs.List.{position_or_len}
@@ -8,6 +9,7 @@ use Rattle.chess_base.specs.declared.man.Man.{Man}
 use Rattle.chess_fen.specs.{declared.letters.Run.Run, Texts.squares_of}
 use Rattle.chess_fen.specs.ties.Runs.{squares_in, at_lower, last_rank, placing, from_space, RankIsRead, NoRankIsRead}
 
+-- the content of an empty square
 abbrev pub no_man : Option Man
 no_man = None
 

@@ -1,5 +1,6 @@
--- The castling field of a FEN is the letters of the rights that are there, appended right by right, or a dash
--- (rights_are).
+-- The castling field of a FEN is the letters of the rights that are there, appended right by right, or a dash if there
+-- are none (rights_are); `or_dash`, by which this is said, asks whether the text is empty (dashed). By cases of each
+-- right: there or not (after).
 use Rattle.std.proofs.Common.{◌≡◌, ℕ, false, List, [], ◌∷◌, ◌++◌, ◌==◌, if◌then◌else◌, length, Option, Some, None, refl, sym, ap, ◌∙◌, append_assoc, append-nil, arith, codes, option_map}
 use Rattle.std.specs.List.{cons_option, filter_map}
 use Rattle.std.proofs.lemmas.Bool.Decides.{nat_tests}

@@ -1,6 +1,7 @@
 -- In Chess960 the letters that are written for available rights, those of their rooks' files, name these rights when
--- they are read: each its own right and no other (right_back). They have the form of a castling field, none of them
--- twice (text_is_castling).
+-- they are read: each its own right and no other (right_back; by names_own, and as the colours' letters are capital and
+-- small and no file is on both sides of the king). They have the form of a castling field, none of them twice
+-- (text_is_castling).
 use Rattle.std.proofs.Common.{◌≡◌, ℕ, ◌+◌, ◌-◌, ◌<◌, ◌≤◌, ◌⊎◌, inl, inr, Bool, true, false, cond, eqb, leb, ltb, List, [], ◌∷◌, ◌++◌, length, map, Option, Some, None, refl, sym, ap, ◌∙◌, append-nil, arith, IsTrue, length-append}
 use Rattle.std.specs.List.{AllByRecursion, filter, list_all}
 use Rattle.std.proofs.{lemmas.Bool.and_parts, lemmas.Bool.eqb-true, lemmas.Bool.ltb-true, lemmas.Bool.Decides.nat_tests, lemmas.List.Elements.filter-append, lemmas.List.Sums.sum_by-append, lemmas.List.Sums.sum_by-cons}
@@ -33,6 +34,7 @@ beside_by men c w s (Some k) at e =
       side = grind (arith, e);
     }
 
+-- a sound right of Chess960 with its rook on s is available so
 pub beside : (men : Men) (c : Colour) (w : CastlingSide) (s : ℕ) → right_is_sound_at Fischerandom men c w (Some s)
     ≡ true → Beside men c w s
 beside men c w s e = beside_by men c w s (king_square men c) refl
@@ -71,6 +73,7 @@ towards_own w k s e = grind (arith, nat_tests, e)
 towards_other : (w : CastlingSide) (k s : ℕ) → is_to_side w k s ≡ true → is_towards (other_side w) (Some k) s ≡ false
 towards_other w k s e = grind (arith, nat_tests, e)
 
+-- a file is one of eight
 pub file_in : (s : ℕ) → file s < 8
 file_in s = omega arith
 
@@ -357,6 +360,7 @@ castling_or_dash (x ∷ xs) few each distinct =
     let some : ltb 0 (length (x ∷ xs)) ≡ true = grind (arith, nat_tests) in
     grind (arith, short, once, some)
 
+-- the castling field that is written has the form of one
 pub text_is_castling : (men : Men) (r : Rights) → Stand Fischerandom men r
     → is_castling_field Fischerandom (rights_text Fischerandom r) ≡ true
 text_is_castling men r s =

@@ -5,12 +5,14 @@ use Rattle.std.proofs.Common.{◌≡◌, ℕ, zero, suc, ◌+◌, Bool, true, fa
 use Rattle.chess_base.specs.{declared.man.Colour.Colour, declared.man.CastlingSide.CastlingSide, declared.man.CastlingSide.TheVariants.KingSide, declared.man.CastlingSide.TheVariants.QueenSide, declared.man.Kind.TheVariants.Rook, Men.Men, Men.man_at, Men.is_man, Castling.home_square}
 use Rattle.chess_fen.specs.{ties.Reader.nowhere, ties.Reader.outer_rook, ties.Loops.edge_file, ties.Loops.rook_among}
 
+-- if there is a rook on the next file of the search, its square is that of the first rook
 pub rook_here : (men : Men) (c : Colour) (w : CastlingSide) (left k : ℕ) → k + 1 ≡ left
     → is_man c Rook (man_at men (home_square c (edge_file w k))) ≡ true
     → home_square c (edge_file w k) ≡ rook_among men c w left
 rook_here men c w zero k e h = absurd (omega (arith, e))
 rook_here men c w (suc j) k e h = let same : j ≡ k = omega (arith, e) in rw (same, h) refl
 
+-- otherwise the first rook is among the files after it
 pub no_rook_here : (men : Men) (c : Colour) (w : CastlingSide) (left k : ℕ) → k + 1 ≡ left
     → is_man c Rook (man_at men (home_square c (edge_file w k))) ≡ false
     → rook_among men c w k ≡ rook_among men c w left
@@ -42,6 +44,7 @@ found_among men c w (suc k) =
     found_next s (first_rook men c (squares_left c w k)) (is_man c Rook (man_at men s))
     ∙ ap (cond (is_man c Rook (man_at men s)) s) (found_among men c w k)
 
+-- the first rook among all eight files is the outermost
 pub outer_among : (men : Men) (c : Colour) (w : CastlingSide) → outer_rook men c w ≡ rook_among men c w 8
 unfolding outer_rook squares_left
 outer_among men c KingSide = found_among men c KingSide 8

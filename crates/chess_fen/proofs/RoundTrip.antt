@@ -1,5 +1,6 @@
 -- The FEN that is written for a sound position is read as this position (written-fen), with its rights named rightly
--- (written-well). Each field is shown to be read back: counters, rights, target, pieces.
+-- (written-well). The text is cut into the fields that were joined (fen_fields), and each of these is read back:
+-- counters (number-decimal), rights, target, and pieces by ranks (rank_denotes).
 use Rattle.std.proofs.Common.{◌≡◌, ℕ, zero, suc, ◌+◌, ◌*◌, ◌<◌, ◌≤◌, inl, inr, true, eqb, leb, ltb, List, [], ◌∷◌, ◌++◌, length, take, drop, map, Option, Some, None, refl, sym, ap, subst, ◌∙◌, arith, rules, take-add, replicate, decimal, is_some, Ok, max, append-nil, length-take, length-drop, take_all, length-append}
 use Rattle.std.specs.{Bool.then_some, Option.option_flatten, List.AllZip, List.list_all, List.slice_split, Str.Parse.digits_value}
 use Rattle.std.proofs.{lemmas.Bool.Decides.nat_tests, lemmas.Fmt.digits_decimal, lemmas.Fmt.decimal_is_IsNumeral, lemmas.Fmt.decimal_nonempty, lemmas.Str.Parse.IsNumeralModel, lemmas.Str.Parse.numerals_by_value}
@@ -218,6 +219,7 @@ rights_back : (p : Setup) → ReadBack p.variant p.men p.rights → (c : Colour)
 rights_back p back c w = rook_is p.variant p.men (rights_text p.variant p.rights) c w
     ∙ ap (λ (o : Option (Option ℕ)). option_flatten o) (back.rights c w)
 
+-- the fields of a sound position's FEN are read as the position
 pub written-fen : (p : Setup) → IsSound p → denoted_in p.variant (fields_of (fen p)) ≡ Ok p
 written-fen p h =
     let fit = counters_fit p h in
@@ -239,6 +241,7 @@ written-fen p h =
       t Black QueenSide,
     ) refl
 
+-- the castling field of a sound position's FEN names no right wrongly
 pub written-well : (p : Setup) → IsSound p → names_rights_well p.variant p.men (third (fields_of (fen p))) ≡ true
 written-well p h =
     let t = (read_back p h).rights in

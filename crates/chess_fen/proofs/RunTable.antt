@@ -1,6 +1,6 @@
--- The table `RUNS` of what each byte of a rank denotes agrees with the definition `squares_of` at each of the 256
--- bytes. That each entry fits is computed (all_fit); that an entry which fits denotes the squares is proved
--- (stands_by).
+-- The table `RUNS` of what each byte of a rank denotes agrees with the definition `squares_of` at each of the 256 bytes
+-- (run_stands), and each entry has at least one square (run_some). That each entry fits is computed (all_fit); that an
+-- entry which fits denotes the squares is proved (stands_by).
 use Rattle.std.proofs.Common.{◌≡◌, ℕ, zero, suc, ◌-◌, ◌<◌, ◌≤◌, Bool, true, false, cond, eqb, leb, ◌&&◌, List, [], ◌∷◌, get_or, Option, Some, None, refl, sym, ap, ◌∙◌, arith, option_map, is_none, replicate}
 use Rattle.std.proofs.lemmas.Bool.{and_parts, agree_below, agree_below_at, eqb-true}
 use Rattle.std.proofs.lemmas.Bool.Decides.{nat_tests}
@@ -75,11 +75,13 @@ stands_by None squares b h = by_digit (leb 49 b && leb b 56) refl h
         let some : 0 < squares = grind (arith, nat_tests, both.0) in
         (rw (t, many) (by_man (man_with_letter b) both.1), some)
 
+-- the table's run for a byte has the squares that the byte denotes, if any
 pub run_stands : (b : ℕ) → b < 256 → squares_of b ≡ squares_in (get_or RUNS b nothing)
 run_stands b lt =
     let run = get_or RUNS b nothing in
     (stands_by run.first run.squares b (fit_at b lt)).0
 
+-- each run of the table has at least one square
 pub run_some : (b : ℕ) → b < 256 → 0 < (get_or RUNS b nothing).squares
 run_some b lt =
     let run = get_or RUNS b nothing in

@@ -1,5 +1,6 @@
--- The FEN that is written for a sound position is read back as this position. So it denotes it (fen-denoted), and no
--- other (fen-denotes_one).
+-- The FEN that is written for a sound position is read back as this position (written-fen of RoundTrip). So it denotes
+-- it (fen-denoted), and no other (fen-denotes_one), as what a text denotes is what is read of its fields (text_outcome,
+-- text-denoted of DenotedFen).
 use Rattle.std.proofs.Common.{◌≡◌, Ok, sym, subst, ◌∙◌}
 use Rattle.chess_base.specs.{declared.setup.Setup.Setup, Sound.IsSound}
 use Rattle.chess_fen.specs.{Denotation.DenotesFenAs, Texts.fields_of, Writing.fen}

@@ -1,5 +1,6 @@
--- A rank that is written square by square, with a count of the empty ones, has the definition's text; so have the
--- ranks, written from the eighth down.
+-- A rank that is written square by square, with a count of the empty ones, has the definition's text (row_is). The
+-- ranks are written from the eighth down: the text so far, with that of the ranks still to come, stays the whole text
+-- after one more rank and its slash (more_ranks).
 use Rattle.std.proofs.Common.{◌≡◌, ℕ, zero, suc, ◌+◌, ◌-◌, ◌*◌, ◌<◌, List, [], ◌∷◌, ◌++◌, take, drop, Option, Some, None, refl, sym, ap, ◌∙◌, append_assoc, append-nil, arith, is_none, replicate, true}
 use Rattle.std.specs.List.{prefix_len}
 use Rattle.chess_base.specs.{declared.man.Man.Man, Letters.letter}

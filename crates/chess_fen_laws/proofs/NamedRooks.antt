@@ -293,6 +293,7 @@ said_by men c w text (Some s) sound h =
     ∙ ap (λ xs. h.1 ∷ xs) (none_left men c w h.2 h.6))
     ∙ ap (λ rook. right_by (rook ∷ [])) it.1
 
+-- the law, by the two directions (named_by, said_by)
 pub rights_named : RightsAreNamed
 unfolding right_is_sound
 rights_named text p c w is sound =

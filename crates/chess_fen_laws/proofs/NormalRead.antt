@@ -1,5 +1,6 @@
 -- Each text is read as a FEN of normal chess in the same way by the definitions for both variants and by those for
--- normal chess alone (reading_kept): step by step, field after field, then the conditions of soundness.
+-- normal chess alone (reading_kept): step by step, field after field, then the conditions of soundness. So what is read
+-- by those for normal chess alone is a position of normal chess (reading_is_normal).
 use Rattle.std.proofs.Common.{◌≡◌, ℕ, Bool, true, false, List, [], ◌∷◌, ◌++◌, take, drop, Option, Some, None, Result, Ok, refl, ap, subst, if◌then◌else◌, ◌∙◌, ok_or, codes, max, IfOk}
 use Rattle.chess_base.specs.{declared.fen_fault.FenFault.FenFault, declared.man.Colour.Colour, declared.man.Colour.TheVariants.White, declared.man.Colour.TheVariants.Black, declared.man.CastlingSide.TheVariants.KingSide, declared.man.CastlingSide.TheVariants.QueenSide, declared.man.Rights.Rights, declared.man.Variant.TheVariants.Normal, declared.setup.Setup.Setup, Men.Men}
 use Rattle.chess_base.specs.declared.fen_fault.FenFault.TheVariants as faults
@@ -82,6 +83,7 @@ unfolding may_name_right
 fields_kept a b c d h f =
     steps_kept c (placement_of a) (side_of b) (is_castling_field Normal c) (target_of d) (short_number 6 h) (short_number 6 f)
 
+-- each text is read as the same position, or fault, by both definitions
 pub reading_kept : (text : List ℕ) → fen_reading_as Normal text ≡ normal_fen_reading text
 reading_kept text = reading-steps Normal (fields_of text) ∙ by_fields (fields_of text)
   where

@@ -28,6 +28,7 @@ written_by r =
 rights_kept : (p : Setup) → p.variant ≡ Normal → rights_text p.variant p.rights ≡ normal_rights_text p.rights
 rights_kept p e = ap (λ v. rights_text v p.rights) e ∙ written_by p.rights
 
+-- a position of normal chess has the same FEN by both definitions
 pub fen_kept : (p : Setup) → p.variant ≡ Normal → fen p ≡ normal_fen p
 fen_kept p e =
     ap (λ rights. join_with_byte space (placement_text p.men ∷ side_text p.side ∷ rights ∷ target_text p.target

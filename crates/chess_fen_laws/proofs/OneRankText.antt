@@ -1,6 +1,6 @@
--- The text that is written for a rank has no two digits side by side (rank_text_is), and is the only such text that
--- denotes the rank (only_rank_text). In `row_text n row` n is the number of empty squares that come before the squares
--- `row`.
+-- The text that is written for a rank has no two digits side by side (rank_text_is; by induction over the squares), and
+-- is the only such text that denotes the rank (only_rank_text; by induction over the text's bytes). In `row_text n row`
+-- n is the number of empty squares that come before the squares `row`.
 use Rattle.std.proofs.Common.{◌≡◌, ℕ, zero, suc, ◌+◌, ◌<◌, ◌≤◌, true, false, not, List, [], ◌∷◌, ◌++◌, length, Option, Some, None, refl, sym, ap, subst, ◌∙◌, inl, inr, arith, ◌&&◌, replicate}
 use Rattle.std.specs.List.{AllZip}
 use Rattle.std.proofs.{lemmas.Bool.and_parts, lemmas.Bool.Decides.nat_tests}
@@ -99,12 +99,14 @@ apart_row zero (Some man ∷ row) = letter_apart man (row_text 0 row) (apart_row
 apart_row (suc n) (Some man ∷ row) =
     before_letter (48 + suc n) man (row_text 0 row) (letter_apart man (row_text 0 row) (apart_row 0 row))
 
+-- the text that is written for eight squares denotes them, without two digits side by side
 pub rank_text_is : (row : List (Option Man)) → length row ≡ 8 → IsRankText row (fen_rank row)
 rank_text_is row h = record {
   denotes = rank_denotes row h;
   apart = subst (λ text. digits_apart text ≡ true) (row_is row 0) (apart_row 0 row);
 }
 
+-- no other text does
 pub only_rank_text : (row : List (Option Man)) (text : List ℕ) → IsRankText row text → text ≡ fen_rank row
 only_rank_text row text h = only_text text h.denotes.0 h.denotes.1 h.apart ∙ ap (row_text 0) (sym h.denotes.2)
     ∙ row_is row 0

@@ -17,7 +17,7 @@ use Rattle.chess_fen_laws.specs.NamedRooks.{RightIsNamed}
 abbrev pub WrittenIsDenoted : Type 0
 WrittenIsDenoted = (p : Setup) → IsSound p → DenotesFenAs p.variant (fen p) p
 
--- the FEN that is written for a sound position denotes no other position of its variant
+-- the FEN that is written for a sound position denotes no other position of its variant, sound or not
 abbrev pub WrittenDenotesNoOther : Type 0
 WrittenDenotesNoOther = (p q : Setup) → IsSound p → DenotesFenAs p.variant (fen p) q → q ≡ p
 
@@ -25,8 +25,8 @@ WrittenDenotesNoOther = (p q : Setup) → IsSound p → DenotesFenAs p.variant (
 abbrev pub WrittenIsReadBack : Type 0
 WrittenIsReadBack = (p : Setup) → IsSound p → fen_reading_as p.variant (fen p) ≡ Ok p
 
--- in Chess960, for a right of p that is sound or not there: the letters of a castling field are read (`right_in`) as
--- this right with p's rook, or as no right, exactly if they name it so (`RightIsNamed`)
+-- in a position p of Chess960, for colour c's right on side w, if it is sound or not there: the letters of any text are
+-- read (`right_in`) as this right with p's rook, or as no right, exactly if they name it so (`RightIsNamed`)
 abbrev pub RightsAreNamed : Type 0
 RightsAreNamed =
     (text : List ℕ) → (p : Setup) → (c : Colour) → (w : CastlingSide)

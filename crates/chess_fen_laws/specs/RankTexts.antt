@@ -10,7 +10,8 @@ digits_apart [] = true
 digits_apart (c ∷ []) = true
 digits_apart (c ∷ d ∷ rest) = not (is_digit c && is_digit d) && digits_apart (d ∷ rest)
 
--- the text is the one that is written for these squares of a rank, as "4P3": one digit for each run of empty squares
+-- the text denotes these squares, and no two of its digits are side by side, as "4P3": one digit for each run of empty
+-- squares. By the law `a_rank_has_one_text` only the text that is written for a rank is so
 pub record IsRankText (row : List (Option Man)) (text : List ℕ) : Type 0 where
   pub denotes : DenotesSquares text row
   pub apart : digits_apart text ≡ true

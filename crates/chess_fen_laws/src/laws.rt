@@ -33,10 +33,11 @@ pub fn equal_fens_are_equal_positions()
     ensures { (p q : Setup) → IsSound p → IsSound q → IsTrue (⟦<chess_fen::Fen as PartialEq>⟧.eq p q) ↔ p ≡ q }
 {}
 
-/// A law: the contract says it, and the function does nothing. In Chess960 the castling field is read as having a sound
-/// right, with a certain rook, exactly if one of its letters names that rook and no other letter names that right; and
-/// as not having the right exactly if no letter names it. A rook is named by the letter of its file, or by `K`, `Q`,
-/// `k` or `q` if it is the outermost one on that side of the king.
+/// A law: the contract says it, and the function does nothing. For each right of a position of Chess960: if it is
+/// sound, the castling field is read as this right with its rook exactly if one letter names that rook and no other
+/// names the right; if it is not there, the field is read as without it exactly if no letter names it. A rook is named
+/// by the letter of its file, or by `K`, `Q`, `k` or `q` if no rook of its colour is nearer to that edge of its first
+/// rank.
 pub fn rights_are_named()
     ensures { RightsAreNamed }
 {}
@@ -56,9 +57,9 @@ pub fn a_rank_has_one_text()
     ensures no_other { (row : List (Option Man)) → (text : List ℕ) → IsRankText row text → text ≡ fen_rank row }
 {}
 
-/// A law: the contract says it, and the function does nothing. Small texts worked out: what a text of six fields is
-/// read as; a rank's text; and how letters name rights of Chess960, where White's king is on c1 and White's rooks are
-/// on b1, f1 and h1, or Black's are on these files of rank 8.
+/// A law: the contract says it, and the function does nothing. Small texts worked out: what a text of six fields is cut
+/// into, read as and denotes; a rank's text; and how letters name rights of Chess960, where White's king is on c1 and
+/// White's rooks are on b1, f1 and h1, or Black's are on these files of rank 8.
 ///
 /// A definition that noticed wrongly named rights of one colour only, or on one side only, would contradict these
 /// clauses.

@@ -1,4 +1,4 @@
--- For games: the position after a move is of the variant of the one before it.
+-- For games: the position after a move is of the variant of the one before it (variant-after), by the definition.
 use Rattle.std.proofs.Common.{◌≡◌, refl}
 use Rattle.chess_base.specs.{declared.man.Move.Move, declared.setup.Setup.Setup, Moves.after}
 

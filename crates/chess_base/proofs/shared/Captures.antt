@@ -1,5 +1,6 @@
--- A move captures exactly if an enemy piece is on its end square, or by en passant (captures_is). It resets the
--- halfmove clock exactly if a pawn moves or an enemy piece is on its end square (resets_clock_is).
+-- By the tests of the definitions, for any position: a move captures exactly if an enemy piece is on its end square, or
+-- by en passant (captures_is); it resets the halfmove clock exactly if a pawn moves or an enemy piece is on its end
+-- square (resets_clock_is), as only pawns capture en passant. Passed on: no piece attacks its own square.
 
 -- no piece attacks its own square
 pub use Rattle.chess_base.proofs.Rays.{could_capture-itself}

@@ -1,4 +1,7 @@
--- For lists and texts of moves: when a move castles, which squares that names, and the rights of a sound position.
+-- For lists and texts of moves, from the definitions: a move that castles is a king's, and its squares name the
+-- castling (castling_says); its four squares (castle_there), and where the mover lands, castling or not
+-- (lands_on_castled, lands_on_to). A right of a sound position has king and rook where castling begins
+-- (placed_for_right, castling_rook_is_there). Files and squares of castling are on the board.
 use Rattle.std.proofs.Common.{◌≡◌, ◌⊎◌, inl, inr, Bool, true, false, cond, ℕ, ◌<◌, Option, Some, None, refl, ap, ◌∙◌, arith}
 use Rattle.std.proofs.lemmas.Bool.{and_parts}
 use Rattle.chess_base.specs.{declared.man.Colour.Colour, declared.man.Variant.Variant, declared.man.Kind.TheVariants.King, declared.man.Kind.TheVariants.Rook, declared.man.CastlingSide.CastlingSide, declared.man.CastlingSide.TheVariants.KingSide, declared.man.CastlingSide.TheVariants.QueenSide, declared.man.Move.Move, Men.man_at, Men.is_man, Men.Men, declared.setup.Setup.Setup, shared.Splits.names_castling, shared.Splits.castle_with, shared.Splits.right_is_sound_at, Before.mover_to, Before.castle_by, declared.man.Colour.TheVariants.White, declared.man.Colour.TheVariants.Black, declared.man.Variant.TheVariants.Normal, declared.man.Variant.TheVariants.Fischerandom, Sound.IsSound}

@@ -1,5 +1,6 @@
--- For boards: a move castles on the side, and by the squares, that its start and end square name (`castling_named`).
--- `castling` and `castling_named` ask for the same end square where the right is sound and the king makes the move.
+-- For boards: in a sound position the side and the four squares of a move's castling are those that its start and end
+-- square name (same_side, same_castle; `castling_named`). By cases: a move from another square than the king's names
+-- nothing (away); from the king's square both definitions ask for the same end square (here).
 use Rattle.std.proofs.Common.{◌≡◌, ◌≢◌, ℕ, inl, inr, Bool, true, false, ◌&&◌, Option, Some, None, refl, sym, ap, ◌∙◌, ◌==◌, length, option_and_then}
 use Rattle.std.specs.Option.{option_map, option_map_or}
 use Rattle.std.proofs.lemmas.Bool.{and_parts, and_left, cases_eq, eqb-true, eq-eqb, ne_eqb, false_from_ne_true}

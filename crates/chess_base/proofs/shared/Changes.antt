@@ -1,5 +1,7 @@
 -- For boards: what a pseudo-legal move of a sound position changes (`Change`): what arrives, and what other squares it
--- empties or fills; for pawns and for other pieces apart. CastlingChange has castling.
+-- empties or fills (`Rest`). Shown for a pawn's moves (change_of_pawn, by its three kinds) and for other pieces that
+-- don't castle (change_of_man); CastlingChange has castling. Before them: where pawns attack and advance, and what a
+-- sound target says.
 use Rattle.std.proofs.Common.{◌≡◌, ◌≢◌, ℕ, ◌+◌, ◌<◌, ◌⊎◌, inl, inr, true, false, ◌&&◌, Option, Some, None, is_none, refl, arith, ◌==◌}
 use Rattle.std.proofs.lemmas.Bool.{and_parts, and_left, and_right, or_cases, both_ways, eqb-true, eqb-false, false_from_ne_true, not-true}
 use Rattle.std.specs.Int.{abs_diff}

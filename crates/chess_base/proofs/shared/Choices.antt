@@ -1,5 +1,5 @@
--- For readers: where a choice by a test gives a value, the test holds; and where a function of an option gives one, the
--- option has one.
+-- For crates that read texts: where a choice by a test gives a value, the test holds, and the option chosen has this
+-- value (chosen); where a function of an option gives a value, the option has one (mapped).
 use Rattle.std.proofs.Common.{◌≡◌, Bool, true, false, cond, Option, Some, None, refl, option_map}
 
 -- an option that is there only if a test passes: it passes, and the option is there

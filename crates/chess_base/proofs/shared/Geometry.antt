@@ -1,6 +1,7 @@
--- For proofs about lines. The definition `is_between` asks for ranks and files. Here a square is between two squares of
--- a line exactly if it is on that line and its number is between theirs (between_on_line: one kind of line after the
--- other, by arithmetic). The order of the two squares makes no difference.
+-- For proofs about lines. A square is between two squares of a line exactly if it is on that line and its number is
+-- between theirs (between_on_line), while the definition `is_between` asks for ranks and files: shown for one kind of
+-- line after the other, by arithmetic. Which squares are between two, and whether these are empty, does not depend on
+-- the order of the two (between_back, is_clear_back).
 use Rattle.std.proofs.Common.{◌≡◌, ℕ, ◌<◌, ◌*◌, ◌+◌, nat_lt, ◌-◌, inl, inr, Bool, true, false, ◌&&◌, ◌||◌, not, ◌==◌, is_none, refl, sym, ap, ◌∙◌, arith}
 use Rattle.std.proofs.{lemmas.Bool.Decides.nat_tests, lemmas.Bool.cases_order, lemmas.Bool.eqb-true}
 use Rattle.std.specs.Int.{abs_diff}

@@ -1,4 +1,6 @@
--- For boards and texts of moves: in a sound position each colour has one king, and `king_square` is where it is.
+-- For boards and texts of moves: in a sound position each colour has one king (one_king_of), so two squares that have
+-- it are the same (one_king: after taking one away, none is left to count); `king_square` has a king
+-- (king_square-king), and if there is one king, is where it is (king_square-at).
 use Rattle.std.proofs.Common.{◌≡◌, ℕ, ◌<◌, inl, inr, length, get_or, set, Bool, true, false, count_by, nat_lt, Option, Some, None, refl, sym, arith, length-set, get_or-set_other}
 use Rattle.std.specs.List.{position_or_len}
 use Rattle.std.proofs.{lemmas.Bool.cases_eq, lemmas.Bool.eqb-true, lemmas.Bool.false_from_ne_true, lemmas.Bool.Decides.nat_tests, lemmas.List.Quantifiers.position-Some, lemmas.List.Sums.position_or_len_is}

@@ -1,5 +1,6 @@
--- For boards and lists of moves: what a legal move of a sound position changes (`Change`), that the position after it
--- is sound, and that taking it back gives the position before.
+-- For boards and lists of moves, passed on: each pseudo-legal move of a sound position makes a `Change` (change_of),
+-- after which a colour that had one king still has one (one_king_after). A legal move of a sound position leaves a
+-- sound position (IsSound-after), and taking it back gives the position before (before-after).
 pub use Rattle.chess_base.proofs.CastlingChange.{change_of}
 pub use Rattle.chess_base.proofs.CountsAfter.{one_king_after}
 pub use Rattle.chess_base.proofs.StaysSound.{IsSound-after}

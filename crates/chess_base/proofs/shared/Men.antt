@@ -1,4 +1,6 @@
--- For proofs about pieces: what follows from the tests on the piece of a square, if there is one.
+-- For proofs about pieces: the tests of equal colour and kind pass exactly for equal ones; and which of the tests of a
+-- square's content (is_of: of a colour, is_man: also of a kind) follow from each other, or exclude each other. Without
+-- a piece all fail; a square off the board has none. By cases of colour, kind and content.
 use Rattle.std.proofs.Common.{◌≡◌, ℕ, ◌<◌, ◌⊎◌, inl, inr, true, false, Option, Some, None, is_none, length, ◌==◌, refl, sym, ap, ◌∙◌, arith, unwrap_or}
 use Rattle.std.proofs.lemmas.Bool.{and_parts, and_left, and_right, eqb-true, cases_lt}
 use Rattle.std.proofs.lemmas.List.{get_or_past}

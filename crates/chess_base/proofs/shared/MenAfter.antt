@@ -1,5 +1,7 @@
--- For boards: the steps of a move, and those back, leave on each square what the definitions have there: shown square
--- by square, for castling and for other moves apart.
+-- For boards: the pieces after a move are those after its steps (men_after_by_steps), the pieces before it those after
+-- the steps back (men_before_by_steps): shown square by square, for castling and for other moves apart. So it's known
+-- what is on a square after a move (man_at-men_after): on one it doesn't touch what was there (man_after-same), and
+-- where the mover lands, the mover (man_after-to).
 use Rattle.std.proofs.Common.{◌≡◌, ℕ, ◌<◌, inl, inr, length, ◌==◌, Bool, ◌||◌, Option, Some, None, ◌≢◌, true, false, refl, sym, ap, ◌∙◌, arith, if◌then◌else◌}
 use Rattle.std.proofs.lemmas.Bool.{cases_eq, eq-eqb, ne_eqb}
 use Rattle.std.specs.Option.{option_map_or}

@@ -1,4 +1,7 @@
--- For lists of moves: the kinds of pseudo-legal moves, and what follows from each.
+-- For lists of moves: each pseudo-legal move is of one of three kinds (moves_from_pattern; `MoveKind`: a piece moves,
+-- the king castles, a pawn moves in one of three ways), by cases of the tests of `is_pseudo_legal`. What follows: the
+-- mover is of the side on move, only a pawn is promoted, castling promotes nothing, no king of a side that isn't in
+-- check is attacked, and what a double advance is.
 use Rattle.std.proofs.Common.{◌≡◌, ℕ, ◌<◌, inl, inr, Bool, true, false, ◌&&◌, ◌||◌, not, cond, Option, Some, None, refl, sym, ◌==◌, is_none}
 use Rattle.std.proofs.lemmas.Bool.{and_parts, and_from, and_right, or_cases, both_ways, eqb-true, ltb-true, false_from_ne_true, not-true}
 use Rattle.chess_base.specs.{declared.man.Colour.Colour, declared.man.CastlingSide.CastlingSide, declared.man.Man.Man, declared.man.Move.Move, Squares.rank, Squares.is_at, Attacks.attacks, Attacks.is_attacked, Attacks.is_in_check, declared.setup.Setup.Setup, shared.Splits.castles_or_moves, declared.castling.Castle.Castle, declared.man.Kind.Kind}

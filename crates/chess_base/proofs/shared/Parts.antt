@@ -1,4 +1,6 @@
--- Each definition here equals the one that is put together of its parts in specs/shared.
+-- Each of three definitions equals the one that is put together of its parts in specs/shared: what is between two
+-- squares (is_between_is), the empty way of castling (castling_way_is_empty_is, castling_way_is_empty_by) and the sound
+-- target (target_is_sound_is). By unfolding, and by putting tests in another order.
 use Rattle.std.proofs.Common.{arith, ◌≡◌, ℕ, ◌==◌, Bool, true, not, ◌&&◌, ◌||◌, Option, Some, None, is_none, refl}
 use Rattle.std.proofs.lemmas.Bool.Decides.{nat_tests}
 use Rattle.std.specs.Option.{option_map_or}

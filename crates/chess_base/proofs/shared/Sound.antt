@@ -1,4 +1,6 @@
--- For readers of positions: a setup is sound exactly if it has no fault, condition by condition.
+-- For crates that read positions: a setup of 64 squares is sound exactly if it has no fault (IsSound-from_no_fault,
+-- no_fault_from_IsSound), condition by condition. If letters may name rights wrongly, the first fault is as if that
+-- were a condition of its own, before the one of rights (first_failing-conditions_if).
 use Rattle.std.proofs.Common.{◌≡◌, Bool, true, false, not, ◌&&◌, cond, ◌∷◌, ◌++◌, take, drop, Option, Some, None, length, refl}
 use Rattle.std.proofs.lemmas.Bool.{and_parts}
 use Rattle.chess_base.specs.{declared.man.Colour.TheVariants.White, declared.man.Colour.TheVariants.Black, declared.setup.Setup.Setup, declared.fen_fault.FenFault.FenFault, Men.other, Attacks.is_in_check, shared.Parts.counters_fit}

@@ -1,4 +1,6 @@
--- For proofs that go over squares: tests of all 64, square by square, and lists that are made of numbers.
+-- For proofs that go over squares: a test of all 64 passes exactly if it does for each, a test of some if it does for
+-- one (each_square-.., some_square-..); a list made of numbers has its length and elements (-from_below, -map_squares).
+-- Shown for all numbers below n by induction over n; the squares are those below 64 (squares_are).
 use Rattle.std.proofs.Common.{◌≡◌, ℕ, ◌<◌, ◌⊎◌, inl, inr, Bool, true, false, ◌&&◌, ◌||◌, refl, sym, arith, zero, suc, ◌∷◌, length, get_or, map, ap, ◌∙◌}
 use Rattle.std.proofs.lemmas.Bool.{cases_Bool, and_parts, and_from, and_left, and_right, or_from, or_left, or_right}
 use Rattle.std.specs.List.{list_any, list_all}

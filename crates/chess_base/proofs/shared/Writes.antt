@@ -1,5 +1,6 @@
--- For boards: the pieces after a move, as writes of single squares one after the other; shown for each square, by the
--- last write to it.
+-- For boards: the pieces after steps, and so after a move, are those after four writes of squares, one after the other
+-- (men_stepped-written, men_after-written). Shown for each square, by the last write to it: the mover's end, the second
+-- piece's end, what that left, the start square.
 use Rattle.std.proofs.Common.{◌≡◌, ℕ, ◌<◌, inl, inr, List, length, get_or, set, Bool, false, true, ◌||◌, cond, Option, None, Some, arith, refl, sym, ◌∙◌, length-set, get_or-set_other, get_or-set_same, ext_get_or}
 use Rattle.std.proofs.lemmas.Bool.{cases_eq, eq-eqb, ne_eqb}
 use Rattle.chess_base.specs.{declared.man.Move.Move, declared.man.Kind.TheVariants.Rook, Men.Men, Men.man_at, declared.setup.Setup.Setup, declared.steps.Steps.Steps, Steps.men_stepped, Castling.mover_end, Castling.castling_rook_to, Squares.is_at}

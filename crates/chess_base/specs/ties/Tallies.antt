@@ -15,7 +15,7 @@ pub record IsOneMore (c : Colour) (o : Option Man) (t u : Tally) : Type 0 where
   pub men : u.men ≡ t.men + one_if (is_of c o)
   pub kings : u.kings ≡ t.kings + one_if (is_man c King o)
 
--- the tally t says how many of these pieces colour c has, and how many of them are kings
+-- the tally t says how many pieces colour c has on squares with the contents xs, and how many of them are kings
 pub record IsTally (c : Colour) (xs : Men) (t : Tally) : Type 0 where
   pub men : t.men ≡ count_by (λ o. is_of c o) xs
   pub kings : t.kings ≡ count_by (λ o. is_man c King o) xs

@@ -1,4 +1,5 @@
--- For laws of normal chess in crates above: the reading of a FEN by what each of its fields denotes, and the rights
--- that are named as options.
+-- For laws of normal chess in crates above, passed on: the reading of a FEN is that of its fields, step by step, and
+-- then of the conditions (reading-steps, with its definitions); the rights that letters name, and whether none is
+-- wrong, by options (rights_as_options, wells_as_options).
 pub use Rattle.chess_fen.proofs.RooksNamed.{rights_as_options, wells_as_options}
 pub use Rattle.chess_fen.proofs.Steps.{denoted_by, denoted_in, if_fit, reading-steps, steps, steps_to, third, unless_fault}

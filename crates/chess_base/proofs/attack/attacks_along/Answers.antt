@@ -1,4 +1,5 @@
--- By cases of what is on square a: no piece, or one that reaches b along the line, or one that doesn't (Reaches).
+-- By cases of what is on square a: no piece, one of this colour, or one of the other. As no piece is between, one of
+-- this colour attacks b exactly if it reaches b along the line (attacked_from_by of Reaches).
 use Rattle.std.proofs.Common.{arith, ◌≡◌, sym, Some, None}
 use Rattle.std.proofs.lemmas.Grind.{common_steps}
 use Rattle.chess_base.specs.Men.{man_at}

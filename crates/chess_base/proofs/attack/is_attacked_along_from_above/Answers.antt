@@ -1,5 +1,6 @@
--- A walk up the line: up to the first piece the way is clear (rise_clear of Rays), that piece decides (rise_stops), and
--- if there is none nothing attacks from there (rise_ends).
+-- A walk up the line to its first piece. The way back to b is clear, as `attacks_along` requires (rise_clear of Rays);
+-- that piece alone decides the result (rise_stops); if there is none, the result is false, as nothing attacks from
+-- above (rise_ends).
 use Rattle.std.proofs.Common.{arith, ◌≡◌, ◌+◌, false, is_none}
 use Rattle.std.proofs.lemmas.Grind.{common_steps}
 use Rattle.chess_base.specs.Men.{man_at}

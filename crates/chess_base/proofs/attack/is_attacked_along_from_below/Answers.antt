@@ -1,5 +1,6 @@
--- A walk down the line: up to the first piece the way is clear (fall_clear of Rays), that piece decides (fall_stops),
--- and if there is none nothing attacks from there (fall_ends).
+-- A walk down the line to its first piece. The way back to b is clear, as `attacks_along` requires (fall_clear of
+-- Rays); that piece alone decides the result (fall_stops); if there is none, the result is false, as nothing attacks
+-- from below (fall_ends).
 use Rattle.std.proofs.Common.{arith, ◌≡◌, ◌-◌, false, is_none}
 use Rattle.std.proofs.lemmas.Grind.{common_steps}
 use Rattle.chess_base.specs.Men.{man_at}

@@ -1,5 +1,6 @@
--- The king that is found is the only one, so an attack on his square is a check (check_at_king of KingChecks); without
--- a king there is no check (no_check_without_king).
+-- By what `nearest_king` gives. A king that is found is the only one of the colour, so whether it is in check is
+-- whether the king's square is attacked (check_at_king of KingChecks); without a king it is not in check
+-- (no_check_without_king).
 use Rattle.std.proofs.Common.{arith, rules, ◌≡◌, length}
 use Rattle.chess_base.proofs.{KingChecks.check_at_king, KingChecks.no_check_without_king, shared.Men.in_board}
 use Rattle.chess_base.proofs.attack.is_king_attacked.Goals as goal

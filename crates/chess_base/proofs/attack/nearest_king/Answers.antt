@@ -1,4 +1,6 @@
--- The search from the king's own side of the board looks at each square (KingChecks).
+-- The square that is returned has passed the test for the king (clause found). Where none is returned, each square,
+-- counted from the colour's own side, has failed it, and these are all squares (clause none; none_from_side of
+-- KingChecks).
 use Rattle.std.proofs.{Common.arith, Common.◌≡◌, Common.true, lemmas.Grind.common_steps}
 use Rattle.chess_base.specs.{declared.man.Kind.TheVariants.King, Men.man_at, Men.is_man}
 use Rattle.chess_base.proofs.KingChecks.{none_from_side}

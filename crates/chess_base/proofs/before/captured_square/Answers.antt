@@ -1,5 +1,5 @@
--- The square one rank back from the end of an en passant capture is on the board, since the position is sound
--- (en_passant_in_board of StaysSound).
+-- The square one rank back from the end of an en passant capture is on the board, as `one_rank_back` requires, since
+-- the position is sound (en_passant_in_board of StaysSound).
 use Rattle.std.proofs.Common.{arith, ◌≡◌, true}
 use Rattle.chess_base.proofs.StaysSound.{en_passant_in_board}
 use Rattle.chess_base.specs.Moves.{is_en_passant}

@@ -1,4 +1,5 @@
--- No legal move raises the reserve, and a capture or pawn move lowers it for good (ReserveAfter).
+-- No legal move of a sound position raises the reserve (never_grows of ReserveAfter), and one after which the halfmove
+-- clock is 0, a capture or a pawn's move, lowers it (falls_for_good of ReserveAfter).
 use Rattle.chess_base.proofs.ReserveAfter.{never_grows, falls_for_good}
 use Rattle.chess_base.proofs.laws.reserve_never_grows.Goals as goal
 

@@ -1,5 +1,5 @@
--- `is_king_attacked` wants exactly one king of the colour: after a pseudo-legal move of a sound position each colour
--- still has one (one_king_after of CountsAfter).
+-- `is_king_attacked` requires exactly one king of the colour: after a pseudo-legal move of a sound position, which
+-- makes a `Change` (change_of of CastlingChange), each colour still has one (one_king_after of CountsAfter).
 use Rattle.std.proofs.Common.{sym, ◌∙◌}
 use Rattle.chess_base.proofs.{CastlingChange.change_of, CountsAfter.one_king_after, shared.Kings.one_king_of}
 use Rattle.chess_base.proofs.legality.is_legal.Goals as goal

@@ -1,5 +1,6 @@
--- A walk from square to square of the line: one piece on the way shuts it; past the last square it is clear
--- (ClearLines).
+-- The loop walks from square to square of the line: its invariant holds at first (walk_begins of ClearLines) and after
+-- each empty square (walk_goes_on). A piece on the way makes the result false (walk_stops); a walk that comes to `high`
+-- makes it true (walk_ends).
 use Rattle.std.proofs.Common.{arith, ◌≡◌, sym, true, false, is_none}
 use Rattle.std.proofs.lemmas.Grind.{common_steps}
 use Rattle.chess_base.specs.Men.{man_at}

@@ -1,4 +1,5 @@
--- The loop's invariant: the census counts the pieces and kings on the squares so far.
+-- The loop's invariant: the census has, for each colour, how many pieces and how many kings are on the squares before
+-- the current one.
 use Rattle.std.proofs.Common.{take}
 use Rattle.chess_base.specs.{declared.man.Colour.TheVariants.White, declared.man.Colour.TheVariants.Black, ties.Tallies.IsTally}
 use Rattle.chess_base.proofs.sound.census_of.Given as goal

@@ -1,4 +1,5 @@
--- Taking back a legal move gives the position before it (chess_base's shared/LegalMoves).
+-- Taking back a legal move of a sound position gives that position again: before-after of chess_base's TakesBack, which
+-- its shared/LegalMoves passes on.
 use Rattle.chess_base.proofs.shared.LegalMoves.{before-after}
 use Rattle.chess_base_laws.proofs.laws.before_undoes_after.Goals as goal
 

@@ -1,5 +1,5 @@
--- A move's castling side and its squares are those that its two squares name (same_side and same_castle of
--- CastlingNamed).
+-- In a sound position the side to which a move castles, and its four squares, are those that the move's start and end
+-- square name (same_side and same_castle of chess_base's shared/CastlingNamed).
 use Rattle.chess_base.proofs.shared.CastlingNamed.{same_side, same_castle}
 use Rattle.chess_base_laws.proofs.laws.castling_is_named.Goals as goal
 

@@ -1,4 +1,6 @@
--- Spaces before a field don't count; after them the field goes up to the next space, if anything is left (CutFields).
+-- Spaces before a field don't count. If nothing is left after them, the text has no field (clause none; no_fields of
+-- CutFields); otherwise its first field goes up to the next space, and the rest has the others (clause found;
+-- next_fields).
 use Rattle.std.proofs.Common.{arith, ◌<◌, ◌≡◌, length}
 use Rattle.std.proofs.lemmas.Bool.Decides.{nat_tests}
 use Rattle.chess_fen.proofs.CutFields.{next_fields, no_fields}

@@ -1,4 +1,5 @@
--- Only the initial position of normal chess has its FEN (one_initial of OneInitial).
+-- Clause exact: a sound position has the FEN of normal chess's initial position exactly if it is that position
+-- (one_initial of OneInitial).
 use Rattle.std.proofs.Common.{subst, ◌∙◌}
 use Rattle.chess_base.specs.Sound.{IsSound}
 use Rattle.chess_fen.proofs.OneInitial.{one_initial}

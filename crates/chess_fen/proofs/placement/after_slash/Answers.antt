@@ -1,4 +1,5 @@
--- A text that begins with another byte than `/` has no slash to read (no_stroke of proofs/Placing).
+-- Clause none: a text that begins with another byte than `/` has no slash to read, and so no next rank (no_stroke of
+-- proofs/Placing).
 use Rattle.chess_fen.proofs.Placing.{no_stroke}
 use Rattle.chess_fen.proofs.placement.after_slash.Goals as goal
 

@@ -1,4 +1,5 @@
--- The eight squares of the rank are still empty (rank_empty of proofs/Placing).
+-- The eight squares of the rank are still empty, as `read_rank` requires, since they and all before them are
+-- (rank_empty of proofs/Placing).
 use Rattle.chess_fen.proofs.Placing.{rank_empty}
 use Rattle.chess_fen.proofs.placement.place_rank.Goals as goal
 

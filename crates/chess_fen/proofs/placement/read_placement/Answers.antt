@@ -1,6 +1,6 @@
 -- The invariant (`Placing`) says that the rest of the text, below the ranks on the board, gives the whole board. A rank
--- and a slash keep it (placed_on); the last rank ends it (placed_whole, too_many); no rank or no slash where one should
--- be denotes no board (no_rank, no_more).
+-- and a slash keep it (placed_on). After the last rank the board is whole if the field ends there (placed_whole),
+-- otherwise the field denotes none (too_many); nor does it if a rank or a slash is missing (no_rank, no_more).
 use Rattle.std.proofs.Common.{◌≡◌, Option, Some, None, subst, arith, IfNone}
 use Rattle.chess_fen.specs.ties.Runs.{Ends}
 use Rattle.chess_fen.proofs.Placing.{no_rank, no_more, placed_on, placed_whole, too_many}

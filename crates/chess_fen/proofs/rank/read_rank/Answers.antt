@@ -1,5 +1,6 @@
--- A byte's run puts its squares after those read so far: the rank goes on (more), is whole with eight squares (whole),
--- or denotes nothing with more (overfull), or where the text ends before (cut_short); all in RankBytes.
+-- A byte's run puts its squares after those read so far. With fewer than eight the invariant is kept (more of
+-- RankBytes), with eight the rank is read (whole); with more, or where the text ends before, no rank is read (overfull,
+-- cut_short of RankBytes).
 use Rattle.std.proofs.Common.{◌≡◌, ◌+◌, ◌<◌, arith}
 use Rattle.chess_fen.proofs.RankBytes.{more, whole, overfull, cut_short}
 use Rattle.chess_fen.proofs.rank.read_rank.Goals as goal

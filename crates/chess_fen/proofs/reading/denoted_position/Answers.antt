@@ -1,5 +1,5 @@
--- The position that was read, judged by `Position::new`, or the fault of a field, is the definition's reading
--- (judged-read, refused-read of RightsAlike), also where a right is named wrongly.
+-- Clause value, by what `read_setup` gives: a position, judged by `Position::new`, or the fault of a field; either is
+-- the definition's reading (judged-read, refused-read of RightsAlike), also where a right is named wrongly.
 use Rattle.chess_fen.proofs.RightsAlike.{judged-read, refused-read}
 use Rattle.chess_fen.proofs.reading.denoted_position.Goals as goal
 

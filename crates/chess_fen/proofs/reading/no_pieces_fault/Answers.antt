@@ -1,5 +1,5 @@
--- With six fields of which the first denotes no pieces, that field is the first fault, in either variant (setup-menless
--- of FirstField).
+-- If the first field denotes no pieces and the others have a right number, that field is the first fault, in either
+-- variant (setup-menless of FirstField).
 use Rattle.std.proofs.Common.{ap, ◌∙◌}
 use Rattle.chess_fen.specs.{ties.Reader.setup_in, Texts.fields_of}
 use Rattle.chess_fen.proofs.FirstField.{setup-menless}

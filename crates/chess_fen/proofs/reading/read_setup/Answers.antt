@@ -1,4 +1,6 @@
--- The first field is read while the text is cut (FirstField); after it the text is cut into the others.
+-- By the ways in which the function ends. If no pieces are read, the text's first field denotes none, as
+-- `no_pieces_fault` requires (first_is_menless of FirstField). Otherwise the text's fields are that first one and those
+-- of the rest (fields-read): these have a wrong number, or are read with the pieces as all six are (setup-with).
 use Rattle.std.proofs.Common.{ap, sym, ◌∙◌, ◌==◌}
 use Rattle.std.specs.List.{before_first}
 use Rattle.chess_fen.specs.{ties.Reader.setup_in, Texts.fields_of}

@@ -1,5 +1,5 @@
--- The fields and the spaces between them were appended one by one; the definition joins them in another grouping, which
--- is the same text.
+-- Clause text: the fields and the spaces between them were appended one by one; the definition joins them in another
+-- grouping, which is the same text (append_assoc).
 use Rattle.std.proofs.Common.{append_assoc}
 use Rattle.chess_fen.proofs.writing.write_fen.Goals as goal
 

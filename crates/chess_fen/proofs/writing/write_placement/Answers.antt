@@ -1,5 +1,6 @@
--- The text so far, followed by that of the ranks still to come, is the text of all eight (more_ranks of WrittenRanks).
--- A rank takes at most eight bytes and a slash, and the last has no slash: 71 bytes at most.
+-- The invariant holds at first, where nothing is appended, and after a rank and its slash: the text so far, with that
+-- of the ranks still to come, is the text of all eight (more_ranks of WrittenRanks). A rank takes at most eight bytes
+-- and a slash, and the last has no slash: 71 bytes at most.
 use Rattle.std.proofs.Common.{◌≡◌, ◌-◌, ◌+◌, ◌*◌, take, drop, refl, ap, arith}
 use Rattle.chess_fen.specs.Writing.{placement_text}
 use Rattle.chess_fen.proofs.WrittenRanks.{more_ranks}

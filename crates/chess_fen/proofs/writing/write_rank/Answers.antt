@@ -1,4 +1,4 @@
--- Before the first square nothing is appended, and with no empty squares before it the text of all squares is the
+-- The invariant holds at first: nothing is appended, and with no empty squares before it the text of all squares is the
 -- rank's (row_is of WrittenRanks).
 use Rattle.std.proofs.Common.{◌++◌, ap, arith}
 use Rattle.chess_fen.proofs.WrittenRanks.{row_is}

@@ -1,5 +1,5 @@
--- Equal texts of one variant are FENs of one position, since each is read back as its position; equal positions have
--- equal texts (EqualFens).
+-- If texts and variants are equal, so are the positions, since each is read back from its text (same_position of
+-- EqualFens); equal positions have equal texts and variants.
 use Rattle.std.proofs.Common.{IsTrue, refl, sym, subst, ◌&&◌, nat_eq}
 use Rattle.std.proofs.{lemmas.Bool.and_parts, lemmas.Cmp.nat_list_eq_equiv}
 use Rattle.std.specs.Cmp.Lexicographic.{pointwise, same_text}

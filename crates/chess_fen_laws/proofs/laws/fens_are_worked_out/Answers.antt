@@ -1,4 +1,6 @@
--- The worked examples of FENs: each is computed by the definitions.
+-- The worked examples of FENs are computed by the definitions, but for two: that the text of six fields denotes its
+-- position follows from its reading (denoted-reading of chess_fen's DenotedFen), and the rank's text is the one that is
+-- written (rank_text_is of OneRankText).
 use Rattle.std.specs.Prelude.{◌∷◌, ◌++◌, replicate, codes, None, ◌≡◌, refl, Ok}
 use Rattle.chess_base.specs.{declared.man.Colour.TheVariants.White, declared.man.Kind.TheVariants.Pawn, Castling.king_square, Castling.right_is_sound, Faults.rights_are_sound, Men.is_of, Men.is_man, Initial.man_of, declared.man.Variant.TheVariants.Normal}
 use Rattle.chess_base.specs.Attacks.{is_clear, could_capture, attacks, is_attacked, is_in_check}

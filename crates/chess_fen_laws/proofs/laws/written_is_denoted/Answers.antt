@@ -1,5 +1,6 @@
--- The FEN that is written denotes its position and no other (fen-denoted, fen-denotes_one of chess_fen's WrittenFen),
--- and a text that denotes a sound position is read as it (reading-denoted of chess_fen's DenotedFen).
+-- The FEN that is written for a sound position denotes it and no other (fen-denoted, fen-denotes_one of chess_fen's
+-- WrittenFen); so it is read back as this position, as each sound position is read from a text that denotes it
+-- (reading-denoted of chess_fen's DenotedFen).
 use Rattle.chess_fen.proofs.shared.Denoted.{reading-denoted, fen-denoted, fen-denotes_one}
 use Rattle.chess_fen.specs.Writing.{fen}
 use Rattle.chess_fen_laws.proofs.laws.written_is_denoted.Goals as goal

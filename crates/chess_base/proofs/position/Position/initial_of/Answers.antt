@@ -1,4 +1,5 @@
--- What is put together here is the initial setup, which is sound in both variants: that is computed (InitialIsSound).
+-- What is put together here is the initial setup (returns). It is sound in both variants, as a position must be
+-- (invariant): that is computed (InitialIsSound).
 use Rattle.std.proofs.Common.{refl}
 use Rattle.chess_base.specs.Initial.{initial_setup_of}
 use Rattle.chess_base.proofs.InitialIsSound.{initial_is_sound_in}
