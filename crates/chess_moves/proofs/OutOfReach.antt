@@ -1,4 +1,5 @@
--- No legal move goes between squares out of reach: each goes along a rank, file or diagonal, or is a knight's.
+-- Between two squares that are not in reach of one another (`is_in_reach`) the list of legal moves is empty
+-- (none_between), since each legal move is in reach (legal_in_reach of Reach).
 use Rattle.std.proofs.Common.{◌≡◌, ℕ, false, []}
 use Rattle.std.proofs.lemmas.Bool.{false_from_ne_true, both_ways}
 use Rattle.chess_base.specs.{declared.setup.Setup.Setup, MoveList.promotions, MoveList.move_of}

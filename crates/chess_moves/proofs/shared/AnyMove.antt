@@ -1,5 +1,7 @@
--- Whether some legal move passes a test, if only moves to one square without a promotion can pass: it is enough to test
--- one move from each square (any_by_start). For texts of moves and games.
+-- Whether some legal move passes a test, if only moves to one square `to` without a promotion can pass: it is enough to
+-- test one move from each square (any_by_start). The list of all moves is taken apart by start, end and promotion
+-- (any-filter, any-flat_map); all parts but the move to `to` without a promotion find nothing. For texts of moves and
+-- games.
 use Rattle.std.proofs.Common.{◌≡◌, ◌≢◌, ℕ, zero, suc, ◌<◌, inl, inr, Bool, true, false, ◌&&◌, ◌||◌, ◌==◌, Option, Some, None, List, [], ◌∷◌, map, refl, sym, ap, ◌∙◌, arith}
 use Rattle.std.proofs.{Math.Path.fun_ext, lemmas.List.Folds.list_any-append}
 use Rattle.std.proofs.lemmas.Bool.{cases_Bool, and_parts, false_from_ne_true, or_left, or_right, eqb-true, eqb-false}

@@ -1,5 +1,6 @@
--- The position before a move that was made: `before` gives it back (WasMade-back), and it is sound (IsMade-sound). For
--- boards.
+-- The position p before a move that was made (`WasMade`, `IsMade`): `before` gives back just p (WasMade-back), which is
+-- sound (IsMade-sound), and a pawn that the move took en passant was on the board (captured_in_board). All three follow
+-- from `before-after` and `at_target` of chess_base, since p was sound and the move legal. For boards.
 use Rattle.std.proofs.Common.{◌≡◌, ◌<◌, IsTrue}
 use Rattle.chess_base.specs.{declared.man.Move.Move, declared.setup.Setup.Setup, declared.setup.Saved.Saved, Squares.is_at, Men.forward, Sound.IsSound, Moves.after, Before.saved_of, Before.before}
 use Rattle.chess_base.proofs.{shared.Changes.at_target, shared.Men.in_board, shared.LegalMoves.before-after}

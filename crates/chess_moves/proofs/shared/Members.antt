@@ -1,5 +1,7 @@
--- The squares of a set, one after another: none if it is empty (members_none), otherwise its first square and then
--- those of the set without it (members_first). For boards and texts of moves.
+-- The members of a set, its squares as a rising list: none if it is empty (members_none), otherwise the first square
+-- and then those of the set without it (members_first), and 64 at most (length_members). Lists gathered over them are
+-- those gathered over all 64 squares, if squares outside the set give none (flat_map_members). By induction over ranges
+-- of numbers, of which `squares` is one (by_range). For boards and texts of moves.
 use mathlib.Core.Bool.{and-true}
 use Rattle.std.proofs.Common.{◌≡◌, ℕ, zero, suc, ◌<◌, ◌≤◌, ◌+◌, inl, inr, Bool, true, false, not, ◌&&◌, ◌==◌, refl, sym, ◌∙◌, ap, arith, List, [], ◌∷◌, length}
 use Rattle.std.proofs.lemmas.Bool.{cases_Bool, lt-ltb, eq-eqb, ne_eqb, cases_lt}

@@ -1,5 +1,7 @@
--- The list of legal moves, put together from its parts: start square by start square (moves-by_start), and between two
--- squares with a promotion only if a pawn would promote (all_promote, none_promotes). For boards.
+-- The list of legal moves from its parts: start square by start square (moves-by_start), with none from a square
+-- without an own piece (none_from). Between two squares all name a promotion if a pawn would promote, otherwise none
+-- does (all_promote, none_promotes; by Reach). If all with some promotions fit into a list, the next one has room
+-- (room_for_next). For boards.
 use Rattle.std.proofs.Common.{◌≡◌, ℕ, zero, suc, ◌+◌, ◌<◌, ◌≤◌, Bool, true, false, Option, Some, None, List, [], ◌∷◌, ◌++◌, length, get_or, map, take, refl, ◌∙◌, ap, arith, inl, inr, length-append, filter, flat_map}
 use Rattle.std.proofs.{Math.Path.fun_ext, lemmas.Bool.cases_Bool, lemmas.Bool.false_from_ne_true, lemmas.Bool.both_ways, lemmas.List.Elements.filter-append}
 use Rattle.chess_base.specs.{declared.man.Kind.Kind, declared.man.Move.Move, declared.setup.Setup.Setup, Men.man_at, Men.is_of, Moves.is_legal, Squares.squares}

@@ -1,5 +1,7 @@
--- How a position's hash changes as pieces come and go: it is the exclusive or of its parts (hash_apart), and a piece
--- that is put on a square or leaves it changes it by one key (hash_put, hash_lifted). For boards that keep their hash.
+-- Hashes by parts. A position's hash is the exclusive or of that of its pieces, its side and its rights (hash_apart,
+-- rights_apart). A loop over the squares that joins their keys one by one gives that of the pieces (xor_turn, xor_end).
+-- A piece put on an empty square, or taken off its own, changes it by one key (hash_put, hash_lifted), as the keys of
+-- the other squares stay: by induction over the squares. For boards.
 use Rattle.std.proofs.Common.{◌≡◌, ◌≢◌, ℕ, zero, suc, ◌+◌, ◌<◌, ◌≤◌, inl, inr, List, [], ◌∷◌, ◌++◌, length, refl, sym, ◌∙◌, ap, arith, add-one, bit_xor, fold, Option, Some, None, set, get_or-set_same, get_or-set_other}
 use lib.Bits.{xor_assoc, xor_comm, xor_self, xor_zero_r}
 use Rattle.std.proofs.{lemmas.Bool.cases_lt, lemmas.List.Sums.fold-append}

@@ -1,4 +1,5 @@
--- The loop's invariant: the entries before `number` are those of their pairs of squares (AreBetween of BetweenSquares).
+-- The loop's invariant: the entries before `number` have the squares between their two squares, where these are on one
+-- line (`AreBetween` of BetweenSquares).
 use Rattle.std.proofs.Common.{◌≡◌, length}
 use Rattle.chess_bits.proofs.BetweenSquares.{AreBetween}
 use Rattle.chess_bits.proofs.between.BetweenTable.open.Given as goal

@@ -1,5 +1,6 @@
--- The shield has legal moves only to the evasions: squares where it still shields, the pinner's, or the en passant
--- target (answered of Pins). For the other pieces nothing changes.
+-- If there is a shield, the clause `evasions` still holds with it no longer free: each of its legal moves ends between
+-- pinner and king, on the pinner, or on the target (answered of Pins), which are the evasions added. A piece that was
+-- not free before has the evasions of before.
 use Rattle.chess_base.proofs.shared.Kings.{one_king_of}
 use Rattle.std.proofs.Common.{◌≡◌, ◌<◌, inl, inr, true, sym, subst, ap, ◌∙◌}
 use Rattle.std.proofs.lemmas.Bool.{eqb-true, or_left, or_right}

@@ -1,5 +1,6 @@
--- After the move all pieces are as before on the squares that it leaves alone, and own pieces on those that it fills
--- (later_after of AfterSets); check is then an attack on the king's square (check_after of KingAfter).
+-- The result is whether the move is legal. The sets given for after the move are right: other squares are as before,
+-- and on those filled are own pieces (later_after of AfterSets, so `attacks_outside` answers). The move is legal
+-- exactly if there is no check then (legal_is of KingAfter), and check is an attack on the king's square (check_after).
 use Rattle.std.proofs.Common.{not, sym, ap, ◌∙◌}
 use Rattle.chess_base.specs.{Attacks.is_attacked, Moves.men_after}
 use Rattle.chess_bits.specs.ties.Occupancy.{IsOccupied, IsLater}

@@ -1,4 +1,5 @@
--- A king's legal move is a step or a castling (steps_or_castles of KingListed).
+-- The result has just the ends of the king's legal moves: each of them is a legal castling or a legal step
+-- (steps_or_castles of KingListed), and the two sets that are joined have the ends of these.
 use Rattle.std.proofs.Common.{◌≡◌, ◌&&◌, ◌||◌, inl, inr, None, ap, rules, ◌∙◌, ◌<◌, subst, sym, true}
 use Rattle.std.proofs.lemmas.Bool.{cases_Bool}
 use Rattle.chess_base.specs.{MoveList.move_of, Moves.is_legal, Moves.man_moves}
