@@ -1,6 +1,7 @@
--- The board after a move, from the sets before it: occupied are the squares that the move fills, and those that were
--- occupied and that it does not change; the enemy's pieces are those on squares that it does not change
--- (`later_after`). And check is an attack on the king's square, where that is known (`check_is`).
+-- The board after a move, from the sets before it (later_after: `IsLater`): occupied are the squares that the move
+-- fills, and those that were occupied and that it does not change; the enemy's pieces are those on squares that it does
+-- not change. By cases of a square: where the mover or the castling rook arrives, what a piece leaves, or neither. And
+-- check is an attack on the king's square, where that is known (check_is).
 use mathlib.Core.Bool.{and-true}
 use Rattle.std.proofs.Common.{◌≡◌, ℕ, ◌<◌, inl, inr, Bool, true, false, not, ◌&&◌, ◌||◌, ◌==◌, cond, refl, Option, Some, None, is_none}
 use Rattle.std.proofs.lemmas.Bool.{and_right, cases_Bool, eqb-true, eq-eqb}

@@ -1,6 +1,7 @@
--- Who attacks square b, found from b outwards: a piece on a attacks b exactly if one of its kind on b would attack a, a
--- pawn exactly if one of the other colour would. So `attackers` takes the tables' sets for b, and of each the squares
--- that hold pieces of the kind.
+-- Who attacks square b, found from b outwards: a piece on a attacks b exactly if its kind on b would attack a, for a
+-- pawn a pawn of the other colour (attackers_are: by cases of the content of a, on the sets that `attackers` joins).
+-- For lines: the two rays of a line together (both_rays), two kinds of lines together (on_lines, on_diagonals). A
+-- square is attacked exactly if its set of attackers isn't empty (attacked_is).
 use Rattle.std.proofs.Common.{◌≡◌, ℕ, ◌<◌, Bool, true, false, not, ◌&&◌, ◌||◌, ◌==◌, refl, ◌∙◌, arith, Option, Some, None, is_none, eqb-true}
 use Rattle.std.proofs.lemmas.Bool.Decides.{nat_tests}
 use Rattle.chess_base.specs.{declared.man.Colour.Colour, declared.man.Colour.TheVariants.White, declared.man.Colour.TheVariants.Black, declared.man.Kind.Kind, declared.man.Man.Man, shared.Splits.could_capture_as, declared.line.Line.Line, shared.Lines.line_number, shared.Lines.same_line}

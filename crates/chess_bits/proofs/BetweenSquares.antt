@@ -1,5 +1,7 @@
--- The squares between two squares of one line: those on the ray up from the lower and on the ray down from the higher
--- one. The table has them for each two squares; a line is open if none of them is occupied.
+-- The squares between two squares of one line are those on the ray up from the lower and on the ray down from the
+-- higher one, joined for all four kinds of lines, of which the two share one (on_some_line). An entry written so keeps
+-- the table right (paired_more). Two squares of one rank, file or diagonal have a line of some kind, so the table has
+-- what is between them (by_line), and that line is open exactly if no square between is occupied (open_between).
 use Rattle.std.proofs.Common.{◌≡◌, ℕ, ◌+◌, ◌*◌, ◌/◌, ◌%◌, ◌<◌, ◌≤◌, inl, inr, Bool, true, false, not, ◌&&◌, ◌||◌, refl, sym, ap, ◌∙◌, arith, List, length, get_or, set, get_or-set_same, get_or-set_other, [], ◌∷◌}
 use Rattle.std.specs.List.{list_any, list_all}
 use Rattle.std.proofs.{lemmas.Bool.Decides.nat_tests, lemmas.Bool.cases_Bool, lemmas.Bool.cases_eq, lemmas.Bool.or_cases}

@@ -1,5 +1,7 @@
--- A sweep from a along a ray is that ray without the ray that goes on from its first blocker f: so it is the open part
--- of the ray, with f (`swept_to`). In these lemmas w are the occupied squares.
+-- A sweep from a along a ray is that ray without the ray that continues from its first blocker f: so it is the open
+-- part of the ray, with f (swept_to). With a blocker, a square of the ray is open exactly if it does not come after f
+-- (open_to_first); without one, f is the board's last square, and the whole ray is open (swept_all). In these lemmas w
+-- are the occupied squares.
 use mathlib.Core.Bool.{and-true}
 use Rattle.std.proofs.Common.{◌≡◌, ◌==◌, ℕ, zero, suc, ◌<◌, inl, inr, Bool, true, false, not, ◌&&◌, ◌||◌, nat_lt, refl, sym, ap, ◌∙◌, arith}
 use Rattle.std.proofs.lemmas.Bool.Decides.{nat_tests}

@@ -1,4 +1,6 @@
--- When one square changes, the sets of one colour change by that square, and those of the other colour stay.
+-- When the content of one square changes: the sets of a colour stay if no piece of it left or came (kinds_kept,
+-- all_kept), and the set of all its pieces gains or loses that square if one came or left (all_put, all_lift). The rest
+-- is of colours (theirs_of, own_of) and of writes to one square, of which the last holds (set_twice, cleared).
 use mathlib.Core.Bool.{and-true, and-false, or-true, or-false}
 use Rattle.std.proofs.Common.{◌≡◌, ℕ, ◌<◌, inl, inr, true, false, not, ◌&&◌, ◌||◌, ◌==◌, refl, sym, ◌∙◌, ap, arith, Option, Some, None, List, [], ◌∷◌, zero, suc, length, get_or, set, get_or-set_same, get_or-set_other}
 use Rattle.std.proofs.{lemmas.Bool.cases_eq, lemmas.Bool.eq-eqb, lemmas.Bool.ne_eqb, lemmas.List.set-get_or}

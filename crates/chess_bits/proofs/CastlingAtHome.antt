@@ -1,5 +1,7 @@
--- Castling with a right that is there: in normal chess the king is at home, and in both variants the king's move to the
--- square that names this castling (`named_square`) is this castling, with its four squares (`castle_told`).
+-- Castling with a right that is there, in a sound position. In normal chess the king is at home (at_home). In both
+-- variants the king's move to the square that names this castling (`named_square`) is this castling, with its four
+-- squares (castle_told), since it doesn't name the one to the other side; and only this square names it
+-- (castles_onto_end).
 use mathlib.Core.Bool.{and-false, and-true}
 use Rattle.std.proofs.Common.{◌≡◌, inl, inr, ℕ, ◌<◌, Bool, true, false, ◌&&◌, ◌==◌, Option, Some, None, refl, sym, ap, ◌∙◌, arith, option_and_then}
 use Rattle.std.specs.Option.{option_map, option_map_or}

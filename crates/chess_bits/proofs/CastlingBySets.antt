@@ -1,6 +1,7 @@
--- Castling tested by sets: king and rook each go along one rank, so the table has the squares on their ways. The
--- castling is pseudo-legal exactly if no other piece is met on these, and no square of the king's way is attacked
--- (`castle_pattern`).
+-- Castling tested by sets. King and rook each go along one rank (on_rank), so the table has the squares on their ways.
+-- The ways are empty if no other piece is met on them (way_is_empty), and the king's way is safe if no square of it is
+-- attacked (way_is_safe); a castling is pseudo-legal exactly if both hold (castle_pattern). What it changes on the
+-- board follows from its four squares (castle_steps).
 use Rattle.chess_base.proofs.{shared.Squares.each_square_same, shared.Changes.no_en_passant, shared.Men.in_board, shared.Men.is_man-kind, shared.Parts.castling_way_is_empty_by}
 use mathlib.Core.Bool.{and-true}
 use Rattle.std.proofs.Common.{◌≡◌, ℕ, ◌<◌, Bool, true, false, not, ◌&&◌, ◌||◌, ◌==◌, Option, Some, None, is_none, refl, sym, ap, subst, ◌∙◌, arith}

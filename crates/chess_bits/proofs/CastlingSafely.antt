@@ -1,5 +1,7 @@
--- Castling in normal chess opens no line to the square where the king ends: what attacks it afterwards attacked it
--- before. So a castling that nothing prevents is legal (castles_safely).
+-- In normal chess a castling whose way is empty and safe is legal (castles_safely): it opens no line to the square
+-- where the king ends, so what attacks that square afterwards attacked it before. Shown for the home squares of each
+-- colour and side: if the king's start is between that square and another one, so is the rook's end, and the rook's
+-- start is never between.
 use Rattle.std.proofs.Common.{◌≡◌, ℕ, ◌<◌, inl, inr, Bool, true, false, not, ◌&&◌, ◌||◌, ◌==◌, cond, Option, Some, None, is_none, refl, sym, ap, ◌∙◌, arith}
 use Rattle.std.proofs.lemmas.Bool.Decides.{nat_tests}
 use Rattle.std.proofs.lemmas.Bool.{and_parts, or_left, or_right, both_ways, cases_Bool, eqb-true, eq-eqb, false_from_ne_true}

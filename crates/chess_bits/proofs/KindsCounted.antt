@@ -1,6 +1,6 @@
--- Sums of moves: the pieces on the squares of a set have as many moves as those in a second set and those outside it
--- have together (`split`). A free officer has one legal move to each square that it attacks and no own piece holds
--- (`officer_counted`).
+-- Sums of moves: the pieces on the squares of a set w have as many moves as those in another set and those outside it
+-- have together (split, by induction over the squares). And a free officer has one legal move to each square that it
+-- attacks and no own piece holds, so they are as many (officer_counted, by free_listed of Freely).
 use Rattle.std.proofs.Common.{◌≡◌, ℕ, zero, suc, ◌+◌, ◌<◌, ◌≤◌, inl, inr, Bool, true, false, not, ◌&&◌, ◌||◌, ◌==◌, List, length, length-append, None, refl, sym, ap, ◌∙◌, arith}
 use Rattle.std.specs.List.{filter, flat_map, range_with_len}
 use Rattle.std.proofs.{lemmas.Bool.or_parts, lemmas.Bool.cases_Bool, lemmas.List.length-map}

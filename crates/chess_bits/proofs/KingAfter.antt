@@ -1,6 +1,6 @@
--- Where the king of the side on move is after a pseudo-legal move: where it lands if it moves (king_lands), otherwise
--- where it was (king_stays). The move is legal exactly if the king is not in check after it (legal_is), so not attacked
--- on that square (check_after).
+-- After a pseudo-legal move the mover's king is where the mover lands, if that is the king (king_lands), otherwise
+-- where it was (king_stays), since only own pieces arrive (mover_own). The move is legal exactly if its side is not in
+-- check then (legal_is), and check is an attack on the king's square (check_after): a side keeps one king.
 use Rattle.chess_base.proofs.{shared.Kings.one_king_of, shared.LegalMoves.change_of, shared.LegalMoves.one_king_after, shared.MoveKinds.moves_from_pattern, shared.Men.is_man-rook_as_king}
 use Rattle.std.proofs.Common.{◌≡◌, ℕ, ◌<◌, inl, inr, Bool, true, false, not, ◌||◌, ◌==◌, cond, count_by, Option, Some, None, is_none, refl, sym, ap, ◌∙◌, arith}
 use Rattle.std.proofs.lemmas.Bool.{and_left, cases_Bool, eqb-true}

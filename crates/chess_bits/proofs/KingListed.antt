@@ -1,5 +1,6 @@
--- The king's legal moves, listed: one to each square where a legal step or a legal castling ends, since a king doesn't
--- promote.
+-- A king's move without a promotion is legal exactly if it is a legal castling or a legal step (steps_or_castles).
+-- Since a king promotes to nothing, its legal moves are one to each square where one of them ends (king_listed), so as
+-- many as these squares (king_counted).
 use mathlib.Core.Bool.{or-false}
 use Rattle.std.proofs.Common.{◌≡◌, ℕ, ◌<◌, inl, inr, Bool, true, false, ◌&&◌, ◌||◌, Option, Some, None, cond, [], ◌∷◌, length, map, refl, sym, ap, ◌∙◌, arith}
 use Rattle.std.proofs.{lemmas.List.length-map, lemmas.Bool.cases_Bool}

@@ -1,4 +1,6 @@
--- The pieces when one is taken off the board: its square is empty, and the sets of the other colour stay.
+-- When the piece on one square a is taken off the board (`lifted`): a is empty and all other squares are as before
+-- (lifted_at); so the sets of the colour that had no piece there stay (lifted_kinds), and the occupied squares lose a
+-- (lifted_occupied).
 use mathlib.Core.Bool.{and-false, and-true}
 use Rattle.std.proofs.Common.{◌≡◌, ℕ, ◌<◌, inl, inr, Bool, true, false, not, ◌&&◌, ◌==◌, cond, List, Option, None, is_none, length, get_or-set_same, get_or-set_other, refl, sym, ap, ◌∙◌, arith}
 use Rattle.std.proofs.lemmas.Bool.{cases_eq, eq-eqb, ne_eqb}

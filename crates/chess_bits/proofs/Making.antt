@@ -1,5 +1,7 @@
--- The fast way to make a move that only takes a piece from one square to another (`shift` of placing.rt): it gives the
--- position after the move, and saves what `saved_of` does, as the definitions say.
+-- The fast way to make a move that only takes a piece from one square to another (`Shifts`; `shift` of placing.rt):
+-- what it leaves is the position after the move (after_shift), and what it saves is `saved_of` (saved_shifting). For
+-- such a move two writes are what it changes on the board (plainly_written); rights stay if none is left, or if no king
+-- or rook moves or is taken (none_lost, rights_kept), and only a pawn leaves a target (officer_leaves_no_target).
 use mathlib.Core.Bool.{and-false}
 use Rattle.std.proofs.Common.{◌≡◌, ◌≢◌, ℕ, true, false, not, ◌&&◌, Bool, length, set, refl, sym, ap, arith, ◌∙◌, ◌||◌, ◌==◌, Option, Some, None, is_none, if◌then◌else◌, is_some}
 use Rattle.std.proofs.lemmas.Bool.{and_parts, and_left, and_right, both_ways, ne_eqb, not-true, or_parts}

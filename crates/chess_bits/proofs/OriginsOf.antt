@@ -1,5 +1,7 @@
--- From where pieces can go to a square: officers from squares that their kind would attack from there, pawns by an
--- advance or a capture. The sets have the start of each legal move to the square (`HasOrigins`), perhaps others too.
+-- Sets that have the start of each legal move of a kind to a square (`HasOrigins`), perhaps others too: officers on
+-- squares that their kind would attack from there, since such pieces attack as they are attacked (officer_origins), and
+-- pawns that advance or capture to it (pawn_origins). And a pawn is off rank 1, with the square ahead of it on the
+-- board (off_lowest, on_board).
 use Rattle.std.proofs.Common.{◌≡◌, ℕ, ◌<◌, ◌≤◌, Bool, true, false, not, ◌&&◌, ◌||◌, ◌==◌, None, refl, sym, ap, ◌∙◌, arith}
 use Rattle.std.proofs.{lemmas.Bool.and_parts, lemmas.Bool.and_from, lemmas.Bool.not-true, lemmas.Bool.Decides.nat_tests}
 use Rattle.chess_base.specs.{declared.man.Colour.Colour, declared.man.Colour.TheVariants.White, declared.man.Colour.TheVariants.Black, declared.man.Kind.Kind, declared.man.Move.Move, declared.setup.Setup.Setup, Attacks.could_capture, MoveList.move_of, Moves.is_legal, Moves.pawn_advances, Moves.pawn_captures, shared.Parts.pawn_is_allowed, Squares.file, Squares.rank}

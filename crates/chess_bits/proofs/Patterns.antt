@@ -1,6 +1,8 @@
--- A move is pseudo-legal exactly if its piece goes from the one square to the other (`goes`), and its promotion fits: a
--- kind that a pawn may become if it comes to its last rank, and otherwise none (`pattern_is`). `goes` tries one
--- promotion only, to a queen, as this makes no difference.
+-- A move is pseudo-legal exactly if its piece goes from the one square to the other (`goes`, which tries a single
+-- promotion) and its promotion fits: a kind that a pawn may become on its last rank, otherwise none (pattern_is, by
+-- cases of the piece). By kind: pawns go by advance or capture (pawn_goes), others as they attack or castle
+-- (officer_goes); `man_goes` has the ends of all their legal moves, and only ends to which they go (man_complete,
+-- man_sound).
 use mathlib.Core.Bool.{and-true, and-false, and_comm}
 use Rattle.std.proofs.Common.{◌≡◌, ℕ, ◌<◌, Bool, true, false, not, ◌&&◌, ◌||◌, ◌==◌, cond, Option, Some, None, refl, sym, ap, ◌∙◌, nat_lt, arith, if◌then◌else◌}
 use Rattle.std.proofs.lemmas.Bool.{and_parts, and_from, lt-ltb, both_ways, false_from_ne_true}

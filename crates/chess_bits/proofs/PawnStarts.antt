@@ -1,5 +1,7 @@
--- From where pawns go to a square, by sets: straight ahead from one square back or, at home, from two back; by a
--- capture from the squares that an enemy pawn on it would attack.
+-- Pawns that go to a square, as sets. Straight ahead from one rank back or, at home, two (advances_are); by a capture
+-- from squares that an enemy pawn on it would attack (captures_are). Off the last rank these moves are pseudo-legal,
+-- and change only two squares if the square isn't the target (pawn_patterns, pawns_plain); the legal ones begin on all
+-- legal starts of pawns (pawn_starts_are). On the last rank there are none without a promotion (none_on_last).
 use mathlib.Core.Bool.{and_comm, not-not}
 use Rattle.std.proofs.Common.{◌≡◌, ℕ, ◌<◌, ◌≤◌, inl, inr, Bool, true, false, not, ◌&&◌, ◌||◌, ◌==◌, None, is_none, refl, sym, ap, ◌∙◌, arith}
 use Rattle.std.proofs.lemmas.Bool.{and_from, and_left, and_parts, and_right, cases_Bool, eqb-true}

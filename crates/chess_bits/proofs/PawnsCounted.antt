@@ -1,6 +1,7 @@
--- The legal moves of free pawns that neither promote nor take en passant, counted together: each pawn has one for each
--- of four ways that is open to it (one square ahead, two, a capture left or right), so the pawns of each way are added
--- up (pawns_counted).
+-- A free pawn that neither promotes nor takes en passant has one legal move for each of four ways that is open to it:
+-- one square ahead, two, a capture left or right (pawn_counted). So such pawns have as many together as the four sets
+-- of pawns to which a way is open have squares (pawns_counted, by induction over the squares); and the sets that
+-- `count_ordinary_pawns` computes are these (ways_are).
 use mathlib.Core.Bool.{not-not, or-false}
 use Rattle.std.proofs.Common.{◌≡◌, ℕ, zero, suc, ◌+◌, ◌-◌, ◌/◌, ◌<◌, ◌≤◌, inl, inr, Bool, true, false, not, ◌&&◌, ◌||◌, ◌==◌, cond, Option, Some, None, is_none, List, [], ◌∷◌, length, length-append, refl, sym, ap, ◌∙◌, arith}
 use Rattle.std.specs.List.{filter, flat_map, range_with_len}

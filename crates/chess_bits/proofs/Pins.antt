@@ -1,5 +1,8 @@
--- Where a piece may go that shields its king, or whose king is in check: between the king and the enemy that attacks
--- it, or would with the piece off the board, or onto this enemy, or to the en passant target (`answered`, `check_met`).
+-- If an enemy attacks the king, or would with the mover off the board, each legal move of a piece other than the king
+-- ends between the two, on this enemy, or on the en passant target (check_met, answered): otherwise the enemy would
+-- attack the king afterwards. What hides a king from a queen, rook or bishop that aims at it: no piece, one
+-- (`IsShield`), or more (none_hides, one_hides, many_hide). Squares with a square between them are on one line
+-- (line_between).
 use Rattle.chess_base.proofs.{shared.Changes.at_target, shared.Men.is_none-None, shared.Squares.each_square-all, shared.Squares.each_square-at, shared.Squares.some_square-at, shared.Geometry.between_back, shared.MenAfter.eqb_comm}
 use Rattle.chess_bits.proofs.{TargetsOf.no_king_castles, Attackers.de_morgan, BetweenSquares.are_on_line, BoardSets.theirs_of, Freely.from_not, KingAfter.king_stays, KingAfter.check_after, KingAfter.legal_is, Lifted.lifted_at}
 use Rattle.std.specs.Int.{abs_diff}

@@ -1,5 +1,6 @@
--- A move that changes only its two squares leaves the king as safe as it was with the mover taken off (stays_safe): the
--- mover arrives where it can only block lines, and no enemy piece comes.
+-- A move that is neither castling nor en passant (`IsPlain`) leaves a square, such as the king's, unattacked if it was
+-- so with the mover taken off (stays_safe): the mover arrives where it can only block lines, and no enemy piece comes.
+-- A move that is not the king's and not en passant fills its end and changes its two squares (fills_end, changes_both).
 use Rattle.chess_bits.proofs.{TargetsOf.no_king_castles, KingAfter.mover_some, KingAfter.mover_own, Lifted.lifted_at}
 use mathlib.Core.Bool.{or-false}
 use Rattle.std.proofs.Common.{◌≡◌, ℕ, ◌<◌, inl, inr, Bool, true, false, not, ◌&&◌, ◌||◌, ◌==◌, cond, length, refl, sym, ap, ◌∙◌, Option, Some, None, is_none, arith}

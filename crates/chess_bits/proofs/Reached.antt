@@ -1,5 +1,6 @@
--- What a piece could capture from its square, as the tables give it: king, knight and pawn by their shapes, queen, rook
--- and bishop along lines with no occupied square between.
+-- The squares that the tables give for a piece are those that it could capture on (`could_capture`), one lemma for each
+-- kind: king, knight and pawn by their shapes; queen, rook and bishop along lines with no occupied square between. By
+-- the definition of each kind, where a line seen from the other end is the same line (line_back).
 use Rattle.std.proofs.Common.{◌≡◌, ℕ, Bool, not, ◌&&◌, ◌||◌, ◌==◌, refl, ap, ◌∙◌, is_none, arith}
 use Rattle.chess_base.specs.{declared.man.Colour.Colour, Men.Men, Men.man_at, Attacks.is_clear, Attacks.could_capture}
 use Rattle.chess_base.specs.declared.man.Kind.TheVariants.{King, Queen, Rook, Bishop, Knight, Pawn}

@@ -1,4 +1,6 @@
--- When the first member (s) of a set (w) is taken out, the others (v) are left: this is what `take_first` does.
+-- What `take_first` does to a set w with the members s and then those of v: w has the squares of v, and s
+-- (taken_first); s is not in v (first_gone), and is a square of w (first_in). A set without members has no square
+-- (none_left). Members are a filter of the numbers 0 to 63, so all is shown by induction over ranges.
 use Rattle.std.proofs.Common.{◌≡◌, ℕ, zero, suc, ◌<◌, ◌≤◌, ◌+◌, inl, inr, Bool, true, false, ◌||◌, ◌==◌, List, [], ◌∷◌, refl, sym, ap, ◌∙◌, arith}
 use Rattle.std.specs.List.{filter, range_with_len}
 use Rattle.std.proofs.lemmas.Bool.{cases_Bool, cases_lt, eq-eqb, ne_eqb}

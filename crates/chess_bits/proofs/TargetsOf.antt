@@ -1,5 +1,7 @@
--- Where each kind of piece goes, as its set of targets says: the set has the end of each legal move of the piece, and
--- only squares to which it goes (`goes`).
+-- The set of targets of a piece has the end of each of its legal moves, and only squares to which it goes (`goes`): for
+-- pawns pawn_complete and pawn_sound, for others man_set_complete and man_set_sound. Before that, what each kind's
+-- targets are: an officer attacks them and no own piece is there (officer_is), a king also castles to either side
+-- (to_either_side), a pawn captures (captures_is) or advances one square or two (blocked, one_only, two_too).
 use Rattle.chess_base.proofs.{shared.Changes.no_castling, shared.Squares.some_square-at, shared.Squares.some_square-none, shared.Castling.no_castle, shared.Men.same_colour-self, shared.Men.same_colour-true, shared.Men.same_kind-true}
 use mathlib.Core.Bool.{and-false, and-true, or-false}
 use Rattle.std.proofs.Common.{◌≡◌, ℕ, ◌+◌, ◌-◌, ◌<◌, ◌≤◌, inl, inr, nat_le, Bool, true, false, not, ◌&&◌, ◌||◌, ◌==◌, Option, Some, None, is_none, refl, sym, ap, subst, ◌∙◌, arith}
