@@ -1,7 +1,8 @@
 -- By the kind of a piece (officer, pawn, king): which of its moves are pseudo-legal (officer_pattern, pawn_pattern,
--- man_pattern), and that they change only their two squares (`StepsPlainly`: officer_plain, pawn_plain), so that a
--- short test of the king's safety is enough. From that, the legal starts of officers (officer_starts_are) and of the
--- king (king_start) to a square; a king goes to it by a step or by castling (king_otherwise).
+-- man_pattern), and that officers' moves and pawns' but to the target change only their two squares (`StepsPlainly`:
+-- officer_plain, pawn_plain), so that a short test of the king's safety is enough. From that, the legal starts of
+-- officers to a square (officer_starts_are). A king goes by a step or by castling (king_otherwise), from its one square
+-- (king_start).
 use mathlib.Core.Bool.{and-false, and-true}
 use Rattle.std.proofs.Common.{◌≡◌, ℕ, ◌<◌, inl, inr, Bool, true, false, not, ◌&&◌, ◌||◌, ◌==◌, Option, Some, None, refl, sym, ap, ◌∙◌, is_some}
 use Rattle.std.proofs.lemmas.Bool.{and_parts, and_from, and_left, and_right, cases_Bool, eqb-true, not-true, or_parts}

@@ -1,6 +1,6 @@
 -- Numbers of legal moves. Some pieces have no more than all pieces, by induction over the squares, so at most as many
 -- as a list holds (some_fit: 896). If some pieces, or the piece on one square, have a legal move, there is one
--- (some_of, some_from); some of joined lists has an element exactly if the whole has one (any_of).
+-- (some_of, some_from). Of joined lists one has an element exactly if the whole has (any_of).
 use Rattle.std.proofs.Common.{◌≡◌, ℕ, suc, ◌+◌, ◌≤◌, inl, inr, Bool, true, ◌||◌, List, [], ◌∷◌, ◌++◌, length, refl, sym, ap, ◌∙◌, length-append, nat_lt, ◌<◌, arith}
 use Rattle.std.proofs.lemmas.Bool.{cases_Bool, lt-ltb, ltb-true}
 use Rattle.std.specs.List.{filter, flat_map, list_any}

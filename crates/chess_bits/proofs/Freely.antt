@@ -1,8 +1,8 @@
--- A free piece (`IsFree`: with it taken off the board, its king is not attacked) has only legal moves among its
--- pseudo-legal ones, promotions and en passant aside (free_is_legal, by stays_safe of Quiet). If it is ordinary too,
--- each square to which it goes gives one legal move (free_listed). Which pieces are: no pawn, or one that neither
--- promotes nor takes en passant, is ordinary (ordinary_from); a piece whose leaving opens no line to its king, not in
--- check, is free (freed).
+-- Each pseudo-legal move of a free piece (`IsFree`: its king is not attacked even with the piece taken off the board)
+-- is legal, promotions and en passant left aside (free_is_legal, by stays_safe of Quiet). If it is ordinary too, which
+-- is no pawn or one that neither promotes nor takes en passant (ordinary_from), each square to which it goes gives one
+-- legal move (free_listed). Without check, a piece other than the king is free if no line to the king opens when it
+-- leaves (freed).
 use Rattle.std.proofs.Common.{◌≡◌, ℕ, ◌+◌, ◌<◌, ◌≤◌, ◌⊎◌, inl, inr, Bool, true, false, not, ◌&&◌, ◌||◌, ◌==◌, Option, Some, None, cond, [], ◌∷◌, map, refl, sym, ap, ◌∙◌, subst, arith}
 use Rattle.std.proofs.lemmas.Bool.{and_parts, and_from, and_right, or_cases, or_left, or_right, or_parts, eqb-false, eqb-true, eq-eqb, ne_eqb, cases_Bool, and_left}
 use Rattle.chess_base.specs.{declared.man.Colour.Colour, declared.man.Colour.TheVariants.White, declared.man.Colour.TheVariants.Black, declared.man.Kind.Kind, declared.man.Man.Man, declared.man.Move.Move, declared.setup.Setup.Setup, shared.Parts.is_rank_ahead, shared.Splits.could_capture_as, Castling.castle_of, MoveList.move_of, Sound.IsSound, Sound.no_pawn_on_end_ranks}

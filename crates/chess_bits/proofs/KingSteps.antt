@@ -1,7 +1,7 @@
--- A king's step, which is a move of it by its attack, is no castling (step_no_castling), so a king goes by a step or by
--- legal castling (king_goes). A step is legal exactly if its end is not attacked with the king taken off the board
--- (step_is): that board and the one after the step differ on the end alone, and whether a square is attacked doesn't
--- depend on what is on it.
+-- A king's step, to a square that it attacks and that holds no own piece, is no castling (step_no_castling), so a king
+-- goes by a step or by legal castling (king_goes). A step is legal exactly if its end is not attacked with the king
+-- taken off the board (step_is): that board and the one after the step differ on the end alone, and whether a square is
+-- attacked doesn't depend on what is on it.
 use mathlib.Core.Bool.{or-false}
 use Rattle.std.proofs.Common.{◌≡◌, ℕ, ◌<◌, inl, inr, Bool, true, false, not, ◌&&◌, ◌||◌, ◌==◌, Option, Some, None, refl, sym, ap, ◌∙◌}
 use Rattle.std.proofs.lemmas.Bool.{and_from, and_parts, and_right, both_ways, cases_Bool, eqb-true, false_from_ne_true}

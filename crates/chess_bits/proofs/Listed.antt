@@ -1,7 +1,8 @@
 -- Legal moves listed square by square of a set. What holds on a set's squares holds of its members (each_member); a
 -- list that has room for all moves has it for those of each member (room_for, room_onto, fits_from). Between two
 -- squares all four promotions are legal or none, elsewhere one move or none (promotions_between, one_between). The
--- moves to all targets are all from a square (from_targets), and those of the own pieces are all (from_men).
+-- moves from a square to all its targets are all its moves (from_targets), and those of the own pieces are all legal
+-- moves (from_men).
 use Rattle.std.proofs.Common.{◌≡◌, ℕ, zero, suc, ◌+◌, ◌<◌, ◌≤◌, inl, inr, Bool, true, false, Option, Some, None, List, [], ◌∷◌, ◌++◌, length, map, take, cond, refl, sym, ap, subst, ◌∙◌, arith, length-append}
 use Rattle.std.specs.List.{filter, flat_map, range_with_len}
 use Rattle.std.proofs.{lemmas.List.length-map, lemmas.List.length-take-le, lemmas.Bool.cases_Bool, lemmas.Bool.false_from_ne_true, lemmas.Bool.both_ways}
