@@ -1,4 +1,4 @@
--- Hashes by parts. A position's hash is the exclusive or of that of its pieces, its side and its rights (hash_apart,
+-- Hashes by parts. A position's hash is the exclusive or of three: of its pieces, its side and its rights (hash_apart,
 -- rights_apart). A loop over the squares that joins their keys one by one gives that of the pieces (xor_turn, xor_end).
 -- A piece put on an empty square, or taken off its own, changes it by one key (hash_put, hash_lifted), as the keys of
 -- the other squares stay: by induction over the squares. For boards.

@@ -1,6 +1,6 @@
--- The loop's invariant, of the pinners looked at so far: each free piece is an own one, not the king, and if it leaves,
--- the way from none of them to the king opens (`KeepsClosed`); each legal move of a piece that is neither free nor the
--- king ends on an evasion. Pinners not looked at are in `rest`; the measure is their number.
+-- The loop's invariant: each free piece is an own one, not the king, and if it leaves, the way to the king opens from
+-- none of the possible pinners looked at so far (`KeepsClosed`); each legal move of a piece that is neither free nor
+-- the king ends on an evasion; and `rest` has possible pinners only. The measure is the number of squares in `rest`.
 use Rattle.std.proofs.Common.{◌≡◌, ◌<◌, ℕ, not, ◌&&◌, ◌==◌, length, true, false}
 use Rattle.chess_base.specs.Men.{man_at, is_of}
 use Rattle.chess_bits.specs.ties.Pins.{aims_from, KeepsClosed, AreEvasions}
