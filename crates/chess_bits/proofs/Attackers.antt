@@ -22,13 +22,13 @@ pub both_rays : (l : Line) (a b : ℕ) (o : Bool)
     → ((is_on_ray l true b a && o) || (is_on_ray l false b a && o)) ≡ (not (a == b) && same_line l a b && o)
 both_rays l a b o = rw (eqb_comm (line_number l a) (line_number l b)) (grind (arith, nat_tests))
 
--- both kinds of lines of a rook together, and those of a bishop
+-- rank and file together: another square of a's rank or file, where o holds
 pub on_lines : (a b : ℕ) (o : Bool)
     → ((not (a == b) && same_line Rank a b && o) || (not (a == b) && same_line File a b && o))
     ≡ (not (a == b) && share_rank_or_file a b && o)
 on_lines a b o = grind arith
 
--- the same for the two diagonals of a bishop
+-- diagonal and antidiagonal together: another square of a's diagonals, where o holds
 pub on_diagonals : (a b : ℕ) (o : Bool)
     → ((not (a == b) && same_line Diagonal a b && o) || (not (a == b) && same_line Antidiagonal a b && o))
     ≡ (not (a == b) && share_diagonal a b && o)
@@ -109,7 +109,7 @@ attackers_are men c a b None = seen_kind men c a b false King
 attackers_are men c a b (Some x) = seen_kind men c a b (same_colour c x.colour) x.kind
     ∙ own_reach men c x.colour x.kind a b
 
--- a square is attacked where its set of attackers is not empty
+-- if w has just the squares from which pieces of colour c attack b, b is attacked exactly if w is not empty
 pub attacked_is : (w : ℕ) (men : Men) (b : ℕ) (c : Colour)
     → ((k : ℕ) → k < 64 → contains w k ≡ (is_of c (man_at men k) && attacks men k b))
     → not (not (some_square (λ k. contains w k))) ≡ is_attacked men b c

@@ -78,7 +78,7 @@ open_to_first l up a b w f h on here nearer e =
           (rw both.0 at clear))))
     ]
 
--- so the ray without the ray from f is its open part
+-- if f is the first blocker, the ray from a without the ray from f is the open part of the ray from a
 pub swept : (l : Line) (up : Bool) (a b w f : ℕ)
     → f < 64
     → is_on_ray l up a f ≡ true
@@ -91,7 +91,7 @@ swept l up a b w f h on here nearer =
       | inr n ↦ rw n refl
     ]
 
--- without a blocker the whole ray is open
+-- without a blocker the ray from a is its own open part
 pub swept_all : (l : Line) (up : Bool) (a b w : ℕ)
     → ((x : ℕ) → x < 64 → (is_on_ray l up a x && contains w x) ≡ false)
     → is_on_ray l up a b ≡ (is_on_ray l up a b && is_open w a b)

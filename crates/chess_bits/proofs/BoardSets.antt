@@ -10,7 +10,8 @@ use Rattle.chess_moves.specs.Sets.{contains}
 use Rattle.chess_base.proofs.{shared.Changes.not_same_other, shared.Men.not_is_man, shared.Men.is_of-none, shared.Men.same_colour-self}
 use Rattle.chess_bits.specs.ties.KindSets.{IsAll, IsKinds}
 
--- the sets of a colour none of whose pieces came or went
+-- the sets of a colour's kinds stay right when the content of square s becomes o, if neither the old content nor o is a
+-- piece of this colour
 pub kinds_kept : (sets : List ℕ) (men : Men) (c : Colour) (s : ℕ) (o : Option Man) → length men ≡ 64 → s < 64
     → is_of c (man_at men s) ≡ false → is_of c o ≡ false → IsKinds sets c men → IsKinds sets c (set men s o)
 kinds_kept sets men c s o all ls was is h = record { of_kind = at }
@@ -24,7 +25,8 @@ kinds_kept sets men c s o all ls was is h = record { of_kind = at }
           | inr away ↦ rw (get_or-set_other men s k o None away) (h.of_kind y k l)
         ]
 
--- the set of all its pieces stays, too
+-- the set of all pieces of a colour stays right when the content of square s becomes o, if neither the old content nor
+-- o is a piece of this colour
 pub all_kept : (w : ℕ) (men : Men) (c : Colour) (s : ℕ) (o : Option Man) → length men ≡ 64 → s < 64
     → is_of c (man_at men s) ≡ false → is_of c o ≡ false → IsAll w c men → IsAll w c (set men s o)
 all_kept w men c s o all ls was is h = λ k l.
@@ -34,7 +36,7 @@ all_kept w men c s o all ls was is h = λ k l.
       | inr away ↦ rw (get_or-set_other men s k o None away) (h k l)
     ]
 
--- if a piece of this colour comes to s, the set of all gets s
+-- if a piece of this colour comes to s, the set of all pieces with s added is right
 pub all_put : (w v : ℕ) (men : Men) (c : Colour) (s : ℕ) (o : Option Man) → length men ≡ 64 → s < 64 → is_of c o ≡ true
     → ((j : ℕ) → contains v j ≡ (contains w j || (j == s))) → IsAll w c men → IsAll v c (set men s o)
 all_put w v men c s o all ls own made h = λ k l.
@@ -44,7 +46,7 @@ all_put w v men c s o all ls own made h = λ k l.
       | inr away ↦ rw (get_or-set_other men s k o None away, made k, ne_eqb k s away, or-false (contains w k)) (h k l)
     ]
 
--- if one leaves s, the set of all loses s
+-- if square s is emptied, the set of all pieces of a colour without s is right
 pub all_lift : (w v : ℕ) (men : Men) (c : Colour) (s : ℕ) → length men ≡ 64 → s < 64
     → ((j : ℕ) → j < 64 → contains v j ≡ (contains w j && not (j == s))) → IsAll w c men → IsAll v c (set men s None)
 unfolding is_of

@@ -14,7 +14,7 @@ use Rattle.chess_base.proofs.{shared.Castling.right_is_sound_of, shared.Castling
 use Rattle.chess_bits.specs.ties.Goes.{names_end, castles_onto}
 use Rattle.chess_bits.proofs.OneKing.{alone}
 
--- king and rook of the right are where castling begins
+-- in normal chess, with a right to castle, king and rook are on the squares where this castling begins
 pub stands : (p : Setup) (w : CastlingSide) (rook : ℕ) → IsSound p → p.variant ≡ Normal
     → right_of p.rights p.side w ≡ Some rook → are_placed_for_castling Normal p.men p.side w rook ≡ true
 unfolding right_is_sound

@@ -33,7 +33,7 @@ some_of p w h =
     let some : 0 < length (flat_map (λ a. moves_from p a) (filter (λ k. contains w k) squares)) = ltb-true _ _ h in
     sym (lt-ltb 0 (length (moves p)) (omega (arith, less, all, some)))
 
--- these pieces have no more legal moves than a list holds
+-- the pieces on the squares of w have no more legal moves than a list holds
 pub some_fit : (p : Setup) (w : ℕ) → IsSound p → length (flat_map (λ a. moves_from p a) (members w)) ≤ 896
 unfolding members
 some_fit p w sound =

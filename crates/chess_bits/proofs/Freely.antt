@@ -107,7 +107,8 @@ pawn_ordinary p a sound low pawn no_target off = record {
               (is_of (other p.side) (man_at p.men b) || is_at p.target b) takes).0).1
         ]
 
--- the same from the code's test of the piece: no pawn, or one that does not go specially
+-- a piece that passes the code's test is ordinary: it is no pawn, or one that is not on the last rank but one and does
+-- not attack the target
 pub ordinary_from : (p : Setup) (a : ℕ) → IsSound p → a < 64
     → (is_man p.side Pawn (man_at p.men a) && (aims_at p.target p.side a || (rank a == pawn_rank (other p.side))))
     ≡ false → IsOrdinary p a
@@ -131,7 +132,8 @@ free_between p a b king sound free ordinary low high there one go =
     ∙ ap (λ t. cond t (move_of a b None ∷ []) [])
     (free_is_legal p a b king sound free low there one go stays (ordinary.passes b))
 
--- so its legal moves are one to each square of w, the set of its targets
+-- if w is the set of its targets (it goes to each, and each legal move of it ends on one), a free and ordinary piece
+-- has one legal move to each square of w
 pub free_listed : (p : Setup) (a king w : ℕ) → IsSound p → IsFree p a → IsOrdinary p a → a < 64 → king < 64
     → ((k : ℕ) → k < 64 → is_man p.side King (man_at p.men k) ≡ (k == king))
     → ((k : ℕ) → k < 64 → contains w k ≡ true → goes p a k ≡ true)

@@ -89,7 +89,7 @@ lift_kinds sets men c x s w d six all ls there h made =
           (λ apart. made k lk ∙ rw (ne_eqb k s apart, get_or_default sets (kind_number x) d 0 in_sets) (and-true _));
     }
 
--- a piece goes from a to the empty square b
+-- a piece goes from a to the empty square b: the set of its kind loses a and gets b
 pub shift_kinds : (sets : List ℕ) (men : Men) (c : Colour) (x : Kind) (a b v w d : ℕ)
     → length sets ≡ 6 → length men ≡ 64 → a < 64 → b < 64 → man_at men a ≡ Some (record { colour = c; kind = x })
     → man_at men b ≡ None → IsKinds sets c men

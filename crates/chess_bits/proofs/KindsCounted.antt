@@ -45,7 +45,8 @@ split_range g w c u v (suc n) a fits hu hv =
           ]
     ]
 
--- so for a set w: u has its squares that are in c, v the others
+-- where u has the squares of w that are in c, and v the others of w, the lists gathered over u and over v have as many
+-- elements together as the one over w
 pub split : {A : Type 0} (g : ℕ → List A) (w c u v : ℕ) → ((k : ℕ) → contains u k ≡ (contains w k && contains c k))
     → ((k : ℕ) → k < 64 → contains v k ≡ (contains w k && not (contains c k)))
     → length (flat_map g (members u)) + length (flat_map g (members v)) ≡ length (flat_map g (members w))

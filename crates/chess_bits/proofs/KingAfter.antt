@@ -53,7 +53,7 @@ one_after : (p : Setup) (m : Move) → IsSound p → is_pseudo_legal p m ≡ tru
 one_after p m sound pattern = one_king_after p m p.side sound.board (change_of p m sound pattern)
     (one_king_of p sound p.side)
 
--- a king that does not move stays
+-- if what arrives is no king, the king of the side on move is after the move on the square where it was
 pub king_stays : (p : Setup) (m : Move) (king : ℕ) → IsSound p → is_pseudo_legal p m ≡ true
     → ((k : ℕ) → k < 64 → is_man p.side King (man_at p.men k) ≡ (k == king))
     → is_man p.side King (arriving_man (man_at p.men m.from) m.promotion) ≡ false
@@ -79,7 +79,7 @@ king_stays p m king sound pattern one mover =
           | inr apart ↦ elsewhere p m k mover (one k low ∙ apart) low
         ]
 
--- and one that moves is where it lands
+-- if what arrives is the king of the side on move, it is after the move on the square where the mover lands
 pub king_lands : (p : Setup) (m : Move) (to : ℕ) → to ≡ mover_end p m → to < 64
     → is_man p.side King (arriving_man (man_at p.men m.from) m.promotion) ≡ true
     → is_man p.side King (man_at (men_after p m) to) ≡ true

@@ -18,12 +18,12 @@ lifted_at men a k all low =
       | inr away ↦ rw (get_or-set_other men a k None None away, ne_eqb k a away) refl
     ]
 
--- the sets of the other colour stay
+-- with the piece on a taken off, the sets of the kinds of colour c stay right, if no piece of colour c is on a
 pub lifted_kinds : (sets : List ℕ) (men : Men) (c : Colour) (a : ℕ) → length men ≡ 64 → a < 64
     → is_of c (man_at men a) ≡ false → IsKinds sets c men → IsKinds sets c (lifted men a)
 lifted_kinds sets men c a all low theirs = kinds_kept sets men c a None all low theirs (none_of c None refl)
 
--- the occupied squares are then the same, but for a
+-- with the piece on a taken off, the occupied squares are the same, but for a
 pub lifted_occupied : (w v : ℕ) (men : Men) (a : ℕ) → length men ≡ 64 → a < 64 → IsOccupied w men
     → ((k : ℕ) → k < 64 → contains v k ≡ (contains w k && not (k == a))) → IsOccupied v (lifted men a)
 lifted_occupied w v men a all low stood h = record {

@@ -98,13 +98,14 @@ promotions_between p a b t e h =
     ∙ all_or_none (λ m. is_legal p m) (move_of a b (Some Queen)) (move_of a b (Some Rook)) (move_of a b (Some Bishop))
     (move_of a b (Some Knight)) t (h Queen refl) (h Rook refl) (h Bishop refl) (h Knight refl)
 
--- elsewhere there is one move if it is legal, and otherwise none
+-- where no pawn would promote, the legal moves between two squares are the one without a promotion, if it is legal, and
+-- otherwise none
 pub one_between : (p : Setup) (a b : ℕ) → would_promote p a b ≡ false
     → moves_between p a b ≡ cond (is_legal p (move_of a b None)) (move_of a b None ∷ []) []
 one_between p a b e = none_promotes p a b e
     ∙ elim (cases_Bool (is_legal p (move_of a b None))) [ inl legal ↦ rw legal refl | inr not_legal ↦ rw not_legal refl ]
 
--- where none is legal there are none
+-- if no move between two squares is legal, with whatever promotion, the list of legal moves between them is empty
 pub none_there : (p : Setup) (a b : ℕ) → ((k : Option Kind) → is_legal p (move_of a b k) ≡ false)
     → moves_between p a b ≡ []
 unfolding moves_between

@@ -18,7 +18,8 @@ use Rattle.chess_bits.proofs.{BoardSets.set_twice, Quiet.not_passing, TargetsOf.
 
 -- ---- rights
 
--- with no right left, no move loses one
+-- if neither colour has a castling right, no colour c has one to a side w (none_of), so the rights after a move are
+-- those before it (none_lost)
 none_of : (r : Rights) (c : Colour) (w : CastlingSide) → has_no_right r ≡ true → right_of r c w ≡ None
 none_of r White KingSide h = is_none-None r.white.king_side (grind (arith, h))
 none_of r White QueenSide h = is_none-None r.white.queen_side (grind (arith, h))
@@ -56,7 +57,7 @@ right_kept p m c w (Some s) sound mover taken at =
     ne_eqb m.to s (λ e. both_ways _ (no_king_or_rook c (man_at p.men m.to) taken).1 (rw e there)) in
     rw (starts.0, not_from, not_to) refl
 
--- so all rights stay
+-- all rights stay if neither the mover nor the content of the end square is a king or a rook
 rights_kept_at : (p : Setup) (m : Move) → IsSound p
     → (is_king_or_rook (man_at p.men m.from) || is_king_or_rook (man_at p.men m.to)) ≡ false
     → p.rights ≡ rights_after p m
@@ -107,7 +108,7 @@ plain_end : (p : Setup) (m : Move) → IsPlainly p m → mover_end p m ≡ m.to
 unfolding mover_end
 plain_end p m h = rw h.no_castle refl
 
--- so the pieces after it are those before with its two squares written
+-- the pieces after a plain move are those before it, with the start emptied and what arrives written on the end square
 pub plainly_written : (p : Setup) (m : Move) → length p.men ≡ 64 → IsPlainly p m
     → set (set p.men m.from None) m.to (arriving_man (man_at p.men m.from) m.promotion) ≡ men_after p m
 plainly_written p m all h =
@@ -247,7 +248,7 @@ men_shifted p m x sound h =
     let lands : arriving_man (man_at p.men m.from) m.promotion ≡ Some x = rw (h.mover, h.unpromoted) refl in
     ap (λ o. set (set p.men m.from None) m.to o) (sym lands) ∙ plainly_written p m sound.board h.plainly
 
--- so the fast way gives the position after the move
+-- the fast way gives the position after the move: two writes, and rights, target and clock as computed
 pub after_shift : (p : Setup) (m : Move) (x : Man) (rights : Rights) (target : Option ℕ) (n : ℕ) → IsSound p
     → is_legal p m ≡ true → Shifts p m x → rights ≡ rights_after p m → target ≡ target_after p m
     → n ≡ clock_left p.halfmove x.kind (man_at p.men m.to)

@@ -123,7 +123,7 @@ unfolding would_promote is_man
 promotes_is p a b x at own pawn = let own' : same_colour p.side x.colour ≡ true = rw own (same_colour-self p.side) in
     rw (at, own', pawn) refl
 
--- a pawn advances or captures
+-- a pawn goes from a to b exactly if it advances or captures there
 pub pawn_goes : (p : Setup) (a b : ℕ) (x : Man) → man_at p.men a ≡ Some x → x.colour ≡ p.side
     → same_kind Pawn x.kind ≡ true → a < 64 → b < 64
     → goes p a b ≡ (pawn_advances p (move_of a b None) || pawn_captures p (move_of a b None))
@@ -147,7 +147,8 @@ moves_officer : (p : Setup) (m : Move) (x : Man) → x.colour ≡ p.side → sam
 moves_officer p m x own no_pawn = let own' : same_colour p.side x.colour ≡ true = rw own (same_colour-self p.side) in
     rw (own', no_pawn) refl
 
--- another piece goes as it attacks, or castles
+-- a piece other than a pawn goes from a to b exactly if it castles so pseudo-legally or, where the move is no castling,
+-- goes as it attacks
 pub officer_goes : (p : Setup) (a b : ℕ) (x : Man) → man_at p.men a ≡ Some x → x.colour ≡ p.side
     → same_kind Pawn x.kind ≡ false → a < 64 → b < 64
     → goes p a b ≡ castles_or_moves p (move_of a b None) (castle_of p (move_of a b None))
@@ -159,7 +160,7 @@ officer_goes p a b x at own no_pawn low high =
 
 -- ---- legal moves
 
--- a legal move goes so, and its promotion fits
+-- of a legal move, the piece goes from its start to its end (`goes`), and its promotion fits
 pub legal_goes : (p : Setup) (m : Move) → is_legal p m ≡ true → (goes p m.from m.to ≡ true)
     × (promotion_fits (would_promote p m.from m.to) m.promotion ≡ true)
 unfolding is_legal
@@ -179,7 +180,7 @@ man_sound p a b x at own no_pawn low high h = by (castle_of p (move_of a b None)
     by None e g = officer_goes p a b x at own no_pawn low high ∙ ap (castles_or_moves p (move_of a b None)) e ∙ g
     by (Some castle) e g = (legal_goes p (move_of a b None) g).0
 
--- and each legal move of it ends on such a square
+-- each legal move of a piece other than a pawn ends on a square that `man_goes` names
 pub man_complete : (p : Setup) (m : Move) (x : Man) → man_at p.men m.from ≡ Some x → x.colour ≡ p.side
     → same_kind Pawn x.kind ≡ false → m.from < 64 → m.to < 64
     → is_legal p m ≡ true → man_goes p m.from m.to ≡ true

@@ -310,7 +310,7 @@ pub record AreSets (p : Setup) (w full blockers farther homes enemies lefts righ
   pub left : (k : ℕ) → contains s k ≡ (contains w k && contains lefts k)
   pub right : (k : ℕ) → contains t k ≡ (contains w k && contains rights k)
 
--- these are the pawns to which each way is open
+-- the sets q, r, s and t that `count_ordinary_pawns` computes are those of the pawns to which each way is open
 pub ways_are : (p : Setup) (w full blockers farther homes enemies lefts rights q again r s t : ℕ) → IsSound p
     → AreFree p Pawn w → ((k : ℕ) → k < 64 → contains w k ≡ true → goes_specially p k ≡ false)
     → AreSets p w full blockers farther homes enemies lefts rights q again r s t → AreWays p w q r s t

@@ -63,7 +63,7 @@ pub record IsPlain (p : Setup) (m : Move) : Type 0 where
   pub mover : is_none (arriving_man (man_at p.men m.from) m.promotion) ≡ false
   pub own : is_of (other p.side) (arriving_man (man_at p.men m.from) m.promotion) ≡ false
 
--- what such a move leaves on a square
+-- what a plain move leaves on square k: on the mover's end what arrives, on its start nothing, elsewhere what was there
 pub plain_after : (p : Setup) (m : Move) (k : ℕ) → IsPlain p m → k < 64
     → man_at (men_after p m) k ≡ cond (mover_end p m == k) (arriving_man (man_at p.men m.from) m.promotion)
     (cond (m.from == k) None (man_at p.men k))
@@ -154,14 +154,14 @@ pub lands_same : (o : Option Man) → arriving_man o None ≡ o
 lands_same None = refl
 lands_same (Some x) = refl
 
--- such a move fills its end square, and changes that and its start
+-- a move that is not the king's and not en passant fills its end square alone
 pub fills_end : (p : Setup) (m : Move) (k : ℕ) → is_man p.side King (man_at p.men m.from) ≡ false
     → (is_man p.side Pawn (man_at p.men m.from) && is_at p.target m.to) ≡ false → (k == m.to) ≡ is_filled p m k
 unfolding castling_rook_to mover_end
 fills_end p m k no_king no_passing =
     rw (no_king_castles p m no_king) (eqb_comm k m.to ∙ sym (or-false (m.to == k)))
 
--- and it changes its two squares alone
+-- a move that is not the king's and not en passant changes its two squares alone
 pub changes_both : (p : Setup) (m : Move) (k : ℕ) → is_man p.side King (man_at p.men m.from) ≡ false
     → (is_man p.side Pawn (man_at p.men m.from) && is_at p.target m.to) ≡ false
     → ((k == m.to) || (k == m.from)) ≡ is_changed p m k
@@ -169,7 +169,7 @@ unfolding second_square_emptied castling_rook_to mover_end
 changes_both p m k no_king no_passing =
     rw (not_passing p m no_passing, no_king_castles p m no_king, eqb_comm k m.to, eqb_comm k m.from) (grind arith)
 
--- it is plain, as any move that is neither castling nor en passant
+-- a pseudo-legal move that is neither castling nor en passant is plain
 pub plain_by : (p : Setup) (m : Move) → is_pseudo_legal p m ≡ true → castle_of p m ≡ None → is_en_passant p m ≡ false
     → IsPlain p m
 unfolding second_square_emptied castling_rook_to

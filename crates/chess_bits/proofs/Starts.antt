@@ -62,12 +62,12 @@ is_in-members : (w k : ℕ) → k < 64 → is_in k (members w) ≡ contains w k
 unfolding members squares
 is_in-members w k low = within (λ x. contains w x) k 64 0 (omega arith) (omega (arith, low))
 
--- w has the squares of v, and s
+-- if the members of w are s and then those of v, w has just the squares of v, and s
 pub taken_first : (w v s k : ℕ) → k < 64 → members w ≡ s ∷ members v → contains w k ≡ ((s == k) || contains v k)
 taken_first w v s k low e =
     sym (is_in-members w k low) ∙ ap (is_in k) e ∙ ap (λ t. (s == k) || t) (is_in-members v k low)
 
--- and s is not in v
+-- if the members of w are s and then those of v, s is not in v
 pub first_gone : (w v s : ℕ) → s < 64 → members w ≡ s ∷ members v → contains v s ≡ false
 unfolding members squares
 first_gone w v s low e = sym (is_in-members v s low) ∙ head_once (λ x. contains w x) 64 0 s (members v) e
