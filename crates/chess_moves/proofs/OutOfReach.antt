@@ -6,7 +6,7 @@ use Rattle.chess_base.specs.{declared.setup.Setup.Setup, MoveList.promotions, Mo
 use Rattle.chess_moves.specs.{ties.Candidates.is_in_reach, shared.MovesBySquares.moves_between}
 use Rattle.chess_moves.proofs.{Reach.legal_in_reach, shared.MovesBySquares.none_with}
 
--- by legal_in_reach of Reach: each legal move is in reach, with whatever promotion
+-- between two squares out of reach no move is legal, with whatever promotion, by legal_in_reach of Reach
 pub none_between : (p : Setup) (a b : ℕ) → is_in_reach a b ≡ false → moves_between p a b ≡ []
 unfolding moves_between
 none_between p a b n =

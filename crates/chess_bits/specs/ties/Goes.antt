@@ -1,5 +1,5 @@
--- Where the pieces of the side on move go, even if their king is then attacked (but castling where it is legal); and
--- which of them are free: their king is safe wherever they go.
+-- Where the pieces of the side on move go, even if their king is then attacked (`man_goes` has castling only where it
+-- is legal); and which of them are free: their king is safe wherever they go.
 use Rattle.std.specs.Prelude.{◌≡◌, ℕ, ◌+◌, ◌-◌, ◌<◌, ◌==◌, nat_le, ◌&&◌, ◌||◌, Bool, true, false, Option, Some, None, if◌then◌else◌}
 use Rattle.chess_base.specs.declared.castling.Castle.{Castle}
 use Rattle.chess_base.specs.declared.man.CastlingSide.{CastlingSide}
@@ -81,7 +81,7 @@ pub record IsAhead (c : Colour) (s w : ℕ) : Type 0 where
   pub up : c ≡ White → (k : ℕ) → k < 64 → contains w k ≡ (nat_le 8 k && contains s (k - 8))
   pub down : c ≡ Black → (k : ℕ) → contains w k ≡ contains s (k + 8)
 
--- a pawn of colour c on square a would attack the given square, if there is one
+-- a pawn of colour c on square a would attack the given square; false if none is given
 abbrev pub aims_at : Option ℕ → Colour → ℕ → Bool
 aims_at None c a = false
 aims_at (Some t) c a = in_shape (shape.Pawn c) a t

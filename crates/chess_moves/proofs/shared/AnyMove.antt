@@ -47,7 +47,7 @@ pub any-square : (t : ℕ → Bool) (k : ℕ) → k < 64 → t k ≡ true → li
 unfolding squares
 any-square t k h e = any-from_below 64 (λ s. s) t k h e
 
--- where no square but one passes, it decides
+-- if no square but b passes, some square passes exactly if b does
 any-alone : (f : ℕ → Bool) (b : ℕ) → b < 64 → ((k : ℕ) → k ≢ b → f k ≡ false) → list_any f squares ≡ f b
 any-alone f b low away =
     elim (cases_Bool (f b)) [
@@ -112,7 +112,8 @@ none_elsewhere p t to a b all away =
       elsewhere p t to a b all away (Some Knight),
     ) refl
 
--- such a test need look at one move from each square alone
+-- if a test finds only legal moves to one square `to` without a promotion, some legal move passes it exactly if one
+-- without a promotion from some square to `to` is legal and passes
 pub any_by_start : (p : Setup) (t : Move → Bool) (to : ℕ) → to < 64 → AllFound p t to
     → list_any (λ a. t (move_of a to None) && is_legal p (move_of a to None)) squares ≡ list_any t (moves p)
 unfolding moves all_moves
