@@ -71,14 +71,14 @@ hit l d k n p s kind =
 pub queen_parts : (e l d o : Bool) → ((e && l && o) || (e && d && o)) ≡ (e && (l || d) && o)
 queen_parts e l d o = grind arith
 
--- the same for square a, seen from b
+-- whether `attackers` for b has square a, with a piece of this kind on it; s: it is of colour c, which is asked for
 abbrev seen : Men → Colour → ℕ → ℕ → Bool → Kind → Bool
 seen men c a b s kind =
     hit (not (a == b) && share_rank_or_file a b && is_clear men a b)
     (not (a == b) && share_diagonal a b && is_clear men a b)
     (in_shape shape.King b a) (in_shape shape.Knight b a) (in_shape (shape.Pawn (other c)) b a) s kind
 
--- so it has a exactly if a piece of this kind on a, of colour c, could capture on b
+-- it has square a exactly if s holds, and this kind, of colour c, on a could capture on b
 seen_kind : (men : Men) (c : Colour) (a b : ℕ) (s : Bool) (kind : Kind)
     → seen men c a b s kind ≡ (s && could_capture men c kind a b)
 unfolding could_capture
@@ -89,7 +89,7 @@ seen_kind men c a b s Bishop = grind arith
 seen_kind men c a b s Knight = grind (arith, knight_back men c a b)
 seen_kind men c a b s Pawn = grind (arith, pawn_back men c a b)
 
--- where a piece is of colour c, it captures as one of colour c
+-- where the colours c and d are the same, a piece of the one captures as a piece of the other
 own_reach : (men : Men) (c d : Colour) (kind : Kind) (a b : ℕ) → (same_colour c d && could_capture men c kind a b)
     ≡ (same_colour c d && could_capture men d kind a b)
 own_reach men White White kind a b = refl

@@ -75,7 +75,7 @@ pub rights_kept : (p : Setup) (m : Move) (x : Man) (o : Option Man) → IsSound 
     → man_at p.men m.to ≡ o → (is_king_or_rook (Some x) || is_king_or_rook o) ≡ false → p.rights ≡ rights_after p m
 rights_kept p m x o sound from to h = rights_kept_at p m sound (rw (from, to) h)
 
--- with no right left no move is castling
+-- if neither colour has a castling right, no move is castling
 no_right_says : (p : Setup) (m : Move) (w : CastlingSide) → has_no_right p.rights ≡ true → is_castling_to p m w ≡ false
 unfolding is_castling_to
 no_right_says p m w h = rw (none_of p.rights p.side w h) (and-false _)
@@ -138,7 +138,8 @@ pub record Shifts (p : Setup) (m : Move) (x : Man) : Type 0 where
   pub unpromoted : m.promotion ≡ None
   pub plainly : IsPlainly p m
 
--- what the code's test says of a move that it accepts (`shifted`)
+-- a move that the code's test `shifted` accepts takes its piece from one square to the other and changes no more
+-- (`Shifts`)
 shifts_by : (p : Setup) (m : Move) (x : Man) (o : Option Man) → man_at p.men m.from ≡ o → shifted p m o ≡ Some x
     → Shifts p m x
 shifts_by p m x None at e = cc
@@ -175,13 +176,13 @@ other_than White Black e = refl
 other_than Black White e = refl
 other_than Black Black e = cc
 
--- so a piece there is the enemy's
+-- if a square has no piece of colour c, it has one of the other colour exactly if it isn't empty
 theirs_there : (c : Colour) (o : Option Man) → is_of c o ≡ false → is_of (other c) o ≡ is_some o
 unfolding is_of
 theirs_there c None e = refl
 theirs_there c (Some x) e = other_than c x.colour e
 
--- the end square is not the start
+-- a legal move that shifts its piece does not end where it starts
 pub apart : (p : Setup) (m : Move) (x : Man) → IsSound p → is_legal p m ≡ true → Shifts p m x → m.to ≢ m.from
 apart p m x sound legal h same =
     let change = change_legal p m sound legal in
@@ -241,7 +242,7 @@ clock_is p m x sound legal h =
       theirs_there p.side (man_at p.men m.to) (not_own p m h.plainly change.rest),
     ) refl
 
--- the pieces after the move: its two squares are written
+-- the pieces after a move that shifts its piece: the start is emptied, and the piece written on the end square
 men_shifted : (p : Setup) (m : Move) (x : Man) → IsSound p → Shifts p m x
     → set (set p.men m.from None) m.to (Some x) ≡ men_after p m
 men_shifted p m x sound h =

@@ -53,7 +53,8 @@ unfolding pawn_moves pawn_advances pawn_captures is_double_advance
 pawns p a b k = turned (rank b == first_rank (other p.side)) k
     (pawn_advances p (move_of a b None) || pawn_captures p (move_of a b None))
 
--- so for each kind of piece, own or not
+-- for any piece, own or not, a pawn or not: its move with the promotion k is pseudo-legal exactly if that with the
+-- tried promotion is, and k fits
 by_kind : (p : Setup) (a b : ℕ) (k : Option Kind) (own pawn : Bool)
     → (own && cond pawn (pawn_moves p (move_of a b k)) (castles_or_moves p (move_of a b k) (castle_of p (move_of a b k))))
     ≡ ((own && cond pawn (pawn_moves p
@@ -67,7 +68,8 @@ by_kind p a b k false pawn = refl
 by_kind p a b k true true = pawns p a b k
 by_kind p a b k true false = officers p a b k
 
--- and for each content of the start square
+-- for each content o of the start square: the move with the promotion k is pseudo-legal exactly if that with the tried
+-- promotion is, and k fits
 by_man : (p : Setup) (a b : ℕ) (k : Option Kind) (o : Option Man) → man_at p.men a ≡ o
     → moves_as p (move_of a b k) o
     ≡ (moves_as p (move_of a b (tried_promotion p a b)) o && promotion_fits (would_promote p a b) k)
@@ -86,7 +88,7 @@ pattern_by p a b k =
     ∙ and_joined (nat_lt a 64 && nat_lt b 64) (moves_as p (move_of a b (tried_promotion p a b)) (man_at p.men a))
     (promotion_fits (would_promote p a b) k)
 
--- so a move is pseudo-legal exactly if its piece goes so and its promotion fits
+-- a move is pseudo-legal exactly if its piece goes from its start to its end (`goes`), and its promotion fits
 pub pattern_is : (p : Setup) (m : Move)
     → is_pseudo_legal p m ≡ (goes p m.from m.to && promotion_fits (would_promote p m.from m.to) m.promotion)
 pattern_is p m = pattern_by p m.from m.to m.promotion

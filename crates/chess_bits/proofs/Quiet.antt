@@ -29,7 +29,8 @@ queen_told true false true t u h g e = g refl e
 queen_told true false false t u h g e = e
 queen_told false s d t u h g e = e
 
--- for each kind of piece; only queen, rook and bishop use lines
+-- for each kind k of piece on a: what it could capture on b later it could capture before, if a rank or file from a to
+-- b that a rook or queen uses was clear before where it is later, and a diagonal that a bishop or queen uses
 pub capture_before : (men later : Men) (c : Colour) (k : Kind) (a b : ℕ)
     → ((same_kind Rook k || same_kind Queen k) ≡ true → (not (a == b) && share_rank_or_file a b) ≡ true
     → is_clear later a b ≡ true → is_clear men a b ≡ true)
@@ -48,7 +49,8 @@ capture_before men later c Rook a b l d e =
 capture_before men later c Bishop a b l d e =
     last_told (not (a == b)) (share_diagonal a b) (is_clear later a b) (is_clear men a b) (d refl) e
 
--- so by the content o of square a, if the way to b was clear before where it is later
+-- for each content o of square a: what it could capture on b later it could capture before, if the way from a to b was
+-- clear before where it is later
 pub could_capture_as_clear : (men later : Men) (o : Option Man) (a b : ℕ)
     → (is_clear later a b ≡ true → is_clear men a b ≡ true)
     → could_capture_as later o a b ≡ true → could_capture_as men o a b ≡ true
